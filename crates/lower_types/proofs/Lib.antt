@@ -1,0 +1,2 @@
+pub mod NumberPieces
+mod PartWrites

@@ -1,0 +1,7 @@
+use Rattle.std.proofs.Common.{◌≡◌, ◌*◌, take}
+use Rattle.std.specs.List.{flat_map}
+use Rattle.lower_types.specs.PartNumbers.{high_first_spelt}
+use Rattle.lower_types.proofs.parts.put_high_first.Given as goal
+
+abbrev pub invariant-items : goal.invariant-items
+invariant-items g l = take (32 * l.i) l.to ≡ flat_map (high_first_spelt g.B.ByteOrder.bytes_of) (take l.i l.values)

@@ -1,0 +1,5 @@
+pub mod Numbers
+pub mod NumberLaws
+pub mod NumberTypes
+pub mod PartNumbers
+pub mod PartLaws
