@@ -1,0 +1,31 @@
+-- Offsets of slots: slot i lies from offset i to offset i + 1.
+-- (Arrow columnar format, "Variable-size Binary Layout".)
+use Rattle.std.specs.Prelude.{ℕ, ℤ, pos, negsuc, ◌+◌, ◌<◌, ◌≤◌, ◌≤ℤ◌, List, length, map, slice_index, slice_index_or}
+
+-- the numbers that a list holds, by a function that says which number each is: there is one, the
+-- first is not negative, and none is below the one before it
+pub record AreOffsets {O : Type 0} (integer : O → ℤ) (offsets : List O) : Type 0 where
+  pub some : 0 < length offsets
+  pub start : (d : O) → pos 0 ≤ℤ integer (slice_index_or offsets 0 d)
+  pub rising : (k : ℕ) (d : O) → k + 1 < length offsets → integer (slice_index_or offsets k d) ≤ℤ integer (slice_index_or offsets (k + 1) d)
+
+-- the place that an offset names
+abbrev pub place : ℤ → ℕ
+place (pos n) = n
+place (negsuc n) = 0
+
+abbrev pub places : {O : Type 0} → (O → ℤ) → List O → List ℕ
+places integer offsets = map (λ o. place (integer o)) offsets
+
+-- none is below the one before it
+abbrev pub IsRising : List ℕ → Type 0
+IsRising offsets = (k : ℕ) → k + 1 < length offsets → slice_index offsets k ≤ slice_index offsets (k + 1)
+
+-- there is one, and none is below the one before it
+pub record IsOffsets (offsets : List ℕ) : Type 0 where
+  pub some : 0 < length offsets
+  pub rising : IsRising offsets
+
+-- none of the first n numbers is below the one before it
+abbrev pub NeverFalls : List ℤ → ℕ → Type 0
+NeverFalls numbers n = (k : ℕ) → k + 1 < n → slice_index_or numbers k (pos 0) ≤ℤ slice_index_or numbers (k + 1) (pos 0)

@@ -1,0 +1,129 @@
+//! Bits that stand one after another in bytes, which several owners may share.
+//!
+//! Arrow columnar format, "Validity bitmaps": bit i is bit `i % 8` of byte `i / 8`, the lowest bit
+//! of a byte first.
+ghost use Rattle.std.specs.Prelude.{◌≡◌, ◌+◌, ◌-◌, ◌*◌, ◌/◌, ◌%◌, ◌<◌, ◌≤◌, length, take, drop, MatchResult, IsErrOf, List, get_or, false, map};
+ghost use Rattle.std.specs.List.{range_with_len};
+ghost use Rattle.lower.specs.Bits.{has_bit};
+ghost use Rattle.lower.specs.declared.error.Error.{Error};
+ghost use Rattle.lower.specs.declared.error.Rule.{Rule};
+
+use crate::buffer::Buffer;
+use crate::error::{Error, Rule};
+use std::alloc::AllocError;
+use std::marker::Model;
+
+/// Some bits of bytes. Clones and parts share the memory.
+#[derive(Drop)]
+pub struct Bitmap {
+    bytes: Buffer<u8>,
+    offset: usize,
+    len: usize,
+}
+
+impl Model for Bitmap {
+    ghost use Rattle.std.specs.Prelude.{ℕ, ◌+◌, ◌*◌, ◌^◌, ◌<◌, ◌≤◌, List, Bool, map, length};
+    ghost use Rattle.std.specs.List.{range_with_len};
+    ghost use Rattle.lower.specs.Bits.{has_bit};
+
+    ghost Value = { List Bool };
+
+    ghost view = { λ a. map (has_bit a.bytes) (range_with_len a.offset a.len) };
+
+    ghost invariant = { λ a. (a.offset + a.len ≤ 8 * length a.bytes) × (a.offset + a.len < 2 ^ 64) };
+}
+
+impl Clone for Bitmap {
+    ghost is_clone = { λ a b. b ≡ a };
+
+    fn clone(&self) -> Result<Bitmap, AllocError> {
+        Ok(Bitmap {
+            bytes: self.bytes.clone()?,
+            offset: self.offset,
+            len: self.len,
+        })
+    }
+}
+
+impl Bitmap {
+    /// The first `len` bits of the bytes, where there are so many; else an error that says so.
+    pub fn try_new(bytes: Buffer<u8>, len: usize) -> Result<Bitmap, Error>
+        ensures bits { MatchResult result
+            (λ b. (b ≡ map (has_bit bytes) (range_with_len 0 len)) × (len ≤ 8 * length bytes))
+            (λ e. (e ≡ Error.OutOfSpec Rule.BitmapLength) × (8 * length bytes < len)) }
+    {
+        if len.div_ceil(8) > bytes.len() {
+            return Err(Error::OutOfSpec(Rule::BitmapLength));
+        }
+        Ok(Bitmap {
+            bytes,
+            offset: 0,
+            len,
+        })
+    }
+
+    /// How many bits there are.
+    #[tactic(auto, using(crate::proofs::BitLists::bit_lists))]
+    pub fn len(&self) -> usize
+        ensures { result ≡ length self.now }
+    {
+        self.len
+    }
+
+    /// Bit `i`.
+    #[tactic(auto, using(crate::proofs::BitLists::bit_lists))]
+    pub fn get_bit(&self, i: usize) -> bool
+        requires { i < length self.now }
+        ensures { result ≡ get_or self.now i false }
+    {
+        let k = self.offset + i;
+        (self.bytes.as_slice()[k / 8] >> (k % 8)) & 1 == 1
+    }
+
+    /// The `len` bits from `offset` on, in the same memory.
+    #[tactic(auto, using(crate::proofs::BitLists::bit_lists))]
+    pub fn sliced(self, offset: usize, len: usize) -> Self
+        requires { offset + len ≤ length self }
+        ensures { result ≡ take len (drop offset self) }
+    {
+        let Bitmap {
+            bytes,
+            offset: start,
+            ..
+        } = self;
+        Bitmap {
+            bytes,
+            offset: start + offset,
+            len,
+        }
+    }
+
+    /// Keeps the `len` bits from `offset` on.
+    #[tactic(auto, using(crate::proofs::BitLists::bit_lists))]
+    pub fn slice(&mut self, offset: usize, len: usize)
+        requires { offset + len ≤ length self.old }
+        ensures { self.new ≡ take len (drop offset self.old) }
+    {
+        self.offset += offset;
+        self.len = len;
+    }
+
+    /// The bytes that hold the bits, the place of the first bit in the first of them, and how many
+    /// bits there are.
+    #[tactic(auto, using(crate::proofs::BitLists::bit_lists))]
+    pub fn as_slice(&self) -> (&[u8], usize, usize)
+        ensures start { result.1 < 8 }
+        ensures len { result.2 ≡ length self.now }
+        ensures whole { length result.0.now ≡ (result.1 + result.2 + 7) / 8 }
+        ensures bits { map (has_bit result.0.now) (range_with_len result.1 result.2) ≡ self.now }
+    {
+        let first = self.offset / 8;
+        let start = self.offset % 8;
+        let count = (start + self.len).div_ceil(8);
+        (
+            &self.bytes.as_slice()[first..first + count],
+            start,
+            self.len,
+        )
+    }
+}

@@ -1,0 +1,137 @@
+//! Values that stand one after another in memory, which several owners may share.
+//!
+//! Arrow columnar format, "Physical memory layout": an array's memory is made of such buffers, and
+//! a slice of an array shares them.
+ghost use Rattle.std.specs.Prelude.{◌≡◌, ◌+◌, ◌<◌, ◌≤◌, length, take, drop, IfOk, MatchResult, List, slice_index_or, nat_eq, IsTrue, ◌↔◌, []};
+
+use std::alloc::AllocError;
+use std::marker::Model;
+use std::ops::Index;
+use std::rc::Rc;
+
+/// Some values, or a part of them. Clones and parts share the memory.
+#[derive(Drop)]
+pub struct Buffer<T: Copy> {
+    all: Rc<Vec<T>>,
+    offset: usize,
+    len: usize,
+}
+
+impl<T: Copy> Model for Buffer<T> {
+    ghost use Rattle.std.specs.Prelude.{ℕ, ◌+◌, ◌≤◌, List, take, drop, length};
+
+    ghost Value = { List T };
+
+    ghost view = { λ a. take a.len (drop a.offset a.all.value.items) };
+
+    ghost invariant = { λ a. a.offset + a.len ≤ length a.all.value.items };
+}
+
+impl<T: Copy> Clone for Buffer<T> {
+    ghost is_clone = { λ a b. b ≡ a };
+
+    fn clone(&self) -> Result<Buffer<T>, AllocError> {
+        Ok(Buffer {
+            all: self.all.clone()?,
+            offset: self.offset,
+            len: self.len,
+        })
+    }
+}
+
+impl<T: Copy> Index<usize> for Buffer<T> {
+    type Output = T;
+
+    ghost can_index = { λ b i. i < length b };
+
+    ghost index_gives = { λ b i x. x ≡ slice_index_or b i x };
+
+    fn index(&self, index: usize) -> &T {
+        &self.as_slice()[index]
+    }
+}
+
+impl<T: Copy> Buffer<T> {
+    /// All of a vector. No value is copied, and one small block is taken to count the owners.
+    pub fn new(all: Vec<T>) -> Result<Self, AllocError>
+        ensures { IfOk result (λ b. b ≡ all.items) }
+    {
+        let len = all.len();
+        Ok(Buffer {
+            all: Rc::new(*all.allocator(), all)?,
+            offset: 0,
+            len,
+        })
+    }
+
+    /// How many values there are.
+    pub fn len(&self) -> usize
+        ensures { result ≡ length self.now }
+    {
+        self.len
+    }
+
+    /// Whether there is no value.
+    pub fn is_empty(&self) -> bool
+        ensures { IsTrue result ↔ self.now ≡ [] }
+    {
+        self.len == 0
+    }
+
+    /// The values.
+    pub fn as_slice(&self) -> &[T]
+        ensures { result.now ≡ self.now }
+    {
+        &self.all[self.offset..self.offset + self.len]
+    }
+
+    /// The `len` values from `offset` on, in the same memory.
+    pub fn sliced(self, offset: usize, len: usize) -> Self
+        requires { offset + len ≤ length self }
+        ensures { result ≡ take len (drop offset self) }
+    {
+        let Buffer {
+            all,
+            offset: start,
+            ..
+        } = self;
+        Buffer {
+            all,
+            offset: start + offset,
+            len,
+        }
+    }
+
+    /// Keeps the `len` values from `offset` on.
+    pub fn slice(&mut self, offset: usize, len: usize)
+        requires { offset + len ≤ length self.old }
+        ensures { self.new ≡ take len (drop offset self.old) }
+    {
+        self.offset += offset;
+        self.len = len;
+    }
+
+    /// The `len` values from `offset` on, of a buffer that stays as it is. It fails only where the
+    /// memory has as many owners as can be counted.
+    pub fn part(&self, offset: usize, len: usize) -> Result<Self, AllocError>
+        requires { offset + len ≤ length self.now }
+        ensures { IfOk result (λ b. b ≡ take len (drop offset self.now)) }
+    {
+        Ok(self.clone()?.sliced(offset, len))
+    }
+
+    /// The vector, where this is the only owner of its memory and holds all of it, else the buffer
+    /// itself.
+    pub fn into_vec(self) -> Result<Vec<T>, Self>
+        ensures { MatchResult result (λ v. v.items ≡ self) (λ b. b ≡ self) }
+    {
+        let Buffer { all, offset, len } = self;
+        if offset != 0 || len != all.len() {
+            return Err(Buffer { all, offset, len });
+        }
+        match Rc::try_unwrap(all) {
+            Ok(vec) => Ok(vec),
+            Err(all) => Err(Buffer { all, offset, len }),
+        }
+    }
+}

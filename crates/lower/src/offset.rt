@@ -1,0 +1,202 @@
+//! Offsets of slots whose values have any length.
+//!
+//! Arrow columnar format, "Variable-size Binary Layout": slot i lies from offset i to offset i + 1,
+//! so there is one offset more than there are slots.
+ghost use Rattle.std.specs.Prelude.{◌≡◌, ℕ, ℤ, pos, ◌+◌, ◌-◌, ◌^◌, ◌<◌, ◌≤◌, ◌≤ℤ◌, ◌↔◌, length, take, drop, map, slice_index, IsTrue, MatchResult, MatchOption};
+ghost use Rattle.lower.specs.Offsets.{AreOffsets, IsOffsets, places, NeverFalls};
+
+use crate::buffer::Buffer;
+use crate::error::{Error, Rule};
+use lower_types::NativeType;
+use std::alloc::AllocError;
+use std::marker::Model;
+
+/// A type of offsets: signed, of 32 or 64 bits.
+pub trait Offset: NativeType {
+    // The number that an offset is.
+    ghost integer: { Self → ℤ };
+
+    // No offset of the type reaches this.
+    ghost limit: { ℕ };
+
+    /// Whether there is a number, the first is not negative, and none is below the one before it.
+    fn are_offsets(numbers: &[Self]) -> bool
+        ensures { IsTrue result ↔ AreOffsets integer numbers.now };
+
+    /// The place that an offset names, which is not negative.
+    fn to_usize(self) -> usize
+        requires { pos 0 ≤ℤ integer self }
+        ensures { pos result ≡ integer self };
+
+    /// The offset that names a place, where the type has it.
+    fn from_usize(place: usize) -> Option<Self>
+        ensures { MatchOption result (limit ≤ place) (λ o. (integer o ≡ pos place) × (place < limit)) };
+}
+
+impl Offset for i32 {
+    ghost integer = { λ z. z };
+
+    ghost limit = { 2 ^ 31 };
+
+    fn are_offsets(numbers: &[i32]) -> bool {
+        match numbers.first() {
+            None => false,
+            Some(first) => *first >= 0 && never_falls_i32(numbers),
+        }
+    }
+
+    fn to_usize(self) -> usize {
+        self.cast_unsigned() as usize
+    }
+
+    fn from_usize(place: usize) -> Option<i32> {
+        i32::try_from(place).ok()
+    }
+}
+
+impl Offset for i64 {
+    ghost integer = { λ z. z };
+
+    ghost limit = { 2 ^ 63 };
+
+    fn are_offsets(numbers: &[i64]) -> bool {
+        match numbers.first() {
+            None => false,
+            Some(first) => *first >= 0 && never_falls_i64(numbers),
+        }
+    }
+
+    fn to_usize(self) -> usize {
+        self.cast_unsigned() as usize
+    }
+
+    fn from_usize(place: usize) -> Option<i64> {
+        i64::try_from(place).ok()
+    }
+}
+
+// Whether none is below the one before it. There is no early exit, so it becomes vector code.
+fn never_falls_i32(numbers: &[i32]) -> bool
+    ensures { IsTrue result ↔ NeverFalls numbers.now (length numbers.now) }
+{
+    let mut is_rising = true;
+    let mut last = numbers.first().copied().unwrap_or(0);
+    for number in numbers {
+        if *number < last {
+            is_rising = false;
+        }
+        last = *number;
+    }
+    is_rising
+}
+
+fn never_falls_i64(numbers: &[i64]) -> bool
+    ensures { IsTrue result ↔ NeverFalls numbers.now (length numbers.now) }
+{
+    let mut is_rising = true;
+    let mut last = numbers.first().copied().unwrap_or(0);
+    for number in numbers {
+        if *number < last {
+            is_rising = false;
+        }
+        last = *number;
+    }
+    is_rising
+}
+
+/// Offsets: at least one, the first not negative, none below the one before it. Clones and parts
+/// share the memory.
+#[derive(Drop)]
+pub struct OffsetsBuffer<O: Offset> {
+    offsets: Buffer<O>,
+}
+
+impl<O: Offset> Model for OffsetsBuffer<O> {
+    ghost use Rattle.std.specs.Prelude.{◌≡◌, ℕ, List, map, pos};
+    ghost use Rattle.lower.specs.Offsets.{IsOffsets, places};
+
+    ghost Value = { List ℕ };
+
+    ghost view = { λ a. places O.integer a.offsets };
+
+    ghost invariant = { λ a. (map pos (places O.integer a.offsets) ≡ map O.integer a.offsets) × IsOffsets (places O.integer a.offsets) };
+}
+
+impl<O: Offset> Clone for OffsetsBuffer<O> {
+    ghost is_clone = { λ a b. b ≡ a };
+
+    fn clone(&self) -> Result<OffsetsBuffer<O>, AllocError> {
+        Ok(OffsetsBuffer {
+            offsets: self.offsets.clone()?,
+        })
+    }
+}
+
+impl<O: Offset> OffsetsBuffer<O> {
+    /// The offsets, where they are some, the first is not negative and none is below the one before
+    /// it; else an error that says which of this isn't so.
+    pub fn try_new(offsets: Buffer<O>) -> Result<OffsetsBuffer<O>, Error>
+        ensures { MatchResult result
+            (λ o. (map pos o ≡ map O.integer offsets) × IsOffsets o)
+            (λ _. ¬ (AreOffsets O.integer offsets)) }
+    {
+        if offsets.is_empty() {
+            return Err(Error::OutOfSpec(Rule::NoOffset));
+        }
+        if !O::are_offsets(offsets.as_slice()) {
+            return Err(Error::OutOfSpec(Rule::FallingOffset));
+        }
+        Ok(OffsetsBuffer { offsets })
+    }
+
+    /// How many offsets there are, which is one more than there are slots.
+    pub fn len(&self) -> usize
+        ensures len { result ≡ length self.now }
+        ensures offsets { IsOffsets self.now }
+    {
+        self.offsets.len()
+    }
+
+    /// The offsets as they stand.
+    pub fn as_slice(&self) -> &[O]
+        ensures places { places O.integer result.now ≡ self.now }
+        ensures integers { map O.integer result.now ≡ map pos self.now }
+    {
+        self.offsets.as_slice()
+    }
+
+    /// Offset `i`.
+    pub fn get(&self, i: usize) -> usize
+        requires { i < length self.now }
+        ensures { result ≡ slice_index self.now i }
+    {
+        self.offsets.as_slice()[i].to_usize()
+    }
+
+    /// The last offset: where the last slot ends.
+    pub fn last(&self) -> usize
+        ensures value { result ≡ slice_index self.now (length self.now - 1) }
+        ensures offsets { IsOffsets self.now }
+    {
+        self.get(self.len() - 1)
+    }
+
+    /// The offsets of the `len` slots from slot `offset` on, in the same memory.
+    pub fn sliced(self, offset: usize, len: usize) -> Self
+        requires { offset + len < length self }
+        ensures { result ≡ take (len + 1) (drop offset self) }
+    {
+        OffsetsBuffer {
+            offsets: self.offsets.sliced(offset, len + 1),
+        }
+    }
+
+    /// Keeps the offsets of the `len` slots from slot `offset` on.
+    pub fn slice(&mut self, offset: usize, len: usize)
+        requires { offset + len < length self.old }
+        ensures { self.new ≡ take (len + 1) (drop offset self.old) }
+    {
+        prove!(len < self.offsets.len());
+        self.offsets.slice(offset, len + 1);
+    }
+}

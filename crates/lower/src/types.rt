@@ -1,0 +1,5 @@
+//! The numbers that columns have, and their bytes.
+pub use lower_types::{
+    Endianness, NativeType, PrimitiveType, append_bytes, days_ms, i256, months_days_ns,
+    numbers_from_bytes,
+};
