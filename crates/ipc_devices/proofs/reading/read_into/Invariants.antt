@@ -1,0 +1,15 @@
+use Rattle.std.proofs.Common.{length, ◌-◌, ◌+◌, ◌≡◌, ◌≤◌, ◌++◌, IsTrue}
+use Rattle.ipc_devices.specs.Device.{after}
+use Rattle.ipc_devices.proofs.reading.read_into.Given as goal
+
+abbrev pub invariant-loop-bytes : goal.invariant-loop-bytes
+invariant-loop-bytes g l = record {
+  inside : length l.bytes.items ≤ l.count;
+  monotone : g.R.Failures.failures l.fn.reader ≤ g.R.Failures.failures l.reader;
+  given : g.R.Failures.given l.reader ≤ g.R.Failures.given l.fn.reader + length l.bytes.items;
+  whole : IsTrue g.R.Failures.still → (g.R.Failures.memory l.reader).whole ≡ (g.R.Failures.memory l.fn.reader).whole;
+  same : IsTrue g.R.Failures.known → after (g.R.Failures.memory l.fn.reader) ≡ l.bytes.items ++ after (g.R.Failures.memory l.reader);
+}
+
+abbrev pub decreases-loop-bytes : goal.decreases-loop-bytes
+decreases-loop-bytes g l = l.count - length l.bytes.items

@@ -1,0 +1,181 @@
+//! What reading and writing ask of a device.
+//!
+//! The standard devices don't say when a call of theirs may fail. These do: a call answers an error
+//! only where the device counted a failure in it, or where the growth of a writer over memory was
+//! refused. A call that failed isn't tried again.
+ghost use Rattle.std.specs.Prelude.{◌≡◌, ℕ, ◌+◌, ◌<◌, ◌≤◌, Bool, length, take, IsTrue, ◌⊎◌, IfOk, OnOk, OnErr, MatchResult};
+ghost use Rattle.std.specs.Io.{ReadsAtMost, WritesAtMost};
+ghost use Rattle.ipc_devices.specs.Device.{Rises, counted, Memory, ReadsFront, WritesOver, GoesTo};
+
+use std::io;
+
+/// A device that counts the calls that failed.
+pub trait Failures {
+    // Whether the device is memory, whose bytes and place are known.
+    ghost known: { Bool };
+
+    // Whether the bytes stay as they are in each call that reads or seeks, also in one that fails
+    // or gives nothing.
+    ghost still: { Bool };
+
+    // The bytes and the place, where the device is memory.
+    ghost memory: { Self → Memory };
+
+    // How many calls failed.
+    ghost failures: { Self → ℕ };
+
+    // How many bytes the reads gave.
+    ghost given: { Self → ℕ };
+
+    /// How many calls failed. The count stops at `u64::MAX`, where it counts as risen.
+    fn failures(&self) -> u64
+        ensures { result ≡ Self.failures self.now };
+}
+
+/// A device that gives bytes.
+pub trait Reads: Failures {
+    /// How many bytes the reads gave. The count stops at `u64::MAX`.
+    fn given(&self) -> u64
+        ensures { result ≡ Self.given self.now };
+
+    /// Reads bytes into the front of `buf`, and answers how many. None are only where none are left.
+    fn read(&mut self, buf: &mut [u8]) -> io::Result<usize>
+        ensures bound { ReadsAtMost result buf.new }
+        ensures monotone { Self.failures self.old ≤ Self.failures self.new }
+        ensures failed { OnErr result (Rises (Self.failures self.old) (Self.failures self.new)) }
+        ensures given { MatchResult result
+            (λ n. Self.given self.new ≡ counted (Self.given self.old) n)
+            (λ _. Self.given self.new ≡ Self.given self.old) }
+        ensures memory { IsTrue Self.known → IfOk result (λ n.
+            ReadsFront (Self.memory self.old) (Self.memory self.new) n buf.new) }
+        ensures whole { IsTrue Self.still
+            → (Self.memory self.new).whole ≡ (Self.memory self.old).whole };
+}
+
+/// A device that takes bytes.
+pub trait Writes: Failures {
+    // Whether a write may have to grow the device, and that can be refused.
+    ghost grows: { Bool };
+
+    // How many bytes can be written before the device has to grow.
+    ghost room: { Self → ℕ };
+
+    /// Whether a write may have to grow memory, which can be refused: true for writers over memory
+    /// alone.
+    const GROWS: bool;
+
+    /// Writes bytes of the front of `buf`, and answers how many: of a nonempty `buf` at least one.
+    /// Where memory can't grow, nothing is changed.
+    fn write(&mut self, buf: &[u8]) -> io::Result<usize>
+        ensures bound { WritesAtMost result buf.now }
+        ensures some { IfOk result (λ n. 0 < length buf.now → 0 < n) }
+        ensures monotone { Self.failures self.old ≤ Self.failures self.new }
+        ensures failed { OnErr result (Rises (Self.failures self.old) (Self.failures self.new)
+            ⊎ (IsTrue grows × (room self.old < length buf.now))) }
+        ensures memory { IsTrue Self.known → IfOk result (λ n.
+            WritesOver (Self.memory self.old) (Self.memory self.new) (take n buf.now)) }
+        ensures room { IfOk result (λ n. Self.room self.old ≤ Self.room self.new + n) }
+        ensures refused { IsTrue Self.known
+            → OnErr result (Self.memory self.new ≡ Self.memory self.old) };
+
+    /// Sends what was written on its way.
+    fn flush(&mut self) -> io::Result<()>
+        ensures monotone { Self.failures self.old ≤ Self.failures self.new }
+        ensures failed { OnErr result (Rises (Self.failures self.old) (Self.failures self.new)) }
+        ensures memory { IsTrue Self.known → Self.memory self.new ≡ Self.memory self.old };
+}
+
+/// A device with a place, at which the next call reads or writes.
+pub trait Seeks: Failures {
+    /// Goes to this place, also one past the end.
+    fn seek_to(&mut self, place: u64) -> io::Result<()>
+        ensures monotone { Self.failures self.old ≤ Self.failures self.new }
+        ensures failed { OnErr result (Rises (Self.failures self.old) (Self.failures self.new)) }
+        ensures given { Self.given self.new ≡ Self.given self.old }
+        ensures memory { IsTrue Self.known → OnOk result
+            (GoesTo (Self.memory self.old) (Self.memory self.new) place) }
+        ensures whole { IsTrue Self.still
+            → (Self.memory self.new).whole ≡ (Self.memory self.old).whole };
+
+    /// Goes to the end, and answers its place.
+    fn seek_end(&mut self) -> io::Result<u64>
+        ensures monotone { Self.failures self.old ≤ Self.failures self.new }
+        ensures failed { OnErr result (Rises (Self.failures self.old) (Self.failures self.new)) }
+        ensures given { Self.given self.new ≡ Self.given self.old }
+        ensures memory { IsTrue Self.known → IfOk result (λ n.
+            (n ≡ length (Self.memory self.old).whole)
+            × GoesTo (Self.memory self.old) (Self.memory self.new) n) }
+        ensures whole { IsTrue Self.still
+            → (Self.memory self.new).whole ≡ (Self.memory self.old).whole };
+
+    /// The place.
+    fn position(&mut self) -> io::Result<u64>
+        ensures monotone { Self.failures self.old ≤ Self.failures self.new }
+        ensures failed { OnErr result (Rises (Self.failures self.old) (Self.failures self.new)) }
+        ensures given { Self.given self.new ≡ Self.given self.old }
+        ensures place { IsTrue Self.known → IfOk result (λ n. n ≡ (Self.memory self.old).place) }
+        ensures stays { IsTrue Self.known → Self.memory self.new ≡ Self.memory self.old }
+        ensures whole { IsTrue Self.still
+            → (Self.memory self.new).whole ≡ (Self.memory self.old).whole };
+
+    // A law: memory in which one can seek keeps its bytes.
+    ghost known_still: { IsTrue Self.known → IsTrue Self.still };
+}
+
+impl<D: Failures> Failures for &mut D {
+    ghost known = { D.known };
+
+    ghost still = { D.still };
+
+    ghost memory = { λ d. D.memory d.now };
+
+    ghost failures = { λ d. D.failures d.now };
+
+    ghost given = { λ d. D.given d.now };
+
+    fn failures(&self) -> u64 {
+        Failures::failures(&**self)
+    }
+}
+
+impl<R: Reads> Reads for &mut R {
+    fn given(&self) -> u64 {
+        Reads::given(&**self)
+    }
+
+    fn read(&mut self, buf: &mut [u8]) -> io::Result<usize> {
+        Reads::read(&mut **self, buf)
+    }
+}
+
+impl<W: Writes> Writes for &mut W {
+    ghost grows = { W.grows };
+
+    ghost room = { λ w. W.room w.now };
+
+    const GROWS: bool = W::GROWS;
+
+    fn write(&mut self, buf: &[u8]) -> io::Result<usize> {
+        Writes::write(&mut **self, buf)
+    }
+
+    fn flush(&mut self) -> io::Result<()> {
+        Writes::flush(&mut **self)
+    }
+}
+
+impl<S: Seeks> Seeks for &mut S {
+    ghost known_still = { S.known_still };
+
+    fn seek_to(&mut self, place: u64) -> io::Result<()> {
+        Seeks::seek_to(&mut **self, place)
+    }
+
+    fn seek_end(&mut self) -> io::Result<u64> {
+        Seeks::seek_end(&mut **self)
+    }
+
+    fn position(&mut self) -> io::Result<u64> {
+        Seeks::position(&mut **self)
+    }
+}

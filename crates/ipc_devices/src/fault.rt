@@ -1,0 +1,359 @@
+//! Everything that reading and writing refuse, by name.
+ghost use Rattle.std.specs.Prelude.{◌≡◌};
+ghost use Rattle.ipc_devices.specs.declared.fault.Fault.TheVariants.{OutOfSpec, Io, Memory, Lower};
+
+use lower::error::Error as ArrayError;
+use std::alloc::{AllocError, AllocFailed};
+use std::io;
+use thiserror::Error;
+
+/// What a call that can be refused answers.
+pub type Result<T> = std::result::Result<T, Fault>;
+
+/// Why a call was refused.
+#[derive(Debug, Drop, Error)]
+pub enum Fault {
+    /// The bytes break a rule of the Arrow columnar format.
+    #[error("out of spec: {0}")]
+    OutOfSpec(OutOfSpecKind),
+    /// The input is shorter than it states.
+    #[error("the input ended early")]
+    Ended,
+    /// The bytes, or the call, ask for a form that isn't carried.
+    #[error("not yet implemented: {0}")]
+    NotYetImplemented(Nyi),
+    /// A schema that is read breaks a rule.
+    #[error("bad schema: {0}")]
+    Schema(SchemaFault),
+    /// An argument breaks a rule of the call. Nothing was changed.
+    #[error("{0}")]
+    Argument(ArgFault),
+    /// A writer isn't in the state that the call asks for. Nothing was changed.
+    #[error("{0}")]
+    State(StateFault),
+    /// More than 65,536 dictionary messages stand before one record batch.
+    #[error("more than 65536 dictionary messages before a record batch")]
+    TooManyDictionaries,
+    /// A device answered this error during the call.
+    #[error("input or output failed: {0}")]
+    Io(io::Error),
+    /// Memory was refused.
+    #[error("no memory")]
+    Memory,
+    /// The bytes of a column break a rule of its array.
+    #[error("bad array: {0}")]
+    Lower(ArrayError),
+}
+
+/// The rules of the Arrow columnar format, "Serialization and Interprocess Communication (IPC)",
+/// that bytes can break.
+#[derive(Debug, Drop, PartialEq, Eq, Error)]
+pub enum OutOfSpecKind {
+    /// A file doesn't begin with `ARROW1`.
+    #[error("the file does not begin with ARROW1")]
+    InvalidHeader,
+    /// A file doesn't end with `ARROW1`.
+    #[error("the file does not end with ARROW1")]
+    InvalidFooter,
+    /// A length that has to be at least 0 is below it: of a footer, of the prefix of a message,
+    /// of a record block, of a node or a buffer.
+    #[error("a length or an offset is negative")]
+    NegativeFooterLength,
+    /// The root of a footer is ill-made.
+    #[error("the footer is ill-made: {0}")]
+    InvalidFlatbufferFooter(TableFault),
+    /// A footer has no record blocks.
+    #[error("the footer has no record batches")]
+    MissingRecordBatches,
+    /// The record blocks of a footer are ill-made.
+    #[error("the footer's record batches are ill-made: {0}")]
+    InvalidFlatbufferRecordBatches(TableFault),
+    /// A footer has no schema.
+    #[error("the footer has no schema")]
+    MissingSchema,
+    /// The schema of a footer can't be opened.
+    #[error("the footer's schema is ill-made: {0}")]
+    InvalidFlatbufferSchema(TableFault),
+    /// A schema has no fields vector.
+    #[error("the schema has no fields")]
+    MissingFields,
+    /// The dictionary blocks of a footer are ill-made.
+    #[error("the footer's dictionaries are ill-made: {0}")]
+    InvalidFlatbufferDictionaries(TableFault),
+    /// Kept by its name; no call answers it.
+    #[error("a block is ill-made: {0}")]
+    InvalidFlatbufferBlock(TableFault),
+    /// The root of a message is ill-made.
+    #[error("the message is ill-made: {0}")]
+    InvalidFlatbufferMessage(TableFault),
+    /// A message has no header.
+    #[error("the message has no header")]
+    MissingMessageHeader,
+    /// The header of a message is ill-made.
+    #[error("the message's header is ill-made: {0}")]
+    InvalidFlatbufferHeader(TableFault),
+    /// A position or a length of a file's block or of a body is below 0.
+    #[error("a position or a length is negative")]
+    UnexpectedNegativeInteger,
+    /// A message of another kind stands where a record or a dictionary is due.
+    #[error("the message is of an unexpected type")]
+    UnexpectedMessageType,
+    /// A record batch has no buffers vector.
+    #[error("the record batch has no buffers")]
+    MissingMessageBuffers,
+    /// The buffers of a record batch are ill-made.
+    #[error("the record batch's buffers are ill-made: {0}")]
+    InvalidFlatbufferBuffers(TableFault),
+    /// A record batch has no nodes vector, or fewer nodes than its columns need.
+    #[error("the record batch has too few nodes")]
+    MissingMessageNodes,
+    /// The nodes of a record batch are ill-made.
+    #[error("the record batch's nodes are ill-made: {0}")]
+    InvalidFlatbufferNodes(TableFault),
+    /// The body length of a message is ill-made.
+    #[error("the message's body length is ill-made: {0}")]
+    InvalidFlatbufferBodyLength(TableFault),
+    /// A dictionary batch has no record batch.
+    #[error("the dictionary batch has no data")]
+    MissingData,
+    /// The record batch of a dictionary batch is ill-made.
+    #[error("the dictionary batch's data is ill-made: {0}")]
+    InvalidFlatbufferData(TableFault),
+    /// The metadata version of a message is ill-made.
+    #[error("the message's version is ill-made: {0}")]
+    InvalidFlatbufferVersion(TableFault),
+    /// The compression of a record batch is ill-made.
+    #[error("the record batch's compression is ill-made: {0}")]
+    InvalidFlatbufferCompression(TableFault),
+    /// A record batch has fewer buffers than its columns need.
+    #[error("the record batch has too few buffers")]
+    ExpectedBuffer,
+    /// A buffer is shorter than its elements need.
+    #[error("a buffer of {buffer_length} bytes is too short for {length} elements of {type_name}, which need {required_number_of_bytes}")]
+    InvalidBuffer {
+        /// How many elements are needed.
+        length: usize,
+        /// The name of the elements' type.
+        type_name: &'static str,
+        /// How many bytes that many elements take.
+        required_number_of_bytes: usize,
+        /// How many bytes the buffer has.
+        buffer_length: usize,
+    },
+    /// The buffers of a record batch are together longer than what holds them.
+    #[error("buffers of {buffers_size} bytes do not fit into {file_size} bytes")]
+    InvalidBuffersLength {
+        /// How many bytes the buffers have together. The sum stops at `u64::MAX`.
+        buffers_size: u64,
+        /// How many bytes the file, or a stream's body, has.
+        file_size: u64,
+    },
+    /// A bitmap is shorter than its slots need.
+    #[error("a bitmap of {number_of_bits} bits is too short for {length}")]
+    InvalidBitmap {
+        /// How many bits are needed.
+        length: usize,
+        /// How many bits the buffer has.
+        number_of_bits: usize,
+    },
+    /// The delta flag of a dictionary batch is ill-made.
+    #[error("the dictionary batch's isDelta is ill-made: {0}")]
+    InvalidFlatbufferIsDelta(TableFault),
+    /// The id of a dictionary batch is ill-made.
+    #[error("the dictionary batch's id is ill-made: {0}")]
+    InvalidFlatbufferId(TableFault),
+    /// No dictionary has this id.
+    #[error("the dictionary {requested_id} is unknown")]
+    InvalidId {
+        /// The id that was asked for.
+        requested_id: i64,
+    },
+    /// The dictionary of this id has values of another type than the field.
+    #[error("the dictionary {requested_id} has another value type")]
+    InvalidIdDataType {
+        /// The id that was asked for.
+        requested_id: i64,
+    },
+    /// A column of fixed size 0 is read.
+    #[error("a column of fixed size 0 has no slots")]
+    InvalidDataType,
+}
+
+/// What isn't carried.
+#[derive(Debug, Clone, Copy, PartialEq, Eq, Error)]
+pub enum Nyi {
+    /// Buffers that are compressed.
+    #[error("compressed buffers")]
+    Compressed,
+    /// Columns of floating-point numbers.
+    #[error("columns of floating-point numbers")]
+    Float,
+    /// Dictionary batches that add to a dictionary.
+    #[error("delta dictionaries")]
+    Delta,
+    /// Files of Feather's first version.
+    #[error("Feather V1 files")]
+    FeatherV1,
+    /// Going on with a big-endian file.
+    #[error("appending to a big-endian file")]
+    BigEndianAppend,
+    /// What a later version of this repository brings.
+    #[error("this form")]
+    Pending,
+}
+
+/// How the tables of a message or a footer can be ill-made.
+#[derive(Debug, Clone, Copy, PartialEq, Eq, Error)]
+pub enum TableFault {
+    /// An offset or a length leads outside the bytes.
+    #[error("an offset leads outside")]
+    Outside,
+    /// A vtable is too short for its own head, or stands outside.
+    #[error("a vtable is ill-made")]
+    Vtable,
+    /// An enumeration or a union holds a tag that isn't known.
+    #[error("a tag is unknown")]
+    UnknownTag,
+    /// A text isn't UTF-8.
+    #[error("a text is not UTF-8")]
+    Utf8,
+    /// A union has a tag and no value.
+    #[error("a value is missing")]
+    MissingValue,
+}
+
+/// The rules that a schema can break.
+#[derive(Debug, Clone, Copy, PartialEq, Eq, Error)]
+pub enum SchemaFault {
+    /// A field has no name.
+    #[error("a field has no name")]
+    NoName,
+    /// A field has no type.
+    #[error("a field has no type")]
+    NoType,
+    /// A list, a map, a struct or a union has no child.
+    #[error("a nested field has no child")]
+    NoChild,
+    /// A dictionary has no type of its keys.
+    #[error("a dictionary has no index type")]
+    NoIndexType,
+    /// A whole number's width isn't 8, 16, 32 or 64 bits.
+    #[error("a whole number has another width than 8, 16, 32 or 64 bits")]
+    BadInteger,
+    /// A time's width and unit don't go together.
+    #[error("the width and the unit of a time do not go together")]
+    BadTime,
+    /// A fixed size is below 0.
+    #[error("a fixed size is negative")]
+    BadSize,
+    /// A decimal's width isn't 128 or 256 bits, or its precision or scale is below 0.
+    #[error("a decimal has another width than 128 or 256 bits, or a negative precision or scale")]
+    BadDecimal,
+    /// The fields have more than 64 levels.
+    #[error("the fields have more than 64 levels")]
+    TooDeep,
+    /// More field tables are visited than the message has bytes.
+    #[error("there are more field tables than bytes")]
+    TooManyFields,
+    /// Another message, or the end of the stream, stands in the place of a schema.
+    #[error("the message is not a schema")]
+    NotASchema,
+    /// A table of the schema is ill-made.
+    #[error("a table is ill-made: {0}")]
+    Table(TableFault),
+}
+
+/// The rules that an argument can break.
+#[derive(Debug, Clone, Copy, PartialEq, Eq, Error)]
+pub enum ArgFault {
+    /// The columns of a chunk have different lengths.
+    #[error("Chunk require all its arrays to have an equal number of rows")]
+    UnequalRows,
+    /// The schema can't be written.
+    #[error("the schema is not writable")]
+    NotWritable,
+    /// The ids don't have the shape of the fields.
+    #[error("the ids do not have the shape of the fields")]
+    FieldsShape,
+    /// The ids aren't those that the writer started with.
+    #[error("the ids are not those that the writer started with")]
+    FieldsDiffer,
+    /// A chunk has another number of columns than the schema.
+    #[error("the chunk has another number of columns than the schema")]
+    ColumnCount,
+    /// A column has another type than its field.
+    #[error("a column has another type than its field")]
+    ColumnType,
+    /// Columns of one dictionary id have different values.
+    #[error("columns of the dictionary {0} have different values")]
+    SharedDictionary(i64),
+    /// A file can't replace the values of a dictionary.
+    #[error("the dictionary {0} was already written with other values")]
+    DictionaryReplaced(i64),
+    /// An array is longer than `i64::MAX`.
+    #[error("an array is too long")]
+    TooLong,
+    /// A length or a position passes what its number can hold.
+    #[error("a length or a position is too large")]
+    TooLarge,
+    /// A file to be gone on with has no record blocks.
+    #[error("the file has no record blocks")]
+    NoRecordBlocks,
+}
+
+/// The states in which a writer refuses a call.
+#[derive(Debug, Clone, Copy, PartialEq, Eq, Error)]
+pub enum StateFault {
+    /// The writer wasn't started.
+    #[error("the writer was not started")]
+    NotStarted,
+    /// The writer was started before.
+    #[error("the writer was already started")]
+    AlreadyStarted,
+    /// The writer was finished before.
+    #[error("the writer was already finished")]
+    Finished,
+    /// A device failed in an earlier call.
+    #[error("the writer failed")]
+    Failed,
+}
+
+impl From<OutOfSpecKind> for Fault {
+    ghost from_gives = { λ kind f. f ≡ OutOfSpec kind };
+
+    fn from(kind: OutOfSpecKind) -> Fault {
+        Fault::OutOfSpec(kind)
+    }
+}
+
+impl From<ArrayError> for Fault {
+    ghost from_gives = { λ e f. f ≡ Lower e };
+
+    fn from(e: ArrayError) -> Fault {
+        Fault::Lower(e)
+    }
+}
+
+impl From<io::Error> for Fault {
+    ghost from_gives = { λ e f. f ≡ Io e };
+
+    fn from(e: io::Error) -> Fault {
+        Fault::Io(e)
+    }
+}
+
+impl From<AllocError> for Fault {
+    ghost from_gives = { λ _ f. f ≡ Memory };
+
+    fn from(_e: AllocError) -> Fault {
+        Fault::Memory
+    }
+}
+
+impl<T: Drop> From<AllocFailed<T>> for Fault {
+    ghost from_gives = { λ _ f. f ≡ Memory };
+
+    fn from(_e: AllocFailed<T>) -> Fault {
+        Fault::Memory
+    }
+}

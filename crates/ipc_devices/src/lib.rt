@@ -1,0 +1,18 @@
+//! What the layers above stand on: faults, and devices that say when a call of theirs may fail and,
+//! where they are memory, which bytes they hold.
+#![tactic(auto)]
+
+pub mod device;
+pub mod fault;
+pub mod memory;
+pub mod reading;
+pub mod watched;
+
+pub use device::{Failures, Reads, Seeks, Writes};
+pub use fault::{ArgFault, Fault, Nyi, OutOfSpecKind, Result, SchemaFault, StateFault, TableFault};
+pub use memory::{Bytes, MemFile};
+pub use reading::{fill, read_bytes, read_into};
+pub use watched::Watched;
+
+#[cfg(test)]
+mod tests;

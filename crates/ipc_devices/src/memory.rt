@@ -1,0 +1,220 @@
+//! Devices over memory. They count no failures, and give and take their bytes exactly.
+ghost use Rattle.std.specs.Prelude.{◌≡◌, ℕ, ◌+◌, ◌-◌, ◌<◌, ◌≤◌, true, List, [], ◌++◌, length, take, drop, replicate, min, IfOk, OnOk, OnErr, vec_len, vec_capacity};
+ghost use Rattle.ipc_devices.specs.Device.{before, Memory};
+
+use crate::device::{Failures, Reads, Seeks, Writes};
+use std::alloc::AllocError;
+use std::io;
+
+impl Failures for Vec<u8> {
+    ghost known = { true };
+
+    ghost still = { true };
+
+    ghost memory = { λ v. record { whole = v.items; place = vec_len v } };
+
+    ghost failures = { λ _. 0 };
+
+    ghost given = { λ _. 0 };
+
+    fn failures(&self) -> u64 {
+        0
+    }
+}
+
+impl Writes for Vec<u8> {
+    ghost grows = { true };
+
+    ghost room = { λ v. vec_capacity v - vec_len v };
+
+    const GROWS: bool = true;
+
+    fn write(&mut self, buf: &[u8]) -> io::Result<usize> {
+        self.extend_from_slice(buf)?;
+        Ok(buf.len())
+    }
+
+    fn flush(&mut self) -> io::Result<()> {
+        Ok(())
+    }
+}
+
+/// What holds bytes in memory.
+pub trait Bytes {
+    ghost bytes: { Self → List ℕ };
+
+    /// The bytes.
+    fn bytes(&self) -> &[u8]
+        ensures { result.now ≡ bytes self.now };
+}
+
+impl Bytes for Vec<u8> {
+    ghost bytes = { λ v. v.items };
+
+    fn bytes(&self) -> &[u8] {
+        self.as_slice()
+    }
+}
+
+impl Bytes for &[u8] {
+    ghost bytes = { λ s. s.now };
+
+    fn bytes(&self) -> &[u8] {
+        *self
+    }
+}
+
+/// A file over bytes in memory, with a position. It reads and seeks, and over a `Vec` it writes too:
+/// over what stands at the position, with zeros in a gap before it.
+#[derive(Drop)]
+pub struct MemFile<B> {
+    inner: B,
+    position: u64,
+    given: u64,
+}
+
+impl<B: Bytes> MemFile<B> {
+    /// A file that stands at its beginning.
+    pub fn new(inner: B) -> MemFile<B>
+        ensures { result ≡ record { inner = inner; position = 0; given = 0 } }
+    {
+        MemFile {
+            inner,
+            position: 0,
+            given: 0,
+        }
+    }
+
+    /// The bytes.
+    pub fn into_inner(self) -> B
+        ensures { result ≡ self.inner }
+    {
+        self.inner
+    }
+}
+
+impl<B: Bytes> Failures for MemFile<B> {
+    ghost known = { true };
+
+    ghost still = { true };
+
+    ghost memory = { λ f. record { whole = B.bytes f.inner; place = f.position } };
+
+    ghost failures = { λ _. 0 };
+
+    ghost given = { λ f. f.given };
+
+    fn failures(&self) -> u64 {
+        0
+    }
+}
+
+// What stands behind the place.
+fn rest_of(bytes: &[u8], place: u64) -> &[u8]
+    ensures { result.now ≡ drop place bytes.now }
+{
+    match usize::try_from(place) {
+        Ok(at) if at <= bytes.len() => &bytes[at..],
+        _ => &[],
+    }
+}
+
+// Copies as many bytes as both have, and answers how many.
+fn copy_front(from: &[u8], to: &mut [u8]) -> usize
+    ensures count { result ≡ min (length from.now) (length to.old) }
+    ensures copied { to.new ≡ take result from.now ++ drop result to.old }
+{
+    let n = from.len().min(to.len());
+    to[..n].copy_from_slice(&from[..n]);
+    n
+}
+
+impl<B: Bytes> Reads for MemFile<B> {
+    fn given(&self) -> u64 {
+        self.given
+    }
+
+    fn read(&mut self, buf: &mut [u8]) -> io::Result<usize> {
+        let n = copy_front(rest_of(self.inner.bytes(), self.position), buf);
+        self.position += n as u64;
+        self.given = self.given.saturating_add(n as u64);
+        Ok(n)
+    }
+}
+
+impl<B: Bytes> Seeks for MemFile<B> {
+    ghost known_still = { λ known. known };
+
+    fn seek_to(&mut self, place: u64) -> io::Result<()> {
+        self.position = place;
+        Ok(())
+    }
+
+    fn seek_end(&mut self) -> io::Result<u64> {
+        self.position = self.inner.bytes().len() as u64;
+        Ok(self.position)
+    }
+
+    fn position(&mut self) -> io::Result<u64> {
+        Ok(self.position)
+    }
+}
+
+// Writes over the bytes from the place on. A gap is filled with zeros.
+fn put(bytes: &mut Vec<u8>, place: usize, buf: &[u8]) -> Result<(), AllocError>
+    ensures ok { OnOk result (bytes.new.items ≡ before (record { whole = bytes.old.items; place = place }) ++ buf.now ++ drop (place + length buf.now) bytes.old.items) }
+    ensures err { OnErr result (bytes.new.items ≡ bytes.old.items) }
+    ensures full { OnErr result (vec_capacity bytes.old < place + length buf.now) }
+    ensures capacity { vec_capacity bytes.old ≤ vec_capacity bytes.new }
+{
+    let Some(end) = place.checked_add(buf.len()) else {
+        return Err(AllocError);
+    };
+    fill_to(bytes, end)?;
+    overwrite(bytes, place, buf);
+    Ok(())
+}
+
+// Adds zeros up to this length.
+fn fill_to(bytes: &mut Vec<u8>, end: usize) -> Result<(), AllocError>
+    ensures ok { OnOk result (bytes.new.items ≡ bytes.old.items ++ replicate (end - length bytes.old.items) 0) }
+    ensures err { OnErr result (bytes.new.items ≡ bytes.old.items) }
+    ensures full { OnErr result (vec_capacity bytes.old < end) }
+    ensures capacity { vec_capacity bytes.old ≤ vec_capacity bytes.new }
+{
+    if bytes.len() < end {
+        bytes.resize(end, 0)?;
+    }
+    Ok(())
+}
+
+fn overwrite(bytes: &mut [u8], place: usize, buf: &[u8])
+    requires { place + length buf.now ≤ length bytes.old }
+    ensures { bytes.new ≡ take place bytes.old ++ buf.now ++ drop (place + length buf.now) bytes.old }
+{
+    bytes[place..place + buf.len()].copy_from_slice(buf);
+}
+
+impl Writes for MemFile<Vec<u8>> {
+    ghost grows = { true };
+
+    ghost room = { λ f. vec_capacity f.inner - f.position };
+
+    const GROWS: bool = true;
+
+    fn write(&mut self, buf: &[u8]) -> io::Result<usize> {
+        if buf.is_empty() {
+            return Ok(0);
+        }
+        let Ok(place) = usize::try_from(self.position) else {
+            return Err(io::Error::from(AllocError));
+        };
+        put(&mut self.inner, place, buf)?;
+        self.position += buf.len() as u64;
+        Ok(buf.len())
+    }
+
+    fn flush(&mut self) -> io::Result<()> {
+        Ok(())
+    }
+}

@@ -1,0 +1,100 @@
+//! Reads runs of bytes from a device.
+ghost use Rattle.std.specs.Prelude.{◌≡◌, ◌+◌, ◌^◌, ◌<◌, ◌≤◌, length, take, drop, IsTrue, IfOk, IfErr, OnOk, OnErr};
+ghost use Rattle.ipc_devices.specs.Device.{Rises, after};
+ghost use Rattle.ipc_devices.specs.Faults.{OnIo, OwnFault, Answers};
+ghost use Rattle.ipc_devices.specs.Reading.{Filled, MovesBytes};
+ghost use Rattle.ipc_devices.specs.declared.fault.Fault.TheVariants.{Ended};
+
+use crate::device::Reads;
+use crate::fault::Fault;
+use std::alloc::Global;
+use std::io;
+
+// The most bytes that are read at once, and so taken from memory for a length that is only stated.
+const MOST_AT_ONCE: usize = 65_536;
+
+/// Reads until the buffer is full or no bytes are left, and answers how many it read.
+pub fn fill<R: Reads>(reader: &mut R, buf: &mut [u8]) -> io::Result<usize>
+    ensures bound { IfOk result (λ n. n ≤ length buf.new) }
+    ensures monotone { R.failures reader.old ≤ R.failures reader.new }
+    ensures failed { OnErr result (Rises (R.failures reader.old) (R.failures reader.new)) }
+    ensures given { R.given reader.new ≤ R.given reader.old + length buf.old }
+    ensures memory { IsTrue R.known → IfOk result (λ n.
+        Filled (after (R.memory reader.old)) (after (R.memory reader.new)) n buf.new) }
+    ensures whole { IsTrue R.still → (R.memory reader.new).whole ≡ (R.memory reader.old).whole }
+{
+    let mut at = 0;
+    while at < buf.len() {
+        let n = reader.read(&mut buf[at..])?;
+        if n == 0 {
+            break;
+        }
+        at += n;
+    }
+    Ok(at)
+}
+
+// Adds the next bytes, this many.
+fn add_piece<R: Reads>(reader: &mut R, bytes: &mut Vec<u8>, count: usize) -> Result<(), Fault>
+    requires { length bytes.old.items + count < 2 ^ 63 }
+    ensures grown { OnOk result (length bytes.new.items ≡ length bytes.old.items + count) }
+    ensures only { IfErr result (λ e. OwnFault e (e ≡ Ended)) }
+    ensures monotone { R.failures reader.old ≤ R.failures reader.new }
+    ensures failed { OnIo result (Rises (R.failures reader.old) (R.failures reader.new)) }
+    ensures given { R.given reader.new ≤ R.given reader.old + count }
+    ensures memory { IsTrue R.known → MovesBytes bytes.old.items (after (R.memory reader.old)) count
+        result bytes.new.items (after (R.memory reader.new)) }
+    ensures whole { IsTrue R.still → (R.memory reader.new).whole ≡ (R.memory reader.old).whole }
+{
+    let start = bytes.len();
+    bytes.resize(start + count, 0)?;
+    let n = fill(reader, &mut bytes[start..])?;
+    if n < count {
+        return Err(Fault::Ended);
+    }
+    Ok(())
+}
+
+/// Reads this many bytes in place of those that `bytes` holds, by at most 65,536 at a time: a stated
+/// length alone takes no memory. `Ended` comes exactly where there are fewer.
+pub fn read_into<R: Reads>(reader: &mut R, bytes: &mut Vec<u8>, count: usize) -> Result<(), Fault>
+    requires { count < 2 ^ 63 }
+    ensures count { OnOk result (length bytes.new.items ≡ count) }
+    ensures only { IfErr result (λ e. OwnFault e (e ≡ Ended)) }
+    ensures monotone { R.failures reader.old ≤ R.failures reader.new }
+    ensures failed { OnIo result (Rises (R.failures reader.old) (R.failures reader.new)) }
+    ensures given { R.given reader.new ≤ R.given reader.old + count }
+    ensures left { IsTrue R.known → OnOk result
+        (after (R.memory reader.new) ≡ drop count (after (R.memory reader.old))) }
+    ensures memory { IsTrue R.known → Answers result
+        (count ≤ length (after (R.memory reader.old)))
+        (λ _. bytes.new.items ≡ take count (after (R.memory reader.old))) }
+    ensures whole { IsTrue R.still → (R.memory reader.new).whole ≡ (R.memory reader.old).whole }
+{
+    bytes.clear();
+    while bytes.len() < count {
+        let piece = (count - bytes.len()).min(MOST_AT_ONCE);
+        add_piece(reader, bytes, piece)?;
+    }
+    Ok(())
+}
+
+/// As [`read_into`], with bytes of their own.
+pub fn read_bytes<R: Reads>(alloc: Global, reader: &mut R, count: usize) -> Result<Vec<u8>, Fault>
+    requires { count < 2 ^ 63 }
+    ensures count { IfOk result (λ v. length v.items ≡ count) }
+    ensures only { IfErr result (λ e. OwnFault e (e ≡ Ended)) }
+    ensures monotone { R.failures reader.old ≤ R.failures reader.new }
+    ensures failed { OnIo result (Rises (R.failures reader.old) (R.failures reader.new)) }
+    ensures given { R.given reader.new ≤ R.given reader.old + count }
+    ensures left { IsTrue R.known → OnOk result
+        (after (R.memory reader.new) ≡ drop count (after (R.memory reader.old))) }
+    ensures memory { IsTrue R.known → Answers result
+        (count ≤ length (after (R.memory reader.old)))
+        (λ v. v.items ≡ take count (after (R.memory reader.old))) }
+    ensures whole { IsTrue R.still → (R.memory reader.new).whole ≡ (R.memory reader.old).whole }
+{
+    let mut bytes = Vec::new(alloc);
+    read_into(reader, &mut bytes, count)?;
+    Ok(bytes)
+}
