@@ -1,0 +1,9 @@
+pub mod Enumerations
+pub mod FileSlots
+pub mod MessageSlots
+pub mod SchemaSlots
+pub mod Spot
+pub mod Structs
+pub mod Tables
+pub mod TypeSlots
+pub mod Unions
