@@ -1,0 +1,10 @@
+pub mod LaidOut
+pub mod Lengths
+pub mod ReaderLaws
+pub mod Rooted
+pub mod Standing
+pub mod TableBytes
+pub mod TableHolds
+pub mod VectorBytes
+pub mod VectorHolds
+pub mod VectorLengths

@@ -1,0 +1,101 @@
+//! Texts and vectors as bytes.
+ghost use Rattle.std.specs.Prelude.{ℕ, ◌≡◌, ◌<◌, ◌≤◌, ◌%◌, ◌^◌, ◌++◌, ◌+◌, ◌*◌, IfOk, OnOk, length};
+ghost use Rattle.ipc_parts.specs.Pads.{short};
+ghost use Rattle.ipc_parts.specs.Parts.{AreParts, IsPart, elements_bytes, gap_after, text_bytes, vector_bytes};
+ghost use Rattle.ipc_parts.specs.Tree.{Parts, elements, tables, text};
+
+use crate::build::{Built, pad, put_u32, put_zeros, short};
+use std::alloc::{AllocError, Global};
+
+#[tactic(auto, unfolding(crate::specs::Parts::text_bytes))]
+fn text_bytes(alloc: Global, content: &str) -> Result<Vec<u8>, AllocError>
+    ensures items { IfOk result (λ bytes. bytes.items ≡ text_bytes content.now) }
+    ensures whole { IfOk result (λ bytes. length bytes.items % 8 ≡ 0) }
+{
+    let mut bytes = Vec::new(alloc);
+    put_u32(&mut bytes, short(content.len()))?;
+    bytes.extend_from_slice(content.as_bytes())?;
+    bytes.push(0).map_err(AllocError::from)?;
+    pad(&mut bytes)?;
+    Ok(bytes)
+}
+
+/// A text: its length, its bytes and a zero byte.
+pub fn text(alloc: Global, content: &str) -> Result<Built, AllocError>
+    ensures { IfOk result (λ built. IsPart built (text content.now)) }
+{
+    let bytes = text_bytes(alloc, content)?;
+    Ok(Built { bytes, entry: 0 })
+}
+
+#[tactic(auto, unfolding(crate::specs::Parts::elements_bytes))]
+fn elements_bytes(alloc: Global, count: usize, raw: &[u8]) -> Result<Vec<u8>, AllocError>
+    ensures items { IfOk result (λ bytes. bytes.items ≡ elements_bytes count raw.now) }
+    ensures whole { IfOk result (λ bytes. length bytes.items % 8 ≡ 0) }
+{
+    let mut bytes = Vec::new(alloc);
+    put_u32(&mut bytes, 0)?;
+    put_u32(&mut bytes, short(count))?;
+    bytes.extend_from_slice(raw)?;
+    pad(&mut bytes)?;
+    Ok(bytes)
+}
+
+/// A vector of `count` elements that hold no offset, whose bytes are given. The first stands at a
+/// multiple of 8.
+pub fn elements(alloc: Global, count: usize, raw: &[u8]) -> Result<Built, AllocError>
+    ensures { (align size : ℕ) → 8 % align ≡ 0 → 0 < size → length raw.now ≡ size * count
+        → IfOk result (λ built. IsPart built (elements align size count raw.now)) }
+{
+    let bytes = elements_bytes(alloc, count, raw)?;
+    Ok(Built { bytes, entry: 4 })
+}
+
+// The offset to a part, where `count` offsets, a gap and the earlier parts come before it.
+fn offset_to(count: usize, before: usize, entry: usize) -> u32
+    requires before { before < 2 ^ 63 + 8 }
+    requires entry { entry < 2 ^ 16 }
+    ensures { result ≡ short (4 * count + before + entry) }
+{
+    if count > u32::MAX as usize {
+        u32::MAX
+    } else {
+        short(4 * count + before + entry)
+    }
+}
+
+// How many zeros stand between the offsets and the parts.
+fn gap_after(parts: &[Built]) -> usize
+    ensures value { result ≡ gap_after parts.now }
+    ensures small { result < 8 }
+{
+    4 - 4 * (parts.len() % 2)
+}
+
+fn vector_bytes(alloc: Global, parts: &[Built]) -> Result<Vec<u8>, AllocError>
+    ensures items { IfOk result (λ bytes. bytes.items ≡ vector_bytes parts.now) }
+    ensures whole { IfOk result (λ bytes. length bytes.items % 8 ≡ 0) }
+{
+    let mut bytes = Vec::new(alloc);
+    put_u32(&mut bytes, short(parts.len()))?;
+    let gap = gap_after(parts);
+    let mut tail: Vec<u8> = Vec::new(alloc);
+    for (i, part) in parts.iter().enumerate() {
+        put_u32(
+            &mut bytes,
+            offset_to(parts.len() - i, gap + tail.len(), part.entry),
+        )?;
+        tail.extend_from_slice(&part.bytes)?;
+    }
+    put_zeros(&mut bytes, gap)?;
+    bytes.append(&mut tail)?;
+    Ok(bytes)
+}
+
+/// A vector of tables or texts: its count, an offset to each, and the parts.
+pub fn tables(alloc: Global, parts: &[Built]) -> Result<Built, AllocError>
+    ensures { (xs : Parts) → AreParts parts.now xs → IfOk result (λ built. IsPart built (tables xs)) }
+{
+    let bytes = vector_bytes(alloc, parts)?;
+    Ok(Built { bytes, entry: 0 })
+}
