@@ -1,0 +1,9 @@
+pub mod BuiltLists
+pub mod Kept
+pub mod Lengths
+pub mod MessageLaws
+pub mod Numbers
+pub mod SchemaLaws
+pub mod SlotLists
+pub mod TypeLaws
+pub mod WeightLaws

@@ -1,0 +1,92 @@
+-- The tables of messages and footers that are built read as these.
+use Rattle.std.proofs.Common.{◌≡◌, ℕ, ◌<◌, ◌≤◌, List, Result, Ok, Err, IfOk, ap, ◌∙◌, arith, Vec}
+use Rattle.ipc_devices.specs.declared.fault.Fault.{Fault}
+use Rattle.ipc_views.specs.Enumerations.{version_of}
+use Rattle.ipc_views.specs.Structs.{block_of, buffer_of, node_of}
+use Rattle.ipc_views.specs.Tables.{and_then, number_at, root_at, spot_at}
+use Rattle.ipc_parts.specs.Encodes.{Encodes}
+use Rattle.ipc_parts.specs.Holds.{HoldsPart, HoldsRoot, spot}
+use Rattle.ipc_parts.specs.Tree.{Slots, no_slots, table}
+use Rattle.ipc_parts.proofs.ReaderLaws.{absent-read, number-read, optional-read, spot-read, structs-read, table-read, union-read}
+use Rattle.ipc_tables.specs.declared.file.Footer.{Footer}
+use Rattle.ipc_tables.specs.declared.message.DictionaryBatch.{DictionaryBatch}
+use Rattle.ipc_tables.specs.declared.message.Message.{Message}
+use Rattle.ipc_tables.specs.declared.message.MessageHeader.{MessageHeader}
+use Rattle.ipc_tables.specs.declared.message.MessageHeader.TheVariants.{Schema as a_schema, DictionaryBatch as a_dictionary_batch, RecordBatch as a_record_batch}
+use Rattle.ipc_tables.specs.declared.message.RecordBatch.{RecordBatch}
+use Rattle.ipc_tables.specs.Files.{block_bytes, footer_slots}
+use Rattle.ipc_tables.specs.Messages.{buffer_bytes, dictionary_batch_slots, header_slots, header_tag, message_slots, node_bytes, record_batch_slots}
+use Rattle.ipc_tables.specs.Reads.{HaveRoot, IsDictionaryBatch, IsFooter, IsHeader, IsMessage, IsRecordBatch, kept_block, kept_buffer, kept_node}
+use Rattle.ipc_tables.specs.Schemas.{pairs_part, schema_slots, version_number}
+use Rattle.ipc_tables.specs.Slots.{bits64}
+use Rattle.ipc_tables.proofs.Lengths.{length-block, length-pair}
+use Rattle.ipc_tables.proofs.Numbers.{long-read, flag-read, unit-read, version-back, node-is, buffer-is, block-is}
+use Rattle.ipc_tables.proofs.SchemaLaws.{ArePairs-holds, IsSchema-holds}
+
+pub IsRecordBatch-holds : (m : List ℕ) (p : ℕ) (b : RecordBatch) → HoldsPart m p (table (record_batch_slots b)) → IsRecordBatch (spot m p) b
+IsRecordBatch-holds m p b (v, size, e, f, ((q0, e0, f0, g0), ((q1, t1, e1, f1, g1, h1), ((q2, t2, e2, f2, g2, h2), past)))) = record {
+  rows = long-read m p 0 q0 b.length e0 f0;
+  nodes = structs-read node_of 8 16 node_bytes kept_node (λ n. length-pair (bits64 n.length) (bits64 n.null_count)) node-is m p 1 q1 t1 b.nodes.items e1 f1 h1;
+  buffers = structs-read buffer_of 8 16 buffer_bytes kept_buffer (λ b. length-pair (bits64 b.offset) (bits64 b.length)) buffer-is m p 2 q2 t2 b.buffers.items e2 f2 h2;
+  uncompressed = absent-read m p 3 _ (past 0);
+}
+
+pub IsDictionaryBatch-holds : (m : List ℕ) (p : ℕ) (b : DictionaryBatch) → HoldsPart m p (table (dictionary_batch_slots b)) → IsDictionaryBatch (spot m p) b
+IsDictionaryBatch-holds m p b (v, size, e, f, ((q0, e0, f0, g0), ((q1, t1, e1, f1, g1, h1), ((q2, e2, f2, g2), past)))) = record {
+  id = long-read m p 0 q0 b.id e0 f0;
+  values = (spot m t1, table-read m p 1 q1 t1 (record_batch_slots b.data_) e1 f1 h1, IsRecordBatch-holds m t1 b.data_ h1);
+  delta = flag-read m p 2 q2 b.is_delta e2 f2;
+}
+
+IsHeader-holds : (levels : ℕ) (m : List ℕ) (p : ℕ) (h : MessageHeader) → HoldsPart m p (table (header_slots h)) → IsHeader levels (spot m p) h
+IsHeader-holds levels m p (a_schema s) h = IsSchema-holds levels m p s h
+IsHeader-holds levels m p (a_dictionary_batch b) h = IsDictionaryBatch-holds m p b h
+IsHeader-holds levels m p (a_record_batch b) h = IsRecordBatch-holds m p b h
+
+header-low : (h : MessageHeader) → (0 < header_tag h) × (header_tag h ≤ 5)
+header-low (a_schema s) = (omega arith, omega arith)
+header-low (a_dictionary_batch b) = (omega arith, omega arith)
+header-low (a_record_batch b) = (omega arith, omega arith)
+
+IsMessage-holds : (levels : ℕ) (m : List ℕ) (p : ℕ) (x : Message) → HoldsPart m p (table (message_slots x)) → IsMessage levels (spot m p) x
+IsMessage-holds levels m p x (v, size, e, f, ((q0, e0, f0, g0), ((q1, e1, f1, g1), ((q2, t2, e2, f2, g2, h2), ((q3, e3, f3, g3), past))))) = record {
+  version = unit-read version_number version_of version-back 0 m p 0 q0 x.version e0 f0;
+  header = (
+    spot m t2,
+    union-read 5 m p 1 (header_tag x.header) (spot m t2) (number-read 1 0 m p 1 q1 (header_tag x.header) e1 f1) (header-low x.header).0 (header-low x.header).1
+        (table-read m p 2 q2 t2 (header_slots x.header) e2 f2 h2),
+    IsHeader-holds levels m t2 x.header h2,
+  );
+  body_length = long-read m p 3 q3 x.body_length e3 f3;
+  no_pairs = absent-read m p 4 _ (past 0);
+}
+
+IsFooter-holds : (levels : ℕ) (m : List ℕ) (p : ℕ) (x : Footer) → HoldsPart m p (table (footer_slots x)) → IsFooter levels (spot m p) x
+IsFooter-holds levels m p x (v, size, e, f, ((q0, e0, f0, g0), ((q1, t1, e1, f1, g1, h1), ((q2, t2, e2, f2, g2, h2), ((q3, t3, e3, f3, g3, h3), rest))))) =
+    let pairs = optional-read m p size 4 (pairs_part x.custom_metadata.items) no_slots rest in
+    record {
+      version = unit-read version_number version_of version-back 0 m p 0 q0 x.version e0 f0;
+      schema = (spot m t1, table-read m p 1 q1 t1 (schema_slots x.schema) e1 f1 h1, IsSchema-holds levels m t1 x.schema h1);
+      dictionaries = structs-read block_of 8 24 block_bytes kept_block length-block block-is m p 2 q2 t2 x.dictionaries.items e2 f2 h2;
+      record_batches = structs-read block_of 8 24 block_bytes kept_block length-block block-is m p 3 q3 t3 x.record_batches.items e3 f3 h3;
+      pairs = ArePairs-holds m p 4 x.custom_metadata.items pairs.0;
+    }
+
+root-opened : (m : List ℕ) (p : ℕ) (slots : Slots) → number_at 4 m 0 ≡ Ok p → HoldsPart m p (table slots) → root_at m ≡ Ok (spot m p)
+root-opened m p slots e h = ap (λ r. and_then r (spot_at m)) e ∙ spot-read m p slots h
+
+-- the bytes of a message read as it
+pub message-read : (levels : ℕ) (bytes : List ℕ) (x : Message) → HoldsRoot bytes (message_slots x) → HaveRoot bytes (IsMessage levels) x
+message-read levels bytes x (p, e, h) = record { root = spot bytes p; opened = root-opened bytes p (message_slots x) e h; reads = IsMessage-holds levels bytes p x h }
+
+-- the bytes of a footer read as it
+pub footer-read : (levels : ℕ) (bytes : List ℕ) (x : Footer) → HoldsRoot bytes (footer_slots x) → HaveRoot bytes (IsFooter levels) x
+footer-read levels bytes x (p, e, h) = record { root = spot bytes p; opened = root-opened bytes p (footer_slots x) e h; reads = IsFooter-holds levels bytes p x h }
+
+pub message-read-from : {A : Type 0} (result : Result (Vec ℕ A) Fault) (x : Message) → Encodes result (message_slots x) → (levels : ℕ) → IfOk result (λ bytes. HaveRoot bytes.items (IsMessage levels) x)
+message-read-from (Ok bytes) x is levels = message-read levels bytes.items x is.holds
+message-read-from (Err e) x is levels = tt
+
+pub footer-read-from : {A : Type 0} (result : Result (Vec ℕ A) Fault) (x : Footer) → Encodes result (footer_slots x) → (levels : ℕ) → IfOk result (λ bytes. HaveRoot bytes.items (IsFooter levels) x)
+footer-read-from (Ok bytes) x is levels = footer-read levels bytes.items x is.holds
+footer-read-from (Err e) x is levels = tt

@@ -1,0 +1,15 @@
+use Rattle.std.proofs.Common.{rules, ◌≡◌}
+use Rattle.ipc_parts.specs.Parts.{is_offset, no_more}
+use Rattle.ipc_tables.specs.Slots.{bits64}
+use Rattle.ipc_tables.proofs.SlotLists.{is_byte, is_long, is_short}
+use Rattle.ipc_tables.specs.Messages.{message_slots}
+use Rattle.ipc_tables.proofs.message.message_part.Goals as goal
+
+pub returns : goal.returns
+returns c =
+    let body : c.long.result ≡ bits64 c.args.message.now.body_length = search rules in
+    c.table.ensures (message_slots c.args.message.now)
+    (is_short c.version_number.ensures.value c.version_number.ensures.small
+    (is_byte c.header_tag.ensures.value c.header_tag.ensures.small
+    (is_offset c.in_ok-header.ensures
+    (is_long body c.long.ensures.small no_more))))

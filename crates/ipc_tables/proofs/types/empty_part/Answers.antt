@@ -1,0 +1,5 @@
+use Rattle.ipc_parts.specs.Parts.{no_more}
+use Rattle.ipc_tables.proofs.types.empty_part.Goals as goal
+
+pub returns : goal.returns
+returns c = c.table.ensures _ no_more

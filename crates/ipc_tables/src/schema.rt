@@ -1,0 +1,187 @@
+//! The tables of Arrow's `Schema.fbs` that hold a schema and its fields, as values and as bytes.
+ghost use Rattle.std.specs.Prelude.{◌≡◌, ◌<◌, ◌^◌, List, map, IfOk, option_map};
+ghost use Rattle.ipc_parts.specs.Parts.{IsPart};
+ghost use Rattle.ipc_parts.specs.Tree.{Part, table};
+ghost use Rattle.ipc_tables.specs.Schemas.{dictionary_slots, endianness_number, field_part, field_slots, pair_part, pairs_part, schema_slots, version_number};
+ghost use Rattle.ipc_tables.specs.Slots.{AreBuilt, IsOptional};
+
+use crate::slots::{flag, long, push};
+use crate::types::{FieldType, Int, int_part, type_part, type_tag};
+use ipc_parts::{Built, Slot, table, tables, text};
+use ipc_views::{Endianness, MetadataVersion};
+use std::alloc::{AllocError, Global};
+
+/// A table `KeyValue`.
+#[derive(Drop)]
+pub struct KeyValue {
+    pub key: String,
+    pub value: String,
+}
+
+/// A table `DictionaryEncoding`.
+#[derive(Clone, Copy, Debug, PartialEq, Eq)]
+pub struct DictionaryEncoding {
+    pub id: i64,
+    /// The type of the keys.
+    pub index_type: Int,
+    pub is_ordered: bool,
+}
+
+/// A table `Field`.
+#[derive(Drop)]
+pub struct Field {
+    pub name: String,
+    pub nullable: bool,
+    /// The type, or that of the values where there is a dictionary.
+    pub type_: FieldType,
+    pub dictionary: Option<DictionaryEncoding>,
+    pub children: Vec<Field>,
+    /// Written where there is a pair.
+    pub custom_metadata: Vec<KeyValue>,
+}
+
+/// A table `Schema`.
+#[derive(Drop)]
+pub struct Schema {
+    pub endianness: Endianness,
+    pub fields: Vec<Field>,
+    /// Written where there is a pair.
+    pub custom_metadata: Vec<KeyValue>,
+}
+
+pub(crate) fn version_number(version: MetadataVersion) -> u64
+    ensures value { result ≡ version_number version }
+    ensures small { result < 2 ^ 16 }
+{
+    match version {
+        MetadataVersion::V1 => 0,
+        MetadataVersion::V2 => 1,
+        MetadataVersion::V3 => 2,
+        MetadataVersion::V4 => 3,
+        MetadataVersion::V5 => 4,
+    }
+}
+
+fn endianness_number(endianness: Endianness) -> u64
+    ensures value { result ≡ endianness_number endianness }
+    ensures small { result < 2 ^ 16 }
+{
+    match endianness {
+        Endianness::Little => 0,
+        Endianness::Big => 1,
+    }
+}
+
+fn pair_part(alloc: Global, pair: &KeyValue) -> Result<Built, AllocError>
+    ensures { IfOk result (λ built. IsPart built (pair_part pair.now)) }
+{
+    let key = text(alloc, pair.key.as_str())?;
+    let value = text(alloc, pair.value.as_str())?;
+    table(alloc, &[Slot::Offset(key), Slot::Offset(value)])
+}
+
+fn pair_parts(alloc: Global, pairs: &[KeyValue]) -> Result<Vec<Built>, AllocError>
+    ensures { IfOk result (λ parts. AreBuilt parts.items (map pair_part pairs.now)) }
+{
+    let mut parts = Vec::new(alloc);
+    for pair in pairs {
+        push(&mut parts, pair_part(alloc, pair)?)?;
+    }
+    Ok(parts)
+}
+
+// The pairs, or nothing where there is none.
+pub(crate) fn pairs_slot(alloc: Global, pairs: &[KeyValue]) -> Result<Slot, AllocError>
+    ensures { IfOk result (λ slot. IsOptional slot (pairs_part pairs.now)) }
+{
+    if pairs.is_empty() {
+        return Ok(Slot::Absent);
+    }
+    let parts = pair_parts(alloc, pairs)?;
+    Ok(Slot::Offset(tables(alloc, &parts)?))
+}
+
+fn dictionary_part(alloc: Global, dictionary: DictionaryEncoding) -> Result<Built, AllocError>
+    ensures { IfOk result (λ built. IsPart built (table (dictionary_slots dictionary))) }
+{
+    let index_type = int_part(alloc, dictionary.index_type)?;
+    table(
+        alloc,
+        &[
+            Slot::Number(long(dictionary.id)),
+            Slot::Offset(index_type),
+            Slot::Number(flag(dictionary.is_ordered)),
+        ],
+    )
+}
+
+fn dictionary_slot(
+    alloc: Global,
+    dictionary: Option<DictionaryEncoding>,
+) -> Result<Slot, AllocError>
+    ensures { IfOk result (λ slot. IsOptional slot (option_map (λ d. table (dictionary_slots d)) dictionary)) }
+{
+    match dictionary {
+        None => Ok(Slot::Absent),
+        Some(dictionary) => Ok(Slot::Offset(dictionary_part(alloc, dictionary)?)),
+    }
+}
+
+// The table of a field whose children are built.
+fn field_table(alloc: Global, field: &Field, children: &[Built]) -> Result<Built, AllocError>
+    ensures { (parts : List Part) → AreBuilt children.now parts → IfOk result (λ built. IsPart built (table (field_slots field.now parts))) }
+{
+    let name = text(alloc, field.name.as_str())?;
+    let type_ = type_part(alloc, &field.type_)?;
+    let dictionary = dictionary_slot(alloc, field.dictionary)?;
+    let children = tables(alloc, children)?;
+    let pairs = pairs_slot(alloc, field.custom_metadata.as_slice())?;
+    table(
+        alloc,
+        &[
+            Slot::Offset(name),
+            Slot::Number(flag(field.nullable)),
+            Slot::Number(type_tag(&field.type_)),
+            Slot::Offset(type_),
+            dictionary,
+            Slot::Offset(children),
+            pairs,
+        ],
+    )
+}
+
+#[cycle(fields)]
+fn field_part(alloc: Global, field: &Field) -> Result<Built, AllocError>
+    ensures { IfOk result (λ built. IsPart built (field_part field.now)) }
+{
+    let children = field_parts(alloc, &field.children)?;
+    field_table(alloc, field, &children)
+}
+
+#[cycle(fields)]
+fn field_parts(alloc: Global, fields: &[Field]) -> Result<Vec<Built>, AllocError>
+    ensures { IfOk result (λ parts. AreBuilt parts.items (map field_part fields.now)) }
+{
+    let mut parts = Vec::new(alloc);
+    for field in fields {
+        push(&mut parts, field_part(alloc, field)?)?;
+    }
+    Ok(parts)
+}
+
+// The table of a schema.
+pub(crate) fn schema_part(alloc: Global, schema: &Schema) -> Result<Built, AllocError>
+    ensures { IfOk result (λ built. IsPart built (table (schema_slots schema.now))) }
+{
+    let fields = field_parts(alloc, &schema.fields)?;
+    let fields = tables(alloc, &fields)?;
+    let pairs = pairs_slot(alloc, schema.custom_metadata.as_slice())?;
+    table(
+        alloc,
+        &[
+            Slot::Number(endianness_number(schema.endianness)),
+            Slot::Offset(fields),
+            pairs,
+        ],
+    )
+}

@@ -1,0 +1,350 @@
+//! The tables of Arrow's `Schema.fbs` that describe a type, as values and as bytes.
+ghost use Rattle.std.specs.Prelude.{◌≡◌, ◌<◌, ◌^◌, IfOk, option_map, string_bytes};
+ghost use Rattle.ipc_parts.specs.Parts.{IsPart};
+ghost use Rattle.ipc_parts.specs.Tree.{no_slots, table, text};
+ghost use Rattle.ipc_tables.specs.Slots.{IsOptional, bits32, number_slots};
+ghost use Rattle.ipc_tables.specs.Types.{date_unit_number, decimal_slots, ids_bytes, ids_part, int_slots, interval_unit_number, map_slots, precision_number, time_slots, time_unit_number, timestamp_slots, type_slots, type_tag, union_mode_number, union_slots};
+
+use crate::slots::{flag, put_word, word};
+use ipc_parts::{Built, Slot, elements, table, text};
+use ipc_views::{DateUnit, IntervalUnit, Precision, TimeUnit, UnionMode};
+use std::alloc::{AllocError, Global};
+
+/// A table `Int`.
+#[derive(Clone, Copy, Debug, PartialEq, Eq)]
+pub struct Int {
+    /// 8, 16, 32 or 64.
+    pub bit_width: i32,
+    pub is_signed: bool,
+}
+
+/// A table `FloatingPoint`.
+#[derive(Clone, Copy, Debug, PartialEq, Eq)]
+pub struct FloatingPoint {
+    pub precision: Precision,
+}
+
+/// A table `Decimal`.
+#[derive(Clone, Copy, Debug, PartialEq, Eq)]
+pub struct Decimal {
+    /// The number of decimal digits.
+    pub precision: i32,
+    /// The number of digits after the point.
+    pub scale: i32,
+    /// 128 or 256.
+    pub bit_width: i32,
+}
+
+/// A table `Date`.
+#[derive(Clone, Copy, Debug, PartialEq, Eq)]
+pub struct Date {
+    pub unit: DateUnit,
+}
+
+/// A table `Time`.
+#[derive(Clone, Copy, Debug, PartialEq, Eq)]
+pub struct Time {
+    pub unit: TimeUnit,
+    /// 32 or 64.
+    pub bit_width: i32,
+}
+
+/// A table `Timestamp`.
+#[derive(Drop)]
+pub struct Timestamp {
+    pub unit: TimeUnit,
+    pub timezone: Option<String>,
+}
+
+/// A table `Interval`.
+#[derive(Clone, Copy, Debug, PartialEq, Eq)]
+pub struct Interval {
+    pub unit: IntervalUnit,
+}
+
+/// A table `Union`.
+#[derive(Drop)]
+pub struct Union {
+    pub mode: UnionMode,
+    /// The ids of the children, None where they are 0, 1, 2 and on.
+    pub type_ids: Option<Vec<i32>>,
+}
+
+/// A table `FixedSizeBinary`.
+#[derive(Clone, Copy, Debug, PartialEq, Eq)]
+pub struct FixedSizeBinary {
+    pub byte_width: i32,
+}
+
+/// A table `FixedSizeList`.
+#[derive(Clone, Copy, Debug, PartialEq, Eq)]
+pub struct FixedSizeList {
+    pub list_size: i32,
+}
+
+/// A table `Map`.
+#[derive(Clone, Copy, Debug, PartialEq, Eq)]
+pub struct Map {
+    pub keys_sorted: bool,
+}
+
+/// A table `Duration`.
+#[derive(Clone, Copy, Debug, PartialEq, Eq)]
+pub struct Duration {
+    pub unit: TimeUnit,
+}
+
+/// The type of a field: the union `Type`.
+#[derive(Drop)]
+pub enum FieldType {
+    Null,
+    Int(Int),
+    FloatingPoint(FloatingPoint),
+    Binary,
+    Utf8,
+    Bool,
+    Decimal(Decimal),
+    Date(Date),
+    Time(Time),
+    Timestamp(Timestamp),
+    Interval(Interval),
+    List,
+    Struct,
+    Union(Union),
+    FixedSizeBinary(FixedSizeBinary),
+    FixedSizeList(FixedSizeList),
+    Map(Map),
+    Duration(Duration),
+    LargeBinary,
+    LargeUtf8,
+    LargeList,
+}
+
+fn precision_number(precision: Precision) -> u64
+    ensures value { result ≡ precision_number precision }
+    ensures small { result < 2 ^ 16 }
+{
+    match precision {
+        Precision::Half => 0,
+        Precision::Single => 1,
+        Precision::Double => 2,
+    }
+}
+
+fn date_unit_number(unit: DateUnit) -> u64
+    ensures value { result ≡ date_unit_number unit }
+    ensures small { result < 2 ^ 16 }
+{
+    match unit {
+        DateUnit::Day => 0,
+        DateUnit::Millisecond => 1,
+    }
+}
+
+fn time_unit_number(unit: TimeUnit) -> u64
+    ensures value { result ≡ time_unit_number unit }
+    ensures small { result < 2 ^ 16 }
+{
+    match unit {
+        TimeUnit::Second => 0,
+        TimeUnit::Millisecond => 1,
+        TimeUnit::Microsecond => 2,
+        TimeUnit::Nanosecond => 3,
+    }
+}
+
+fn interval_unit_number(unit: IntervalUnit) -> u64
+    ensures value { result ≡ interval_unit_number unit }
+    ensures small { result < 2 ^ 16 }
+{
+    match unit {
+        IntervalUnit::YearMonth => 0,
+        IntervalUnit::DayTime => 1,
+        IntervalUnit::MonthDayNano => 2,
+    }
+}
+
+fn union_mode_number(mode: UnionMode) -> u64
+    ensures value { result ≡ union_mode_number mode }
+    ensures small { result < 2 ^ 16 }
+{
+    match mode {
+        UnionMode::Sparse => 0,
+        UnionMode::Dense => 1,
+    }
+}
+
+// The number of a type in the union `Type`.
+pub(crate) fn type_tag(type_: &FieldType) -> u64
+    ensures value { result ≡ type_tag type_.now }
+    ensures small { result < 256 }
+{
+    match type_ {
+        FieldType::Null => 1,
+        FieldType::Int(_) => 2,
+        FieldType::FloatingPoint(_) => 3,
+        FieldType::Binary => 4,
+        FieldType::Utf8 => 5,
+        FieldType::Bool => 6,
+        FieldType::Decimal(_) => 7,
+        FieldType::Date(_) => 8,
+        FieldType::Time(_) => 9,
+        FieldType::Timestamp(_) => 10,
+        FieldType::Interval(_) => 11,
+        FieldType::List => 12,
+        FieldType::Struct => 13,
+        FieldType::Union(_) => 14,
+        FieldType::FixedSizeBinary(_) => 15,
+        FieldType::FixedSizeList(_) => 16,
+        FieldType::Map(_) => 17,
+        FieldType::Duration(_) => 18,
+        FieldType::LargeBinary => 19,
+        FieldType::LargeUtf8 => 20,
+        FieldType::LargeList => 21,
+    }
+}
+
+fn empty_part(alloc: Global) -> Result<Built, AllocError>
+    ensures { IfOk result (λ built. IsPart built (table no_slots)) }
+{
+    table(alloc, &[])
+}
+
+// A table of one enumeration.
+fn unit_part(alloc: Global, number: u64) -> Result<Built, AllocError>
+    requires { number < 2 ^ 16 }
+    ensures { IfOk result (λ built. IsPart built (table (number_slots 2 number))) }
+{
+    table(alloc, &[Slot::Number(number)])
+}
+
+// A table of one signed number of 32 bits.
+fn width_part(alloc: Global, width: i32) -> Result<Built, AllocError>
+    ensures { IfOk result (λ built. IsPart built (table (number_slots 4 (bits32 width)))) }
+{
+    table(alloc, &[Slot::Number(word(width))])
+}
+
+pub(crate) fn int_part(alloc: Global, int: Int) -> Result<Built, AllocError>
+    ensures { IfOk result (λ built. IsPart built (table (int_slots int))) }
+{
+    table(
+        alloc,
+        &[
+            Slot::Number(word(int.bit_width)),
+            Slot::Number(flag(int.is_signed)),
+        ],
+    )
+}
+
+fn decimal_part(alloc: Global, decimal: Decimal) -> Result<Built, AllocError>
+    ensures { IfOk result (λ built. IsPart built (table (decimal_slots decimal))) }
+{
+    table(
+        alloc,
+        &[
+            Slot::Number(word(decimal.precision)),
+            Slot::Number(word(decimal.scale)),
+            Slot::Number(word(decimal.bit_width)),
+        ],
+    )
+}
+
+fn time_part(alloc: Global, time: Time) -> Result<Built, AllocError>
+    ensures { IfOk result (λ built. IsPart built (table (time_slots time))) }
+{
+    table(
+        alloc,
+        &[
+            Slot::Number(time_unit_number(time.unit)),
+            Slot::Number(word(time.bit_width)),
+        ],
+    )
+}
+
+fn timezone_slot(alloc: Global, timezone: &Option<String>) -> Result<Slot, AllocError>
+    ensures { IfOk result (λ slot. IsOptional slot (option_map (λ s. text (string_bytes s)) timezone.now)) }
+{
+    match timezone {
+        None => Ok(Slot::Absent),
+        Some(timezone) => Ok(Slot::Offset(text(alloc, timezone.as_str())?)),
+    }
+}
+
+fn timestamp_part(alloc: Global, timestamp: &Timestamp) -> Result<Built, AllocError>
+    ensures { IfOk result (λ built. IsPart built (table (timestamp_slots timestamp.now))) }
+{
+    let timezone = timezone_slot(alloc, &timestamp.timezone)?;
+    table(
+        alloc,
+        &[Slot::Number(time_unit_number(timestamp.unit)), timezone],
+    )
+}
+
+fn ids_bytes(alloc: Global, ids: &[i32]) -> Result<Vec<u8>, AllocError>
+    ensures { IfOk result (λ bytes. bytes.items ≡ ids_bytes ids.now) }
+{
+    let mut bytes = Vec::new(alloc);
+    for id in ids {
+        put_word(&mut bytes, *id)?;
+    }
+    Ok(bytes)
+}
+
+fn ids_part(alloc: Global, ids: &[i32]) -> Result<Built, AllocError>
+    ensures { IfOk result (λ built. IsPart built (ids_part ids.now)) }
+{
+    let bytes = ids_bytes(alloc, ids)?;
+    elements(alloc, ids.len(), bytes.as_slice())
+}
+
+fn ids_slot(alloc: Global, ids: &Option<Vec<i32>>) -> Result<Slot, AllocError>
+    ensures { IfOk result (λ slot. IsOptional slot (option_map (λ v. ids_part v.items) ids.now)) }
+{
+    match ids {
+        None => Ok(Slot::Absent),
+        Some(ids) => Ok(Slot::Offset(ids_part(alloc, ids.as_slice())?)),
+    }
+}
+
+fn union_part(alloc: Global, union: &Union) -> Result<Built, AllocError>
+    ensures { IfOk result (λ built. IsPart built (table (union_slots union.now))) }
+{
+    let ids = ids_slot(alloc, &union.type_ids)?;
+    table(alloc, &[Slot::Number(union_mode_number(union.mode)), ids])
+}
+
+fn map_part(alloc: Global, map: Map) -> Result<Built, AllocError>
+    ensures { IfOk result (λ built. IsPart built (table (map_slots map))) }
+{
+    table(alloc, &[Slot::Number(flag(map.keys_sorted))])
+}
+
+// The table of a type.
+pub(crate) fn type_part(alloc: Global, type_: &FieldType) -> Result<Built, AllocError>
+    ensures { IfOk result (λ built. IsPart built (table (type_slots type_.now))) }
+{
+    match type_ {
+        FieldType::Null => empty_part(alloc),
+        FieldType::Int(int) => int_part(alloc, *int),
+        FieldType::FloatingPoint(float) => unit_part(alloc, precision_number(float.precision)),
+        FieldType::Binary => empty_part(alloc),
+        FieldType::Utf8 => empty_part(alloc),
+        FieldType::Bool => empty_part(alloc),
+        FieldType::Decimal(decimal) => decimal_part(alloc, *decimal),
+        FieldType::Date(date) => unit_part(alloc, date_unit_number(date.unit)),
+        FieldType::Time(time) => time_part(alloc, *time),
+        FieldType::Timestamp(timestamp) => timestamp_part(alloc, timestamp),
+        FieldType::Interval(interval) => unit_part(alloc, interval_unit_number(interval.unit)),
+        FieldType::List => empty_part(alloc),
+        FieldType::Struct => empty_part(alloc),
+        FieldType::Union(union) => union_part(alloc, union),
+        FieldType::FixedSizeBinary(binary) => width_part(alloc, binary.byte_width),
+        FieldType::FixedSizeList(list) => width_part(alloc, list.list_size),
+        FieldType::Map(map) => map_part(alloc, *map),
+        FieldType::Duration(duration) => unit_part(alloc, time_unit_number(duration.unit)),
+        FieldType::LargeBinary => empty_part(alloc),
+        FieldType::LargeUtf8 => empty_part(alloc),
+        FieldType::LargeList => empty_part(alloc),
+    }
+}
