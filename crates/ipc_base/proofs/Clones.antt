@@ -1,0 +1,24 @@
+-- Clones of columns with one number of rows have that number of rows.
+use Rattle.std.proofs.Common.{◌≡◌, ℕ, List, [], ◌∷◌, ◌∙◌, sym}
+use Rattle.std.specs.List.{All, AllZip}
+use Rattle.std.proofs.lemmas.List.Elements.{All-nil, All-cons, All-head, All-tail}
+use Rattle.ipc_base.specs.Chunks.{AreEqualRows, row_count}
+
+module _ {A : Type 0} (rows : A → ℕ) (is_clone : A → A → Type 0) (kept : (x y : A) → is_clone x y → rows y ≡ rows x) where
+  kept_rows : (n : ℕ) (xs ys : List A) → AllZip is_clone xs ys → All (λ x. rows x ≡ n) xs → All (λ y. rows y ≡ n) ys
+  kept_rows n [] [] same all = All-nil (λ y. rows y ≡ n)
+  kept_rows n [] (y ∷ ys) same all = absurd same
+  kept_rows n (x ∷ xs) [] same all = absurd same
+  kept_rows n (x ∷ xs) (y ∷ ys) same all =
+      All-cons (λ y. rows y ≡ n) y ys (kept x y same.0 ∙ All-head (λ x. rows x ≡ n) x xs all)
+      (kept_rows n xs ys same.1 (All-tail (λ x. rows x ≡ n) x xs all))
+
+  pub equal_clones : (xs ys : List A) → AllZip is_clone xs ys → AreEqualRows rows xs → AreEqualRows rows ys
+  equal_clones [] [] same equal = equal
+  equal_clones [] (y ∷ ys) same equal = absurd same
+  equal_clones (x ∷ xs) [] same equal = absurd same
+  equal_clones (x ∷ xs) (y ∷ ys) same equal =
+      kept_rows (rows y) (x ∷ xs) (y ∷ ys) same (subst_rows (sym (kept x y same.0)) equal)
+    where
+      subst_rows : {m n : ℕ} → m ≡ n → All (λ x. rows x ≡ m) (x ∷ xs) → All (λ x. rows x ≡ n) (x ∷ xs)
+      subst_rows e all = λ k d inside. all k d inside ∙ e

@@ -1,0 +1,3 @@
+pub mod Clones
+pub mod FitTests
+pub mod IdLists

@@ -1,0 +1,161 @@
+//! Chunks: columns of one length, the unit in which data is written and read.
+ghost use Rattle.std.specs.Prelude.{◌≡◌, ◌↔◌, ℕ, IsTrue, IsOk, IfOk, IfErr, OnErr};
+ghost use Rattle.std.specs.Cmp.Lexicographic.{pointwise, lists_per, lists_equiv};
+ghost use Rattle.std.specs.List.{AllZip};
+ghost use Rattle.ipc_base.specs.Chunks.{AreEqualRows, row_count};
+ghost use Rattle.ipc_devices.specs.declared.fault.Fault.TheVariants.{Argument};
+ghost use Rattle.ipc_devices.specs.declared.fault.ArgFault.TheVariants.{UnequalRows};
+
+use crate::fault::{ArgFault, Fault};
+use lower_arrays::array::AnyArray;
+use std::alloc::AllocError;
+use std::marker::Model;
+
+/// A column, of which only the number of its rows is asked.
+pub trait Rows: Drop {
+    ghost rows: { Self → ℕ };
+
+    /// The number of rows.
+    fn len(&self) -> usize
+        ensures { result ≡ rows self.now };
+}
+
+impl Rows for AnyArray {
+    ghost use Rattle.lower_arrays.specs.Layouts.{len_of};
+    ghost use Rattle.lower_arrays.specs.AnyLayouts.{layout_of};
+
+    ghost rows = { λ array. len_of (layout_of array) };
+
+    fn len(&self) -> usize {
+        AnyArray::len(self)
+    }
+}
+
+/// Whether all columns have the same number of rows, as those of a [`Chunk`] have.
+pub fn equal_rows<A: Rows>(arrays: &[A]) -> bool
+    ensures { IsTrue result ↔ AreEqualRows A.rows arrays.now }
+{
+    let Some(first) = arrays.first() else {
+        return true;
+    };
+    let rows = first.len();
+    arrays.iter().all(|array| array.len() == rows)
+}
+
+/// Columns with the same number of rows, in order. Contracts see the list of the columns.
+#[derive(Debug, Drop)]
+pub struct Chunk<A: Rows> {
+    arrays: Vec<A>,
+}
+
+impl<A: Rows> Model for Chunk<A> {
+    ghost use Rattle.std.specs.Prelude.{List};
+    ghost use Rattle.ipc_base.specs.Chunks.{AreEqualRows};
+
+    ghost Value = { List A };
+
+    ghost view = { λ chunk. chunk.arrays.items };
+
+    ghost invariant = { λ chunk. AreEqualRows A.rows chunk.arrays.items };
+}
+
+impl<A: Rows> Chunk<A> {
+    /// A chunk of these columns, which have the same number of rows (see [`equal_rows`]).
+    pub fn new(arrays: Vec<A>) -> Self
+        requires { AreEqualRows A.rows arrays.items }
+        ensures { result ≡ arrays.items }
+    {
+        Chunk { arrays }
+    }
+
+    /// A chunk of these columns, or `Argument(UnequalRows)` exactly where they have not the same
+    /// number of rows; then they are dropped.
+    pub fn try_new(arrays: Vec<A>) -> Result<Self, Fault>
+        ensures ok { IsOk result ↔ AreEqualRows A.rows arrays.items }
+        ensures value { IfOk result (λ chunk. chunk ≡ arrays.items) }
+        ensures only { IfErr result (λ fault. fault ≡ Argument UnequalRows) }
+    {
+        if equal_rows(&arrays) {
+            Ok(Chunk { arrays })
+        } else {
+            Err(Fault::Argument(ArgFault::UnequalRows))
+        }
+    }
+
+    /// The columns.
+    pub fn arrays(&self) -> &[A]
+        ensures columns { result.now ≡ self.now }
+        ensures equal { AreEqualRows A.rows self.now }
+    {
+        self.arrays.as_slice()
+    }
+
+    /// The columns, as [`Chunk::arrays`].
+    pub fn columns(&self) -> &[A]
+        ensures columns { result.now ≡ self.now }
+        ensures equal { AreEqualRows A.rows self.now }
+    {
+        self.arrays()
+    }
+
+    /// The number of rows: that of each column, and 0 where there is no column.
+    pub fn len(&self) -> usize
+        ensures rows { result ≡ row_count A.rows self.now }
+        ensures equal { AreEqualRows A.rows self.now }
+    {
+        match self.arrays.first() {
+            Some(array) => array.len(),
+            None => 0,
+        }
+    }
+
+    /// Whether there are no rows.
+    pub fn is_empty(&self) -> bool
+        ensures { IsTrue result ↔ (row_count A.rows self.now ≡ 0) }
+    {
+        self.len() == 0
+    }
+
+    /// The columns, which have the same number of rows.
+    pub fn into_arrays(self) -> Vec<A>
+        ensures columns { result.items ≡ self }
+        ensures equal { AreEqualRows A.rows self }
+    {
+        let Chunk { arrays } = self;
+        arrays
+    }
+}
+
+impl<A: Rows> From<Chunk<A>> for Vec<A> {
+    ghost from_gives = { λ chunk arrays. arrays.items ≡ chunk };
+
+    fn from(chunk: Chunk<A>) -> Vec<A> {
+        chunk.into_arrays()
+    }
+}
+
+impl<A: Rows + Clone> Chunk<A> {
+    /// The same columns once more, where a clone of a column keeps its number of rows. Each is a
+    /// clone of the column at its place. It fails where there is no memory.
+    pub fn clone(&self) -> Result<Self, AllocError>
+        requires { (array copy : A) → A.is_clone array copy → A.rows copy ≡ A.rows array }
+        ensures { IfOk result (λ copy. AllZip A.is_clone self.now copy) }
+    {
+        let arrays = self.arrays.clone()?;
+        Ok(Chunk { arrays })
+    }
+}
+
+impl<A: Rows + PartialEq> PartialEq for Chunk<A> {
+    ghost eq = { pointwise A.eq };
+
+    ghost laws = { lists_per A.laws };
+
+    fn eq(&self, other: &Self) -> bool {
+        self.arrays == other.arrays
+    }
+}
+
+impl<A: Rows + Eq> Eq for Chunk<A> {
+    ghost laws = { lists_equiv A.Eq.laws };
+}
