@@ -1,0 +1,61 @@
+-- Each row is computed.
+use Rattle.std.proofs.Common.{refl}
+use Rattle.std.specs.Str.{is_utf8, chars}
+use lib.Utf8.{encode}
+use Rattle.ipc_views.specs.Tables.{number_at, table_at, slot_at, spot_at, target_at, text_at, vector_at, table_in}
+use Rattle.ipc_views.specs.Structs.{structs_at, signed32, signed64}
+use Rattle.ipc_model.specs.Frame.{frame, sized, marked}
+use Rattle.ipc_model.specs.Batches.{lists_of, entries_of, batch, record_meaning, dictionary_meaning}
+use Rattle.ipc_model.specs.Streams.{header_of, body_item, item, meant_within, meaning}
+use Rattle.ipc_model.specs.Schemas.{integer_at, decimal_at, plain_at, single_at, group_at, pairs_at, encoding_at, field_from, field_at, schema_at, schema_of, head_of}
+use Rattle.ipc_model.specs.WholeStreams.{stream_of}
+use Rattle.ipc_model.specs.StreamRows.{SmallestRows, MetadataRows, DemoRows, ChosenRows}
+
+pub smallest_rows : SmallestRows
+unfolding number_at table_at slot_at spot_at target_at text_at vector_at table_in structs_at signed32 signed64 is_utf8 chars encode integer_at decimal_at plain_at single_at group_at pairs_at encoding_at field_from field_at schema_at schema_of head_of
+smallest_rows = record {
+  smallest_schema = refl;
+  its_version = refl;
+  older_version = refl;
+  unknown_version = refl;
+  cut_off = refl;
+  no_header = refl;
+  a_record = refl;
+  no_kind = refl;
+  no_fields_slot = refl;
+}
+
+pub metadata_rows : MetadataRows
+metadata_rows = record {
+  later_wins = refl;
+  extended_values = refl;
+  normal_form = refl;
+}
+
+pub demo_rows : DemoRows
+unfolding number_at table_at slot_at spot_at target_at text_at vector_at table_in structs_at signed32 signed64 is_utf8 chars encode integer_at decimal_at plain_at single_at group_at pairs_at encoding_at field_from field_at schema_at schema_of head_of frame sized marked lists_of entries_of batch record_meaning dictionary_meaning header_of body_item item meant_within meaning stream_of
+demo_rows = record {
+  schema = refl;
+  marked_end = refl;
+  behind_the_mark = refl;
+  older_prefix = refl;
+  no_more = refl;
+  begun_prefix = refl;
+  cut_marker = refl;
+  cut_metadata = refl;
+  cut_body = refl;
+  whole = refl;
+  no_schema = refl;
+  another_schema = refl;
+}
+
+pub chosen_rows : ChosenRows
+unfolding batch
+chosen_rows = record {
+  first_alone = refl;
+  none = refl;
+  no_columns = refl;
+  in_order = refl;
+  unequal = refl;
+  beyond_the_size = refl;
+}

@@ -1,0 +1,247 @@
+-- Which columns are well formed, and what their slots are.
+-- (Arrow columnar format, "Physical Memory Layout": validity bitmaps, and each layout by its name.)
+use Rattle.std.specs.Prelude.{◌≡◌, ℕ, zero, suc, ℤ, pos, negsuc, ◌+◌, ◌-◌, ◌*◌, ◌^◌, ◌<◌, ◌≤◌, ◌==◌, ◌&&◌, Bool, true, List, [], map, length, slice_index_or, slice_range, unwrap_or, position, Option, Some, None, if◌then◌else◌, IsTrue, IsUtf8, All}
+use Rattle.std.specs.List.{range_with_len, IsDistinct}
+use Rattle.std.specs.Option.{option_map}
+use Rattle.std.specs.Ordering.{int_eq}
+use Rattle.lower.specs.declared.datatypes.UnionMode.TheVariants.{Sparse, Dense}
+use Rattle.lower.specs.TypeTrees.{TypeTree}
+use Rattle.lower_types.specs.NumberTypes.{width_of, number_in}
+use Rattle.lower_types.specs.declared.PrimitiveType.{PrimitiveType}
+use Rattle.lower_types.specs.declared.PrimitiveType.TheVariants.{Int8, Int32}
+use Rattle.lower_arrays.specs.Slots.{Slot, null_slot, truth_slot, number_slot, bytes_slot, text_slot, list_slot, record_slot, variant_slot, Slots, no_slots, more_slots, slots_of}
+use Rattle.ipc_model.specs.Kinds.{offsets_32, offset_width, Kind, null_kind, boolean_kind, number_kind, float_kind, fixed_binary_kind, binary_kind, utf8_kind, list_kind, map_kind, fixed_list_kind, struct_kind, union_kind, dictionary_kind, extension_kind, Kinds, no_kinds, more_kinds, count, nodes, buffers}
+use Rattle.ipc_model.specs.Entries.{Entries, IsSize, size, IsIndex, node, bytes, listed, Need, Limit, rows, times, bytes_for, bit, value_bytes, integer, offset, Dictionary, dictionary_at}
+
+-- ---- validity
+
+-- Node a has a length, and the validity of its first k slots is there where it is read: where some slot
+-- is null.
+pub record Begins (s : Entries) (a b k : ℕ) : Type 0 where
+  pub length_is : IsSize (node s a).length
+  pub validity : 0 < size (node s a).null_count → Need s b (bytes_for k)
+
+-- slot i is not null
+abbrev pub is_valid : Entries → ℕ → ℕ → ℕ → Bool
+is_valid s a b i = if size (node s a).null_count == 0 then true else bit (bytes s b) i
+
+abbrev pub masked : Entries → ℕ → ℕ → ℕ → Slot → Slot
+masked s a b i x = if is_valid s a b i then x else null_slot
+
+-- ---- offsets
+
+-- A buffer without bytes stands for the one offset 0, where no slot is read.
+abbrev pub is_omitted : Entries → ℕ → ℕ → Bool
+is_omitted s b k = (k == 0) && (listed s b == 0)
+
+-- the last of the k + 1 offsets of w bytes in buffer b
+abbrev pub last_offset : Entries → ℕ → ℕ → ℕ → ℕ
+last_offset s b w k = if is_omitted s b k then 0 else offset s b w k
+
+-- The k + 1 offsets are there and never fall. The last one isn't below 0 as a signed number, so none is.
+pub record Offsets (s : Entries) (b w k : ℕ) : Type 0 where
+  pub stored : Need s b (if is_omitted s b k then 0 else w * (k + 1))
+  pub rising : (i : ℕ) → i < k → offset s b w i ≤ offset s b w (i + 1)
+  pub small : last_offset s b w k < 2 ^ (8 * w - 1)
+
+-- ---- bytes and texts, whose offsets stand in buffer b and their bytes in the next
+
+abbrev pub bytes_at : Entries → ℕ → ℕ → ℕ → List ℕ
+bytes_at s b w i = slice_range (bytes s (b + 1)) (offset s b w i) (offset s b w (i + 1))
+
+pub record HasBytes (s : Entries) (b w k : ℕ) : Type 0 where
+  pub offsets : Offsets s b w k
+  pub values : Need s (b + 1) (last_offset s b w k)
+
+-- each of the k slots is a text, null or not
+pub record AreTexts (s : Entries) (b w k : ℕ) : Type 0 where
+  pub each : (i : ℕ) → i < k → IsUtf8 (bytes_at s b w i)
+
+-- ---- unions
+
+-- how many slots child n has, none past the last
+abbrev pub child_rows : Entries → Kinds → ℕ → ℕ → ℕ
+child_rows s no_kinds a n = 0
+child_rows s (more_kinds t ts) a zero = rows s a None
+child_rows s (more_kinds t ts) a (suc n) = child_rows s ts (a + nodes t) n
+
+-- The ids of the children: given, or 0, 1 and on.
+abbrev pub AreIds : Option (List ℤ) → ℕ → Type 0
+AreIds None n = Unit {0}
+AreIds (Some ids) n = (length ids ≡ n) × IsDistinct int_eq ids × All (λ x. IsIndex x 127) ids
+
+pub record IsUnion (ids : Option (List ℤ)) (n : ℕ) : Type 0 where
+  pub some : 1 ≤ n
+  pub few : n ≤ 127
+  pub distinct : AreIds ids n
+
+-- which of the n children an id names, n where none
+abbrev pub child_named : Option (List ℤ) → ℕ → ℤ → ℕ
+child_named None n (pos m) = m
+child_named None n (negsuc m) = n
+child_named (Some ids) n z = unwrap_or (position (λ x. int_eq x z) ids) n
+
+-- the type of slot i, whose types stand in buffer u
+abbrev pub type_at : Entries → ℕ → ℕ → ℤ
+type_at s u i = integer s u Int8 i
+
+abbrev pub child_at : Entries → Option (List ℤ) → ℕ → ℕ → ℕ → ℕ
+child_at s ids n u i = child_named ids n (type_at s u i)
+
+-- the types of k slots are there, and each names one of n children
+pub record HasTypes (s : Entries) (ids : Option (List ℤ)) (n u k : ℕ) : Type 0 where
+  pub types : Need s u k
+  pub named : (i : ℕ) → i < k → child_at s ids n u i < n
+
+-- the offset of slot i of a dense union, whose offsets stand in buffer b
+abbrev pub place_at : Entries → ℕ → ℕ → ℤ
+place_at s b i = integer s b Int32 i
+
+-- the offsets of k slots are there, and each is one of a slot of the child that is named
+pub record Reaches (s : Entries) (ids : Option (List ℤ)) (ts : Kinds) (a u k : ℕ) : Type 0 where
+  pub offsets : Need s (u + 1) (4 * k)
+  pub inside : (i : ℕ) → i < k → IsIndex (place_at s (u + 1) i) (child_rows s ts a (child_at s ids (count ts) u i))
+
+-- ---- dictionaries
+
+-- the type of the values under an id, and their slots
+abbrev pub values_type : Entries → Option ℤ → Option TypeTree
+values_type s None = None
+values_type s (Some id) = option_map (λ d. d.type) (dictionary_at s.dictionaries id)
+
+abbrev pub slots_in : Option Dictionary → List Slot
+slots_in None = []
+slots_in (Some d) = d.slots
+
+abbrev pub values_slots : Entries → Option ℤ → List Slot
+values_slots s None = []
+values_slots s (Some id) = slots_in (dictionary_at s.dictionaries id)
+
+-- There are values of this type under the id, and each valid key is that of one of them.
+pub record HasValues (s : Entries) (f : PrimitiveType) (id : Option ℤ) (t : TypeTree) (a b k : ℕ) : Type 0 where
+  pub known : values_type s id ≡ Some t
+  pub inside : (i : ℕ) → i < k → IsTrue (is_valid s a b i)
+      → IsIndex (integer s (b + 1) f i) (length (values_slots s id))
+
+-- ---- columns
+
+-- a map's child is a record of a key and a value
+abbrev pub IsPair : Kind → Type 0
+IsPair (struct_kind (more_kinds key (more_kinds value no_kinds))) = Unit {0}
+IsPair _ = ⊥
+
+abbrev pub IsSome : Kinds → Type 0
+IsSome no_kinds = ⊥
+IsSome (more_kinds t ts) = Unit {0}
+
+-- P holds of a column of n slots, which are to be k
+abbrev pub WithRows : Type 0 → ℕ → ℕ → Type 0
+WithRows P n k = P × (n ≡ k)
+
+-- The first k slots of a list whose offsets have w bytes: the child holds as many slots as the last
+-- offset says, of which as many are read.
+abbrev pub IsList : Entries → ℕ → ℕ → ℕ → ℕ → (Limit → Type 0) → Type 0
+IsList s w a b k Child =
+    Begins s a b k × Offsets s (b + 1) w k
+    × WithRows (Child (Some (last_offset s (b + 1) w k))) (rows s (a + 1) (Some (last_offset s (b + 1) w k)))
+    (last_offset s (b + 1) w k)
+
+abbrev mutual
+  -- the column at node a and buffer b is well formed, as far as its first slots are read
+  pub IsWell : Entries → Kind → ℕ → ℕ → Limit → Type 0
+  IsWell s null_kind a b limit = IsSize (node s a).length
+  IsWell s boolean_kind a b limit = Begins s a b (rows s a limit) × Need s (b + 1) (bytes_for (rows s a limit))
+  IsWell s (number_kind f) a b limit = Begins s a b (rows s a limit) × Need s (b + 1) (width_of f * rows s a limit)
+  IsWell s float_kind a b limit = ⊥
+  IsWell s (fixed_binary_kind n) a b limit =
+      (0 < n) × Begins s a b (rows s a limit) × Need s (b + 1) (n * rows s a limit)
+  IsWell s (binary_kind w) a b limit = Begins s a b (rows s a limit)
+      × HasBytes s (b + 1) (offset_width w) (rows s a limit)
+  IsWell s (utf8_kind w) a b limit =
+      Begins s a b (rows s a limit) × HasBytes s (b + 1) (offset_width w) (rows s a limit)
+      × AreTexts s (b + 1) (offset_width w) (rows s a limit)
+  IsWell s (list_kind w t) a b limit = IsList s (offset_width w) a b (rows s a limit)
+      (λ l. IsWell s t (a + 1) (b + 2) l)
+  IsWell s (map_kind t) a b limit = IsPair t
+      × IsList s (offset_width offsets_32) a b (rows s a limit) (λ l. IsWell s t (a + 1) (b + 2) l)
+  IsWell s (fixed_list_kind n t) a b limit =
+      (0 < n) × Begins s a b (rows s a limit)
+      × WithRows (IsWell s t (a + 1) (b + 1) (times limit n)) (rows s (a + 1) (times limit n)) (rows s a limit * n)
+  IsWell s (struct_kind ts) a b limit =
+      IsSome ts × Begins s a b (rows s a limit) × AllHaveRows s ts (a + 1) (b + 1) limit (rows s a limit)
+  IsWell s (union_kind Sparse ids ts) a b limit =
+      IsSize (node s a).length × IsUnion ids (count ts) × HasTypes s ids (count ts) (b + s.extra) (rows s a limit)
+      × AllHaveRows s ts (a + 1) (b + s.extra + 1) limit (rows s a limit)
+  IsWell s (union_kind Dense ids ts) a b limit =
+      IsSize (node s a).length × IsUnion ids (count ts) × HasTypes s ids (count ts) (b + s.extra) (rows s a limit)
+      × Reaches s ids ts (a + 1) (b + s.extra) (rows s a limit) × AllWell s ts (a + 1) (b + s.extra + 2)
+  IsWell s (dictionary_kind f id t) a b limit =
+      Begins s a b (rows s a limit) × Need s (b + 1) (width_of f * rows s a limit)
+      × HasValues s f id t a b (rows s a limit)
+  IsWell s (extension_kind t) a b limit = IsWell s t a b limit
+
+  -- each of some columns, one behind the other, is well formed as far as it is read, and has k slots
+  pub AllHaveRows : Entries → Kinds → ℕ → ℕ → Limit → ℕ → Type 0
+  AllHaveRows s no_kinds a b limit k = Unit {0}
+  AllHaveRows s (more_kinds t ts) a b limit k =
+      WithRows (IsWell s t a b limit) (rows s a limit) k
+      × AllHaveRows s ts (a + nodes t) (b + buffers s.extra t) limit k
+
+  -- each of some columns is well formed as a whole
+  pub AllWell : Entries → Kinds → ℕ → ℕ → Type 0
+  AllWell s no_kinds a b = Unit {0}
+  AllWell s (more_kinds t ts) a b = IsWell s t a b None × AllWell s ts (a + nodes t) (b + buffers s.extra t)
+
+-- the slots of a child from one place up to another
+abbrev pub slots_between : (ℕ → Slot) → ℕ → ℕ → Slots
+slots_between child from to = slots_of (map child (range_with_len from (to - from)))
+
+-- the slots that offsets i and i + 1 in buffer b say
+abbrev pub list_at : Entries → ℕ → ℕ → ℕ → (ℕ → Slot) → Slot
+list_at s w b i child = list_slot (slots_between child (offset s b w i) (offset s b w (i + 1)))
+
+abbrev mutual
+  -- slot i of the column at node a and buffer b
+  pub slot_at : Entries → Kind → ℕ → ℕ → ℕ → Slot
+  slot_at s null_kind a b i = null_slot
+  slot_at s boolean_kind a b i = masked s a b i (truth_slot (bit (bytes s (b + 1)) i))
+  slot_at s (number_kind f) a b i = masked s a b i
+      (number_slot (number_in f s.order (value_bytes s (b + 1) (width_of f) i)))
+  slot_at s float_kind a b i = null_slot
+  slot_at s (fixed_binary_kind n) a b i = masked s a b i
+      (bytes_slot (slice_range (bytes s (b + 1)) (n * i) (n * (i + 1))))
+  slot_at s (binary_kind w) a b i = masked s a b i (bytes_slot (bytes_at s (b + 1) (offset_width w) i))
+  slot_at s (utf8_kind w) a b i = masked s a b i (text_slot (bytes_at s (b + 1) (offset_width w) i))
+  slot_at s (list_kind w t) a b i = masked s a b i
+      (list_at s (offset_width w) (b + 1) i (λ j. slot_at s t (a + 1) (b + 2) j))
+  slot_at s (map_kind t) a b i = masked s a b i
+      (list_at s (offset_width offsets_32) (b + 1) i (λ j. slot_at s t (a + 1) (b + 2) j))
+  slot_at s (fixed_list_kind n t) a b i =
+      masked s a b i (list_slot (slots_between (λ j. slot_at s t (a + 1) (b + 1) j) (n * i) (n * (i + 1))))
+  slot_at s (struct_kind ts) a b i = masked s a b i (record_slot (slots_at s ts (a + 1) (b + 1) i))
+  slot_at s (union_kind Sparse ids ts) a b i =
+      variant_slot (type_at s (b + s.extra) i)
+      (child_slot s ts (a + 1) (b + s.extra + 1) (child_at s ids (count ts) (b + s.extra) i) i)
+  slot_at s (union_kind Dense ids ts) a b i =
+      variant_slot (type_at s (b + s.extra) i)
+      (child_slot s ts (a + 1) (b + s.extra + 2) (child_at s ids (count ts) (b + s.extra) i)
+      (size (place_at s (b + s.extra + 1) i)))
+  slot_at s (dictionary_kind f id t) a b i =
+      masked s a b i (slice_index_or (values_slots s id) (size (integer s (b + 1) f i)) null_slot)
+  slot_at s (extension_kind t) a b i = slot_at s t a b i
+
+  -- slot i of each of some columns
+  pub slots_at : Entries → Kinds → ℕ → ℕ → ℕ → Slots
+  slots_at s no_kinds a b i = no_slots
+  slots_at s (more_kinds t ts) a b i = more_slots (slot_at s t a b i)
+      (slots_at s ts (a + nodes t) (b + buffers s.extra t) i)
+
+  -- slot i of column n
+  pub child_slot : Entries → Kinds → ℕ → ℕ → ℕ → ℕ → Slot
+  child_slot s no_kinds a b n i = null_slot
+  child_slot s (more_kinds t ts) a b zero i = slot_at s t a b i
+  child_slot s (more_kinds t ts) a b (suc n) i = child_slot s ts (a + nodes t) (b + buffers s.extra t) n i
+
+-- the slots that are read of a column
+abbrev pub column : Entries → Kind → ℕ → ℕ → Limit → List Slot
+column s t a b limit = map (λ i. slot_at s t a b i) (range_with_len 0 (rows s a limit))

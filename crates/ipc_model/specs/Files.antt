@@ -1,0 +1,150 @@
+-- What the bytes of a file mean: its footer, its dictionaries, and the chunk of each block.
+-- (Arrow columnar format, "IPC File Format"; File.fbs.)
+use Rattle.std.specs.Prelude.{◌≡◌, ℕ, ℤ, pos, ◌+◌, ◌-◌, ◌^◌, nat_lt, nat_eq, ◌&&◌, if◌then◌else◌, List, [], ◌∷◌, length, map, take, drop, slice_get, Option, None, Some}
+use Rattle.std.specs.Option.{option_and_then}
+use Rattle.std.specs.Str.{bytes_eq}
+use Rattle.std.specs.Int.{w32, from_le_bytes}
+use Rattle.ipc_views.specs.FileSlots.{footer_schema, footer_dictionaries, footer_record_batches}
+use Rattle.ipc_views.specs.MessageSlots.{message_header, message_version}
+use Rattle.ipc_views.specs.Spot.{Spot}
+use Rattle.ipc_views.specs.Tables.{root_at}
+use Rattle.ipc_views.specs.declared.file.Block.{Block}
+use Rattle.ipc_model.specs.Batches.{Schema, extra_of, Body, Chunk, record_meaning, dictionary_meaning}
+use Rattle.ipc_model.specs.Entries.{Dictionaries, Limit}
+use Rattle.ipc_model.specs.Frame.{Frame, message, mark, waiting, broken, frame}
+use Rattle.ipc_model.specs.Schemas.{made, present, given, schema_at}
+
+-- ---- the footer
+
+-- the schema and the blocks of a file, and how long the file is
+pub record FileMetadata : Type 0 where
+  pub schema : Schema
+  pub dictionaries : List Block
+  pub blocks : List Block
+  pub size : ℕ
+
+-- ARROW1
+abbrev pub magic : List ℕ
+magic = 65 ∷ 82 ∷ 82 ∷ 79 ∷ 87 ∷ 49 ∷ []
+
+-- the last n bytes
+abbrev pub last : ℕ → List ℕ → List ℕ
+last n bytes = drop (length bytes - n) bytes
+
+abbrev pub or_no_blocks : Option (List Block) → List Block
+or_no_blocks None = []
+or_no_blocks (Some bs) = bs
+
+-- what a footer says of a file of some bytes
+unfoldable pub footer_at : ℕ → Spot → Option FileMetadata
+footer_at size t =
+    given (present (footer_record_batches t))
+    (λ blocks. given (present (footer_schema t)) (λ s. given (schema_at s) (λ schema.
+    given (made (footer_dictionaries t))
+    (λ ds. Some (record { schema = schema; dictionaries = or_no_blocks ds; blocks = blocks; size = size })))))
+
+-- The footer of n bytes ends 10 bytes before the end of the file. A number from 2 ^ 31 on is one below 0.
+abbrev pub footer_of_length : List ℕ → ℕ → Option FileMetadata
+footer_of_length bytes n =
+    if nat_lt n (2 ^ 31)
+    then (if nat_lt (length bytes) (n + 10) then None else given (made (root_at (take n (last (n + 10) bytes))))
+    (footer_at (length bytes)))
+    else None
+
+-- A file begins and ends with ARROW1, and before the end stands the length of its footer.
+unfoldable pub metadata_of : List ℕ → Option FileMetadata
+metadata_of bytes =
+    if nat_lt (length bytes) 10 then None
+    else if bytes_eq (take 6 bytes) magic
+    && bytes_eq (last 6 bytes) magic then footer_of_length bytes (from_le_bytes w32 (take 4 (last 10 bytes)))
+    else None
+
+-- ---- a block
+
+-- the message at the front, if there is one with a length above 0
+abbrev pub front_metadata : Frame → Option (List ℕ)
+front_metadata (message m rest) = Some m
+front_metadata (mark rest) = None
+front_metadata (waiting begun) = None
+front_metadata broken = None
+
+-- Where the message of a block stands, and where its body begins. Neither number is below 0.
+pub record Placed : Type 0 where
+  pub message : ℕ
+  pub body : ℕ
+
+abbrev pub placed_at : ℤ → ℤ → Option Placed
+placed_at (pos o) (pos m) = Some (record { message = o; body = o + m })
+placed_at _ _ = None
+
+abbrev pub placed : Block → Option Placed
+placed b = placed_at b.offset b.meta_data_length
+
+-- the metadata of a block's message
+abbrev pub metadata_at : List ℕ → Placed → Option (List ℕ)
+metadata_at source p = front_metadata (frame (drop p.message source))
+
+-- the header of a message in a file: the tag and the table, and how many buffers stand in front of a
+-- union's own in the message's version
+pub record BlockHeader : Type 0 where
+  pub tag : ℕ
+  pub table : Spot
+  pub extra : ℕ
+
+unfoldable pub block_header : List ℕ → Option BlockHeader
+block_header metadata =
+    given (made (root_at metadata)) (λ t. given (present (message_header t)) (λ u. given (made (message_version t))
+    (λ version. Some (record { tag = u.0; table = u.1; extra = extra_of version }))))
+
+abbrev pub body_at : FileMetadata → List ℕ → Placed → Body
+body_at m source p = record { source = source; base = p.body; size = m.size }
+
+abbrev pub record_with : FileMetadata → Dictionaries → Body → Option (List ℕ) → Limit → BlockHeader → Option Chunk
+record_with m known body projection limit h = if nat_eq h.tag 3 then record_meaning m.schema h.extra known body h.table projection limit else None
+
+-- what the record of a block means, where these bytes are seen of the file
+unfoldable pub chunk_at : FileMetadata → Dictionaries → List ℕ → Block → Option (List ℕ) → Limit → Option Chunk
+chunk_at m known source b projection limit =
+    given (placed b) (λ p. given (metadata_at source p)
+    (λ metadata. given (block_header metadata) (record_with m known (body_at m source p) projection limit)))
+
+abbrev pub dictionaries_with : FileMetadata → Dictionaries → Body → BlockHeader → Option Dictionaries
+dictionaries_with m known body h = if nat_eq h.tag 2 then dictionary_meaning m.schema h.extra known body h.table else None
+
+-- the dictionaries after that of a block
+unfoldable pub dictionaries_at : FileMetadata → Dictionaries → List ℕ → Block → Option Dictionaries
+dictionaries_at m known source b =
+    given (placed b) (λ p. given (metadata_at source p)
+    (λ metadata. given (block_header metadata) (dictionaries_with m known (body_at m source p))))
+
+-- ---- the blocks of a file. `seen b` are the bytes that are seen from the block b.
+
+-- the dictionaries after those of some blocks, in the order of the footer
+abbrev pub dictionaries_after : FileMetadata → (Block → List ℕ) → Dictionaries → List Block → Option Dictionaries
+dictionaries_after m seen known [] = Some known
+dictionaries_after m seen known (b ∷ bs) = given (dictionaries_at m known (seen b) b)
+    (λ after. dictionaries_after m seen after bs)
+
+-- all bytes
+abbrev pub all_of : List ℕ → Block → List ℕ
+all_of bytes b = bytes
+
+-- the dictionaries of a file
+abbrev pub file_dictionaries : FileMetadata → List ℕ → Option Dictionaries
+file_dictionaries m bytes = dictionaries_after m (all_of bytes) [] m.dictionaries
+
+-- the chunk of each block
+abbrev pub chunks_at : FileMetadata → Dictionaries → (Block → List ℕ) → Option (List ℕ) → Limit → List Block
+    → List (Option Chunk)
+chunks_at m known seen projection limit bs = map (λ b. chunk_at m known (seen b) b projection limit) bs
+
+-- the chunk of block i of a file
+abbrev pub file_chunk : FileMetadata → Dictionaries → List ℕ → Option (List ℕ) → Limit → ℕ → Option Chunk
+file_chunk m known bytes projection limit i = option_and_then (λ b. chunk_at m known bytes b projection limit)
+    (slice_get m.blocks i)
+
+-- The metadata of a file are those of its footer, its dictionaries have a meaning, and its chunks are these.
+pub record MeansFile (bytes : List ℕ) (m : FileMetadata) (known : Dictionaries) (cs : List Chunk) : Type 0 where
+  pub metadata : metadata_of bytes ≡ Some m
+  pub dictionaries : file_dictionaries m bytes ≡ Some known
+  pub chunks : chunks_at m known (all_of bytes) None None m.blocks ≡ map Some cs

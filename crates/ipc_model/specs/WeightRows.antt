@@ -1,0 +1,40 @@
+-- The weights of schemas that are written out, and the places of dictionaries.
+use Rattle.std.specs.Prelude.{◌≡◌, ℕ, pos, true, false, List, [], ◌∷◌, codes, map, Some, None}
+use Rattle.lower.specs.TypeTrees.{int32, boolean, utf8, binary, timestamp, fixed_binary, list, choice, TypeTree, plain, single, group, dictionary, extension, FieldTree, field, FieldTrees, no_fields, more_fields}
+use Rattle.lower.specs.declared.datatypes.IntegerType.TheVariants.{Int8}
+use Rattle.lower.specs.declared.datatypes.TimeUnit.TheVariants.{Second}
+use Rattle.lower.specs.declared.datatypes.UnionMode.TheVariants.{Sparse}
+use Rattle.ipc_base.specs.IdTrees.{ids, IdTrees, no_ids, more_ids}
+use Rattle.ipc_model.specs.Batches.{Place, places}
+use Rattle.ipc_model.specs.Writable.{weight}
+
+abbrev pub named : TypeTree → List ℕ → FieldTree
+named t name = field name t true []
+
+abbrev pub alone : FieldTree → FieldTrees
+alone f = more_fields f no_fields
+
+pub record WeightRows : Type 0 where
+  pub two_integers : weight
+      (more_fields (named (plain int32) (codes "x")) (alone (named (plain int32) (codes "y")))) [] ≡ 2050
+  pub an_extension : weight (alone (named (extension (codes "uuid") (plain (fixed_binary 16)) None) (codes "e"))) []
+      ≡ 1625
+  pub a_timezone : weight (alone (named (plain (timestamp Second (Some (codes "UTC")))) (codes "t"))) [] ≡ 1540
+  pub union_ids :
+      weight (alone (named (group (choice (Some (pos 5 ∷ pos 9 ∷ [])) Sparse)
+      (more_fields (named (plain int32) (codes "a")) (alone (named (plain boolean) (codes "b")))))
+      (codes "u"))) [] ≡ 2579
+
+-- a dictionary of texts, and one of lists whose items are a dictionary of bytes: their ids in pre-order
+abbrev pub two_dictionaries : FieldTrees
+two_dictionaries = more_fields (named (dictionary Int8 (plain utf8) false) (codes "a"))
+    (alone (named (dictionary Int8 (single list (named (dictionary Int8 (plain binary) false) (codes "item"))) false)
+    (codes "b")))
+
+abbrev pub their_ids : IdTrees
+their_ids = more_ids (ids (Some (pos 0)) no_ids)
+    (more_ids (ids (Some (pos 1)) (more_ids (ids (Some (pos 2)) no_ids) no_ids)) no_ids)
+
+pub record PlaceRows : Type 0 where
+  pub in_order : map (λ (p : Place). p.id) (places two_dictionaries their_ids)
+      ≡ Some (pos 0) ∷ Some (pos 1) ∷ Some (pos 2) ∷ []

@@ -1,0 +1,49 @@
+//! Laws of batches.
+
+ghost use Rattle.ipc_model.specs.AddressLaws.{AddressLaw, DictionaryFollowLaw, OrderLaw, RecordFollowLaw};
+ghost use Rattle.ipc_model.specs.WrittenBatches.{WrittenBatchLaw};
+ghost use Rattle.ipc_model.specs.BatchLaws.{AgreeLaw, BatchTestLaw, PruneLaw};
+
+/// Whether the entries of a batch have a meaning can be computed.
+#[tactic(auto, using(crate::proofs::Pruned::batch_decides))]
+pub fn test_of_batches()
+    ensures { BatchTestLaw }
+{}
+
+/// A batch that has a meaning has one for each projection and each limit: the first slots of the
+/// chosen columns, in the order in which they are chosen.
+#[tactic(auto, using(crate::proofs::Pruned::prune_law))]
+pub fn pruned_batches()
+    ensures { PruneLaw }
+{}
+
+/// Sources that agree on the listed ranges of the chosen columns' buffers give one meaning.
+#[tactic(auto, using(crate::proofs::Agreement::agree_law))]
+pub fn agreeing_sources()
+    ensures { AgreeLaw }
+{}
+
+/// A column comes after each one before it.
+pub fn order_of_columns()
+    ensures { OrderLaw }
+{}
+
+/// A column has in the whole batch, at its address, the meaning that it has in its own entries.
+pub fn addresses_of_columns()
+    ensures { AddressLaw }
+{}
+
+/// The meaning of a record batch stays where bytes follow.
+pub fn followed_batches()
+    ensures { RecordFollowLaw }
+{}
+
+/// The meaning of a dictionary batch stays where bytes follow.
+pub fn followed_dictionaries()
+    ensures { DictionaryFollowLaw }
+{}
+
+/// A batch of columns of numbers that was written means these columns.
+pub fn written_batches()
+    ensures { WrittenBatchLaw }
+{}

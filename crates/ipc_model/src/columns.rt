@@ -1,0 +1,44 @@
+//! Laws of columns.
+
+ghost use Rattle.ipc_model.specs.Extending.{ExtendLaw};
+ghost use Rattle.ipc_model.specs.KindLaws.{BufferCountLaw, NodeCountLaw};
+ghost use Rattle.ipc_model.specs.Laws.{LimitLaw, NeedLaw, NodeLaw};
+ghost use Rattle.ipc_model.specs.TestLaws.{WellTestLaw};
+
+/// Each column has at least one node.
+#[tactic(auto, using(crate::proofs::Needs::node_law))]
+pub fn nodes_of_columns()
+    ensures { NodeLaw }
+{}
+
+/// Columns take as many nodes and buffers as their fields do.
+#[tactic(auto, using(crate::proofs::TypeKinds::node_count_law, crate::proofs::TypeKinds::buffer_count_law))]
+pub fn counts_of_fields()
+    ensures nodes { NodeCountLaw }
+    ensures buffers { BufferCountLaw }
+{}
+
+/// The bytes of a buffer that are there are those that it lists and that the source has.
+#[tactic(auto, using(crate::proofs::Needs::need_law))]
+pub fn needed_bytes()
+    ensures { NeedLaw }
+{}
+
+/// A column that is well formed under a limit is so under each smaller one, and its slots are the
+/// first ones.
+#[tactic(auto, using(crate::proofs::Limits::limit_law))]
+pub fn smaller_limits()
+    ensures { LimitLaw }
+{}
+
+/// Whether a column is well formed can be computed.
+#[tactic(auto, using(crate::proofs::Decided::well_test_law))]
+pub fn test_of_columns()
+    ensures { WellTestLaw }
+{}
+
+/// A column that is well formed is so where its entries stand elsewhere, or have more bytes behind
+/// them, and has the same slots.
+pub fn extended_columns()
+    ensures { ExtendLaw }
+{}

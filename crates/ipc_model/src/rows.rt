@@ -1,0 +1,80 @@
+//! Columns, messages and streams that are written out, and what they mean.
+
+ghost use Rattle.ipc_model.specs.ColumnRows.{CountRows, FlatRows, ListRows, MapRows, StructRows, TextRows, UnionRows};
+ghost use Rattle.ipc_model.specs.FileRows.{FileRows};
+ghost use Rattle.ipc_model.specs.StreamRows.{ChosenRows, DemoRows, MetadataRows, SmallestRows};
+ghost use Rattle.ipc_model.specs.WeightRows.{PlaceRows, WeightRows};
+
+/// Numbers, bits and nulls.
+#[tactic(auto, using(crate::proofs::ColumnRows::flat_rows))]
+pub fn flat_columns()
+    ensures { FlatRows }
+{}
+
+/// Bytes and texts.
+#[tactic(auto, using(crate::proofs::ColumnRows::text_rows))]
+pub fn text_columns()
+    ensures { TextRows }
+{}
+
+/// Lists of any length and of a fixed one.
+#[tactic(auto, using(crate::proofs::ColumnRows::list_rows))]
+pub fn list_columns()
+    ensures { ListRows }
+{}
+
+/// Structs.
+#[tactic(auto, using(crate::proofs::ColumnRows::struct_rows))]
+pub fn struct_columns()
+    ensures { StructRows }
+{}
+
+/// Maps.
+#[tactic(auto, using(crate::proofs::ColumnRows::map_rows))]
+pub fn map_columns()
+    ensures { MapRows }
+{}
+
+/// Unions of both modes and of all versions.
+#[tactic(auto, using(crate::proofs::ColumnRows::union_rows, crate::proofs::ColumnRows::count_rows))]
+pub fn union_columns()
+    ensures rows { UnionRows }
+    ensures counts { CountRows }
+{}
+
+/// The smallest schema message.
+#[tactic(auto, using(crate::proofs::StreamRows::smallest_rows))]
+pub fn smallest_schema()
+    ensures { SmallestRows }
+{}
+
+/// Metadata, extensions and the normal form.
+#[tactic(auto, using(crate::proofs::StreamRows::metadata_rows))]
+pub fn metadata_of_fields()
+    ensures { MetadataRows }
+{}
+
+/// A stream of two columns of numbers, whole and cut.
+#[tactic(auto, using(crate::proofs::StreamRows::demo_rows))]
+pub fn demo_stream()
+    ensures { DemoRows }
+{}
+
+/// Batches under a projection.
+#[tactic(auto, using(crate::proofs::StreamRows::chosen_rows))]
+pub fn chosen_columns()
+    ensures { ChosenRows }
+{}
+
+/// The weights of schemas, and the places of dictionaries.
+#[tactic(auto, using(crate::proofs::WeightRows::weight_rows, crate::proofs::WeightRows::place_rows))]
+pub fn weights_and_places()
+    ensures weights { WeightRows }
+    ensures places { PlaceRows }
+{}
+
+/// A file of one record.
+#[tactic(auto, using(crate::proofs::FileRows::file_rows))]
+pub fn demo_file()
+    ensures { FileRows }
+{}
