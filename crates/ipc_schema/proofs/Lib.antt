@@ -1,0 +1,12 @@
+pub mod Carried
+pub mod DefaultsFit
+pub mod FieldReads
+pub mod FirstFields
+pub mod IdAppends
+pub mod Lists
+pub mod Refused
+pub mod SchemaReads
+pub mod SlotReads
+pub mod WrittenSchema
+pub mod Models
+pub mod Refusals

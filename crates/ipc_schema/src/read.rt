@@ -1,0 +1,3 @@
+//! What bytes say of a schema.
+
+pub mod schema;

@@ -1,0 +1,4 @@
+//! Schemas as bytes.
+
+pub mod defaults;
+pub mod schema;
