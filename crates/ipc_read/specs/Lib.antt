@@ -1,0 +1,6 @@
+pub mod Bodies
+pub mod Steps
+pub mod Carried
+pub mod Sizes
+pub mod Columns
+pub mod Chunks

@@ -1,0 +1,6 @@
+//! Reads the columns of Arrow's record batches.
+#![tactic(auto)]
+
+pub mod read;
+#[cfg(test)]
+mod tests;

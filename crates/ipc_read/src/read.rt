@@ -1,0 +1,12 @@
+//! From the entries of a batch to its columns.
+pub mod array;
+pub mod body;
+pub mod common;
+pub mod deserialize;
+pub mod read_basic;
+
+use lower_arrays::array::AnyArray;
+use std::collections::HashMap;
+
+/// The values of dictionaries by their ids.
+pub type Dictionaries = HashMap<i64, AnyArray>;

@@ -1,0 +1,2 @@
+//! Reads the columns of each physical type.
+pub mod primitive;
