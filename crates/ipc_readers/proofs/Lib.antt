@@ -1,0 +1,4 @@
+pub mod Words
+pub mod Openings
+pub mod Steps
+pub mod SchemaFits

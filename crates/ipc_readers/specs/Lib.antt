@@ -1,0 +1,4 @@
+pub mod Frames
+pub mod Messages
+pub mod Metadata
+pub mod Streams

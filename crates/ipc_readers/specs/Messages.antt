@@ -1,0 +1,54 @@
+-- What the metadata of a message behind the schema says: its header, and the length of its body.
+-- (Arrow columnar format, "Encapsulated message format"; the slots are those of Message.fbs.)
+use Rattle.std.specs.Prelude.{◌≡◌, ℕ, ℤ, List, pos, negsuc, Option, Some, None, Result, Ok, Err}
+use Rattle.ipc_devices.specs.declared.fault.Fault.{Fault}
+use Rattle.ipc_devices.specs.declared.fault.Fault.TheVariants.{OutOfSpec}
+use Rattle.ipc_devices.specs.declared.fault.OutOfSpecKind.TheVariants.{InvalidFlatbufferMessage, MissingMessageHeader, InvalidFlatbufferHeader, InvalidFlatbufferBodyLength, UnexpectedNegativeInteger}
+use Rattle.ipc_devices.specs.declared.fault.TableFault.{TableFault}
+use Rattle.ipc_views.specs.MessageSlots.{message_header, message_body_length}
+use Rattle.ipc_views.specs.Spot.{Spot}
+use Rattle.ipc_views.specs.Tables.{root_at}
+use Rattle.ipc_views.specs.Unions.{header_parts}
+use Rattle.ipc_model.specs.Streams.{Header}
+use Rattle.ipc_readers.specs.declared.read.message.Message.{Message}
+
+abbrev pub header_seen : Message → Header
+header_seen m = record { tag = (header_parts m.header).0; table = (header_parts m.header).1; body = m.body_length }
+
+-- an answer, seen as something else
+abbrev pub seen : {A B : Type 0} → (A → B) → Result A Fault → Result B Fault
+seen view (Ok x) = Ok (view x)
+seen view (Err e) = Err e
+
+-- the header, which has to be there
+abbrev pub needed_header : Result (Option (ℕ × Spot)) TableFault → Result (ℕ × Spot) Fault
+needed_header (Ok (Some h)) = Ok h
+needed_header (Ok None) = Err (OutOfSpec MissingMessageHeader)
+needed_header (Err e) = Err (OutOfSpec (InvalidFlatbufferHeader e))
+
+-- the length, which isn't below 0
+abbrev pub natural_length : Result ℤ TableFault → Result ℕ Fault
+natural_length (Ok (pos n)) = Ok n
+natural_length (Ok (negsuc n)) = Err (OutOfSpec UnexpectedNegativeInteger)
+natural_length (Err e) = Err (OutOfSpec (InvalidFlatbufferBodyLength e))
+
+abbrev pub with_length : ℕ × Spot → Result ℕ Fault → Result Header Fault
+with_length h (Ok n) = Ok (record { tag = h.0; table = h.1; body = n })
+with_length h (Err e) = Err e
+
+abbrev pub with_header : Result (ℕ × Spot) Fault → Result ℕ Fault → Result Header Fault
+with_header (Ok h) length = with_length h length
+with_header (Err e) length = Err e
+
+abbrev pub opened_table : Result Spot TableFault → Result Header Fault
+opened_table (Ok t) = with_header (needed_header (message_header t)) (natural_length (message_body_length t))
+opened_table (Err e) = Err (OutOfSpec (InvalidFlatbufferMessage e))
+
+-- the message whose metadata these bytes are, or the fault in it
+unfoldable pub opened : List ℕ → Result Header Fault
+opened metadata = opened_table (root_at metadata)
+
+-- The answer is the message, or there is none.
+abbrev pub GivesMessage : Option Header → Result Message Fault → Type 0
+GivesMessage h (Ok m) = h ≡ Some (header_seen m)
+GivesMessage h (Err e) = h ≡ None

@@ -1,0 +1,6 @@
+//! Reads streams and files.
+#![tactic(auto)]
+
+pub mod read;
+#[cfg(test)]
+mod tests;

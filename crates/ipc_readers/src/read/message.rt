@@ -1,0 +1,68 @@
+//! Opens the messages of a stream.
+ghost use Rattle.std.specs.Prelude.{◌≡◌, ◌<◌, ◌^◌, IfOk};
+ghost use Rattle.ipc_devices.specs.Faults.{OnIo};
+ghost use Rattle.ipc_views.specs.MessageSlots.{message_header, message_body_length};
+ghost use Rattle.ipc_views.specs.Unions.{header_parts};
+ghost use Rattle.ipc_model.specs.Streams.{header_of};
+ghost use Rattle.ipc_readers.specs.Messages.{GivesMessage, header_seen, natural_length, needed_header, opened, seen};
+
+use ipc_devices::fault::{Fault, OutOfSpecKind};
+use ipc_views::{MessageHeaderRef, MessageRef};
+
+/// What a message behind the schema says of itself and of its body.
+#[derive(Drop)]
+pub struct Message<'a> {
+    /// The header, a table in the metadata.
+    pub header: MessageHeaderRef<'a>,
+    /// The number of bytes of the body.
+    pub body_length: usize,
+}
+
+// The header, which has to be there.
+fn header_of<'a>(message: &MessageRef<'a>) -> Result<MessageHeaderRef<'a>, Fault>
+    ensures value { seen header_parts result ≡ needed_header (message_header message.now) }
+    ensures device { OnIo result ⊥ }
+{
+    match message.header() {
+        Ok(Some(header)) => Ok(header),
+        Ok(None) => Err(Fault::OutOfSpec(OutOfSpecKind::MissingMessageHeader)),
+        Err(e) => Err(Fault::OutOfSpec(OutOfSpecKind::InvalidFlatbufferHeader(e))),
+    }
+}
+
+// The number of bytes of the body, which isn't below 0.
+fn body_length_of(message: &MessageRef<'_>) -> Result<usize, Fault>
+    ensures small { IfOk result (λ n. n < 2 ^ 63) }
+    ensures value { result ≡ natural_length (message_body_length message.now) }
+    ensures device { OnIo result ⊥ }
+{
+    match message.body_length() {
+        Ok(length) if length >= 0 => Ok(length as usize),
+        Ok(_) => Err(Fault::OutOfSpec(OutOfSpecKind::UnexpectedNegativeInteger)),
+        Err(e) => Err(Fault::OutOfSpec(OutOfSpecKind::InvalidFlatbufferBodyLength(e))),
+    }
+}
+
+/// Opens the metadata of a message behind the schema. It takes no memory.
+///
+/// Faults, each `OutOfSpec`: `InvalidFlatbufferMessage`, `MissingMessageHeader`,
+/// `InvalidFlatbufferHeader`, `InvalidFlatbufferBodyLength`, and `UnexpectedNegativeInteger` where the
+/// body's length is below 0.
+#[tactic(auto, unfolding(crate::specs::Messages::opened))]
+pub fn open_message(metadata: &[u8]) -> Result<Message<'_>, Fault>
+    ensures small { IfOk result (λ m. m.body_length < 2 ^ 63) }
+    ensures message { GivesMessage (header_of metadata.now) result }
+    ensures exact { seen header_seen result ≡ opened metadata.now }
+    ensures device { OnIo result ⊥ }
+{
+    let message = match MessageRef::read_as_root(metadata) {
+        Ok(message) => message,
+        Err(e) => return Err(Fault::OutOfSpec(OutOfSpecKind::InvalidFlatbufferMessage(e))),
+    };
+    let header = header_of(&message)?;
+    let body_length = body_length_of(&message)?;
+    Ok(Message {
+        header,
+        body_length,
+    })
+}

@@ -1,0 +1,7 @@
+//! Reads streams: the Arrow columnar format, "IPC Streaming Format".
+mod metadata;
+mod next;
+mod reader;
+
+pub use metadata::{StreamMetadata, read_stream_metadata};
+pub use reader::{StreamReader, StreamState};

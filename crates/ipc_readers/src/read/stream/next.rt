@@ -1,0 +1,223 @@
+//! Reads the next chunk of a stream.
+ghost use Rattle.std.specs.Prelude.{◌≡◌, ◌≢◌, ◌≤◌, ◌<◌, ◌^◌, ◌↔◌, IsTrue, IsSome, IfOk, IfErr, false};
+ghost use Rattle.std.specs.Iterator.{endless};
+ghost use Rattle.ipc_devices.specs.Device.{Rises, after};
+ghost use Rattle.ipc_devices.specs.Faults.{OnIo};
+ghost use Rattle.ipc_devices.specs.declared.fault.Fault.TheVariants.{NotYetImplemented};
+ghost use Rattle.ipc_devices.specs.declared.fault.Nyi.TheVariants.{Pending};
+ghost use Rattle.ipc_base.specs.Fitting.{AllFit};
+ghost use Rattle.ipc_base.specs.IdTrees.{all_ids_view};
+ghost use Rattle.lower.specs.TypeViews.{fields_view};
+ghost use Rattle.ipc_readers.specs.Frames.{begun_bytes};
+ghost use Rattle.ipc_readers.specs.Messages.{header_seen};
+ghost use Rattle.ipc_readers.specs.Streams.{NextStep, IsWaiting, HasChunk, Begins, TakesBody, TakesRecord, GivesItem, ahead, head_of};
+
+use crate::read::begun::{Begun, Frame};
+use crate::read::frame::read_frame;
+use crate::read::message::{Message, open_message};
+use crate::read::stream::metadata::StreamMetadata;
+use crate::read::stream::reader::{Batches, StreamReader, StreamState};
+use ipc_base::chunk::Chunk;
+use ipc_devices::fault::{Fault, Nyi, OutOfSpecKind};
+use ipc_devices::{MemFile, Reads, read_into};
+use ipc_read::read::common::read_record_batch;
+use ipc_views::{MessageHeaderRef, RecordBatchRef};
+use lower::datatypes::Schema;
+use lower_arrays::array::AnyArray;
+use std::alloc::Global;
+use std::collections::HashMap;
+
+impl StreamState {
+    /// Whether the input ended before the next message.
+    pub fn is_waiting(&self) -> bool
+        ensures { IsTrue result ↔ IsWaiting self.now }
+    {
+        match self {
+            StreamState::Waiting => true,
+            StreamState::Some(_) => false,
+        }
+    }
+
+    /// The chunk. The state isn't `Waiting` (see [`StreamState::is_waiting`]).
+    pub fn unwrap(self) -> Chunk<AnyArray>
+        requires { IsWaiting self → ⊥ }
+        ensures { HasChunk self result }
+    {
+        match self {
+            StreamState::Some(chunk) => chunk,
+            StreamState::Waiting => unreachable!(),
+        }
+    }
+}
+
+impl Batches {
+    // The columns of a record batch, whose body comes next.
+    fn read_record<R: Reads>(
+        &mut self,
+        batch: RecordBatchRef<'_>,
+        body_length: usize,
+        reader: &mut R,
+    ) -> Result<Chunk<AnyArray>, Fault>
+        requires { body_length < 2 ^ 63 }
+        ensures described { self.new.metadata ≡ self.old.metadata }
+        ensures monotone { R.failures reader.old ≤ R.failures reader.new }
+        ensures failed { OnIo result (Rises (R.failures reader.old) (R.failures reader.new)) }
+        ensures memory { IsTrue R.known → TakesBody body_length (after (R.memory reader.old)) result
+            (after (R.memory reader.new)) }
+        ensures whole { IsTrue R.still
+            → (R.memory reader.new).whole ≡ (R.memory reader.old).whole }
+    {
+        read_into(reader, &mut self.body, body_length)?;
+        let mut bytes = MemFile::new(self.body.as_slice());
+        let chunk = read_record_batch(
+            self.alloc,
+            batch,
+            &self.metadata.schema.fields,
+            &self.metadata.ipc_schema,
+            None,
+            None,
+            &self.dictionaries,
+            self.metadata.version,
+            &mut bytes,
+            0,
+            body_length as u64,
+            &mut self.scratch,
+        )?;
+        Ok(chunk)
+    }
+
+    // What stands behind the metadata of a message.
+    fn read_body<R: Reads>(
+        &mut self,
+        message: Message<'_>,
+        reader: &mut R,
+    ) -> Result<Chunk<AnyArray>, Fault>
+        requires { message.body_length < 2 ^ 63 }
+        ensures described { self.new.metadata ≡ self.old.metadata }
+        ensures monotone { R.failures reader.old ≤ R.failures reader.new }
+        ensures failed { OnIo result (Rises (R.failures reader.old) (R.failures reader.new)) }
+        ensures memory { IsTrue R.known
+            → TakesRecord (header_seen message.entry) (after (R.memory reader.old)) result
+            (after (R.memory reader.new)) }
+        ensures whole { IsTrue R.still
+            → (R.memory reader.new).whole ≡ (R.memory reader.old).whole }
+    {
+        let Message {
+            header,
+            body_length,
+        } = message;
+        match header {
+            MessageHeaderRef::RecordBatch(batch) => self.read_record(batch, body_length, reader),
+            MessageHeaderRef::DictionaryBatch(_) => Err(Fault::NotYetImplemented(Nyi::Pending)),
+            _ => Err(Fault::OutOfSpec(OutOfSpecKind::UnexpectedMessageType)),
+        }
+    }
+}
+
+impl<R: Reads + Drop> StreamReader<R> {
+    /// A reader of the messages behind the schema message of a stream, which `metadata` is of. The ids
+    /// in it have the shape of its fields. Where no columns are chosen it takes no memory.
+    ///
+    /// Fault: `NotYetImplemented(Pending)` where columns are chosen. No other comes.
+    #[tactic(auto, using(ipc_base::proofs::FitTests::all_test))]
+    pub fn new(
+        alloc: Global,
+        reader: R,
+        metadata: StreamMetadata,
+        projection: Option<Vec<usize>>,
+    ) -> Result<StreamReader<R>, Fault>
+        requires { AllFit (fields_view metadata.schema.fields.items)
+            (all_ids_view metadata.ipc_schema.fields.items) }
+        ensures ok { IfOk result (λ made. Begins reader metadata made) }
+        ensures only { IfErr result (λ e. (e ≡ NotYetImplemented Pending) × IsSome projection) }
+    {
+        if projection.is_some() {
+            return Err(Fault::NotYetImplemented(Nyi::Pending));
+        }
+        let batches = Batches {
+            alloc,
+            metadata,
+            dictionaries: HashMap::new(alloc),
+            body: Vec::new(alloc),
+            scratch: Vec::new(alloc),
+        };
+        Ok(StreamReader {
+            reader,
+            begun: Begun::new(),
+            message: Vec::new(alloc),
+            batches,
+            finished: false,
+        })
+    }
+
+    /// What the schema message said.
+    pub fn metadata(&self) -> &StreamMetadata
+        ensures { result.now ≡ self.now.batches.metadata }
+    {
+        &self.batches.metadata
+    }
+
+    /// The schema of the chunks.
+    pub fn schema(&self) -> &Schema
+        ensures { result.now ≡ self.now.batches.metadata.schema }
+    {
+        &self.batches.metadata.schema
+    }
+
+    /// Whether `next` gives None from now on.
+    pub fn is_finished(&self) -> bool
+        ensures { result ≡ self.now.finished }
+    {
+        self.finished
+    }
+
+    // The next chunk, or None at the mark.
+    #[tactic(auto, unfolding(ipc_model::specs::Streams::item, crate::specs::Streams::behind_record))]
+    fn read_item(&mut self) -> Result<Option<StreamState>, Fault>
+        ensures monotone { R.failures self.old.reader ≤ R.failures self.new.reader }
+        ensures failed { OnIo result (Rises (R.failures self.old.reader) (R.failures self.new.reader)) }
+        ensures finished { self.new.finished ≡ self.old.finished }
+        ensures described { self.new.batches.metadata ≡ self.old.batches.metadata }
+        ensures memory { IsTrue R.known
+            → GivesItem (head_of self.old.batches.metadata) (ahead R.memory self.old) result
+            (begun_bytes self.new.begun) (ahead R.memory self.new) }
+        ensures whole { IsTrue R.still
+            → (R.memory self.new.reader).whole ≡ (R.memory self.old.reader).whole }
+    {
+        match read_frame(&mut self.reader, &mut self.begun, &mut self.message)? {
+            Frame::Waiting => Ok(Some(StreamState::Waiting)),
+            Frame::Mark => Ok(None),
+            Frame::Message => {
+                let message = open_message(&self.message)?;
+                let chunk = self.batches.read_body(message, &mut self.reader)?;
+                Ok(Some(StreamState::Some(chunk)))
+            }
+        }
+    }
+}
+
+impl<R: Reads + Drop> Iterator for StreamReader<R> {
+    type Item = Result<StreamState, Fault>;
+
+    // It may wait again and again.
+    ghost remaining = { λ _. endless };
+
+    ghost next_gives = { λ a r b. NextStep R.known R.failures R.memory a r b };
+
+    fn next(&mut self) -> Option<Result<StreamState, Fault>> {
+        if self.finished {
+            return None;
+        }
+        match self.read_item() {
+            Ok(Some(state)) => Some(Ok(state)),
+            Ok(None) => {
+                self.finished = true;
+                None
+            }
+            Err(e) => {
+                self.finished = true;
+                Some(Err(e))
+            }
+        }
+    }
+}
