@@ -1,0 +1,52 @@
+-- Sends that follow one another.
+use Rattle.std.proofs.Common.{◌≡◌, ℕ, ◌+◌, ◌≤◌, inl, inr, Bool, List, [], ◌++◌, length, take, drop, refl, sym, ap, ◌∙◌, append_assoc, append-nil, length-append, arith, add-zero}
+use Rattle.std.proofs.lemmas.List.{drop-drop, take-append-le}
+use Rattle.std.proofs.Math.Seq.{take-add, take-append-add}
+use Rattle.ipc_devices.specs.Device.{Memory, WritesOver, before, after}
+use Rattle.ipc_write.specs.Sending.{WritesSome, FailsOrIsFull}
+
+pub writes_none : (m : Memory) → WritesOver m m []
+writes_none m = record {
+  added = sym (append-nil (before m));
+  rest = refl;
+  place = sym (add-zero m.place);
+  reaches = λ h. h;
+}
+
+pub writes_both : (m m' m'' : Memory) (a b : List ℕ) → WritesOver m m' a → WritesOver m' m'' b → WritesOver m m'' (a ++ b)
+writes_both m m' m'' a b f g = record {
+  added = g.added ∙ ap (λ l. l ++ b) f.added ∙ append_assoc (before m) a b;
+  rest = g.rest ∙ ap (drop (length b)) f.rest ∙ drop-drop (length b) (length a) (after m) ∙ ap (λ n. drop n (after m)) (sym (length-append a b));
+  place = g.place ∙ ap (λ n. n + length b) f.place ∙ omega (arith, length-append a b);
+  reaches = λ h. g.reaches (f.reaches h);
+}
+
+-- One more write in the loop that sends: n bytes of those that are left.
+pub writes_more : (m m' m'' : Memory) (bytes part : List ℕ) (at n : ℕ) → part ≡ drop at bytes → WritesOver m m' (take at bytes) → WritesOver m' m'' (take n part)
+    → WritesOver m m'' (take (at + n) bytes)
+writes_more m m' m'' bytes part at n e f g =
+    let more : WritesOver m' m'' (take n (drop at bytes)) = rw e at g in
+    rw (take-add at n bytes) (writes_both m m' m'' (take at bytes) (take n (drop at bytes)) f more)
+
+pub fails_later : (grows : Bool) (old mid new room room' at left count : ℕ) → old ≤ mid → room ≤ room' + at → at + left ≤ count → FailsOrIsFull grows mid new room' left → FailsOrIsFull grows old new room count
+fails_later grows old mid new room room' at left count h k l (inl r) = inl (omega arith)
+fails_later grows old mid new room room' at left count h k l (inr r) = inr (r.0, omega (arith, r.1))
+
+pub some_none : (m : Memory) (bytes : List ℕ) → WritesSome m m bytes
+some_none m bytes = record { count = 0; most = omega arith; over = writes_none m }
+
+-- The first ones of more bytes
+pub some_front : (m m' : Memory) (a b : List ℕ) → WritesSome m m' a → WritesSome m m' (a ++ b)
+some_front m m' a b f = record {
+  count = f.count;
+  most = omega (arith, length-append a b, f.most);
+  over = rw (take-append-le f.count a b f.most) f.over;
+}
+
+-- The first ones of bytes that follow others, which were written
+pub some_after : (m m' m'' : Memory) (a b : List ℕ) → WritesOver m m' a → WritesSome m' m'' b → WritesSome m m'' (a ++ b)
+some_after m m' m'' a b f g = record {
+  count = length a + g.count;
+  most = omega (arith, length-append a b, g.most);
+  over = rw (take-append-add a b g.count) (writes_both m m' m'' a (take g.count b) f g.over);
+}

@@ -1,0 +1,21 @@
+-- How a message stands in a stream or a file: Arrow columnar format, "Encapsulated message format".
+use Rattle.std.specs.Prelude.{ℕ, ℤ, pos, ◌+◌, ◌-◌, List, ◌∷◌, ◌++◌, length, replicate}
+use Rattle.std.specs.Int.{w32, to_le_bytes, cast_unsigned, next_multiple_of}
+
+-- these bytes, and zeros up to the next multiple
+unfoldable pub padded : List ℕ → ℕ → List ℕ
+padded bytes multiple = bytes ++ replicate (next_multiple_of (length bytes) multiple - length bytes) 0
+
+-- the marker, and a length as a signed number of 32 bits, lowest byte first
+unfoldable pub prefix_bytes : ℤ → List ℕ
+prefix_bytes n = 255 ∷ 255 ∷ 255 ∷ 255 ∷ to_le_bytes w32 (cast_unsigned w32 n)
+
+-- A message: the prefix with the length of the padded metadata, the metadata padded to a multiple of 8,
+-- and the body padded to a multiple of 64.
+unfoldable pub message_bytes : List ℕ → List ℕ → List ℕ
+message_bytes metadata body =
+    prefix_bytes (pos (next_multiple_of (length metadata) 8)) ++ (padded metadata 8 ++ padded body 64)
+
+-- how many bytes these are
+abbrev pub message_len : List ℕ → List ℕ → ℕ
+message_len metadata body = 8 + next_multiple_of (length metadata) 8 + next_multiple_of (length body) 64

@@ -1,0 +1,5 @@
+pub mod Batches
+pub mod Columns
+pub mod Framing
+pub mod Sending
+pub mod Writers

@@ -1,0 +1,9 @@
+//! Writes Arrow IPC streams.
+#![tactic(auto)]
+
+pub mod common;
+pub mod common_sync;
+pub mod serialize;
+pub mod stream;
+#[cfg(test)]
+mod tests;

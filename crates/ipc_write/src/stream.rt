@@ -1,0 +1,297 @@
+//! Writes streams: Arrow columnar format, "IPC Streaming Format".
+ghost use Rattle.std.specs.Prelude.{◌≡◌, ◌↔◌, ◌≤◌, ◌^◌, ◌∷◌, [], pos, length, map, IfErr, IfOk, IfSome, IsSomeAnd, IsTrue, OnOk};
+ghost use Rattle.std.specs.Int.{next_multiple_of};
+ghost use Rattle.lower.specs.TypeViews.{fields_view, pairs_of, type_view};
+ghost use Rattle.ipc_base.specs.IdTrees.{all_ids_view, ids_view};
+ghost use Rattle.ipc_devices.specs.Device.{WritesOver};
+ghost use Rattle.ipc_devices.specs.Faults.{OnIo, OnRefused};
+ghost use Rattle.ipc_devices.specs.declared.fault.Fault.TheVariants.{Argument};
+ghost use Rattle.ipc_devices.specs.declared.fault.ArgFault.TheVariants.{FieldsDiffer, TooLarge};
+ghost use Rattle.ipc_write.specs.Framing.{message_bytes, message_len, prefix_bytes};
+ghost use Rattle.ipc_write.specs.Sending.{FailsOrIsFull, IsIoOr, WritesSome};
+ghost use Rattle.ipc_write.specs.declared.stream.WriterState.TheVariants.{Failed, Finished, New, Started};
+ghost use Rattle.ipc_write.specs.Writers.{HasType, HaveTypes, RefusesFinish, RefusesNew, RefusesStart, RefusesState, RefusesTypes, RefusesWrite, SendStep, StartsWith, TakesChunk, chosen_ids, ids_of, normal_types, seen_ids};
+
+use crate::common::{EncodedData, WriteOptions, chunk_to_bytes_amortized};
+use crate::common_sync::{write_continuation, write_message};
+use ipc_base::chunk::Chunk;
+use ipc_base::ipc::IpcField;
+use ipc_devices::{ArgFault, Fault, StateFault, Writes};
+use ipc_schema::write::defaults::default_ipc_fields;
+use ipc_schema::write::schema::schema_to_bytes;
+use lower::datatypes::equal::is_same_type;
+use lower::datatypes::{DataType, Field, Schema};
+use lower_arrays::array::AnyArray;
+use std::alloc::{AllocError, Global};
+
+/// How far a writer is.
+#[derive(Clone, Copy, Debug, PartialEq, Eq)]
+pub enum WriterState {
+    /// Nothing was written.
+    New,
+    /// The schema was written.
+    Started,
+    /// The end was written.
+    Finished,
+    /// A device failed.
+    Failed,
+}
+
+/// Writes a stream: a schema, then chunks, then the mark that ends it.
+///
+/// The order of its calls is `start`, any number of `write`, `finish`; any other call is refused, and
+/// a refused call changes nothing. After an `Io` fault each call answers `State(Failed)`.
+#[derive(Drop)]
+pub struct StreamWriter<W> {
+    pub(crate) alloc: Global,
+    pub(crate) writer: W,
+    pub(crate) write_options: WriteOptions,
+    pub(crate) state: WriterState,
+    // the types of the columns, in their normal form
+    pub(crate) types: Vec<DataType>,
+    pub(crate) ipc_fields: Vec<IpcField>,
+    // the message that was made last, whose memory the next one takes
+    pub(crate) encoded: EncodedData,
+}
+
+// Whether a column has this type, in its normal form.
+fn has_type(column: &AnyArray, data_type: &DataType) -> Result<bool, AllocError>
+    ensures { IfOk result (λ b. IsTrue b ↔ HasType column.now data_type.now) }
+{
+    let normal = column.data_type().normal()?;
+    Ok(is_same_type(&normal, data_type))
+}
+
+// Refuses columns that have not these types, one each.
+fn check_types(columns: &[AnyArray], types: &[DataType]) -> Result<(), Fault>
+    ensures ok { OnOk result (HaveTypes columns.now types.now) }
+    ensures only { IfErr result (RefusesTypes columns.now types.now) }
+{
+    if columns.len() != types.len() {
+        return Err(Fault::Argument(ArgFault::ColumnCount));
+    }
+    for (i, column) in columns.iter().enumerate() {
+        if !has_type(column, &types[i])? {
+            return Err(Fault::Argument(ArgFault::ColumnType));
+        }
+    }
+    Ok(())
+}
+
+// Sends a message. After a failure nothing more is sent.
+fn send<W: Writes>(
+    writer: &mut W,
+    state: &mut WriterState,
+    encoded: &EncodedData,
+) -> Result<(), Fault>
+    ensures monotone { W.failures writer.old ≤ W.failures writer.new }
+    ensures ok { OnOk result (state.new ≡ state.old) }
+    ensures only { IfErr result (IsIoOr (Argument TooLarge)) }
+    ensures refused { OnRefused result ((writer.new ≡ writer.old) × (state.new ≡ state.old)
+        × (2 ^ 31 ≤ next_multiple_of (length encoded.now.ipc_message.items) 8)) }
+    ensures io { OnIo result ((state.new ≡ Failed) × FailsOrIsFull W.grows (W.failures writer.old)
+        (W.failures writer.new) (W.room writer.old)
+        (message_len encoded.now.ipc_message.items encoded.now.arrow_data.items)) }
+    ensures memory { IsTrue W.known → OnOk result
+        (WritesOver (W.memory writer.old) (W.memory writer.new)
+        (message_bytes encoded.now.ipc_message.items encoded.now.arrow_data.items)) }
+    ensures part { IsTrue W.known → WritesSome (W.memory writer.old) (W.memory writer.new)
+        (message_bytes encoded.now.ipc_message.items encoded.now.arrow_data.items) }
+{
+    match write_message(writer, encoded) {
+        Ok(_) => Ok(()),
+        Err(Fault::Io(error)) => {
+            *state = WriterState::Failed;
+            Err(Fault::Io(error))
+        }
+        Err(fault) => Err(fault),
+    }
+}
+
+// The types of the fields, in their normal form.
+fn types_of_fields(alloc: Global, fields: &[Field]) -> Result<Vec<DataType>, AllocError>
+    ensures { IfOk result (λ types. map type_view types.items ≡ normal_types (fields_view fields.now)) }
+{
+    let mut types = Vec::new(alloc);
+    for field in fields {
+        types.push(field.data_type.normal()?)?;
+    }
+    Ok(types)
+}
+
+// Whether these are the same ids.
+#[cycle(same_ids)]
+fn are_same_ids(a: &[IpcField], b: &[IpcField]) -> bool
+    ensures { IsTrue result ↔ (all_ids_view a.now ≡ all_ids_view b.now) }
+{
+    if a.len() != b.len() {
+        return false;
+    }
+    for (i, field) in a.iter().enumerate() {
+        if !is_same_id(field, &b[i]) {
+            return false;
+        }
+    }
+    true
+}
+
+#[cycle(same_ids)]
+fn is_same_id(a: &IpcField, b: &IpcField) -> bool
+    ensures { IsTrue result ↔ (ids_view a.now ≡ ids_view b.now) }
+{
+    a.dictionary_id == b.dictionary_id && are_same_ids(&a.fields, &b.fields)
+}
+
+impl<W: Writes + Drop> StreamWriter<W> {
+    // Refuses a writer that isn't started.
+    fn check_started(&self) -> Result<(), Fault>
+        ensures ok { OnOk result (self.now.state ≡ Started) }
+        ensures only { IfErr result (RefusesState self.now.state) }
+    {
+        match self.state {
+            WriterState::New => Err(Fault::State(StateFault::NotStarted)),
+            WriterState::Started => Ok(()),
+            WriterState::Finished => Err(Fault::State(StateFault::Finished)),
+            WriterState::Failed => Err(Fault::State(StateFault::Failed)),
+        }
+    }
+
+    // Refuses a writer that was started before.
+    fn check_new(&self) -> Result<(), Fault>
+        ensures ok { OnOk result (self.now.state ≡ New) }
+        ensures only { IfErr result (RefusesNew self.now.state) }
+    {
+        match self.state {
+            WriterState::New => Ok(()),
+            WriterState::Started => Err(Fault::State(StateFault::AlreadyStarted)),
+            WriterState::Finished => Err(Fault::State(StateFault::Finished)),
+            WriterState::Failed => Err(Fault::State(StateFault::Failed)),
+        }
+    }
+
+    // Refuses ids that aren't those of the start.
+    fn check_ids(&self, ipc_fields: Option<&[IpcField]>) -> Result<(), Fault>
+        ensures ok { OnOk result (IfSome (seen_ids ipc_fields.entry) (λ given. given ≡ ids_of self.now)) }
+        ensures only { IfErr result (λ e. (e ≡ Argument FieldsDiffer)
+            × IsSomeAnd (seen_ids ipc_fields.entry) (λ given. ¬ (given ≡ ids_of self.now))) }
+    {
+        match ipc_fields {
+            Some(given) if !are_same_ids(given, &self.ipc_fields) => {
+                Err(Fault::Argument(ArgFault::FieldsDiffer))
+            }
+            _ => Ok(()),
+        }
+    }
+
+    /// A writer of a stream, which writes nothing yet. It takes no memory.
+    pub fn new(alloc: Global, writer: W, write_options: WriteOptions) -> StreamWriter<W>
+        ensures writer { result.writer ≡ writer }
+        ensures state { result.state ≡ New }
+    {
+        StreamWriter {
+            alloc,
+            writer,
+            write_options,
+            state: WriterState::New,
+            types: Vec::new(alloc),
+            ipc_fields: Vec::new(alloc),
+            encoded: EncodedData::empty(alloc),
+        }
+    }
+
+    /// What was written to.
+    pub fn into_inner(self) -> W
+        ensures { result ≡ self.writer }
+    {
+        self.writer
+    }
+
+    /// Writes the schema, in its normal form. Where no ids are handed in, the dictionaries get 0, 1, 2
+    /// and on, in pre-order.
+    ///
+    /// Faults: `State(AlreadyStarted)`, `State(Finished)`, `State(Failed)` by the writer's state;
+    /// `NotYetImplemented(Pending)` where the schema has metadata, dictionaries or types other than
+    /// integers; `Argument(FieldsShape)` where the ids don't fit the fields; `Argument(NotWritable)`
+    /// where the schema's weight is above `2^30`; `Argument(TooLarge)` where ids by default would pass
+    /// `2^63 - 1`; `Memory`: after these nothing was sent and the writer is as it was. `Io` where the
+    /// device failed, or where it is memory whose growth was refused: then some of the first bytes were
+    /// sent, and each later call answers `State(Failed)`.
+    pub fn start(&mut self, schema: &Schema, ipc_fields: Option<Vec<IpcField>>) -> Result<(), Fault>
+        ensures step { SendStep W.known W.grows W.failures W.room W.memory self.old result self.new
+            (message_bytes self.new.encoded.ipc_message.items self.new.encoded.arrow_data.items)
+            (message_len self.new.encoded.ipc_message.items self.new.encoded.arrow_data.items) }
+        ensures ok { let fields = fields_view schema.now.fields.items in
+            OnOk result (StartsWith self.old self.new fields (pairs_of schema.now.metadata.entries)
+            (chosen_ids ipc_fields fields)) }
+        ensures only { let fields = fields_view schema.now.fields.items in
+            IfErr result (RefusesStart self.old.state fields (pairs_of schema.now.metadata.entries)
+            (chosen_ids ipc_fields fields)) }
+    {
+        self.check_new()?;
+        let ipc_fields = match ipc_fields {
+            Some(given) => given,
+            None => default_ipc_fields(self.alloc, &schema.fields)?,
+        };
+        let types = types_of_fields(self.alloc, &schema.fields)?;
+        self.encoded.arrow_data.clear();
+        self.encoded.ipc_message = schema_to_bytes(self.alloc, schema, &ipc_fields)?;
+        send(&mut self.writer, &mut self.state, &self.encoded)?;
+        self.state = WriterState::Started;
+        self.types = types;
+        self.ipc_fields = ipc_fields;
+        Ok(())
+    }
+
+    /// Writes a chunk, whose columns have the types of the schema. Ids that are handed in are those of
+    /// the start.
+    ///
+    /// Faults: `State(NotStarted)`, `State(Finished)`, `State(Failed)` by the writer's state;
+    /// `Argument(FieldsDiffer)` for other ids; `Argument(ColumnCount)` for another number of columns;
+    /// `Argument(ColumnType)` for a column of another type; `NotYetImplemented(Pending)` for a column
+    /// with a validity; `Argument(TooLong)` for a column of more than `2^63 - 1` slots;
+    /// `Argument(TooLarge)` where the body would end past `2^63 - 1`, or the metadata would have more
+    /// than `2^31 - 1` bytes; `Memory`: after these nothing was sent and the writer is as it was. `Io`
+    /// where the device failed, or where it is memory whose growth was refused: then some of the first
+    /// bytes were sent, and each later call answers `State(Failed)`.
+    pub fn write(
+        &mut self,
+        columns: &Chunk<AnyArray>,
+        ipc_fields: Option<&[IpcField]>,
+    ) -> Result<(), Fault>
+        ensures step { SendStep W.known W.grows W.failures W.room W.memory self.old result self.new
+            (message_bytes self.new.encoded.ipc_message.items self.new.encoded.arrow_data.items)
+            (message_len self.new.encoded.ipc_message.items self.new.encoded.arrow_data.items) }
+        ensures ok { OnOk result (TakesChunk self.old self.new columns.now (seen_ids ipc_fields.entry)) }
+        ensures only { IfErr result (RefusesWrite self.old columns.now (seen_ids ipc_fields.entry)) }
+    {
+        self.check_started()?;
+        self.check_ids(ipc_fields)?;
+        check_types(columns.arrays(), &self.types)?;
+        chunk_to_bytes_amortized(self.alloc, columns, &mut self.encoded)?;
+        send(&mut self.writer, &mut self.state, &self.encoded)
+    }
+
+    /// Writes the mark that ends a stream.
+    ///
+    /// Faults: `State(NotStarted)`, `State(Finished)`, `State(Failed)` by the writer's state, after
+    /// which nothing was sent and the writer is as it was; `Io` where the device failed, or where it is
+    /// memory whose growth was refused, after which each later call answers `State(Failed)`.
+    pub fn finish(&mut self) -> Result<(), Fault>
+        ensures step { SendStep W.known W.grows W.failures W.room W.memory self.old result self.new
+            (prefix_bytes (pos 0)) 8 }
+        ensures ok { OnOk result ((self.old.state ≡ Started) × (self.new.state ≡ Finished)) }
+        ensures only { IfErr result (RefusesFinish self.old.state) }
+    {
+        self.check_started()?;
+        match write_continuation(&mut self.writer, 0) {
+            Ok(_) => {
+                self.state = WriterState::Finished;
+                Ok(())
+            }
+            Err(fault) => {
+                self.state = WriterState::Failed;
+                Err(fault)
+            }
+        }
+    }
+}
