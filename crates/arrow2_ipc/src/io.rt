@@ -1,0 +1,2 @@
+//! Data formats.
+pub mod ipc;

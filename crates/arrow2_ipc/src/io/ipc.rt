@@ -1,0 +1,7 @@
+//! Arrow's IPC streams.
+pub mod fault;
+pub mod format;
+pub mod read;
+pub mod write;
+
+pub use ipc_base::ipc::{IpcField, IpcSchema, fits};

@@ -1,0 +1,9 @@
+//! The tables of Arrow's metadata: views of bytes, and values that are built into bytes.
+pub use ipc_tables::file::Footer;
+pub use ipc_tables::message::{DictionaryBatch, Message, MessageHeader, RecordBatch};
+pub use ipc_tables::schema::{DictionaryEncoding, Field, KeyValue, Schema};
+pub use ipc_views::{
+    Block, Blocks, Buffer, Buffers, DictionaryBatchRef, DictionaryEncodingRef, Endianness,
+    FieldNode, FieldRef, FooterRef, KeyValueRef, MessageHeaderRef, MessageRef, MetadataVersion,
+    Nodes, RecordBatchRef, SchemaRef, TableRef, Tables, TypeRef,
+};

@@ -1,0 +1,5 @@
+//! Reading.
+pub use ipc_readers::read::stream::{
+    StreamMetadata, StreamReader, StreamState, read_stream_metadata,
+};
+pub use ipc_schema::read::schema::deserialize_schema;
