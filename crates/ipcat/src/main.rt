@@ -1,0 +1,31 @@
+//! `ipcat` writes the documented example as an Arrow IPC stream, and shows the streams that it is given.
+#![tactic(auto)]
+
+mod class;
+mod demo;
+mod forms;
+mod printer;
+mod program;
+mod show;
+#[cfg(test)]
+mod tests;
+
+use arrow2_ipc::io::ipc::fault::{MemFile, Watched};
+use program::run;
+use std::process::ExitCode;
+use std::{env, io};
+
+fn main(rt: HostRuntime) -> io::Result<ExitCode> {
+    let mut words = env::args(&rt)?;
+    let _program = words.next();
+    let words: Vec<String> = words.collect(rt.alloc())?;
+    let status = run(
+        rt.alloc(),
+        &words,
+        &mut Watched::new(rt.stdin()),
+        None::<MemFile<&[u8]>>,
+        &mut Watched::new(rt.stdout()),
+        &mut Watched::new(rt.stderr()),
+    );
+    Ok(ExitCode::from(status))
+}
