@@ -1,0 +1,68 @@
+//! A device with breaks between its pieces.
+ghost use Rattle.std.specs.Prelude.{◌≡◌, true, false, IfOk};
+ghost use Rattle.ipc_devices.specs.Device.{Memory};
+
+use ipc_devices::{Failures, MemFile, Reads};
+use std::alloc::{AllocError, Global};
+use std::io;
+
+/// Gives pieces of bytes, and answers 0 once at the end of each, as a pipe does whose writer pauses.
+#[derive(Drop)]
+pub struct Pieces {
+    piece: MemFile<Vec<u8>>,
+    // the last one comes first
+    later: Vec<Vec<u8>>,
+    given: u64,
+}
+
+impl Pieces {
+    /// A device that gives these pieces in turn.
+    pub fn new(alloc: Global, pieces: &[&[u8]]) -> Result<Pieces, AllocError>
+        ensures { IfOk result (λ device. device.given ≡ 0) }
+    {
+        let mut later = Vec::new(alloc);
+        for piece in pieces.iter().rev() {
+            later.push(Vec::from_slice(alloc, piece)?)?;
+        }
+        let first = later.pop().unwrap_or(Vec::new(alloc));
+        Ok(Pieces {
+            piece: MemFile::new(first),
+            later,
+            given: 0,
+        })
+    }
+}
+
+impl Failures for Pieces {
+    ghost known = { true };
+
+    // The piece that is read changes.
+    ghost still = { false };
+
+    ghost memory = { λ p. record { whole = p.piece.inner.items; place = p.piece.position } };
+
+    ghost failures = { λ _. 0 };
+
+    ghost given = { λ p. p.given };
+
+    fn failures(&self) -> u64 {
+        0
+    }
+}
+
+impl Reads for Pieces {
+    fn given(&self) -> u64 {
+        self.given
+    }
+
+    fn read(&mut self, buf: &mut [u8]) -> io::Result<usize> {
+        let n = self.piece.read(buf)?;
+        self.given = self.given.saturating_add(n as u64);
+        if n == 0 && !buf.is_empty() {
+            if let Some(next) = self.later.pop() {
+                self.piece = MemFile::new(next);
+            }
+        }
+        Ok(n)
+    }
+}

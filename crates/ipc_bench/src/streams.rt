@@ -1,0 +1,140 @@
+//! Whole streams, written and read.
+
+use crate::fixtures::{
+    SMALLEST_SCHEMA, field, five_chunks, int64, is_same_chunk, two_int32, two_rows,
+};
+use arrow2_ipc::array::{AnyArray, AnyPrimitive, PrimitiveArray};
+use arrow2_ipc::buffer::Buffer;
+use arrow2_ipc::chunk::Chunk;
+use arrow2_ipc::datatypes::{DataType, Metadata, Schema};
+use arrow2_ipc::io::ipc::fault::{Fault, MemFile};
+use arrow2_ipc::io::ipc::read::{StreamReader, StreamState, read_stream_metadata};
+use arrow2_ipc::io::ipc::write::{StreamWriter, WriteOptions};
+use std::alloc::Global;
+use std::test::Fail;
+
+// The next chunk, None at the end, and a fault where the stream waits.
+fn next_chunk<R: arrow2_ipc::io::ipc::fault::Reads + Drop>(
+    reader: &mut StreamReader<R>,
+) -> Result<Option<Chunk<AnyArray>>, Fault> {
+    match reader.next() {
+        None => Ok(None),
+        Some(Err(fault)) => Err(fault),
+        Some(Ok(StreamState::Waiting)) => Err(Fault::Ended),
+        Some(Ok(StreamState::Some(chunk))) => Ok(Some(chunk)),
+    }
+}
+
+#[test]
+fn five_equal_chunks_come_back_and_then_none(rt: HostRuntime) -> Result<(), Fail> {
+    let alloc = rt.alloc();
+    let bytes = five_chunks(alloc)?;
+    let mut input = MemFile::new(bytes.as_slice());
+    let metadata = read_stream_metadata(alloc, &mut input)?;
+    assert!(rt; metadata.schema == two_int32(alloc)?);
+    let mut reader = StreamReader::new(alloc, input, metadata, None)?;
+    let wanted = two_rows(alloc)?;
+    for _ in 0..5 {
+        let chunk = next_chunk(&mut reader)?;
+        assert!(rt; chunk.is_some_and(|chunk| is_same_chunk(&chunk, &wanted)));
+        assert!(rt; !reader.is_finished());
+    }
+    assert!(rt; next_chunk(&mut reader)?.is_none());
+    assert!(rt; reader.is_finished());
+    assert!(rt; next_chunk(&mut reader)?.is_none());
+    Ok(())
+}
+
+#[test]
+fn a_schema_and_a_chunk_without_columns_come_back(rt: HostRuntime) -> Result<(), Fail> {
+    let alloc = rt.alloc();
+    let schema = Schema {
+        fields: Vec::new(alloc),
+        metadata: Metadata::new(alloc),
+    };
+    let mut writer = StreamWriter::new(alloc, Vec::new(alloc), WriteOptions::default());
+    writer.start(&schema, None)?;
+    writer.write(&Chunk::new(Vec::new(alloc)), None)?;
+    writer.finish()?;
+    let bytes = writer.into_inner();
+    let mut input = MemFile::new(bytes.as_slice());
+    let metadata = read_stream_metadata(alloc, &mut input)?;
+    let mut reader = StreamReader::new(alloc, input, metadata, None)?;
+    let chunk = next_chunk(&mut reader)?;
+    assert!(rt; chunk.is_some_and(|chunk| chunk.arrays().is_empty()));
+    assert!(rt; next_chunk(&mut reader)?.is_none());
+    Ok(())
+}
+
+// A prefix with the continuation marker, the smallest schema, and these bytes behind it.
+fn smallest_stream(alloc: Global, behind: &[u8]) -> Result<Vec<u8>, Fault> {
+    let mut bytes = Vec::from_slice(alloc, &[0xff, 0xff, 0xff, 0xff, 48, 0, 0, 0])?;
+    bytes.extend_from_slice(&SMALLEST_SCHEMA)?;
+    bytes.extend_from_slice(behind)?;
+    Ok(bytes)
+}
+
+#[test]
+fn behind_its_schema_a_stream_waits(rt: HostRuntime) -> Result<(), Fail> {
+    let alloc = rt.alloc();
+    let bytes = smallest_stream(alloc, &[])?;
+    let mut input = MemFile::new(bytes.as_slice());
+    let metadata = read_stream_metadata(alloc, &mut input)?;
+    assert!(rt; metadata.schema.fields.is_empty());
+    let mut reader = StreamReader::new(alloc, input, metadata, None)?;
+    assert!(rt; matches!(reader.next(), Some(Ok(StreamState::Waiting))));
+    assert!(rt; matches!(reader.next(), Some(Ok(StreamState::Waiting))));
+    assert!(rt; !reader.is_finished());
+    Ok(())
+}
+
+#[test]
+fn a_mark_behind_the_schema_ends_the_stream(rt: HostRuntime) -> Result<(), Fail> {
+    let alloc = rt.alloc();
+    let bytes = smallest_stream(alloc, &[0xff, 0xff, 0xff, 0xff, 0, 0, 0, 0])?;
+    let mut input = MemFile::new(bytes.as_slice());
+    let metadata = read_stream_metadata(alloc, &mut input)?;
+    let mut reader = StreamReader::new(alloc, input, metadata, None)?;
+    assert!(rt; reader.next().is_none());
+    assert!(rt; reader.next().is_none());
+    Ok(())
+}
+
+#[test]
+fn a_stated_length_of_two_gigabytes_before_twenty_bytes_ends(rt: HostRuntime) {
+    let alloc = rt.alloc();
+    let mut bytes = [0u8; 28];
+    bytes[..8].copy_from_slice(&[0xff, 0xff, 0xff, 0xff, 0xff, 0xff, 0xff, 0x7f]);
+    let read = read_stream_metadata(alloc, &mut MemFile::new(bytes.as_slice()));
+    assert!(rt; matches!(&read, Err(Fault::Ended)));
+}
+
+#[test]
+fn the_greatest_number_of_64_bits_comes_back(rt: HostRuntime) -> Result<(), Fail> {
+    let alloc = rt.alloc();
+    let schema = Schema {
+        fields: vec![in alloc;
+            field(alloc, "a", DataType::UInt64)?,
+            field(alloc, "b", DataType::Int64)?,
+        ]?,
+        metadata: Metadata::new(alloc),
+    };
+    let values = Buffer::new(Vec::from_slice(alloc, &[u64::MAX])?)?;
+    let greatest = PrimitiveArray::try_new(DataType::UInt64, values, None)?;
+    let columns = vec![in alloc;
+        AnyArray::Primitive(AnyPrimitive::UInt64(greatest)),
+        int64(alloc, &[i64::MIN])?,
+    ]?;
+    let chunk = Chunk::try_new(columns)?;
+    let mut writer = StreamWriter::new(alloc, Vec::new(alloc), WriteOptions::default());
+    writer.start(&schema, None)?;
+    writer.write(&chunk, None)?;
+    let bytes = writer.into_inner();
+    let mut input = MemFile::new(bytes.as_slice());
+    let metadata = read_stream_metadata(alloc, &mut input)?;
+    let mut reader = StreamReader::new(alloc, input, metadata, None)?;
+    let again = next_chunk(&mut reader)?;
+    assert!(rt; again.is_some_and(|again| is_same_chunk(&again, &chunk)));
+    assert!(rt; matches!(reader.next(), Some(Ok(StreamState::Waiting))));
+    Ok(())
+}
