@@ -1,0 +1,5 @@
+pub mod Cuts
+pub mod Sizes
+pub mod SpanPlaces
+pub mod TextRuns
+pub mod Unset

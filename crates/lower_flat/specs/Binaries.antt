@@ -1,0 +1,33 @@
+-- The rules of arrays of bytes.
+-- (Arrow columnar format, "Variable-size Binary Layout".)
+use Rattle.std.specs.Prelude.{◌≡◌}
+use Rattle.lower.specs.Physical.{physical}
+use Rattle.lower.specs.Offsets.{IsOffsets}
+use Rattle.lower_types.specs.declared.PrimitiveType.{PrimitiveType}
+use Rattle.lower_types.specs.declared.PrimitiveType.TheVariants.{Int64}
+use Rattle.lower.specs.declared.datatypes.physical_type.PhysicalType.{PhysicalType}
+use Rattle.lower.specs.declared.datatypes.physical_type.PhysicalType.TheVariants.{Binary, LargeBinary}
+use Rattle.lower.specs.declared.error.Error.{Error}
+use Rattle.lower.specs.declared.error.Error.TheVariants.{OutOfSpec}
+use Rattle.lower.specs.declared.error.Rule.TheVariants.{ValidityLength, OffsetsPastValues, PhysicalType as WrongType}
+use Rattle.lower_flat.specs.Validities.{ValidityFits}
+use Rattle.lower_flat.specs.Spans.{SpansSeen, span_count, EndsWithin}
+
+-- how bytes with offsets of the type p lie in memory: the large form has offsets of 64 bits
+abbrev pub bytes_with : PrimitiveType → PhysicalType
+bytes_with Int64 = LargeBinary
+bytes_with _ = Binary
+
+-- the type lies in memory as bytes with these offsets do, the last offset is within the bytes, and a validity has a bit for each slot
+pub record IsBinary (p : PrimitiveType) (a : SpansSeen) : Type 0 where
+  pub lies : physical a.type ≡ bytes_with p
+  pub offsets : IsOffsets a.offsets
+  pub within : EndsWithin a.offsets a.values
+  pub fits : ValidityFits a.validity (span_count a.offsets)
+
+-- the rule that the error names is broken
+abbrev pub BreaksBinary : PrimitiveType → SpansSeen → Error → Type 0
+BreaksBinary p a (OutOfSpec WrongType) = ¬ (physical a.type ≡ bytes_with p)
+BreaksBinary p a (OutOfSpec OffsetsPastValues) = ¬ (EndsWithin a.offsets a.values)
+BreaksBinary p a (OutOfSpec ValidityLength) = ¬ (ValidityFits a.validity (span_count a.offsets))
+BreaksBinary p a (OutOfSpec _) = ⊥

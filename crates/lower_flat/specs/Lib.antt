@@ -1,0 +1,9 @@
+pub mod TypeCodes
+pub mod Validities
+pub mod Primitives
+pub mod Nulls
+pub mod Booleans
+pub mod FixedBinaries
+pub mod Spans
+pub mod Binaries
+pub mod Texts

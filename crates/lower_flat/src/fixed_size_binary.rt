@@ -1,0 +1,194 @@
+//! Arrays of bytes, as many in each slot.
+ghost use Rattle.std.specs.Prelude.{◌≡◌, ◌+◌, ◌*◌, ◌≤◌, length, MatchResult, IsTrue, ◌↔◌, ◌<◌};
+ghost use Rattle.std.specs.Option.{option_copied};
+ghost use Rattle.lower.specs.TypeViews.{type_view};
+ghost use Rattle.lower_flat.specs.Validities.{null_count_of, is_valid, part};
+ghost use Rattle.lower_flat.specs.FixedBinaries.{byte_size, fixed_seen, IsFixedBinary, BreaksFixedBinary, cut_fixed};
+
+use crate::validity::{clone_validity, fits, is_valid_at, sliced_validity, unset_bits};
+use lower::bitmap::Bitmap;
+use lower::buffer::Buffer;
+use lower::datatypes::{DataType, PhysicalType};
+use lower::error::{Error, Rule};
+use std::alloc::AllocError;
+use std::marker::Model;
+
+/// As many bytes for each slot as the data type says (Arrow columnar format, "Fixed-size Primitive
+/// Layout").
+#[derive(Drop)]
+pub struct FixedSizeBinaryArray {
+    data_type: DataType,
+    size: usize,
+    len: usize,
+    values: Buffer<u8>,
+    validity: Option<Bitmap>,
+}
+
+impl Model for FixedSizeBinaryArray {
+    ghost use Rattle.lower_flat.specs.FixedBinaries.{FixedBinarySeen, coded_fixed, IsFixedBinary};
+    ghost use Rattle.lower.specs.TypeViews.{type_view};
+
+    ghost Value = { FixedBinarySeen };
+
+    ghost coded = { coded_fixed };
+
+    ghost view = { λ a. record { type = type_view a.data_type; size = a.size; len = a.len; values = a.values; validity = a.validity } };
+
+    ghost invariant = { λ a. IsFixedBinary (record { type = type_view a.data_type; size = a.size; len = a.len; values = a.values; validity = a.validity }) };
+}
+
+// How many bytes the type gives each slot, 0 where it isn't one of bytes of a fixed size.
+fn byte_size(data_type: &DataType) -> usize
+    ensures { result ≡ byte_size (type_view data_type.now) }
+{
+    match data_type.to_logical_type() {
+        DataType::FixedSizeBinary(size) => *size,
+        _ => 0,
+    }
+}
+
+impl FixedSizeBinaryArray {
+    /// An array of these bytes, cut into slots, of which those are null whose bit isn't set.
+    ///
+    /// `PhysicalType` where the data type isn't one of bytes of a fixed size, `ZeroSize` where that
+    /// size is 0, `ValuesLength` where the bytes aren't a whole number of slots, `ValidityLength`
+    /// where the validity hasn't a bit for each slot.
+    pub fn try_new(
+        data_type: DataType,
+        values: Buffer<u8>,
+        validity: Option<Bitmap>,
+    ) -> Result<Self, Error>
+        ensures { let seen = fixed_seen (type_view data_type) values validity in
+            MatchResult result (λ a. (a ≡ seen) × IsFixedBinary seen) (BreaksFixedBinary seen) }
+    {
+        if data_type.to_physical_type() != PhysicalType::FixedSizeBinary {
+            return Err(Error::OutOfSpec(Rule::PhysicalType));
+        }
+        let size = byte_size(&data_type);
+        if size == 0 {
+            return Err(Error::OutOfSpec(Rule::ZeroSize));
+        }
+        if values.len() % size != 0 {
+            return Err(Error::OutOfSpec(Rule::ValuesLength));
+        }
+        let len = values.len() / size;
+        if !fits(&validity, len) {
+            return Err(Error::OutOfSpec(Rule::ValidityLength));
+        }
+        Ok(FixedSizeBinaryArray {
+            data_type,
+            size,
+            len,
+            values,
+            validity,
+        })
+    }
+
+    /// The type of its slots.
+    pub fn data_type(&self) -> &DataType
+        ensures tree { type_view result.now ≡ self.now.type }
+        ensures valid { IsFixedBinary self.now }
+    {
+        &self.data_type
+    }
+
+    /// How many bytes a slot has.
+    pub fn size(&self) -> usize
+        ensures size { result ≡ self.now.size }
+        ensures valid { IsFixedBinary self.now }
+    {
+        self.size
+    }
+
+    /// The bytes of all slots, with those of each null too.
+    pub fn values(&self) -> &Buffer<u8>
+        ensures bytes { result.now ≡ self.now.values }
+        ensures valid { IsFixedBinary self.now }
+    {
+        &self.values
+    }
+
+    /// The bits that say which slots are valid, or `None` where all are.
+    pub fn validity(&self) -> Option<&Bitmap>
+        ensures bits { option_copied result ≡ self.now.validity }
+        ensures valid { IsFixedBinary self.now }
+    {
+        self.validity.as_ref()
+    }
+
+    /// How many slots it has.
+    pub fn len(&self) -> usize
+        ensures len { result ≡ self.now.len }
+        ensures valid { IsFixedBinary self.now }
+    {
+        self.len
+    }
+
+    /// Whether it has no slot.
+    pub fn is_empty(&self) -> bool
+        ensures { IsTrue result ↔ (self.now.len ≡ 0) }
+    {
+        self.len == 0
+    }
+
+    /// How many slots are null.
+    pub fn null_count(&self) -> usize
+        ensures { result ≡ null_count_of self.now.validity }
+    {
+        unset_bits(&self.validity)
+    }
+
+    /// Whether the slot at `index` isn't null.
+    pub fn is_valid(&self, index: usize) -> bool
+        requires { index < self.now.len }
+        ensures { result ≡ is_valid self.now.validity index }
+    {
+        is_valid_at(&self.validity, index)
+    }
+
+    /// The bytes of the slot at `index`, of a null too.
+    pub fn value(&self, index: usize) -> &[u8]
+        requires { index < self.now.len }
+        ensures { result.now ≡ part (index * self.now.size) self.now.size self.now.values }
+    {
+        prove!(self.size <= self.values.len());
+        let start = index * self.size;
+        &self.values.as_slice()[start..start + self.size]
+    }
+
+    /// The `len` slots from `offset` on. It takes no memory.
+    pub fn sliced(self, offset: usize, len: usize) -> Self
+        requires { offset + len ≤ self.len }
+        ensures { result ≡ cut_fixed offset len self }
+    {
+        let FixedSizeBinaryArray {
+            data_type,
+            size,
+            values,
+            validity,
+            ..
+        } = self;
+        FixedSizeBinaryArray {
+            data_type,
+            size,
+            len,
+            values: values.sliced(offset * size, len * size),
+            validity: sliced_validity(validity, offset, len),
+        }
+    }
+}
+
+impl Clone for FixedSizeBinaryArray {
+    ghost is_clone = { λ a b. b ≡ a };
+
+    /// The same slots once more, which share their memory with these.
+    fn clone(&self) -> Result<Self, AllocError> {
+        Ok(FixedSizeBinaryArray {
+            data_type: self.data_type.clone()?,
+            size: self.size,
+            len: self.len,
+            values: self.values.clone()?,
+            validity: clone_validity(&self.validity)?,
+        })
+    }
+}

@@ -1,0 +1,23 @@
+//! The arrays of Arrow that have no child: nulls, truth values, numbers, bytes and texts.
+//!
+//! Each keeps the rules of the Arrow columnar format, "Physical memory layout", from its
+//! constructor on. Its parts share their memory: a clone or a slice copies no slot.
+#![tactic(auto)]
+
+mod binary;
+mod boolean;
+mod fixed_size_binary;
+mod null;
+mod primitive;
+#[cfg(test)]
+mod tests;
+mod texts;
+mod utf8;
+pub mod validity;
+
+pub use binary::BinaryArray;
+pub use boolean::BooleanArray;
+pub use fixed_size_binary::FixedSizeBinaryArray;
+pub use null::NullArray;
+pub use primitive::PrimitiveArray;
+pub use utf8::Utf8Array;

@@ -1,0 +1,73 @@
+//! Flat arrays at work.
+use crate::{BooleanArray, NullArray};
+use lower::bitmap::Bitmap;
+use lower::buffer::Buffer;
+use lower::datatypes::DataType;
+use lower::datatypes::equal::is_same_type;
+use lower::error::{Error, Rule};
+use std::alloc::{AllocError, Global};
+use std::test::Fail;
+
+fn bytes(alloc: Global, values: &[u8]) -> Result<Buffer<u8>, AllocError> {
+    Buffer::new(Vec::from_slice(alloc, values)?)
+}
+
+// The first `count` bits of some bytes.
+fn bits(alloc: Global, values: &[u8], count: usize) -> Result<Bitmap, Fail> {
+    Ok(Bitmap::try_new(bytes(alloc, values)?, count)?)
+}
+
+#[test]
+fn nulls(rt: HostRuntime) -> Result<(), Fail> {
+    let array = NullArray::try_new(DataType::Null, 3)?;
+    assert!(rt; is_same_type(array.data_type(), &DataType::Null));
+    assert_eq!(rt; array.len(), 3);
+    assert_eq!(rt; array.null_count(), 3);
+    assert!(rt; array.validity().is_none());
+    assert!(rt; !array.is_valid(2));
+    assert_eq!(rt; array.clone()?.len(), 3);
+    let part = array.sliced(2, 1);
+    assert_eq!(rt; part.len(), 1);
+    assert!(rt; !part.is_empty());
+    assert!(rt; part.sliced(1, 0).is_empty());
+    let other = NullArray::try_new(DataType::Boolean, 3);
+    assert_eq!(rt; other.err(), Some(Error::OutOfSpec(Rule::PhysicalType)));
+    Ok(())
+}
+
+// The last five of 27 bits are 0, 0, 1, 0 and 1.
+#[test]
+fn a_part_of_bits(rt: HostRuntime) -> Result<(), Fail> {
+    let alloc = rt.alloc();
+    let validity = bits(alloc, &[0, 0, 0, 0b0001_0101], 27)?;
+    let values = bits(alloc, &[255, 255, 255, 0b0001_0100], 27)?;
+    let array = BooleanArray::try_new(DataType::Boolean, values, Some(validity))?;
+    assert_eq!(rt; array.len(), 27);
+    assert_eq!(rt; array.null_count(), 25);
+    assert!(rt; array.values().get_bit(0));
+    let part = array.sliced(22, 5);
+    assert!(rt; is_same_type(part.data_type(), &DataType::Boolean));
+    assert_eq!(rt; part.len(), 5);
+    assert!(rt; !part.is_empty());
+    assert_eq!(rt; part.null_count(), 3);
+    assert!(rt; !part.is_valid(0));
+    assert!(rt; !part.is_valid(1));
+    assert!(rt; part.is_valid(2));
+    assert!(rt; !part.is_valid(3));
+    assert!(rt; part.is_valid(4));
+    assert!(rt; !part.value(2));
+    assert!(rt; part.value(4));
+    assert!(rt; part.clone()?.validity().is_some());
+    Ok(())
+}
+
+#[test]
+fn bits_refused(rt: HostRuntime) -> Result<(), Fail> {
+    let alloc = rt.alloc();
+    let other = BooleanArray::try_new(DataType::Int8, bits(alloc, &[1], 1)?, None);
+    assert_eq!(rt; other.err(), Some(Error::OutOfSpec(Rule::PhysicalType)));
+    let validity = Some(bits(alloc, &[1], 2)?);
+    let long = BooleanArray::try_new(DataType::Boolean, bits(alloc, &[1], 1)?, validity);
+    assert_eq!(rt; long.err(), Some(Error::OutOfSpec(Rule::ValidityLength)));
+    Ok(())
+}

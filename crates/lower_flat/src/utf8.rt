@@ -1,0 +1,198 @@
+//! Arrays of texts.
+ghost use Rattle.std.specs.Prelude.{◌≡◌, ◌+◌, ◌≤◌, length, MatchResult, IsTrue, ◌↔◌, ◌<◌};
+ghost use Rattle.std.specs.Option.{option_copied};
+ghost use Rattle.lower.specs.TypeViews.{type_view};
+ghost use Rattle.lower_flat.specs.Validities.{null_count_of, is_valid};
+ghost use Rattle.lower_flat.specs.Spans.{spans_seen, span_count, span, cut_spans};
+ghost use Rattle.lower_flat.specs.Texts.{texts_with, IsText, BreaksText};
+
+use crate::texts::are_texts;
+use crate::validity::{clone_validity, fits, is_valid_at, sliced_validity, unset_bits};
+use lower::bitmap::Bitmap;
+use lower::buffer::Buffer;
+use lower::datatypes::{DataType, PhysicalType};
+use lower::error::{Error, Rule};
+use lower::offset::{Offset, OffsetsBuffer};
+use lower::types::PrimitiveType;
+use std::alloc::AllocError;
+use std::marker::Model;
+
+/// A text for each slot, in UTF-8 (Arrow columnar format, "Variable-size Binary Layout").
+///
+/// With offsets of `i64` it is an array of a large type.
+#[derive(Drop)]
+pub struct Utf8Array<O: Offset> {
+    data_type: DataType,
+    offsets: OffsetsBuffer<O>,
+    values: Buffer<u8>,
+    validity: Option<Bitmap>,
+}
+
+impl<O: Offset> Model for Utf8Array<O> {
+    ghost use Rattle.lower_flat.specs.Spans.{SpansSeen, coded_spans};
+    ghost use Rattle.lower_flat.specs.Texts.{IsText};
+    ghost use Rattle.lower.specs.TypeViews.{type_view};
+
+    ghost Value = { SpansSeen };
+
+    ghost coded = { coded_spans };
+
+    ghost view = { λ a. record { type = type_view a.data_type; offsets = a.offsets; values = a.values; validity = a.validity } };
+
+    ghost invariant = { λ a. IsText O.primitive (record { type = type_view a.data_type; offsets = a.offsets; values = a.values; validity = a.validity }) };
+}
+
+// How texts with offsets of this type lie in memory.
+fn texts_with(offsets: PrimitiveType) -> PhysicalType
+    ensures { result ≡ texts_with offsets }
+{
+    match offsets {
+        PrimitiveType::Int64 => PhysicalType::LargeUtf8,
+        _ => PhysicalType::Utf8,
+    }
+}
+
+impl<O: Offset> Utf8Array<O> {
+    /// An array of slots that lie in the bytes from an offset to the next, of which those are null
+    /// whose bit isn't set.
+    ///
+    /// `ValidityLength` where the validity hasn't a bit for each slot, `OffsetsPastValues` where the
+    /// last offset is past the end of the bytes, `Utf8` where a slot, null or not, isn't UTF-8,
+    /// `PhysicalType` where the data type isn't one of texts with such offsets.
+    pub fn try_new(
+        data_type: DataType,
+        offsets: OffsetsBuffer<O>,
+        values: Buffer<u8>,
+        validity: Option<Bitmap>,
+    ) -> Result<Self, Error>
+        ensures { let seen = spans_seen (type_view data_type) offsets values validity in
+            MatchResult result (λ a. (a ≡ seen) × IsText O.primitive seen) (BreaksText O.primitive seen) }
+    {
+        if !fits(&validity, offsets.len() - 1) {
+            return Err(Error::OutOfSpec(Rule::ValidityLength));
+        }
+        if offsets.last() > values.len() {
+            return Err(Error::OutOfSpec(Rule::OffsetsPastValues));
+        }
+        if !are_texts(&offsets, values.as_slice()) {
+            return Err(Error::OutOfSpec(Rule::Utf8));
+        }
+        if data_type.to_physical_type() != texts_with(O::primitive_type()) {
+            return Err(Error::OutOfSpec(Rule::PhysicalType));
+        }
+        Ok(Utf8Array {
+            data_type,
+            offsets,
+            values,
+            validity,
+        })
+    }
+
+    /// The type of its slots.
+    pub fn data_type(&self) -> &DataType
+        ensures tree { type_view result.now ≡ self.now.type }
+        ensures valid { IsText O.primitive self.now }
+    {
+        &self.data_type
+    }
+
+    /// The offsets, one more than there are slots.
+    pub fn offsets(&self) -> &OffsetsBuffer<O>
+        ensures offsets { result.now ≡ self.now.offsets }
+        ensures valid { IsText O.primitive self.now }
+    {
+        &self.offsets
+    }
+
+    /// The bytes that the offsets point into, which may be more than those of the slots.
+    pub fn values(&self) -> &Buffer<u8>
+        ensures bytes { result.now ≡ self.now.values }
+        ensures valid { IsText O.primitive self.now }
+    {
+        &self.values
+    }
+
+    /// The bits that say which slots are valid, or `None` where all are.
+    pub fn validity(&self) -> Option<&Bitmap>
+        ensures bits { option_copied result ≡ self.now.validity }
+        ensures valid { IsText O.primitive self.now }
+    {
+        self.validity.as_ref()
+    }
+
+    /// How many slots it has.
+    pub fn len(&self) -> usize
+        ensures len { result ≡ span_count self.now.offsets }
+        ensures valid { IsText O.primitive self.now }
+    {
+        self.offsets.len() - 1
+    }
+
+    /// Whether it has no slot.
+    pub fn is_empty(&self) -> bool
+        ensures { IsTrue result ↔ (span_count self.now.offsets ≡ 0) }
+    {
+        self.offsets.len() == 1
+    }
+
+    /// How many slots are null.
+    pub fn null_count(&self) -> usize
+        ensures { result ≡ null_count_of self.now.validity }
+    {
+        unset_bits(&self.validity)
+    }
+
+    /// Whether the slot at `index` isn't null.
+    pub fn is_valid(&self, index: usize) -> bool
+        requires { index < span_count self.now.offsets }
+        ensures { result ≡ is_valid self.now.validity index }
+    {
+        is_valid_at(&self.validity, index)
+    }
+
+    /// The text at `index`, of a null too.
+    #[tactic(auto, using(crate::proofs::SpanPlaces::span_places))]
+    pub fn value(&self, index: usize) -> &str
+        requires { index < span_count self.now.offsets }
+        ensures { result.now ≡ span self.now.offsets self.now.values index }
+    {
+        prove!(index < self.offsets.len());
+        let start = self.offsets.get(index);
+        let end = self.offsets.get(index + 1);
+        // Each slot is UTF-8 from the constructor on.
+        unsafe { str::from_utf8_unchecked(&self.values.as_slice()[start..end]) }
+    }
+
+    /// The `len` slots from `offset` on: their offsets, over the same bytes. It takes no memory.
+    pub fn sliced(self, offset: usize, len: usize) -> Self
+        requires { offset + len ≤ span_count self.offsets }
+        ensures { result ≡ cut_spans offset len self }
+    {
+        let Utf8Array {
+            data_type,
+            offsets,
+            values,
+            validity,
+        } = self;
+        Utf8Array {
+            data_type,
+            offsets: offsets.sliced(offset, len),
+            values,
+            validity: sliced_validity(validity, offset, len),
+        }
+    }
+}
+
+impl<O: Offset> Clone for Utf8Array<O> {
+    ghost is_clone = { λ a b. b ≡ a };
+
+    /// The same slots once more, which share their memory with these.
+    fn clone(&self) -> Result<Self, AllocError> {
+        Ok(Utf8Array {
+            data_type: self.data_type.clone()?,
+            offsets: self.offsets.clone()?,
+            values: self.values.clone()?,
+            validity: clone_validity(&self.validity)?,
+        })
+    }
+}

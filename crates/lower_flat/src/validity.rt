@@ -1,0 +1,104 @@
+//! What an array does with its validity.
+ghost use Rattle.std.specs.Prelude.{◌≡◌, ◌↔◌, ◌+◌, ◌-◌, ◌*◌, ◌^◌, ◌<◌, ◌≤◌, IsTrue, IfOk, not, length};
+ghost use Rattle.std.specs.List.{count_by};
+ghost use Rattle.lower.specs.Bits.{has_bit};
+ghost use Rattle.lower_flat.specs.Validities.{part, unset_along, null_count_of, is_valid, ValidityFits, ValidityHolds, cut_validity};
+
+use lower::bitmap::Bitmap;
+use std::alloc::AllocError;
+
+/// Whether there is a bit for each of `len` slots, or no bits at all.
+pub fn fits(validity: &Option<Bitmap>, len: usize) -> bool
+    ensures { IsTrue result ↔ ValidityFits validity.now len }
+{
+    match validity {
+        None => true,
+        Some(bits) => bits.len() == len,
+    }
+}
+
+/// How many bits aren't set.
+pub fn unset_bits(validity: &Option<Bitmap>) -> usize
+    ensures { result ≡ null_count_of validity.now }
+{
+    match validity {
+        None => 0,
+        Some(bits) => count_unset(bits),
+    }
+}
+
+// How many bits aren't set: those of the bytes that are whole, byte by byte, and those of the first
+// and the last byte one by one.
+fn count_unset(bits: &Bitmap) -> usize
+    ensures { result ≡ count_by (λ bit. not bit) bits.now }
+{
+    let (bytes, start, len) = bits.as_slice();
+    if bytes.len() <= 2 {
+        return unset_between(bits, 0, len);
+    }
+    let inner = &bytes[1..bytes.len() - 1];
+    let head = 8 - start;
+    let tail = head + 8 * inner.len();
+    unset_between(bits, 0, head) + unset_in(inner) + unset_between(bits, tail, len)
+}
+
+// How many bits of the bytes aren't set.
+fn unset_in(bytes: &[u8]) -> usize
+    requires { 8 * length bytes.now < 2 ^ 64 }
+    ensures count { result ≡ unset_along (has_bit bytes.now) 0 (8 * length bytes.now) }
+    ensures bound { result ≤ 8 * length bytes.now }
+{
+    let mut count = 0;
+    for byte in bytes {
+        count += byte.count_zeros() as usize;
+    }
+    count
+}
+
+// How many of the bits from `from` to `to` aren't set.
+fn unset_between(bits: &Bitmap, from: usize, to: usize) -> usize
+    requires order { from ≤ to }
+    requires inside { to ≤ length bits.now }
+    ensures count { result ≡ count_by (λ bit. not bit) (part from (to - from) bits.now) }
+    ensures bound { result ≤ to - from }
+{
+    let mut count = 0;
+    for i in from..to {
+        if !bits.get_bit(i) {
+            count += 1;
+        }
+    }
+    count
+}
+
+/// Whether the slot at `index` is valid.
+pub fn is_valid_at(validity: &Option<Bitmap>, index: usize) -> bool
+    requires { ValidityHolds validity.now (index + 1) }
+    ensures { result ≡ is_valid validity.now index }
+{
+    match validity {
+        None => true,
+        Some(bits) => bits.get_bit(index),
+    }
+}
+
+/// The validity of the `len` slots from `offset` on.
+pub fn sliced_validity(validity: Option<Bitmap>, offset: usize, len: usize) -> Option<Bitmap>
+    requires { ValidityHolds validity (offset + len) }
+    ensures { result ≡ cut_validity offset len validity }
+{
+    match validity {
+        None => None,
+        Some(bits) => Some(bits.sliced(offset, len)),
+    }
+}
+
+/// The same bits once more.
+pub fn clone_validity(validity: &Option<Bitmap>) -> Result<Option<Bitmap>, AllocError>
+    ensures { IfOk result (λ copy. copy ≡ validity.now) }
+{
+    match validity {
+        None => Ok(None),
+        Some(bits) => Ok(Some(bits.clone()?)),
+    }
+}
