@@ -1,17 +1,30 @@
 -- What an array is made of: a tree of levels, one for the array and one for each child.
-use Rattle.std.specs.Prelude.{ℕ, not, List, Bool, Option, Some, None}
-use Rattle.std.specs.List.{count_by}
+-- (Arrow columnar format, "Physical memory layout".)
+use Rattle.std.specs.Prelude.{ℕ, ℤ, ◌+◌, max, List, [], ◌∷◌, Bool, Option}
 use Rattle.lower_types.specs.NumberTypes.{Number}
 use Rattle.lower.specs.TypeTrees.{TypeTree}
+use Rattle.lower.specs.declared.datatypes.IntegerType.{IntegerType}
 use Rattle.lower_types.specs.declared.PrimitiveType.{PrimitiveType}
+pub use Rattle.lower_flat.specs.Validities.{Validity, null_count_of}
 
--- one bit for each slot, or none where all slots are valid
-abbrev pub Validity : Type 0
-Validity = Option (List Bool)
-
--- what a level has beside its type, its length and its validity, by its kind
+-- what a level has beside its type, its length and its validity, by its kind: nothing; a bit for each slot; the numbers of a type; for
+-- each slot so many bytes; offsets of a type (of 32 bits, or of 64 in the large forms) and the bytes that they cut into slots, as bytes
+-- or as texts; such offsets into the child; for each slot so many of the child's; offsets into the child, whose slots are pairs; nothing,
+-- where a slot is one of each child; the ids of the children, where they have any, the id of each slot's child, and where each slot stands
+-- in its child at a place of its own, these places; the keys of a type, places among the slots of the one child
 pub data Parts : Type 0 where
+  nothing : Parts
+  truths : List Bool → Parts
   numbers : PrimitiveType → List Number → Parts
+  fixed_bytes : ℕ → List ℕ → Parts
+  bytes : PrimitiveType → List ℕ → List ℕ → Parts
+  texts : PrimitiveType → List ℕ → List ℕ → Parts
+  lists : PrimitiveType → List ℕ → Parts
+  fixed_lists : ℕ → Parts
+  maps : List ℕ → Parts
+  records : Parts
+  choices : Option (List ℤ) → List ℤ → Option (List ℤ) → Parts
+  keys : IntegerType → List ℤ → Parts
 
 pub record Level : Type 0 where
   pub type : TypeTree
@@ -39,7 +52,24 @@ len_of l = (level l).len
 abbrev pub type_of : Layout → TypeTree
 type_of l = (level l).type
 
--- how many slots are not valid
-abbrev pub null_count_of : Validity → ℕ
-null_count_of None = 0
-null_count_of (Some bits) = count_by (λ bit. not bit) bits
+-- how many slots are null: all where nothing lies in memory, else those that the validity says
+abbrev pub nulls_among : Parts → ℕ → Validity → ℕ
+nulls_among nothing n v = n
+nulls_among _ n v = null_count_of v
+
+abbrev pub nulls_of : Layout → ℕ
+nulls_of l = nulls_among (level l).parts (level l).len (level l).validity
+
+-- some trees as children
+abbrev pub layouts : List Layout → Layouts
+layouts [] = no_layouts
+layouts (l ∷ ls) = more_layouts l (layouts ls)
+
+-- how many levels stand below an array
+abbrev mutual
+  pub height : Layout → ℕ
+  height (layout _ cs) = heights cs
+
+  pub heights : Layouts → ℕ
+  heights no_layouts = 0
+  heights (more_layouts c cs) = max (height c + 1) (heights cs)

@@ -1,53 +1,13 @@
--- What contracts see of an array of numbers.
-use Rattle.std.specs.Prelude.{◌≡◌, ℕ, List, map, length, refl}
-use Rattle.std.specs.Coded.{Coded, code_by, coded_list, coded_bool, coded_option, coded×}
+-- Arrays of numbers as trees of levels.
+use Rattle.std.specs.Prelude.{map, length}
 use Rattle.lower_types.specs.NumberTypes.{Number}
-use Rattle.lower.specs.TypeTrees.{TypeTree}
-use Rattle.lower.specs.Physical.{physical}
 use Rattle.lower_types.specs.declared.PrimitiveType.{PrimitiveType}
-use Rattle.lower.specs.declared.datatypes.physical_type.PhysicalType.TheVariants.{Primitive}
-use Rattle.lower.specs.declared.error.Error.{Error}
-use Rattle.lower.specs.declared.error.Error.TheVariants.{OutOfSpec}
-use Rattle.lower.specs.declared.error.Rule.TheVariants.{ValidityLength, PhysicalType as WrongType}
-use Rattle.lower_arrays.specs.TypeCodes.{coded_type}
-use Rattle.lower_arrays.specs.Layouts.{Validity, numbers, Layout, layout, no_layouts}
-use Rattle.lower_arrays.specs.Slots.{ValidityFits}
-use Rattle.lower_arrays.specs.Cuts.{part, cut_validity}
+use Rattle.lower_arrays.specs.Layouts.{numbers, Layout, layout, no_layouts}
+pub use Rattle.lower_flat.specs.Primitives.{PrimitiveSeen}
 
-pub record PrimitiveSeen (T : Type 0) : Type 0 where
-  pub type : TypeTree
-  pub values : List T
-  pub validity : Validity
-
-abbrev pub primitive_seen : {T : Type 0} → TypeTree → List T → Validity → PrimitiveSeen T
-primitive_seen t xs v = record { type = t; values = xs; validity = v }
-
--- what a model stores
-abbrev pub coded_primitive : {T : Type 0} → Coded T → Coded (PrimitiveSeen T)
-coded_primitive {T} code =
-    code_by (TypeTree × (List T × Validity))
-    (coded× coded_type (coded× (coded_list code) (coded_option (coded_list coded_bool))))
-    (λ a. (a.type, (a.values, a.validity)))
-    (λ p. record { type = p.0; values = p.1.0; validity = p.1.1 }) (λ _. refl)
-
--- the rules of an array of the numbers p: the type lies in memory as these numbers do, and a validity has a bit for each
-pub record IsPrimitive {T : Type 0} (p : PrimitiveType) (a : PrimitiveSeen T) : Type 0 where
-  pub lies : physical a.type ≡ Primitive p
-  pub fits : ValidityFits a.validity (length a.values)
-
--- the rule that the error names is broken
-abbrev pub BreaksPrimitive : {T : Type 0} → PrimitiveType → PrimitiveSeen T → Error → Type 0
-BreaksPrimitive p a (OutOfSpec WrongType) = ¬ (physical a.type ≡ Primitive p)
-BreaksPrimitive p a (OutOfSpec ValidityLength) = ¬ (ValidityFits a.validity (length a.values))
-BreaksPrimitive p a (OutOfSpec _) = ⊥
-
--- as a tree of levels, with each value as the number that it is
+-- with each value as the number that it is
 abbrev pub primitive_layout : {T : Type 0} → PrimitiveType → (T → Number) → PrimitiveSeen T → Layout
 primitive_layout p number a =
     layout
     (record { type = a.type; len = length a.values; validity = a.validity; parts = numbers p (map number a.values) })
     no_layouts
-
--- the n slots from place o on
-abbrev pub cut_primitive : {T : Type 0} → ℕ → ℕ → PrimitiveSeen T → PrimitiveSeen T
-cut_primitive o n a = record { type = a.type; values = part o n a.values; validity = cut_validity o n a.validity }

@@ -1,10 +1,21 @@
 -- The slots of an array, and the rules that its levels keep.
-use Rattle.std.specs.Prelude.{◌≡◌, ℕ, ℤ, pos, ◌+◌, ◌≤◌, List, [], ◌∷◌, Bool, true, false, Some, None, get_or, length}
+use Rattle.std.specs.Prelude.{◌≡◌, ℕ, ℤ, pos, ◌+◌, ◌*◌, ◌<◌, List, [], ◌∷◌, Bool, true, false, None, get_or, length, map, ◌-◌, slice_index}
 use Rattle.std.proofs.Common.{zero, suc}
 use Rattle.lower_types.specs.NumberTypes.{Number, whole}
 use Rattle.lower.specs.Physical.{physical}
-use Rattle.lower.specs.declared.datatypes.physical_type.PhysicalType.TheVariants.{Primitive}
-use Rattle.lower_arrays.specs.Layouts.{Validity, Parts, numbers, Level, Layout, layout, Layouts, no_layouts, more_layouts, len_of}
+use Rattle.lower.specs.Offsets.{IsOffsets}
+use Rattle.lower.specs.declared.datatypes.IntegerType.{IntegerType}
+use Rattle.lower.specs.declared.datatypes.physical_type.PhysicalType.TheVariants as Physicals
+use Rattle.lower_flat.specs.FixedBinaries.{byte_size}
+use Rattle.lower_flat.specs.Spans.{span, span_count, EndsWithin, AreTexts}
+use Rattle.lower_flat.specs.Binaries.{bytes_with}
+use Rattle.lower_flat.specs.Texts.{texts_with}
+use Rattle.lower_arrays.specs.Layouts.{Parts, nothing, truths, numbers, fixed_bytes, bytes, texts, keys, choices, Level, Layout, layout, Layouts, no_layouts, more_layouts, len_of, type_of, lists, fixed_lists, maps, records}
+use Rattle.lower_arrays.specs.Keys.{place_of, values_type, KeysFit}
+use Rattle.lower_arrays.specs.Choices.{child_number, place_in, ChoicesFit}
+use Rattle.lower_arrays.specs.Children.{child_fields, ChildTypes, HasChild, AllHave, AllReach, ArePairs}
+use Rattle.lower_arrays.specs.ListTypes.{list_with, list_size, last_offset}
+pub use Rattle.lower_flat.specs.Validities.{Validity, is_valid, ValidityFits, part}
 
 mutual
   -- What stands at one place of a column: null, a truth value, a number, bytes, a text, the slots of a
@@ -28,18 +39,46 @@ abbrev pub slots_of : List Slot → Slots
 slots_of [] = no_slots
 slots_of (x ∷ xs) = more_slots x (slots_of xs)
 
--- without a validity each slot is valid
-abbrev pub is_valid : Validity → ℕ → Bool
-is_valid None i = true
-is_valid (Some bits) i = get_or bits i false
-
 abbrev pub slot_where : Bool → Slot → Slot
 slot_where true s = s
 slot_where false s = null_slot
 
+-- the n slots that f gives from place a on
+abbrev pub slots_from : (ℕ → Slot) → ℕ → ℕ → List Slot
+slots_from f a zero = []
+slots_from f a (suc n) = f a ∷ slots_from f (a + 1) n
+
+-- the slots of the first child
+abbrev pub first_child : List (ℕ → Slot) → ℕ → Slot
+first_child [] i = null_slot
+first_child (f ∷ fs) i = f i
+
+-- a list of the first child's slots, n from place a on
+abbrev pub list_at : List (ℕ → Slot) → ℕ → ℕ → Slot
+list_at fs a n = list_slot (slots_of (slots_from (first_child fs) a n))
+
+-- slot i of each child
+abbrev pub each_at : List (ℕ → Slot) → ℕ → List Slot
+each_at fs i = map (λ f. f i) fs
+
+-- a slot of the type z: slot i of the child of that number
+abbrev pub variant_at : List (ℕ → Slot) → ℤ → ℕ → ℕ → Slot
+variant_at fs z number i = variant_slot z (get_or (each_at fs i) number null_slot)
+
 -- slot i of a level whose children have the slots fs, its validity aside
 abbrev pub value_at : Parts → List (ℕ → Slot) → ℕ → Slot
+value_at nothing fs i = null_slot
+value_at (truths xs) fs i = truth_slot (get_or xs i false)
 value_at (numbers _ xs) fs i = number_slot (get_or xs i (whole (pos 0)))
+value_at (fixed_bytes size xs) fs i = bytes_slot (part (i * size) size xs)
+value_at (bytes _ os xs) fs i = bytes_slot (span os xs i)
+value_at (texts _ os xs) fs i = text_slot (span os xs i)
+value_at (keys _ ks) fs i = first_child fs (place_of (get_or ks i (pos 0)))
+value_at (choices ids ts os) fs i = variant_at fs (get_or ts i (pos 0)) (child_number ids (get_or ts i (pos 0))) (place_in os i)
+value_at (lists _ os) fs i = list_at fs (slice_index os i) (slice_index os (i + 1) - slice_index os i)
+value_at (fixed_lists size) fs i = list_at fs (i * size) size
+value_at (maps os) fs i = list_at fs (slice_index os i) (slice_index os (i + 1) - slice_index os i)
+value_at records fs i = record_slot (slots_of (each_at fs i))
 
 -- slot i of an array
 abbrev mutual
@@ -50,24 +89,48 @@ abbrev mutual
   children_at no_layouts = []
   children_at (more_layouts c cs) = slot_at c ∷ children_at cs
 
--- the n slots that f gives from place a on
-abbrev pub slots_from : (ℕ → Slot) → ℕ → ℕ → List Slot
-slots_from f a zero = []
-slots_from f a (suc n) = f a ∷ slots_from f (a + 1) n
-
 -- all slots of an array
 abbrev pub slots : Layout → List Slot
 slots l = slots_from (slot_at l) 0 (len_of l)
 
--- a validity has a bit for each slot
-abbrev pub ValidityFits : Validity → ℕ → Type 0
-ValidityFits None n = Unit {0}
-ValidityFits (Some bits) n = length bits ≡ n
+-- offsets for so many slots, none past the bytes
+pub record SpansFit (os xs : List ℕ) (n : ℕ) : Type 0 where
+  pub offsets : IsOffsets os
+  pub within : EndsWithin os xs
+  pub count : span_count os ≡ n
+
+-- keys of a type, one for each slot, whose one child has the values that they name
+abbrev pub DictionaryFits : Level → IntegerType → List ℤ → Layouts → Type 0
+DictionaryFits h k ks (more_layouts c no_layouts) =
+    (physical h.type ≡ Physicals.Dictionary k) × (type_of c ≡ values_type h.type) × (length ks ≡ h.len)
+    × KeysFit h.validity ks (len_of c)
+DictionaryFits h k ks _ = ⊥
+
+-- offsets for so many slots, none past the children
+pub record ItemsFit (os : List ℕ) (n : ℕ) (cs : Layouts) : Type 0 where
+  pub offsets : IsOffsets os
+  pub within : AllReach (last_offset os) cs
+  pub count : span_count os ≡ n
 
 -- what the parts of a level have to be, with the children that it has
 abbrev pub PartsFit : Level → Parts → Layouts → Type 0
-PartsFit h (numbers p xs) no_layouts = (physical h.type ≡ Primitive p) × (length xs ≡ h.len)
-PartsFit h (numbers p xs) (more_layouts _ _) = ⊥
+PartsFit h nothing no_layouts = (physical h.type ≡ Physicals.Null) × (h.validity ≡ None)
+PartsFit h (truths xs) no_layouts = (physical h.type ≡ Physicals.Boolean) × (length xs ≡ h.len)
+PartsFit h (numbers p xs) no_layouts = (physical h.type ≡ Physicals.Primitive p) × (length xs ≡ h.len)
+PartsFit h (fixed_bytes size xs) no_layouts =
+    (physical h.type ≡ Physicals.FixedSizeBinary) × (byte_size h.type ≡ size) × (0 < size) × (length xs ≡ h.len * size)
+PartsFit h (bytes p os xs) no_layouts = (physical h.type ≡ bytes_with p) × SpansFit os xs h.len
+PartsFit h (texts p os xs) no_layouts = (physical h.type ≡ texts_with p) × SpansFit os xs h.len × AreTexts os xs
+PartsFit h (keys k ks) cs = DictionaryFits h k ks cs
+PartsFit h (choices ids ts os) cs = (h.validity ≡ None) × (length ts ≡ h.len) × ChoicesFit h.type ids ts os cs
+PartsFit h (lists p os) cs = (physical h.type ≡ list_with p) × ChildTypes (child_fields h.type) cs × ItemsFit os h.len cs
+PartsFit h (fixed_lists size) cs =
+    (physical h.type ≡ Physicals.FixedSizeList) × (list_size h.type ≡ size) × (0 < size) × ChildTypes (child_fields h.type) cs
+    × AllHave (h.len * size) cs
+PartsFit h (maps os) cs =
+    (physical h.type ≡ Physicals.Map) × ArePairs cs × ChildTypes (child_fields h.type) cs × ItemsFit os h.len cs
+PartsFit h records cs = (physical h.type ≡ Physicals.Struct) × HasChild cs × ChildTypes (child_fields h.type) cs × AllHave h.len cs
+PartsFit h _ (more_layouts _ _) = ⊥
 
 -- each level keeps the rules of its kind
 abbrev mutual
@@ -77,8 +140,3 @@ abbrev mutual
   pub AreArrays : Layouts → Type 0
   AreArrays no_layouts = Unit {0}
   AreArrays (more_layouts c cs) = IsArray c × AreArrays cs
-
--- a validity has at least n bits
-abbrev pub ValidityHolds : Validity → ℕ → Type 0
-ValidityHolds None n = Unit {0}
-ValidityHolds (Some bits) n = n ≤ length bits

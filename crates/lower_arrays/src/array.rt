@@ -2,22 +2,40 @@
 ghost use Rattle.std.specs.Prelude.{◌≡◌, ◌↔◌, ◌+◌, ◌<◌, ◌≤◌, take, drop, IsTrue, IfOk};
 ghost use Rattle.std.specs.Option.{option_copied};
 ghost use Rattle.lower.specs.TypeViews.{type_view};
-ghost use Rattle.lower_arrays.specs.Layouts.{level, len_of, type_of, null_count_of};
+ghost use Rattle.lower_arrays.specs.Layouts.{level, len_of, type_of, nulls_of, null_count_of};
 ghost use Rattle.lower_arrays.specs.Slots.{IsArray, slots};
 ghost use Rattle.lower_arrays.specs.Cuts.{cut};
 ghost use Rattle.lower_arrays.specs.AnyLayouts.{any_primitive_layout, layout_of};
 
+mod children;
+mod dictionary;
 mod equality;
-mod primitive;
+mod fixed_size_list;
+mod list;
+mod map;
+#[cfg(test)]
+mod nested_tests;
+mod struct_;
 #[cfg(test)]
 mod tests;
-mod validity;
+mod union;
+mod value;
 
+pub use dictionary::{DictionaryArray, DictionaryKey, DictionaryKeys};
 pub use equality::equal;
+pub use fixed_size_list::FixedSizeListArray;
+pub use list::{ListArray, ListOffsets};
 use lower::bitmap::Bitmap;
 use lower::datatypes::DataType;
-pub use primitive::PrimitiveArray;
+use lower::types::{days_ms, i256, months_days_ns};
+pub use lower_flat::{
+    BinaryArray, BooleanArray, FixedSizeBinaryArray, NullArray, PrimitiveArray, Utf8Array,
+};
+pub use map::MapArray;
 use std::alloc::AllocError;
+use std::mem;
+pub use struct_::StructArray;
+pub use union::UnionArray;
 
 /// An array of numbers, of any type of number.
 #[derive(Drop)]
@@ -26,16 +44,34 @@ pub enum AnyPrimitive {
     Int16(PrimitiveArray<i16>),
     Int32(PrimitiveArray<i32>),
     Int64(PrimitiveArray<i64>),
+    Int128(PrimitiveArray<i128>),
+    Int256(PrimitiveArray<i256>),
     UInt8(PrimitiveArray<u8>),
     UInt16(PrimitiveArray<u16>),
     UInt32(PrimitiveArray<u32>),
     UInt64(PrimitiveArray<u64>),
+    DaysMs(PrimitiveArray<days_ms>),
+    MonthDayNano(PrimitiveArray<months_days_ns>),
 }
 
 /// An array of any kind.
+#[cycle(arrays)]
 #[derive(Drop)]
 pub enum AnyArray {
+    Null(NullArray),
+    Boolean(BooleanArray),
     Primitive(AnyPrimitive),
+    FixedSizeBinary(FixedSizeBinaryArray),
+    Binary(BinaryArray<i32>),
+    LargeBinary(BinaryArray<i64>),
+    Utf8(Utf8Array<i32>),
+    LargeUtf8(Utf8Array<i64>),
+    List(ListArray),
+    FixedSizeList(FixedSizeListArray),
+    Struct(StructArray),
+    Union(UnionArray),
+    Map(MapArray),
+    Dictionary(DictionaryArray),
 }
 
 impl AnyPrimitive {
@@ -49,10 +85,14 @@ impl AnyPrimitive {
             AnyPrimitive::Int16(array) => array.data_type(),
             AnyPrimitive::Int32(array) => array.data_type(),
             AnyPrimitive::Int64(array) => array.data_type(),
+            AnyPrimitive::Int128(array) => array.data_type(),
+            AnyPrimitive::Int256(array) => array.data_type(),
             AnyPrimitive::UInt8(array) => array.data_type(),
             AnyPrimitive::UInt16(array) => array.data_type(),
             AnyPrimitive::UInt32(array) => array.data_type(),
             AnyPrimitive::UInt64(array) => array.data_type(),
+            AnyPrimitive::DaysMs(array) => array.data_type(),
+            AnyPrimitive::MonthDayNano(array) => array.data_type(),
         }
     }
 
@@ -66,10 +106,14 @@ impl AnyPrimitive {
             AnyPrimitive::Int16(array) => array.validity(),
             AnyPrimitive::Int32(array) => array.validity(),
             AnyPrimitive::Int64(array) => array.validity(),
+            AnyPrimitive::Int128(array) => array.validity(),
+            AnyPrimitive::Int256(array) => array.validity(),
             AnyPrimitive::UInt8(array) => array.validity(),
             AnyPrimitive::UInt16(array) => array.validity(),
             AnyPrimitive::UInt32(array) => array.validity(),
             AnyPrimitive::UInt64(array) => array.validity(),
+            AnyPrimitive::DaysMs(array) => array.validity(),
+            AnyPrimitive::MonthDayNano(array) => array.validity(),
         }
     }
 
@@ -83,10 +127,14 @@ impl AnyPrimitive {
             AnyPrimitive::Int16(array) => array.len(),
             AnyPrimitive::Int32(array) => array.len(),
             AnyPrimitive::Int64(array) => array.len(),
+            AnyPrimitive::Int128(array) => array.len(),
+            AnyPrimitive::Int256(array) => array.len(),
             AnyPrimitive::UInt8(array) => array.len(),
             AnyPrimitive::UInt16(array) => array.len(),
             AnyPrimitive::UInt32(array) => array.len(),
             AnyPrimitive::UInt64(array) => array.len(),
+            AnyPrimitive::DaysMs(array) => array.len(),
+            AnyPrimitive::MonthDayNano(array) => array.len(),
         }
     }
 
@@ -99,15 +147,19 @@ impl AnyPrimitive {
             AnyPrimitive::Int16(array) => array.null_count(),
             AnyPrimitive::Int32(array) => array.null_count(),
             AnyPrimitive::Int64(array) => array.null_count(),
+            AnyPrimitive::Int128(array) => array.null_count(),
+            AnyPrimitive::Int256(array) => array.null_count(),
             AnyPrimitive::UInt8(array) => array.null_count(),
             AnyPrimitive::UInt16(array) => array.null_count(),
             AnyPrimitive::UInt32(array) => array.null_count(),
             AnyPrimitive::UInt64(array) => array.null_count(),
+            AnyPrimitive::DaysMs(array) => array.null_count(),
+            AnyPrimitive::MonthDayNano(array) => array.null_count(),
         }
     }
 
     /// The `len` slots from `offset` on. It takes no memory.
-    #[tactic(auto, using(crate::proofs::Slices::slicing))]
+    #[tactic(auto, using(crate::proofs::Slices::primitive_part))]
     pub fn sliced(self, offset: usize, len: usize) -> Self
         requires { offset + len ≤ len_of (any_primitive_layout self) }
         ensures { any_primitive_layout result ≡ cut offset len (any_primitive_layout self) }
@@ -117,10 +169,16 @@ impl AnyPrimitive {
             AnyPrimitive::Int16(array) => AnyPrimitive::Int16(array.sliced(offset, len)),
             AnyPrimitive::Int32(array) => AnyPrimitive::Int32(array.sliced(offset, len)),
             AnyPrimitive::Int64(array) => AnyPrimitive::Int64(array.sliced(offset, len)),
+            AnyPrimitive::Int128(array) => AnyPrimitive::Int128(array.sliced(offset, len)),
+            AnyPrimitive::Int256(array) => AnyPrimitive::Int256(array.sliced(offset, len)),
             AnyPrimitive::UInt8(array) => AnyPrimitive::UInt8(array.sliced(offset, len)),
             AnyPrimitive::UInt16(array) => AnyPrimitive::UInt16(array.sliced(offset, len)),
             AnyPrimitive::UInt32(array) => AnyPrimitive::UInt32(array.sliced(offset, len)),
             AnyPrimitive::UInt64(array) => AnyPrimitive::UInt64(array.sliced(offset, len)),
+            AnyPrimitive::DaysMs(array) => AnyPrimitive::DaysMs(array.sliced(offset, len)),
+            AnyPrimitive::MonthDayNano(array) => AnyPrimitive::MonthDayNano(array.sliced(
+                offset, len,
+            )),
         }
     }
 }
@@ -135,10 +193,14 @@ impl Clone for AnyPrimitive {
             AnyPrimitive::Int16(array) => Ok(AnyPrimitive::Int16(array.clone()?)),
             AnyPrimitive::Int32(array) => Ok(AnyPrimitive::Int32(array.clone()?)),
             AnyPrimitive::Int64(array) => Ok(AnyPrimitive::Int64(array.clone()?)),
+            AnyPrimitive::Int128(array) => Ok(AnyPrimitive::Int128(array.clone()?)),
+            AnyPrimitive::Int256(array) => Ok(AnyPrimitive::Int256(array.clone()?)),
             AnyPrimitive::UInt8(array) => Ok(AnyPrimitive::UInt8(array.clone()?)),
             AnyPrimitive::UInt16(array) => Ok(AnyPrimitive::UInt16(array.clone()?)),
             AnyPrimitive::UInt32(array) => Ok(AnyPrimitive::UInt32(array.clone()?)),
             AnyPrimitive::UInt64(array) => Ok(AnyPrimitive::UInt64(array.clone()?)),
+            AnyPrimitive::DaysMs(array) => Ok(AnyPrimitive::DaysMs(array.clone()?)),
+            AnyPrimitive::MonthDayNano(array) => Ok(AnyPrimitive::MonthDayNano(array.clone()?)),
         }
     }
 }
@@ -150,7 +212,20 @@ impl AnyArray {
         ensures valid { IsArray (layout_of self.now) }
     {
         match self {
+            AnyArray::Null(array) => array.data_type(),
+            AnyArray::Boolean(array) => array.data_type(),
             AnyArray::Primitive(array) => array.data_type(),
+            AnyArray::FixedSizeBinary(array) => array.data_type(),
+            AnyArray::Binary(array) => array.data_type(),
+            AnyArray::LargeBinary(array) => array.data_type(),
+            AnyArray::Utf8(array) => array.data_type(),
+            AnyArray::LargeUtf8(array) => array.data_type(),
+            AnyArray::List(array) => array.data_type(),
+            AnyArray::FixedSizeList(array) => array.data_type(),
+            AnyArray::Struct(array) => array.data_type(),
+            AnyArray::Union(array) => array.data_type(),
+            AnyArray::Map(array) => array.data_type(),
+            AnyArray::Dictionary(array) => array.data_type(),
         }
     }
 
@@ -160,7 +235,20 @@ impl AnyArray {
         ensures valid { IsArray (layout_of self.now) }
     {
         match self {
+            AnyArray::Null(array) => array.validity(),
+            AnyArray::Boolean(array) => array.validity(),
             AnyArray::Primitive(array) => array.validity(),
+            AnyArray::FixedSizeBinary(array) => array.validity(),
+            AnyArray::Binary(array) => array.validity(),
+            AnyArray::LargeBinary(array) => array.validity(),
+            AnyArray::Utf8(array) => array.validity(),
+            AnyArray::LargeUtf8(array) => array.validity(),
+            AnyArray::List(array) => array.validity(),
+            AnyArray::FixedSizeList(array) => array.validity(),
+            AnyArray::Struct(array) => array.validity(),
+            AnyArray::Union(array) => array.validity(),
+            AnyArray::Map(array) => array.validity(),
+            AnyArray::Dictionary(array) => array.validity(),
         }
     }
 
@@ -170,28 +258,133 @@ impl AnyArray {
         ensures valid { IsArray (layout_of self.now) }
     {
         match self {
+            AnyArray::Null(array) => array.len(),
+            AnyArray::Boolean(array) => array.len(),
             AnyArray::Primitive(array) => array.len(),
+            AnyArray::FixedSizeBinary(array) => array.len(),
+            AnyArray::Binary(array) => array.len(),
+            AnyArray::LargeBinary(array) => array.len(),
+            AnyArray::Utf8(array) => array.len(),
+            AnyArray::LargeUtf8(array) => array.len(),
+            AnyArray::List(array) => array.len(),
+            AnyArray::FixedSizeList(array) => array.len(),
+            AnyArray::Struct(array) => array.len(),
+            AnyArray::Union(array) => array.len(),
+            AnyArray::Map(array) => array.len(),
+            AnyArray::Dictionary(array) => array.len(),
         }
     }
 
     /// How many slots are null.
     pub fn null_count(&self) -> usize
-        ensures { result ≡ null_count_of (level (layout_of self.now)).validity }
+        ensures { result ≡ nulls_of (layout_of self.now) }
     {
         match self {
+            AnyArray::Null(array) => array.null_count(),
+            AnyArray::Boolean(array) => array.null_count(),
             AnyArray::Primitive(array) => array.null_count(),
+            AnyArray::FixedSizeBinary(array) => array.null_count(),
+            AnyArray::Binary(array) => array.null_count(),
+            AnyArray::LargeBinary(array) => array.null_count(),
+            AnyArray::Utf8(array) => array.null_count(),
+            AnyArray::LargeUtf8(array) => array.null_count(),
+            AnyArray::List(array) => array.null_count(),
+            AnyArray::FixedSizeList(array) => array.null_count(),
+            AnyArray::Struct(array) => array.null_count(),
+            AnyArray::Union(array) => array.null_count(),
+            AnyArray::Map(array) => array.null_count(),
+            AnyArray::Dictionary(array) => array.null_count(),
         }
     }
 
     /// The `len` slots from `offset` on. It takes no memory.
-    #[tactic(auto, using(crate::proofs::Slices::slicing))]
+    #[tactic(auto, using(crate::proofs::Slices::slots_of_part))]
     pub fn sliced(self, offset: usize, len: usize) -> Self
         requires { offset + len ≤ len_of (layout_of self) }
         ensures layout { layout_of result ≡ cut offset len (layout_of self) }
         ensures slots { slots (layout_of result) ≡ take len (drop offset (slots (layout_of self))) }
     {
+        self.part(offset, len)
+    }
+
+    /// Keeps the `len` slots from `offset` on. It takes no memory.
+    #[cycle(slices)]
+    pub fn slice(&mut self, offset: usize, len: usize)
+        requires { offset + len ≤ len_of (layout_of self.old) }
+        ensures { layout_of self.new ≡ cut offset len (layout_of self.old) }
+    {
+        let array = self.take().part(offset, len);
+        self.put(array);
+    }
+
+    // The array itself, in whose place one without slots is left.
+    fn take(&mut self) -> Self
+        ensures { layout_of result ≡ layout_of self.old }
+    {
+        mem::replace(self, AnyArray::without_slots())
+    }
+
+    // Puts an array in its place.
+    fn put(&mut self, array: Self)
+        ensures { layout_of self.new ≡ layout_of array }
+    {
+        drop(mem::replace(self, array));
+    }
+
+    // An array without slots, which takes no memory.
+    fn without_slots() -> Self {
+        AnyArray::Null(NullArray::try_new(DataType::Null, 0).unwrap())
+    }
+
+    // The `len` slots from `offset` on, by the kind of the array.
+    #[cycle(slices)]
+    #[tactic(auto, using(crate::proofs::Slices::slicing))]
+    fn part(self, offset: usize, len: usize) -> Self
+        requires { offset + len ≤ len_of (layout_of self) }
+        ensures { layout_of result ≡ cut offset len (layout_of self) }
+    {
         match self {
+            AnyArray::Null(array) => AnyArray::Null(array.sliced(offset, len)),
+            AnyArray::Boolean(array) => AnyArray::Boolean(array.sliced(offset, len)),
             AnyArray::Primitive(array) => AnyArray::Primitive(array.sliced(offset, len)),
+            AnyArray::FixedSizeBinary(array) => AnyArray::FixedSizeBinary(array.sliced(
+                offset, len,
+            )),
+            AnyArray::Binary(array) => AnyArray::Binary(array.sliced(offset, len)),
+            AnyArray::LargeBinary(array) => AnyArray::LargeBinary(array.sliced(offset, len)),
+            AnyArray::Utf8(array) => AnyArray::Utf8(array.sliced(offset, len)),
+            AnyArray::LargeUtf8(array) => AnyArray::LargeUtf8(array.sliced(offset, len)),
+            AnyArray::List(array) => AnyArray::List(array.sliced(offset, len)),
+            AnyArray::FixedSizeList(array) => AnyArray::FixedSizeList(array.sliced(offset, len)),
+            AnyArray::Struct(array) => AnyArray::Struct(array.sliced(offset, len)),
+            AnyArray::Union(array) => AnyArray::Union(array.sliced(offset, len)),
+            AnyArray::Map(array) => AnyArray::Map(array.sliced(offset, len)),
+            AnyArray::Dictionary(array) => AnyArray::Dictionary(array.sliced(offset, len)),
+        }
+    }
+}
+
+impl AnyArray {
+    // The same slots once more, by the kind of the array.
+    #[cycle(copies)]
+    fn copy(&self) -> Result<Self, AllocError>
+        ensures { IfOk result (λ copy. layout_of copy ≡ layout_of self.now) }
+    {
+        match self {
+            AnyArray::Null(array) => Ok(AnyArray::Null(array.clone()?)),
+            AnyArray::Boolean(array) => Ok(AnyArray::Boolean(array.clone()?)),
+            AnyArray::Primitive(array) => Ok(AnyArray::Primitive(array.clone()?)),
+            AnyArray::FixedSizeBinary(array) => Ok(AnyArray::FixedSizeBinary(array.clone()?)),
+            AnyArray::Binary(array) => Ok(AnyArray::Binary(array.clone()?)),
+            AnyArray::LargeBinary(array) => Ok(AnyArray::LargeBinary(array.clone()?)),
+            AnyArray::Utf8(array) => Ok(AnyArray::Utf8(array.clone()?)),
+            AnyArray::LargeUtf8(array) => Ok(AnyArray::LargeUtf8(array.clone()?)),
+            AnyArray::List(array) => Ok(AnyArray::List(array.copy()?)),
+            AnyArray::FixedSizeList(array) => Ok(AnyArray::FixedSizeList(array.copy()?)),
+            AnyArray::Struct(array) => Ok(AnyArray::Struct(array.copy()?)),
+            AnyArray::Union(array) => Ok(AnyArray::Union(array.copy()?)),
+            AnyArray::Map(array) => Ok(AnyArray::Map(array.copy()?)),
+            AnyArray::Dictionary(array) => Ok(AnyArray::Dictionary(array.clone()?)),
         }
     }
 }
@@ -201,8 +394,6 @@ impl Clone for AnyArray {
 
     /// The same slots once more, which share their memory with these.
     fn clone(&self) -> Result<Self, AllocError> {
-        match self {
-            AnyArray::Primitive(array) => Ok(AnyArray::Primitive(array.clone()?)),
-        }
+        self.copy()
     }
 }

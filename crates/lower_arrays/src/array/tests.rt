@@ -1,79 +1,34 @@
-//! Arrays at work.
-use super::{AnyArray, AnyPrimitive, PrimitiveArray, equal};
+//! Arrays of any kind at work.
+use super::{AnyArray, AnyPrimitive, BooleanArray, NullArray, PrimitiveArray, equal};
 use lower::bitmap::Bitmap;
 use lower::buffer::Buffer;
 use lower::datatypes::DataType;
 use lower::datatypes::equal::is_same_type;
-use lower::error::{Error, Rule};
 use std::alloc::{AllocError, Global};
 use std::test::Fail;
 
 fn numbers(alloc: Global, values: &[i32]) -> Result<Buffer<i32>, AllocError> {
-    let mut all = Vec::new(alloc);
-    all.extend_from_slice(values)?;
-    Buffer::new(all)
+    Buffer::new(Vec::from_slice(alloc, values)?)
 }
 
 // As many bits as are asked, of a byte.
-fn bits(alloc: Global, byte: u8, count: usize) -> Result<Option<Bitmap>, AllocError> {
-    let mut bytes = Vec::new(alloc);
-    bytes.push(byte)?;
-    Ok(Bitmap::try_new(Buffer::new(bytes)?, count).ok())
+fn bits(alloc: Global, byte: u8, count: usize) -> Result<Bitmap, Fail> {
+    let bytes = Buffer::new(Vec::from_slice(alloc, &[byte])?)?;
+    Ok(Bitmap::try_new(bytes, count)?)
 }
 
 // 1, null, 3 and 4, as dates.
-fn dates(alloc: Global, hidden: i32) -> Result<PrimitiveArray<i32>, Fail> {
+fn dates(alloc: Global, hidden: i32) -> Result<AnyArray, Fail> {
     let values = numbers(alloc, &[1, hidden, 3, 4])?;
-    let validity = bits(alloc, 0b1101, 4)?;
-    Ok(PrimitiveArray::try_new(DataType::Date32, values, validity)?)
+    let array = PrimitiveArray::try_new(DataType::Date32, values, Some(bits(alloc, 0b1101, 4)?))?;
+    Ok(AnyArray::Primitive(AnyPrimitive::Int32(array)))
 }
 
 #[test]
-fn slots_of_a_part(rt: HostRuntime) -> Result<(), Fail> {
+fn same_numbers(rt: HostRuntime) -> Result<(), Fail> {
     let alloc = rt.alloc();
-    let array = dates(alloc, 2)?;
-    assert!(rt; is_same_type(array.data_type(), &DataType::Date32));
-    assert_eq!(rt; array.len(), 4);
-    assert!(rt; !array.is_empty());
-    assert_eq!(rt; array.null_count(), 1);
-    assert!(rt; !array.is_valid(1));
-    let part = array.sliced(1, 2);
-    assert_eq!(rt; part.values().as_slice(), [2, 3].as_slice());
-    assert_eq!(rt; part.null_count(), 1);
-    assert!(rt; part.validity().is_some());
-    assert!(rt; part.is_valid(1));
-    Ok(())
-}
-
-#[test]
-fn refused(rt: HostRuntime) -> Result<(), Fail> {
-    let alloc = rt.alloc();
-    let unsigned = PrimitiveArray::try_new(DataType::UInt32, numbers(alloc, &[1])?, None);
-    assert_eq!(rt; unsigned.err(), Some(Error::OutOfSpec(Rule::PhysicalType)));
-    let validity = bits(alloc, 1, 2)?;
-    let short = PrimitiveArray::try_new(DataType::Int32, numbers(alloc, &[1])?, validity);
-    assert_eq!(rt; short.err(), Some(Error::OutOfSpec(Rule::ValidityLength)));
-    Ok(())
-}
-
-#[test]
-fn a_clone_shares(rt: HostRuntime) -> Result<(), Fail> {
-    let values = numbers(rt.alloc(), &[1, 2])?;
-    let array = PrimitiveArray::try_new(DataType::Int32, values.clone()?, None)?;
-    let copy = array.clone()?;
-    drop(array);
-    // The copy is another owner of the same memory.
-    let values = values.into_vec().err().expect(&rt, "shared");
-    drop(copy);
-    assert!(rt; values.into_vec().is_ok());
-    Ok(())
-}
-
-#[test]
-fn same_slots(rt: HostRuntime) -> Result<(), Fail> {
-    let alloc = rt.alloc();
-    let a = AnyArray::Primitive(AnyPrimitive::Int32(dates(alloc, 2)?));
-    let b = AnyArray::Primitive(AnyPrimitive::Int32(dates(alloc, -2)?));
+    let a = dates(alloc, 2)?;
+    let b = dates(alloc, -2)?;
     assert!(rt; equal(&a, &b));
     assert!(rt; equal(&a, &a.clone()?));
     assert_eq!(rt; a.len(), 4);
@@ -85,5 +40,27 @@ fn same_slots(rt: HostRuntime) -> Result<(), Fail> {
     assert!(rt; !equal(&a, &whole));
     assert_eq!(rt; whole.len(), 4);
     assert!(rt; equal(&a.sliced(2, 2), &whole.sliced(2, 2)));
+    Ok(())
+}
+
+#[test]
+fn nulls_and_bits(rt: HostRuntime) -> Result<(), Fail> {
+    let alloc = rt.alloc();
+    let nulls = AnyArray::Null(NullArray::try_new(DataType::Null, 3)?);
+    assert_eq!(rt; nulls.null_count(), 3);
+    assert!(rt; nulls.validity().is_none());
+    assert_eq!(rt; nulls.len(), 3);
+    let part = nulls.clone()?.sliced(1, 2);
+    assert_eq!(rt; part.null_count(), 2);
+    assert!(rt; !equal(&nulls, &part));
+    let bytes = bits(alloc, 0b101, 3)?;
+    let all = AnyArray::Boolean(BooleanArray::try_new(DataType::Boolean, bytes, None)?);
+    assert!(rt; !equal(&nulls, &all));
+    assert!(rt; equal(&all, &all.clone()?));
+    let bytes = bits(alloc, 0b10, 2)?;
+    let later = AnyArray::Boolean(BooleanArray::try_new(DataType::Boolean, bytes, None)?);
+    assert!(rt; !equal(&all, &later));
+    assert_eq!(rt; all.len(), 3);
+    assert!(rt; equal(&all.sliced(1, 2), &later));
     Ok(())
 }

@@ -1,10 +1,6 @@
 use Rattle.std.proofs.Common.{◌≡◌, ℕ, ◌<◌}
 use Rattle.lower_arrays.specs.Slots.{slot_at}
-use Rattle.lower_arrays.specs.Primitives.{primitive_layout}
 use Rattle.lower_arrays.proofs.array.equality.has_same_slots.Given as goal
 
 abbrev pub invariant-loop-index : goal.invariant-loop-index
-invariant-loop-index g l =
-    (k : ℕ) → k < l.index
-    → slot_at (primitive_layout g.T.NativeType.primitive g.T.NativeType.number l.lhs) k
-    ≡ slot_at (primitive_layout g.T.NativeType.primitive g.T.NativeType.number l.rhs) k
+invariant-loop-index g l = (k : ℕ) → k < l.index → slot_at (g.A.Compared.tree l.lhs) k ≡ slot_at (g.A.Compared.tree l.rhs) k

@@ -1,0 +1,71 @@
+-- What contracts see of an array of lists.
+-- (Arrow columnar format, "Variable-size List Layout".)
+use Rattle.std.specs.Prelude.{◌≡◌, ℕ, ◌+◌, ◌≤◌, List, refl}
+use Rattle.std.specs.Coded.{Coded, code_by, coded_list, coded_ℕ, coded×}
+use Rattle.lower.specs.TypeTrees.{TypeTree}
+use Rattle.lower.specs.Physical.{physical}
+use Rattle.lower_types.specs.declared.PrimitiveType.{PrimitiveType}
+use Rattle.lower_types.specs.declared.PrimitiveType.TheVariants as Named
+use Rattle.lower.specs.declared.error.Error.{Error}
+use Rattle.lower.specs.declared.error.Error.TheVariants.{OutOfSpec}
+use Rattle.lower.specs.declared.error.Rule.TheVariants.{ValidityLength, OffsetsPastValues, ChildType, PhysicalType as WrongType}
+use Rattle.lower_flat.specs.TypeCodes.{coded_type}
+use Rattle.lower_flat.specs.Validities.{Validity, ValidityFits, part, cut_validity}
+use Rattle.lower_flat.specs.Spans.{span_count}
+use Rattle.lower_arrays.specs.Layouts.{lists, Layout, layout, no_layouts, more_layouts, len_of}
+use Rattle.lower_arrays.specs.LayoutCodes.{coded_primitive, coded_validity, coded_layout}
+use Rattle.lower_arrays.specs.Children.{child_fields, ChildTypes}
+use Rattle.lower_arrays.specs.ListTypes.{list_with, last_offset}
+use Rattle.lower_arrays.specs.declared.array.list.ListOffsets.{ListOffsets}
+use Rattle.lower_arrays.specs.declared.array.list.ListOffsets.TheVariants.{Small, Large}
+
+-- offsets of 32 or of 64 bits: the places that they name, and their type
+abbrev pub list_places : ListOffsets → List ℕ
+list_places (Small os) = os
+list_places (Large os) = os
+
+abbrev pub list_width : ListOffsets → PrimitiveType
+list_width (Small _) = Named.Int32
+list_width (Large _) = Named.Int64
+
+pub record ListSeen : Type 0 where
+  pub type : TypeTree
+  pub width : PrimitiveType
+  pub offsets : List ℕ
+  pub child : Layout
+  pub validity : Validity
+
+abbrev pub list_seen : TypeTree → PrimitiveType → List ℕ → Layout → Validity → ListSeen
+list_seen t p os c v = record { type = t; width = p; offsets = os; child = c; validity = v }
+
+-- what a model stores
+abbrev pub coded_list_seen : Coded ListSeen
+coded_list_seen =
+    code_by (TypeTree × (PrimitiveType × (List ℕ × (Layout × Validity))))
+    (coded× coded_type (coded× coded_primitive (coded× (coded_list coded_ℕ) (coded× coded_layout coded_validity))))
+    (λ a. (a.type, (a.width, (a.offsets, (a.child, a.validity)))))
+    (λ p. record { type = p.0; width = p.1.0; offsets = p.1.1.0; child = p.1.1.1.0; validity = p.1.1.1.1 }) (λ _. refl)
+
+-- slot i is a list of the child's slots from offset i to offset i + 1
+abbrev pub list_layout : ListSeen → Layout
+list_layout a =
+    layout (record { type = a.type; len = span_count a.offsets; validity = a.validity; parts = lists a.width a.offsets })
+    (more_layouts a.child no_layouts)
+
+-- the rule that the error names is broken
+abbrev pub BreaksList : ListSeen → Error → Type 0
+BreaksList a (OutOfSpec WrongType) = ¬ (physical a.type ≡ list_with a.width)
+BreaksList a (OutOfSpec ChildType) = ¬ (ChildTypes (child_fields a.type) (more_layouts a.child no_layouts))
+BreaksList a (OutOfSpec OffsetsPastValues) = ¬ (last_offset a.offsets ≤ len_of a.child)
+BreaksList a (OutOfSpec ValidityLength) = ¬ (ValidityFits a.validity (span_count a.offsets))
+BreaksList a (OutOfSpec _) = ⊥
+
+-- the n slots from place o on: their offsets, over the same child
+abbrev pub cut_list : ℕ → ℕ → ListSeen → ListSeen
+cut_list o n a = record {
+  type = a.type;
+  width = a.width;
+  offsets = part o (n + 1) a.offsets;
+  child = a.child;
+  validity = cut_validity o n a.validity;
+}

@@ -1,0 +1,53 @@
+-- What contracts see of an array of maps: lists of pairs.
+-- (Arrow columnar format, "Map Layout".)
+use Rattle.std.specs.Prelude.{◌≡◌, ℕ, ◌+◌, ◌≤◌, List, refl}
+use Rattle.std.specs.Coded.{Coded, code_by, coded_list, coded_ℕ, coded×}
+use Rattle.lower.specs.TypeTrees.{TypeTree}
+use Rattle.lower.specs.Physical.{physical}
+use Rattle.lower.specs.declared.datatypes.physical_type.PhysicalType.TheVariants.{Map}
+use Rattle.lower.specs.declared.error.Error.{Error}
+use Rattle.lower.specs.declared.error.Error.TheVariants.{OutOfSpec}
+use Rattle.lower.specs.declared.error.Rule.TheVariants.{ValidityLength, OffsetsPastValues, ChildType, MapChild, PhysicalType as WrongType}
+use Rattle.lower_flat.specs.TypeCodes.{coded_type}
+use Rattle.lower_flat.specs.Validities.{Validity, ValidityFits, part, cut_validity}
+use Rattle.lower_flat.specs.Spans.{span_count}
+use Rattle.lower_arrays.specs.Layouts.{maps, Layout, layout, no_layouts, more_layouts, len_of, type_of}
+use Rattle.lower_arrays.specs.LayoutCodes.{coded_validity, coded_layout}
+use Rattle.lower_arrays.specs.Children.{child_fields, ChildTypes, IsPair}
+use Rattle.lower_arrays.specs.ListTypes.{last_offset}
+
+pub record MapSeen : Type 0 where
+  pub type : TypeTree
+  pub offsets : List ℕ
+  pub child : Layout
+  pub validity : Validity
+
+abbrev pub map_seen : TypeTree → List ℕ → Layout → Validity → MapSeen
+map_seen t os c v = record { type = t; offsets = os; child = c; validity = v }
+
+-- what a model stores
+abbrev pub coded_map_seen : Coded MapSeen
+coded_map_seen =
+    code_by (TypeTree × (List ℕ × (Layout × Validity)))
+    (coded× coded_type (coded× (coded_list coded_ℕ) (coded× coded_layout coded_validity)))
+    (λ a. (a.type, (a.offsets, (a.child, a.validity))))
+    (λ p. record { type = p.0; offsets = p.1.0; child = p.1.1.0; validity = p.1.1.1 }) (λ _. refl)
+
+-- slot i is a list of the child's pairs from offset i to offset i + 1
+abbrev pub map_layout : MapSeen → Layout
+map_layout a =
+    layout (record { type = a.type; len = span_count a.offsets; validity = a.validity; parts = maps a.offsets })
+    (more_layouts a.child no_layouts)
+
+-- the rule that the error names is broken
+abbrev pub BreaksMap : MapSeen → Error → Type 0
+BreaksMap a (OutOfSpec WrongType) = ¬ (physical a.type ≡ Map)
+BreaksMap a (OutOfSpec MapChild) = ¬ (IsPair (type_of a.child))
+BreaksMap a (OutOfSpec ChildType) = ¬ (ChildTypes (child_fields a.type) (more_layouts a.child no_layouts))
+BreaksMap a (OutOfSpec OffsetsPastValues) = ¬ (last_offset a.offsets ≤ len_of a.child)
+BreaksMap a (OutOfSpec ValidityLength) = ¬ (ValidityFits a.validity (span_count a.offsets))
+BreaksMap a (OutOfSpec _) = ⊥
+
+-- the n slots from place o on: their offsets, over the same child
+abbrev pub cut_map : ℕ → ℕ → MapSeen → MapSeen
+cut_map o n a = record { type = a.type; offsets = part o (n + 1) a.offsets; child = a.child; validity = cut_validity o n a.validity }

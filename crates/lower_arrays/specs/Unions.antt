@@ -1,0 +1,77 @@
+-- What contracts see of an array whose slots are of several types.
+-- (Arrow columnar format, "Union Layout".)
+use Rattle.std.specs.Prelude.{◌≡◌, ℕ, ℤ, ◌<◌, ◌≤◌, List, Option, Some, None, option_map, map, length, refl}
+use Rattle.std.specs.Coded.{Coded, code_by, coded_list, coded_ℤ, coded_option, coded×}
+use Rattle.lower.specs.TypeTrees.{TypeTree}
+use Rattle.lower.specs.Physical.{physical}
+use Rattle.lower.specs.declared.datatypes.physical_type.PhysicalType.TheVariants.{Union}
+use Rattle.lower.specs.declared.error.Error.{Error}
+use Rattle.lower.specs.declared.error.Error.TheVariants.{OutOfSpec}
+use Rattle.lower.specs.declared.error.Rule.TheVariants.{ChildCount, ChildType, ChildLength, UnionChildren, UnionIds, UnionType, UnionOffsets, UnionOffset, PhysicalType as WrongType}
+use Rattle.lower_flat.specs.TypeCodes.{coded_type}
+use Rattle.lower_flat.specs.Validities.{part}
+use Rattle.lower_arrays.specs.Layouts.{choices, Layout, layout, layouts}
+use Rattle.lower_arrays.specs.LayoutCodes.{coded_layout}
+use Rattle.lower_arrays.specs.Children.{child_fields, field_count, child_count, ChildTypes}
+use Rattle.lower_arrays.specs.Choices.{union_ids, union_mode, IdsFit, AreNamed, OffsetsGiven, PlacesFit, ChoicesFit}
+use Rattle.lower_arrays.specs.Slots.{AreArrays}
+use Rattle.lower_arrays.specs.Cuts.{cut}
+
+-- the ids of the slots, their offsets where they are given, the children
+pub record UnionSeen : Type 0 where
+  pub type : TypeTree
+  pub types : List ℤ
+  pub offsets : Option (List ℤ)
+  pub children : List Layout
+
+abbrev pub union_seen : TypeTree → List ℤ → List Layout → Option (List ℤ) → UnionSeen
+union_seen t ts cs os = record { type = t; types = ts; offsets = os; children = cs }
+
+-- what a model stores
+abbrev pub coded_union : Coded UnionSeen
+coded_union =
+    code_by (TypeTree × (List ℤ × (Option (List ℤ) × List Layout)))
+    (coded× coded_type (coded× (coded_list coded_ℤ) (coded× (coded_option (coded_list coded_ℤ)) (coded_list coded_layout))))
+    (λ a. (a.type, (a.types, (a.offsets, a.children))))
+    (λ p. record { type = p.0; types = p.1.0; offsets = p.1.1.0; children = p.1.1.1 }) (λ _. refl)
+
+-- a union has no validity: a slot is null where that of its child is
+abbrev pub union_layout : UnionSeen → Layout
+union_layout a =
+    layout
+    (record { type = a.type; len = length a.types; validity = None; parts = choices (union_ids a.type) a.types a.offsets })
+    (layouts a.children)
+
+pub record IsUnion (a : UnionSeen) : Type 0 where
+  pub fits : ChoicesFit a.type (union_ids a.type) a.types a.offsets (layouts a.children)
+  pub arrays : AreArrays (layouts a.children)
+
+-- there are 1 to 127 children
+abbrev pub IsCount : ℕ → Type 0
+IsCount n = (0 < n) × (n ≤ 127)
+
+-- the rule that the error names is broken
+abbrev pub BreaksUnion : UnionSeen → Error → Type 0
+BreaksUnion a (OutOfSpec WrongType) = ¬ (physical a.type ≡ Union)
+BreaksUnion a (OutOfSpec UnionChildren) = ¬ (IsCount (child_count (layouts a.children)))
+BreaksUnion a (OutOfSpec ChildCount) = ¬ (child_count (layouts a.children) ≡ field_count (child_fields a.type))
+BreaksUnion a (OutOfSpec ChildType) = ¬ (ChildTypes (child_fields a.type) (layouts a.children))
+BreaksUnion a (OutOfSpec UnionIds) = ¬ (IdsFit (union_ids a.type) (child_count (layouts a.children)))
+BreaksUnion a (OutOfSpec UnionType) = ¬ (AreNamed (union_ids a.type) a.types (child_count (layouts a.children)))
+BreaksUnion a (OutOfSpec UnionOffsets) = ¬ (OffsetsGiven (union_mode a.type) a.offsets (length a.types))
+BreaksUnion a (OutOfSpec ChildLength) = ¬ (PlacesFit (union_ids a.type) a.types a.offsets (layouts a.children))
+BreaksUnion a (OutOfSpec UnionOffset) = ¬ (PlacesFit (union_ids a.type) a.types a.offsets (layouts a.children))
+BreaksUnion a (OutOfSpec _) = ⊥
+
+-- the n slots from place o on: of a sparse union those of each child, of a dense one their offsets, over the same children
+abbrev pub cut_fields : ℕ → ℕ → Option (List ℤ) → List Layout → List Layout
+cut_fields o n None cs = map (cut o n) cs
+cut_fields o n (Some os) cs = cs
+
+abbrev pub cut_union : ℕ → ℕ → UnionSeen → UnionSeen
+cut_union o n a = record {
+  type = a.type;
+  types = part o n a.types;
+  offsets = option_map (λ xs. part o n xs) a.offsets;
+  children = cut_fields o n a.offsets a.children;
+}

@@ -1,0 +1,116 @@
+//! What an array does with its children.
+ghost use Rattle.std.specs.Prelude.{◌≡◌, ◌↔◌, ◌+◌, ◌≤◌, IsTrue, IfOk, map};
+ghost use Rattle.lower.specs.TypeViews.{type_view, field_view, fields_view};
+ghost use Rattle.lower_arrays.specs.Layouts.{layouts, type_of, len_of};
+ghost use Rattle.lower_arrays.specs.Children.{child_fields, field_type, field_count, child_count, ChildTypes, AllHave, AllReach, IsPair};
+ghost use Rattle.lower_arrays.specs.Slots.{IsArray, AreArrays};
+ghost use Rattle.lower_arrays.specs.Cuts.{cut};
+ghost use Rattle.lower_arrays.specs.AnyLayouts.{layout_of};
+
+use super::AnyArray;
+use lower::datatypes::{DataType, Field, is_same_type};
+use std::alloc::{AllocError, Global};
+use std::slice;
+
+/// The fields of a type's children, of its extensions those of the type that they are stored as.
+pub fn child_fields(data_type: &DataType) -> &[Field]
+    ensures { fields_view result.now ≡ child_fields (type_view data_type.now) }
+{
+    match data_type {
+        DataType::List(field)
+        | DataType::LargeList(field)
+        | DataType::FixedSizeList(field, _)
+        | DataType::Map(field, _) => slice::from_ref(&**field),
+        DataType::Struct(fields) | DataType::Union(fields, _, _) => fields,
+        DataType::Extension(_, inner, _) => child_fields(inner),
+        _ => &[],
+    }
+}
+
+/// Whether the type is a struct of two fields: a key and a value.
+pub fn is_pair(data_type: &DataType) -> bool
+    ensures { IsTrue result ↔ IsPair (type_view data_type.now) }
+{
+    match data_type {
+        DataType::Struct(fields) => are_two(fields),
+        _ => false,
+    }
+}
+
+// Whether there are two fields.
+#[tactic(auto, using(crate::proofs::Children::counts))]
+fn are_two(fields: &[Field]) -> bool
+    ensures { IsTrue result ↔ (field_count (fields_view fields.now) ≡ 2) }
+{
+    fields.len() == 2
+}
+
+/// Whether there are as many children as fields.
+#[tactic(auto, using(crate::proofs::Children::counts))]
+pub fn are_as_many(fields: &[Field], children: &[AnyArray]) -> bool
+    ensures { IsTrue result ↔ (child_count (layouts (map layout_of children.now)) ≡ field_count (fields_view fields.now)) }
+{
+    children.len() == fields.len()
+}
+
+// Whether the child has the field's type.
+fn has_type(field: &Field, child: &AnyArray) -> bool
+    ensures same { IsTrue result ↔ (type_of (layout_of child.now) ≡ field_type (field_view field.now)) }
+    ensures valid { IsArray (layout_of child.now) }
+{
+    is_same_type(child.data_type(), &field.data_type)
+}
+
+/// Whether there is a child for each field, of its type.
+pub fn have_types(fields: &[Field], children: &[AnyArray]) -> bool
+    ensures same { IsTrue result ↔ ChildTypes (fields_view fields.now) (layouts (map layout_of children.now)) }
+    ensures valid { IsTrue result → AreArrays (layouts (map layout_of children.now)) }
+{
+    if fields.len() != children.len() {
+        return false;
+    }
+    for i in 0..fields.len() {
+        if !has_type(&fields[i], &children[i]) {
+            return false;
+        }
+    }
+    true
+}
+
+/// Whether each child has `len` slots.
+#[tactic(auto, using(crate::proofs::Children::one_more))]
+pub fn have_len(children: &[AnyArray], len: usize) -> bool
+    ensures same { IsTrue result ↔ AllHave len (layouts (map layout_of children.now)) }
+    ensures valid { IsTrue result → AreArrays (layouts (map layout_of children.now)) }
+{
+    for child in children {
+        if child.len() != len {
+            return false;
+        }
+    }
+    true
+}
+
+/// The `len` slots from `offset` on of each child. It takes no memory.
+#[cycle(slices)]
+pub fn sliced_each(mut children: Vec<AnyArray>, offset: usize, len: usize) -> Vec<AnyArray>
+    requires { AllReach (offset + len) (layouts (map layout_of children.items)) }
+    ensures { map layout_of result.items ≡ map (cut offset len) (map layout_of children.items) }
+{
+    for i in 0..children.len() {
+        children[i].slice(offset, len);
+    }
+    children
+}
+
+/// The same children once more, which share their memory with these.
+#[cycle(copies)]
+pub fn copy_each(alloc: Global, children: &[AnyArray]) -> Result<Vec<AnyArray>, AllocError>
+    ensures { IfOk result (λ copies. map layout_of copies.items ≡ map layout_of children.now) }
+{
+    let mut copies = Vec::new(alloc);
+    for child in children {
+        copies.push(child.copy()?)?;
+    }
+    Ok(copies)
+}

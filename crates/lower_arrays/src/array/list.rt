@@ -1,0 +1,279 @@
+//! Arrays of lists.
+ghost use Rattle.std.specs.Prelude.{◌≡◌, ◌+◌, ◌-◌, ◌<◌, ◌≤◌, ◌↔◌, length, slice_index, take, drop, MatchResult, IsTrue, IfOk};
+ghost use Rattle.std.specs.Option.{option_copied};
+ghost use Rattle.lower.specs.TypeViews.{type_view};
+ghost use Rattle.lower.specs.Offsets.{IsOffsets};
+ghost use Rattle.lower_flat.specs.Validities.{null_count_of, is_valid, part};
+ghost use Rattle.lower_flat.specs.Spans.{span_count};
+ghost use Rattle.lower_arrays.specs.Slots.{IsArray};
+ghost use Rattle.lower_arrays.specs.ListTypes.{list_with, last_offset};
+ghost use Rattle.lower_arrays.specs.Lists.{list_places, list_width, list_seen, list_layout, cut_list, BreaksList};
+ghost use Rattle.lower_arrays.specs.AnyLayouts.{layout_of};
+
+use super::AnyArray;
+use super::children::{child_fields, have_types};
+use lower::bitmap::Bitmap;
+use lower::datatypes::{DataType, PhysicalType};
+use lower::error::{Error, Rule};
+use lower::offset::OffsetsBuffer;
+use lower_flat::validity::{clone_validity, fits, is_valid_at, sliced_validity, unset_bits};
+use std::alloc::AllocError;
+use std::marker::Model;
+use std::slice;
+
+/// The offsets of lists, of either type.
+#[derive(Drop)]
+pub enum ListOffsets {
+    /// Those of a list.
+    Small(OffsetsBuffer<i32>),
+    /// Those of a large list.
+    Large(OffsetsBuffer<i64>),
+}
+
+impl ListOffsets {
+    /// How many offsets there are, which is one more than there are slots.
+    pub fn len(&self) -> usize
+        ensures len { result ≡ length (list_places self.now) }
+        ensures offsets { IsOffsets (list_places self.now) }
+    {
+        match self {
+            ListOffsets::Small(offsets) => offsets.len(),
+            ListOffsets::Large(offsets) => offsets.len(),
+        }
+    }
+
+    /// Offset `i`.
+    pub fn get(&self, i: usize) -> usize
+        requires { i < length (list_places self.now) }
+        ensures { result ≡ slice_index (list_places self.now) i }
+    {
+        match self {
+            ListOffsets::Small(offsets) => offsets.get(i),
+            ListOffsets::Large(offsets) => offsets.get(i),
+        }
+    }
+
+    /// The last offset: where the last slot ends.
+    pub fn last(&self) -> usize
+        ensures value { result ≡ last_offset (list_places self.now) }
+        ensures offsets { IsOffsets (list_places self.now) }
+    {
+        match self {
+            ListOffsets::Small(offsets) => offsets.last(),
+            ListOffsets::Large(offsets) => offsets.last(),
+        }
+    }
+
+    /// The offsets of the `len` slots from slot `offset` on, in the same memory.
+    pub fn sliced(self, offset: usize, len: usize) -> Self
+        requires { offset + len < length (list_places self) }
+        ensures width { list_width result ≡ list_width self }
+        ensures places { list_places result ≡ part offset (len + 1) (list_places self) }
+    {
+        match self {
+            ListOffsets::Small(offsets) => ListOffsets::Small(offsets.sliced(offset, len)),
+            ListOffsets::Large(offsets) => ListOffsets::Large(offsets.sliced(offset, len)),
+        }
+    }
+
+    // How lists with these offsets lie in memory.
+    fn physical_type(&self) -> PhysicalType
+        ensures { result ≡ list_with (list_width self.now) }
+    {
+        match self {
+            ListOffsets::Small(_) => PhysicalType::List,
+            ListOffsets::Large(_) => PhysicalType::LargeList,
+        }
+    }
+}
+
+impl Clone for ListOffsets {
+    ghost is_clone = { λ a b. b ≡ a };
+
+    /// The same offsets once more, in the same memory.
+    fn clone(&self) -> Result<Self, AllocError> {
+        match self {
+            ListOffsets::Small(offsets) => Ok(ListOffsets::Small(offsets.clone()?)),
+            ListOffsets::Large(offsets) => Ok(ListOffsets::Large(offsets.clone()?)),
+        }
+    }
+}
+
+/// A list of a child's slots for each slot (Arrow columnar format, "Variable-size List Layout").
+///
+/// With offsets of `i64` it is an array of a large type.
+#[cycle(arrays)]
+#[derive(Drop)]
+pub struct ListArray {
+    data_type: DataType,
+    offsets: ListOffsets,
+    values: Box<AnyArray>,
+    validity: Option<Bitmap>,
+}
+
+impl Model for ListArray {
+    ghost use Rattle.std.specs.Prelude.{◌+◌};
+    ghost use Rattle.lower_arrays.specs.Lists.{ListSeen, coded_list_seen, list_seen, list_places, list_width, list_layout};
+
+    ghost Value = { ListSeen };
+
+    ghost coded = { coded_list_seen };
+
+    ghost use Rattle.lower.specs.TypeViews.{type_view};
+    ghost use Rattle.lower_arrays.specs.Layouts.{height};
+    ghost use Rattle.lower_arrays.specs.Slots.{IsArray};
+    ghost use Rattle.lower_arrays.specs.AnyLayouts.{layout_of};
+
+    ghost view = { λ a. list_seen (type_view a.data_type) (list_width a.offsets) (list_places a.offsets) (layout_of a.values.value) a.validity };
+
+    ghost invariant = { λ a. IsArray (list_layout (list_seen (type_view a.data_type) (list_width a.offsets) (list_places a.offsets) (layout_of a.values.value) a.validity)) };
+
+    ghost size = { λ s. height s.child + 1 };
+
+    ghost use Rattle.lower_arrays.specs.Falls.{one_child};
+
+    ghost size_decreases = { λ a h. one_child a.values.value };
+}
+
+impl ListArray {
+    /// An array of lists, each of the child's slots from an offset to the next, of which those are
+    /// null whose bit isn't set.
+    ///
+    /// `ValidityLength` where the validity hasn't a bit for each slot, `OffsetsPastValues` where the
+    /// last offset is past the end of the child, `PhysicalType` where the data type isn't one of
+    /// lists with such offsets, `ChildType` where the child hasn't the type of its field.
+    pub fn try_new(
+        data_type: DataType,
+        offsets: ListOffsets,
+        values: Box<AnyArray>,
+        validity: Option<Bitmap>,
+    ) -> Result<Self, Error>
+        ensures { let seen = list_seen (type_view data_type) (list_width offsets) (list_places offsets) (layout_of values.value) validity in
+            MatchResult result (λ a. (a ≡ seen) × IsArray (list_layout seen)) (BreaksList seen) }
+    {
+        if !fits(&validity, offsets.len() - 1) {
+            return Err(Error::OutOfSpec(Rule::ValidityLength));
+        }
+        if offsets.last() > values.len() {
+            return Err(Error::OutOfSpec(Rule::OffsetsPastValues));
+        }
+        if data_type.to_physical_type() != offsets.physical_type() {
+            return Err(Error::OutOfSpec(Rule::PhysicalType));
+        }
+        if !have_types(child_fields(&data_type), slice::from_ref(&*values)) {
+            return Err(Error::OutOfSpec(Rule::ChildType));
+        }
+        Ok(ListArray {
+            data_type,
+            offsets,
+            values,
+            validity,
+        })
+    }
+
+    /// The type of its slots.
+    pub fn data_type(&self) -> &DataType
+        ensures tree { type_view result.now ≡ self.now.type }
+        ensures valid { IsArray (list_layout self.now) }
+    {
+        &self.data_type
+    }
+
+    /// The offsets, one more than there are slots.
+    pub fn offsets(&self) -> &ListOffsets
+        ensures places { list_places result.now ≡ self.now.offsets }
+        ensures width { list_width result.now ≡ self.now.width }
+        ensures valid { IsArray (list_layout self.now) }
+    {
+        &self.offsets
+    }
+
+    /// The child that the offsets point into, which may have more slots than those of the lists.
+    pub fn values(&self) -> &AnyArray
+        ensures child { layout_of result.now ≡ self.now.child }
+        ensures valid { IsArray (list_layout self.now) }
+    {
+        &self.values
+    }
+
+    /// The bits that say which slots are valid, or `None` where all are.
+    pub fn validity(&self) -> Option<&Bitmap>
+        ensures bits { option_copied result ≡ self.now.validity }
+        ensures valid { IsArray (list_layout self.now) }
+    {
+        self.validity.as_ref()
+    }
+
+    /// How many slots it has.
+    pub fn len(&self) -> usize
+        ensures len { result ≡ span_count self.now.offsets }
+        ensures valid { IsArray (list_layout self.now) }
+    {
+        self.offsets.len() - 1
+    }
+
+    /// Whether it has no slot.
+    pub fn is_empty(&self) -> bool
+        ensures { IsTrue result ↔ (span_count self.now.offsets ≡ 0) }
+    {
+        self.offsets.len() == 1
+    }
+
+    /// How many slots are null.
+    pub fn null_count(&self) -> usize
+        ensures { result ≡ null_count_of self.now.validity }
+    {
+        unset_bits(&self.validity)
+    }
+
+    /// Whether the slot at `index` isn't null.
+    pub fn is_valid(&self, index: usize) -> bool
+        requires { index < span_count self.now.offsets }
+        ensures { result ≡ is_valid self.now.validity index }
+    {
+        is_valid_at(&self.validity, index)
+    }
+
+    /// The `len` slots from `offset` on: their offsets, over the same child. It takes no memory.
+    pub fn sliced(self, offset: usize, len: usize) -> Self
+        requires { offset + len ≤ span_count self.offsets }
+        ensures { result ≡ cut_list offset len self }
+    {
+        let ListArray {
+            data_type,
+            offsets,
+            values,
+            validity,
+        } = self;
+        ListArray {
+            data_type,
+            offsets: offsets.sliced(offset, len),
+            values,
+            validity: sliced_validity(validity, offset, len),
+        }
+    }
+}
+
+impl ListArray {
+    // The same slots once more.
+    #[cycle(copies)]
+    pub(super) fn copy(&self) -> Result<Self, AllocError>
+        ensures { IfOk result (λ copy. copy ≡ self.now) }
+    {
+        Ok(ListArray {
+            data_type: self.data_type.clone()?,
+            offsets: self.offsets.clone()?,
+            values: Box::new(*Box::allocator(&self.values), self.values.copy()?)?,
+            validity: clone_validity(&self.validity)?,
+        })
+    }
+}
+
+impl Clone for ListArray {
+    ghost is_clone = { λ a b. b ≡ a };
+
+    /// The same slots once more, which share their memory with these.
+    fn clone(&self) -> Result<Self, AllocError> {
+        self.copy()
+    }
+}

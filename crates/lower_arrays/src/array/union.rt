@@ -1,0 +1,441 @@
+//! Arrays whose slots are of several types.
+ghost use Rattle.std.specs.Prelude.{◌≡◌, ◌↔◌, ℕ, pos, None, ◌+◌, ◌<◌, ◌≤◌, length, map, option_map, get_or, IsTrue, IfOk, MatchResult};
+ghost use Rattle.std.specs.Option.{option_copied};
+ghost use Rattle.lower.specs.TypeViews.{type_view};
+ghost use Rattle.lower_arrays.specs.Layouts.{layouts, len_of};
+ghost use Rattle.lower_arrays.specs.Keys.{place_of, KeyFits};
+ghost use Rattle.lower_arrays.specs.Children.{child_count};
+ghost use Rattle.lower_arrays.specs.Choices.{union_ids, union_mode, place_among, child_number, NamesChild, AreIds, IdsFit, AreNamed, OffsetsGiven, OffsetsFit, PlacesGiven, PlacesFit, child, place_in};
+ghost use Rattle.lower_arrays.specs.Unions.{union_seen, union_layout, IsUnion, BreaksUnion, cut_fields, cut_union};
+ghost use Rattle.lower_arrays.specs.AnyLayouts.{layout_of};
+
+#[cfg(test)]
+mod tests;
+
+use super::AnyArray;
+use super::children::{are_as_many, child_fields, copy_each, have_len, have_types, sliced_each};
+use lower::bitmap::Bitmap;
+use lower::buffer::Buffer;
+use lower::datatypes::{DataType, PhysicalType, UnionMode};
+use lower::error::{Error, Rule};
+use std::alloc::AllocError;
+use std::marker::Model;
+
+/// For each slot the slot of one of several children, whose id its type is (Arrow columnar format,
+/// "Union Layout").
+///
+/// Slot i of a sparse union is slot i of its child, slot i of a dense one the slot at offset i.
+#[cycle(arrays)]
+#[derive(Drop)]
+pub struct UnionArray {
+    data_type: DataType,
+    types: Buffer<i8>,
+    fields: Vec<AnyArray>,
+    offsets: Option<Buffer<i32>>,
+}
+
+impl Model for UnionArray {
+    ghost use Rattle.std.specs.Prelude.{map};
+    ghost use Rattle.lower_arrays.specs.Unions.{UnionSeen, coded_union, IsUnion};
+
+    ghost Value = { UnionSeen };
+
+    ghost coded = { coded_union };
+
+    ghost use Rattle.lower.specs.TypeViews.{type_view};
+    ghost use Rattle.lower_arrays.specs.Layouts.{heights, layouts};
+    ghost use Rattle.lower_arrays.specs.AnyLayouts.{layout_of};
+
+    ghost view = { λ a. record { type = type_view a.data_type; types = a.types; offsets = a.offsets; children = map layout_of a.fields.items } };
+
+    ghost invariant = { λ a. IsUnion (record { type = type_view a.data_type; types = a.types; offsets = a.offsets; children = map layout_of a.fields.items }) };
+
+    ghost size = { λ s. heights (layouts s.children) };
+
+    ghost use Rattle.std.proofs.Common.{arith};
+    ghost use Rattle.lower_arrays.specs.Falls.{most_le-heights};
+
+    ghost size_decreases = { λ a h. omega (arith, most_le-heights a.fields.items) };
+}
+
+// The ids that a union type gives its children, or `None` where they are 0, 1 and on.
+fn ids(data_type: &DataType) -> Option<&[i32]>
+    ensures { option_copied result ≡ union_ids (type_view data_type.now) }
+{
+    match data_type.to_logical_type() {
+        DataType::Union(_, Some(ids), _) => Some(ids),
+        _ => None,
+    }
+}
+
+// Whether the children of a union type stand slot by slot, or at offsets.
+fn mode(data_type: &DataType) -> UnionMode
+    ensures { result ≡ union_mode (type_view data_type.now) }
+{
+    match data_type.to_logical_type() {
+        DataType::Union(_, _, mode) => *mode,
+        _ => UnionMode::Sparse,
+    }
+}
+
+// The place of the first such id, or how many there are.
+#[tactic(auto, using(crate::proofs::TypeIds::places))]
+fn place_among(id: i32, ids: &[i32]) -> usize
+    ensures { result ≡ place_among id ids.now }
+{
+    for place in 0..ids.len() {
+        if ids[place] == id {
+            return place;
+        }
+    }
+    ids.len()
+}
+
+// The number of the child that an id names.
+fn child_number(ids: Option<&[i32]>, id: i8) -> usize
+    ensures { result ≡ child_number (option_copied ids.entry) id }
+{
+    match ids {
+        None if id < 0 => 0,
+        None => id.cast_unsigned() as usize,
+        Some(ids) => place_among(i32::from(id), ids),
+    }
+}
+
+// Whether an id names one of `count` children.
+fn names_child(ids: Option<&[i32]>, count: usize, id: i8) -> bool
+    ensures { IsTrue result ↔ NamesChild (option_copied ids.entry) count id }
+{
+    match ids {
+        None => id >= 0 && (id.cast_unsigned() as usize) < count,
+        Some(ids) => place_among(i32::from(id), ids) < count,
+    }
+}
+
+// Whether each slot's id names one of `count` children.
+fn are_named(ids: Option<&[i32]>, types: &[i8], count: usize) -> bool
+    ensures { IsTrue result ↔ AreNamed (option_copied ids.entry) types.now count }
+{
+    for index in 0..types.len() {
+        if !names_child(ids, count, types[index]) {
+            return false;
+        }
+    }
+    true
+}
+
+// Whether an id is from 0 to 126, and none before it is the same.
+fn is_id(ids: &[i32], index: usize) -> bool
+    requires { index < length ids.now }
+    ensures { IsTrue result ↔ (KeyFits (get_or ids.now index (pos 0)) 127 × (place_among (get_or ids.now index (pos 0)) ids.now ≡ index)) }
+{
+    let id = ids[index];
+    id >= 0 && id < 127 && place_among(id, ids) == index
+}
+
+// Whether these are distinct ids of `count` children, from 0 to 126.
+#[tactic(auto, using(crate::proofs::TypeIds::distinct))]
+fn are_ids(ids: &[i32], count: usize) -> bool
+    ensures { IsTrue result ↔ AreIds ids.now count }
+{
+    if ids.len() != count {
+        return false;
+    }
+    for index in 0..ids.len() {
+        if !is_id(ids, index) {
+            return false;
+        }
+    }
+    true
+}
+
+// Whether the ids, where a type gives any, are distinct ids of `count` children.
+fn ids_fit(ids: Option<&[i32]>, count: usize) -> bool
+    ensures { IsTrue result ↔ IdsFit (option_copied ids.entry) count }
+{
+    match ids {
+        None => true,
+        Some(ids) => are_ids(ids, count),
+    }
+}
+
+// Whether a dense union has an offset for each of `len` slots, a sparse one none.
+fn are_given(mode: UnionMode, offsets: &Option<Buffer<i32>>, len: usize) -> bool
+    ensures { IsTrue result ↔ OffsetsGiven mode offsets.now len }
+{
+    match (mode, offsets) {
+        (UnionMode::Dense, Some(offsets)) => offsets.len() == len,
+        (UnionMode::Sparse, None) => true,
+        _ => false,
+    }
+}
+
+// Whether an offset is from 0 to below the length of the child.
+fn is_place(offset: i32, child: &AnyArray) -> bool
+    ensures { IsTrue result ↔ KeyFits offset (len_of (layout_of child.now)) }
+{
+    offset >= 0 && (offset.cast_unsigned() as usize) < child.len()
+}
+
+// The number of the child that the slot at `index` is of.
+fn child_at(ids: Option<&[i32]>, types: &[i8], index: usize) -> usize
+    requires { index < length types.now }
+    ensures { result ≡ child_number (option_copied ids.entry) (get_or types.now index (pos 0)) }
+{
+    child_number(ids, types[index])
+}
+
+// Whether the offset at `index` is a place of the slot's child.
+fn has_place(
+    ids: Option<&[i32]>,
+    types: &[i8],
+    offsets: &[i32],
+    fields: &[AnyArray],
+    index: usize,
+) -> bool
+    requires here { index < length types.now }
+    requires given { index < length offsets.now }
+    requires named { NamesChild (option_copied ids) (length fields.now) (get_or types.now index (pos 0)) }
+    ensures { IsTrue result ↔ KeyFits (get_or offsets.now index (pos 0)) (len_of (child (layouts (map layout_of fields.now)) (child_number (option_copied ids.entry) (get_or types.now index (pos 0))))) }
+{
+    let child = &fields[child_at(ids, types, index)];
+    is_place(offsets[index], child)
+}
+
+// Whether each offset is a place of the slot's child.
+fn offsets_fit(ids: Option<&[i32]>, types: &[i8], offsets: &[i32], fields: &[AnyArray]) -> bool
+    requires given { length offsets.now ≡ length types.now }
+    requires named { AreNamed (option_copied ids) types.now (length fields.now) }
+    ensures { IsTrue result ↔ OffsetsFit (option_copied ids.entry) types.now offsets.now (layouts (map layout_of fields.now)) }
+{
+    for index in 0..types.len() {
+        if !has_place(ids, types, offsets, fields, index) {
+            return false;
+        }
+    }
+    true
+}
+
+// Whether each slot has a place in its child.
+fn places_fit(
+    ids: Option<&[i32]>,
+    types: &[i8],
+    offsets: &Option<Buffer<i32>>,
+    fields: &[AnyArray],
+) -> bool
+    requires given { PlacesGiven offsets.now (length types.now) }
+    requires named { AreNamed (option_copied ids) types.now (length fields.now) }
+    ensures { IsTrue result ↔ PlacesFit (option_copied ids.entry) types.now offsets.now (layouts (map layout_of fields.now)) }
+{
+    match offsets {
+        None => have_len(fields, types.len()),
+        Some(offsets) => offsets_fit(ids, types, offsets.as_slice(), fields),
+    }
+}
+
+impl UnionArray {
+    /// An array whose slot i is of the child that the id at i names: its slot i where no offsets are
+    /// given, else its slot at offset i.
+    ///
+    /// `PhysicalType` where the data type isn't a union, `UnionChildren` where there are no children
+    /// or more than 127, `ChildCount` where there are not as many children as fields, `ChildType`
+    /// where a child hasn't the type of its field, `UnionIds` where the ids that the type gives are
+    /// not as many as children, not distinct, or not from 0 to 126, `UnionType` where an id of a slot
+    /// names no child, `UnionOffsets` where the type is dense and there is not an offset for each
+    /// slot, or sparse and there are offsets, `ChildLength` where a child of a sparse union has
+    /// another length, `UnionOffset` where an offset of a dense union is negative, or not less than
+    /// its child's length.
+    #[tactic(auto, using(crate::proofs::Children::children_counted))]
+    pub fn try_new(
+        data_type: DataType,
+        types: Buffer<i8>,
+        fields: Vec<AnyArray>,
+        offsets: Option<Buffer<i32>>,
+    ) -> Result<Self, Error>
+        ensures { let seen = union_seen (type_view data_type) types (map layout_of fields.items) offsets in
+            MatchResult result (λ a. (a ≡ seen) × IsUnion seen) (BreaksUnion seen) }
+    {
+        if data_type.to_physical_type() != PhysicalType::Union {
+            return Err(Error::OutOfSpec(Rule::PhysicalType));
+        }
+        if fields.is_empty() || fields.len() > 127 {
+            return Err(Error::OutOfSpec(Rule::UnionChildren));
+        }
+        if !are_as_many(child_fields(&data_type), &fields) {
+            return Err(Error::OutOfSpec(Rule::ChildCount));
+        }
+        if !have_types(child_fields(&data_type), &fields) {
+            return Err(Error::OutOfSpec(Rule::ChildType));
+        }
+        if !ids_fit(ids(&data_type), fields.len()) {
+            return Err(Error::OutOfSpec(Rule::UnionIds));
+        }
+        if !are_named(ids(&data_type), types.as_slice(), fields.len()) {
+            return Err(Error::OutOfSpec(Rule::UnionType));
+        }
+        if !are_given(mode(&data_type), &offsets, types.len()) {
+            return Err(Error::OutOfSpec(Rule::UnionOffsets));
+        }
+        if !places_fit(ids(&data_type), types.as_slice(), &offsets, &fields) {
+            return Err(Error::OutOfSpec(match offsets {
+                None => Rule::ChildLength,
+                Some(_) => Rule::UnionOffset,
+            }));
+        }
+        Ok(UnionArray {
+            data_type,
+            types,
+            fields,
+            offsets,
+        })
+    }
+
+    /// The type of its slots.
+    pub fn data_type(&self) -> &DataType
+        ensures tree { type_view result.now ≡ self.now.type }
+        ensures valid { IsUnion self.now }
+    {
+        &self.data_type
+    }
+
+    /// The id of each slot's child.
+    pub fn types(&self) -> &Buffer<i8>
+        ensures ids { result.now ≡ self.now.types }
+        ensures valid { IsUnion self.now }
+    {
+        &self.types
+    }
+
+    /// The children.
+    pub fn fields(&self) -> &[AnyArray]
+        ensures children { map layout_of result.now ≡ self.now.children }
+        ensures valid { IsUnion self.now }
+    {
+        &self.fields
+    }
+
+    /// The place of each slot in its child, or `None` where the union is sparse.
+    pub fn offsets(&self) -> Option<&Buffer<i32>>
+        ensures places { option_copied result ≡ self.now.offsets }
+        ensures valid { IsUnion self.now }
+    {
+        self.offsets.as_ref()
+    }
+
+    /// None: a union has no validity of its own.
+    pub fn validity(&self) -> Option<&Bitmap>
+        ensures bits { option_copied result ≡ None }
+        ensures valid { IsUnion self.now }
+    {
+        let _ = &self.types;
+        None
+    }
+
+    /// How many slots it has.
+    pub fn len(&self) -> usize
+        ensures len { result ≡ length self.now.types }
+        ensures valid { IsUnion self.now }
+    {
+        self.types.len()
+    }
+
+    /// Whether it has no slot.
+    pub fn is_empty(&self) -> bool
+        ensures { IsTrue result ↔ (length self.now.types ≡ 0) }
+    {
+        self.types.len() == 0
+    }
+
+    /// 0: which slots are null is said by the children.
+    pub fn null_count(&self) -> usize
+        ensures { result ≡ 0 }
+    {
+        0
+    }
+
+    /// The id of the child that the slot at `index` is of.
+    pub fn type_at(&self, index: usize) -> i8
+        requires { index < length self.now.types }
+        ensures { result ≡ get_or self.now.types index (pos 0) }
+    {
+        self.types.as_slice()[index]
+    }
+
+    /// The number of the child that the slot at `index` is of, and the slot's place there.
+    #[tactic(auto, using(crate::proofs::Unions::index_rules))]
+    pub fn index(&self, index: usize) -> (usize, usize)
+        requires { index < length self.now.types }
+        ensures number { result.0 ≡ child_number (union_ids self.now.type) (get_or self.now.types index (pos 0)) }
+        ensures place { result.1 ≡ place_in self.now.offsets index }
+        ensures child { result.0 < child_count (layouts self.now.children) }
+        ensures bound { result.1 < len_of (child (layouts self.now.children) result.0) }
+    {
+        let number = child_number(ids(self.data_type()), self.type_at(index));
+        match self.offsets() {
+            None => (number, index),
+            Some(offsets) => (number, offsets.as_slice()[index].cast_unsigned() as usize),
+        }
+    }
+
+    /// The `len` slots from `offset` on: of a sparse union those of each child, of a dense one their
+    /// offsets, over the same children. It takes no memory.
+    #[cycle(slices)]
+    pub fn sliced(self, offset: usize, len: usize) -> Self
+        requires { offset + len ≤ length self.types }
+        ensures { result ≡ cut_union offset len self }
+    {
+        let UnionArray {
+            data_type,
+            types,
+            fields,
+            offsets,
+        } = self;
+        let types = types.sliced(offset, len);
+        match offsets {
+            None => UnionArray {
+                data_type,
+                types,
+                fields: sliced_each(fields, offset, len),
+                offsets: None,
+            },
+            Some(offsets) => UnionArray {
+                data_type,
+                types,
+                fields,
+                offsets: Some(offsets.sliced(offset, len)),
+            },
+        }
+    }
+
+    // The same slots once more.
+    #[cycle(copies)]
+    pub(super) fn copy(&self) -> Result<Self, AllocError>
+        ensures { IfOk result (λ copy. copy ≡ self.now) }
+    {
+        Ok(UnionArray {
+            data_type: self.data_type.clone()?,
+            types: self.types.clone()?,
+            fields: copy_each(*self.fields.allocator(), &self.fields)?,
+            offsets: clone_offsets(&self.offsets)?,
+        })
+    }
+}
+
+// The same offsets once more.
+fn clone_offsets(offsets: &Option<Buffer<i32>>) -> Result<Option<Buffer<i32>>, AllocError>
+    ensures { IfOk result (λ copy. copy ≡ offsets.now) }
+{
+    match offsets {
+        None => Ok(None),
+        Some(offsets) => Ok(Some(offsets.clone()?)),
+    }
+}
+
+impl Clone for UnionArray {
+    ghost is_clone = { λ a b. b ≡ a };
+
+    /// The same slots once more, which share their memory with these.
+    fn clone(&self) -> Result<Self, AllocError> {
+        self.copy()
+    }
+}
