@@ -109,3 +109,42 @@ fn watched_devices_count(rt: HostRuntime) -> Result<(), Fail> {
     full.flush()?;
     Ok(())
 }
+
+// Counts its flushes.
+#[derive(Drop)]
+struct Flushed {
+    count: u64,
+}
+
+impl io::Write for Flushed {
+    fn write(&mut self, buf: &[u8]) -> io::Result<usize> {
+        Ok(buf.len())
+    }
+
+    fn flush(&mut self) -> io::Result<()> {
+        self.count = self.count.saturating_add(1);
+        Ok(())
+    }
+}
+
+#[test]
+fn a_watched_device_is_flushed(rt: HostRuntime) -> Result<(), Fail> {
+    let mut device = Watched::new(Flushed { count: 0 });
+    Writes::flush(&mut device)?;
+    let mut borrowed = &mut device;
+    Writes::flush(&mut borrowed)?;
+    assert_eq!(rt; device.failures(), 0);
+    assert_eq!(rt; device.into_inner().count, 2);
+    Ok(())
+}
+
+#[test]
+fn a_watched_file_is_moved(rt: HostRuntime) -> Result<(), Fail> {
+    let mut file = Watched::new(io::Cursor::new(b"abc".as_slice()));
+    file.seek_to(1)?;
+    assert_eq!(rt; file.position()?, 1);
+    assert_eq!(rt; file.seek_end()?, 3);
+    assert_eq!(rt; file.position()?, 3);
+    assert_eq!(rt; file.failures(), 0);
+    Ok(())
+}
