@@ -10,7 +10,7 @@ use Rattle.ipc_model.specs.WholeStreams.{Stream, stream_from, stream_of, GrowLaw
 some_is : {X : Type 0} (x y : X) → Some x ≡ Some y → x ≡ y
 some_is x y e = cc
 
-abbrev stream_with : List ℕ → Head → Stream
+abbrev pub stream_with : List ℕ → Head → Stream
 stream_with rest h = record { head = h; meant = meaning h nothing_known rest }
 
 with_head : (o : Option Head) (rest : List ℕ) (s : Stream) → option_map (stream_with rest) o ≡ Some s → (h : Head) × (o ≡ Some h) × (stream_with rest h ≡ s)
@@ -18,7 +18,7 @@ with_head None rest s e = absurd cc
 with_head (Some h) rest s e = (h, refl, some_is _ s e)
 
 -- a stream begins with a message that is its head
-begins_with : (f : Frame) (s : Stream) → stream_from f ≡ Some s → (m rest : List ℕ) × (f ≡ message m rest) × (h : Head) × (head_of m ≡ Some h) × (stream_with rest h ≡ s)
+pub begins_with : (f : Frame) (s : Stream) → stream_from f ≡ Some s → (m rest : List ℕ) × (f ≡ message m rest) × (h : Head) × (head_of m ≡ Some h) × (stream_with rest h ≡ s)
 begins_with (message m rest) s e = let w = with_head (head_of m) rest s e in (m, rest, refl, w.0, w.1, w.2)
 begins_with (mark rest) s e = absurd cc
 begins_with (waiting b) s e = absurd cc

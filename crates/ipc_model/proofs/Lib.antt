@@ -20,4 +20,13 @@ pub mod Followed
 pub mod Written
 pub mod WrittenNumbers
 pub mod WriterSteps
+pub mod WriterRuns
+pub mod CarriedSteps
 pub mod FileRows
+pub mod DictionaryRows
+pub mod SlicedRows
+pub mod Holding
+pub mod NeededRows
+pub mod Visiting
+pub mod AcceptedRows
+pub mod FileFollowing

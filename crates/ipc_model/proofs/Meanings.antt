@@ -86,7 +86,7 @@ header_found h s None r c t rest e = absurd cc
 header_found h s (Some m) r c t rest e = (m, refl, e)
 
 -- what gives more begins with a message
-item_message : (h : Head) (s : Known) (f : Frame) (c : Option Chunk) (t : Known) (rest : List ℕ) → frame_item h s f ≡ more c t rest
+pub item_message : (h : Head) (s : Known) (f : Frame) (c : Option Chunk) (t : Known) (rest : List ℕ) → frame_item h s f ≡ more c t rest
     → (x r : List ℕ) × (f ≡ message x r) × (message_item h s (header_of x) r ≡ more c t rest)
 item_message h s (message x r) c t rest e = (x, r, refl, e)
 item_message h s (mark r) c t rest e = absurd cc
@@ -151,7 +151,7 @@ frame_waiting h s (mark r) t begun e = absurd cc
 frame_waiting h s (waiting b) t begun e = let w = waits_same s t b begun e in (ap waiting w.1, w.0)
 frame_waiting h s broken t begun e = absurd cc
 
-item_waits : (h : Head) (s : Known) (bytes : List ℕ) (t : Known) (begun : List ℕ) → item h s bytes ≡ done (waits t begun) → (begun ≡ bytes) × (s ≡ t)
+pub item_waits : (h : Head) (s : Known) (bytes : List ℕ) (t : Known) (begun : List ℕ) → item h s bytes ≡ done (waits t begun) → (begun ≡ bytes) × (s ≡ t)
 unfolding item
 item_waits h s bytes t begun e = let w = frame_waiting h s (frame bytes) t begun e in (frame_waits bytes begun w.0, w.1)
 

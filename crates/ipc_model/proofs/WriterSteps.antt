@@ -10,7 +10,7 @@ use Rattle.ipc_model.specs.WholeStreams.{stream_from, stream_of}
 use Rattle.ipc_model.specs.Writers.{IsStarted, StartLaw, after_record, WriteLaw, FinishLaw}
 use Rattle.ipc_model.specs.WrittenLaws.{prefix, IsWritten}
 
-item_none : (h : Head) (s : Known) → item h s [] ≡ done (waits s [])
+pub item_none : (h : Head) (s : Known) → item h s [] ≡ done (waits s [])
 unfolding item frame
 item_none h s = refl
 
@@ -18,7 +18,7 @@ item_none h s = refl
 meaning_none : (h : Head) (s : Known) → meaning h s [] ≡ record { chunks = []; end = waits s [] }
 meaning_none h s = meaning_done h s [] (waits s []) (item_none h s)
 
-item_mark : (h : Head) (s : Known) → item h s (prefix 0) ≡ done marked
+pub item_mark : (h : Head) (s : Known) → item h s (prefix 0) ≡ done marked
 unfolding item
 item_mark h s = ap (λ bytes. frame_item h s (frame bytes)) (sym (append-nil (prefix 0))) ∙ ap (frame_item h s) (written_mark [])
 

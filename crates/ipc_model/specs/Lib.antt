@@ -26,4 +26,14 @@ pub mod AddressLaws
 pub mod WrittenLaws
 pub mod WrittenBatches
 pub mod Writers
+pub mod CarriedStreams
+pub mod WriterStates
 pub mod FileRows
+pub mod DictionaryRows
+pub mod SlicedRows
+pub mod Needed
+pub mod NeededRows
+pub mod Visits
+pub mod Accepted
+pub mod AcceptedRows
+pub mod FileFollowLaws

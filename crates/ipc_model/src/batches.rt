@@ -2,6 +2,7 @@
 
 ghost use Rattle.ipc_model.specs.AddressLaws.{AddressLaw, DictionaryFollowLaw, OrderLaw, RecordFollowLaw};
 ghost use Rattle.ipc_model.specs.WrittenBatches.{WrittenBatchLaw};
+ghost use Rattle.ipc_model.specs.Needed.{BatchNeededLaw};
 ghost use Rattle.ipc_model.specs.BatchLaws.{AgreeLaw, BatchTestLaw, PruneLaw};
 
 /// Whether the entries of a batch have a meaning can be computed.
@@ -46,4 +47,9 @@ pub fn followed_dictionaries()
 /// A batch of columns of numbers that was written means these columns.
 pub fn written_batches()
     ensures { WrittenBatchLaw }
+{}
+
+/// All columns of a batch together need no more bytes than its buffers may list.
+pub fn bytes_of_batches()
+    ensures { BatchNeededLaw }
 {}

@@ -3,6 +3,7 @@
 ghost use Rattle.ipc_model.specs.Extending.{ExtendLaw};
 ghost use Rattle.ipc_model.specs.KindLaws.{BufferCountLaw, NodeCountLaw};
 ghost use Rattle.ipc_model.specs.Laws.{LimitLaw, NeedLaw, NodeLaw};
+ghost use Rattle.ipc_model.specs.Needed.{NeededLaw};
 ghost use Rattle.ipc_model.specs.TestLaws.{WellTestLaw};
 
 /// Each column has at least one node.
@@ -41,4 +42,9 @@ pub fn test_of_columns()
 /// them, and has the same slots.
 pub fn extended_columns()
     ensures { ExtendLaw }
+{}
+
+/// A column that is well formed needs no more bytes than its buffers list.
+pub fn bytes_of_columns()
+    ensures { NeededLaw }
 {}

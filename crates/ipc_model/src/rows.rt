@@ -1,7 +1,11 @@
 //! Columns, messages and streams that are written out, and what they mean.
 
+ghost use Rattle.ipc_model.specs.AcceptedRows.{AcceptedRows};
 ghost use Rattle.ipc_model.specs.ColumnRows.{CountRows, FlatRows, ListRows, MapRows, StructRows, TextRows, UnionRows};
+ghost use Rattle.ipc_model.specs.DictionaryRows.{DictionaryRows, NestedRows, SharedRows};
 ghost use Rattle.ipc_model.specs.FileRows.{FileRows};
+ghost use Rattle.ipc_model.specs.NeededRows.{NeededRows};
+ghost use Rattle.ipc_model.specs.SlicedRows.{SlicedRows};
 ghost use Rattle.ipc_model.specs.StreamRows.{ChosenRows, DemoRows, MetadataRows, SmallestRows};
 ghost use Rattle.ipc_model.specs.WeightRows.{PlaceRows, WeightRows};
 
@@ -77,4 +81,29 @@ pub fn weights_and_places()
 #[tactic(auto, using(crate::proofs::FileRows::file_rows))]
 pub fn demo_file()
     ensures { FileRows }
+{}
+
+/// Streams with dictionaries: one column, two columns of one id, and dictionaries in dictionaries.
+#[tactic(auto, using(crate::proofs::DictionaryRows::dictionary_rows, crate::proofs::DictionaryRows::shared_rows, crate::proofs::DictionaryRows::nested_rows))]
+pub fn streams_with_dictionaries()
+    ensures replaced { DictionaryRows }
+    ensures shared { SharedRows }
+    ensures nested { NestedRows }
+{}
+
+/// A dense union that is written as a slice.
+#[tactic(auto, using(crate::proofs::SlicedRows::sliced_rows))]
+pub fn sliced_union()
+    ensures { SlicedRows }
+{}
+
+/// How many bytes columns need.
+#[tactic(auto, using(crate::proofs::NeededRows::needed_rows))]
+pub fn bytes_needed()
+    ensures { NeededRows }
+{}
+
+/// Chunks that a writer takes, and that it refuses.
+pub fn accepted_chunks()
+    ensures { AcceptedRows }
 {}

@@ -1,6 +1,9 @@
 //! Laws of streams.
+ghost use Rattle.ipc_model.specs.CarriedStreams.{CarriedFinishLaw, CarriedFrontLaw, CarriedStartLaw, CarriedWriteLaw};
 ghost use Rattle.ipc_model.specs.Streams.{FrontLaw, ResumeLaw};
+ghost use Rattle.ipc_model.specs.Visits.{VisitLaw};
 ghost use Rattle.ipc_model.specs.WholeStreams.{GrowLaw};
+ghost use Rattle.ipc_model.specs.WriterStates.{ClosedLaw};
 ghost use Rattle.ipc_model.specs.Writers.{FinishLaw, StartLaw, WriteLaw};
 ghost use Rattle.ipc_model.specs.WrittenLaws.{WrittenFrameLaw, WrittenMarkLaw, WrittenRecordLaw};
 
@@ -39,4 +42,23 @@ pub fn steps_of_writers()
     ensures start { StartLaw }
     ensures write { WriteLaw }
     ensures finish { FinishLaw }
+{}
+
+/// A schema that is read has no more fields, at all levels, than its message has bytes.
+pub fn visits_of_schemas()
+    ensures { VisitLaw }
+{}
+
+/// A writer that is finished, or whose device failed, takes no chunk more.
+pub fn closed_writers()
+    ensures { ClosedLaw }
+{}
+
+/// A stream whose messages are carried stays so: a schema message starts one, and a record that is carried
+/// and the mark go on with it.
+pub fn carried_streams()
+    ensures front { CarriedFrontLaw }
+    ensures start { CarriedStartLaw }
+    ensures write { CarriedWriteLaw }
+    ensures finish { CarriedFinishLaw }
 {}

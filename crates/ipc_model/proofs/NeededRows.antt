@@ -1,0 +1,14 @@
+-- Each row is computed.
+use Rattle.std.proofs.Common.{refl}
+use Rattle.ipc_model.specs.NeededRows.{NeededRows}
+
+pub needed_rows : NeededRows
+needed_rows = record {
+  whole_list = refl;
+  first_lists = refl;
+  a_null = refl;
+  fixed_list = refl;
+  two_maps = refl;
+  sliced_union = refl;
+  omitted = refl;
+}

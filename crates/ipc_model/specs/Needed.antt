@@ -1,0 +1,64 @@
+-- How many bytes a column needs: what is held of it where it was read, dictionaries aside.
+-- (Arrow columnar format, "Buffer Listing for Each Layout".)
+use Rattle.std.specs.Prelude.{ℕ, zero, suc, ◌+◌, ◌*◌, ◌≤◌, ◌==◌, if◌then◌else◌, None, Some}
+use Rattle.lower.specs.declared.datatypes.UnionMode.TheVariants.{Sparse, Dense}
+use Rattle.lower_types.specs.NumberTypes.{width_of}
+use Rattle.ipc_model.specs.Batches.{chosen, IsBatch}
+use Rattle.ipc_model.specs.Columns.{is_omitted, last_offset, IsWell}
+use Rattle.ipc_model.specs.Entries.{Entries, size, node, listed, Limit, rows, times, bytes_for}
+use Rattle.ipc_model.specs.Kinds.{offsets_32, OffsetWidth, offset_width, Kind, null_kind, boolean_kind, number_kind, float_kind, fixed_binary_kind, binary_kind, utf8_kind, list_kind, map_kind, fixed_list_kind, struct_kind, union_kind, dictionary_kind, extension_kind, Kinds, no_kinds, more_kinds, count, nodes, buffers}
+
+-- the bits of k slots, where some slot is null
+abbrev pub validity_bytes : Entries → ℕ → ℕ → ℕ
+validity_bytes s a k = if size (node s a).null_count == 0 then 0 else bytes_for k
+
+-- the k + 1 offsets of w bytes in buffer b
+abbrev pub offset_bytes : Entries → ℕ → ℕ → ℕ → ℕ
+offset_bytes s b w k = if is_omitted s b k then 0 else w * (k + 1)
+
+-- those and the bytes that they cut into slots
+abbrev pub cut_bytes : Entries → ℕ → OffsetWidth → ℕ → ℕ
+cut_bytes s b w k = offset_bytes s b (offset_width w) k + last_offset s b (offset_width w) k
+
+abbrev mutual
+  -- the bytes that the first slots of the column at node a and buffer b need
+  pub needed : Entries → Kind → ℕ → ℕ → Limit → ℕ
+  needed s null_kind a b limit = 0
+  needed s boolean_kind a b limit = validity_bytes s a (rows s a limit) + bytes_for (rows s a limit)
+  needed s (number_kind f) a b limit = validity_bytes s a (rows s a limit) + width_of f * rows s a limit
+  needed s float_kind a b limit = 0
+  needed s (fixed_binary_kind n) a b limit = validity_bytes s a (rows s a limit) + n * rows s a limit
+  needed s (binary_kind w) a b limit = validity_bytes s a (rows s a limit) + cut_bytes s (b + 1) w (rows s a limit)
+  needed s (utf8_kind w) a b limit = validity_bytes s a (rows s a limit) + cut_bytes s (b + 1) w (rows s a limit)
+  needed s (list_kind w t) a b limit = validity_bytes s a (rows s a limit)
+      + offset_bytes s (b + 1) (offset_width w) (rows s a limit)
+      + needed s t (a + 1) (b + 2) (Some (last_offset s (b + 1) (offset_width w) (rows s a limit)))
+  needed s (map_kind t) a b limit = validity_bytes s a (rows s a limit)
+      + offset_bytes s (b + 1) (offset_width offsets_32) (rows s a limit)
+      + needed s t (a + 1) (b + 2) (Some (last_offset s (b + 1) (offset_width offsets_32) (rows s a limit)))
+  needed s (fixed_list_kind n t) a b limit = validity_bytes s a (rows s a limit) + needed s t (a + 1) (b + 1) (times limit n)
+  needed s (struct_kind ts) a b limit = validity_bytes s a (rows s a limit) + all_needed s ts (a + 1) (b + 1) limit
+  needed s (union_kind Sparse ids ts) a b limit = rows s a limit + all_needed s ts (a + 1) (b + s.extra + 1) limit
+  needed s (union_kind Dense ids ts) a b limit = rows s a limit + 4 * rows s a limit + all_needed s ts (a + 1) (b + s.extra + 2) None
+  needed s (dictionary_kind f id t) a b limit = validity_bytes s a (rows s a limit) + width_of f * rows s a limit
+  needed s (extension_kind t) a b limit = needed s t a b limit
+
+  -- those of some columns, one behind the other
+  pub all_needed : Entries → Kinds → ℕ → ℕ → Limit → ℕ
+  all_needed s no_kinds a b limit = 0
+  all_needed s (more_kinds t ts) a b limit = needed s t a b limit + all_needed s ts (a + nodes t) (b + buffers s.extra t) limit
+
+-- how many bytes are listed in n buffers from b on
+abbrev pub listed_from : Entries → ℕ → ℕ → ℕ
+listed_from s b zero = 0
+listed_from s b (suc n) = listed s b + listed_from s (b + 1) n
+
+-- a well formed column needs no more than its buffers list
+abbrev pub NeededLaw : Type 0
+NeededLaw = (s : Entries) (t : Kind) (a b : ℕ) (limit : Limit) → IsWell s t a b limit
+    → needed s t a b limit ≤ listed_from s b (buffers s.extra t)
+
+-- all columns of a batch together need no more than its buffers may list
+abbrev pub BatchNeededLaw : Type 0
+BatchNeededLaw = (s : Entries) (most : ℕ) (ts : Kinds) (limit : Limit) → IsBatch s most ts (chosen None (count ts)) limit
+    → all_needed s ts 0 0 limit ≤ most
