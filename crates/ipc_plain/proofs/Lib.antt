@@ -1,0 +1,6 @@
+pub mod Views
+pub mod PartLists
+pub mod SlotViews
+pub mod Places
+pub mod Windows
+pub mod Records

@@ -1,0 +1,61 @@
+//! The types of columns, as far as this program goes.
+//!
+//! Arrow columnar format, "Data Types" and "Buffer Listing for Each Layout".
+ghost use Rattle.std.specs.Prelude.{◌≡◌, ◌<◌, ◌^◌};
+ghost use Rattle.ipc_model.specs.Kinds.{nodes, buffers};
+ghost use Rattle.ipc_plain.specs.PlainKinds.{kind_view};
+
+use lower::datatypes::IntegerType;
+
+/// What a column's type says of its bytes.
+#[derive(Debug, Drop)]
+pub enum PlainKind {
+    /// Integers of up to 64 bits.
+    Int(IntegerType),
+    /// Texts, by offsets of 32 bits.
+    Utf8,
+    /// Lists, by offsets of 32 bits.
+    List(Box<PlainKind>),
+    /// Records: one slot of each child.
+    Struct(Vec<PlainKind>),
+}
+
+/// The nodes of a column.
+#[tactic(auto, using(crate::proofs::Views::kinds, crate::proofs::Views::lefts))]
+pub fn node_count(kind: &PlainKind) -> usize
+    requires { nodes (kind_view kind.now) < 2 ^ 64 }
+    ensures { result ≡ nodes (kind_view kind.now) }
+{
+    match kind {
+        PlainKind::Int(_) | PlainKind::Utf8 => 1,
+        PlainKind::List(item) => 1 + node_count(item),
+        PlainKind::Struct(fields) => {
+            let mut count = 1;
+            for field in fields {
+                count += node_count(field);
+            }
+            count
+        }
+    }
+}
+
+/// The buffers of a column. The version of the metadata, `extra`, says nothing here: only a union has
+/// another number of buffers in an older one.
+#[tactic(auto, using(crate::proofs::Views::kinds, crate::proofs::Views::lefts))]
+pub fn buffer_count(kind: &PlainKind, extra: usize) -> usize
+    requires { buffers extra (kind_view kind.now) < 2 ^ 64 }
+    ensures { result ≡ buffers extra (kind_view kind.now) }
+{
+    match kind {
+        PlainKind::Int(_) => 2,
+        PlainKind::Utf8 => 3,
+        PlainKind::List(item) => 2 + buffer_count(item, extra),
+        PlainKind::Struct(fields) => {
+            let mut count = 1;
+            for field in fields {
+                count += buffer_count(field, extra);
+            }
+            count
+        }
+    }
+}
