@@ -1,0 +1,5 @@
+pub mod FieldLists
+pub mod FieldSteps
+pub mod Leaves
+pub mod Places
+pub mod Steps
