@@ -1,8 +1,6 @@
 pub mod DefaultIds
-pub mod Models
 pub mod Reading
 pub mod Refusals
-pub mod SchemaMeaning
 pub mod Views
 pub mod Weight
 pub mod WriterAnswers

@@ -1,27 +1,71 @@
--- Steps of reading that may be refused, one after another.
-use Rattle.std.specs.Prelude.{◌≡◌, Option, Some, None, Result, Ok, Err}
+-- What reading a schema answers.
+use Rattle.std.specs.Prelude.{◌≡◌, ℕ, ◌+◌, ◌<◌, nat_eq, Bool, false, if◌then◌else◌, List, option_map, Option, Some, None, IfSome, Result, Ok, Err}
 use Rattle.ipc_devices.specs.declared.fault.TableFault.{TableFault}
-use Rattle.ipc_devices.specs.declared.fault.SchemaFault.TheVariants.{Table}
+use Rattle.ipc_devices.specs.declared.fault.SchemaFault.TheVariants.{NotASchema, Table}
 use Rattle.ipc_devices.specs.declared.fault.Fault.{Fault}
-use Rattle.ipc_devices.specs.declared.fault.Fault.TheVariants.{Schema}
-use Rattle.ipc_devices.specs.Faults.{OwnFault}
+use Rattle.ipc_devices.specs.declared.fault.Fault.TheVariants.{Memory, OutOfSpec, Schema as BadSchema}
+use Rattle.ipc_devices.specs.declared.fault.OutOfSpecKind.TheVariants.{MissingFields}
+use Rattle.ipc_views.specs.MessageSlots.{message_header}
+use Rattle.ipc_views.specs.SchemaSlots.{schema_fields}
+use Rattle.ipc_views.specs.Spot.{Spot, Vector}
+use Rattle.ipc_views.specs.Tables.{root_at}
+use Rattle.ipc_model.specs.Batches.{Schema as Meaning}
+use Rattle.ipc_model.specs.Schemas.{given, made, present, schema_at, schema_of}
 
--- what follows a step
-abbrev pub next : {A B : Type 0} → Result A Fault → (A → Result B Fault) → Result B Fault
-next (Ok x) f = f x
-next (Err e) f = Err e
+-- Memory was refused, or a fault of a type, a field or their metadata: then P holds. No other fault comes.
+abbrev pub Refuses : Fault → Type 0 → Type 0
+Refuses Memory P = Unit {0}
+Refuses (BadSchema NotASchema) P = ⊥
+Refuses (BadSchema e) P = P
+Refuses _ P = ⊥
+
+-- The answer is Ok exactly where the bytes mean something, and is then what they mean. Memory tells nothing.
+abbrev pub Gives : {X Y : Type 0} → (X → Y) → Result X Fault → Option Y → Type 0
+Gives view (Ok x) meaning = meaning ≡ Some (view x)
+Gives view (Err e) meaning = Refuses e (meaning ≡ None)
+
+-- The same, where no more fields may be met than were left before: so many as `count` says are taken.
+abbrev pub GivesFew : {X Y : Type 0} → (X → Y) → (Y → ℕ) → (before after : ℕ) → Result X Fault → Option Y → Type 0
+GivesFew view count before after (Ok x) meaning = (meaning ≡ Some (view x)) × (before ≡ after + count (view x))
+GivesFew view count before after (Err e) meaning = Refuses e (IfSome meaning (λ y. before < count y))
 
 -- a slot of a table of a schema: an ill-made one is a fault of the schema
 abbrev pub in_schema : {A : Type 0} → Result A TableFault → Result A Fault
 in_schema (Ok x) = Ok x
-in_schema (Err e) = Err (Schema (Table e))
+in_schema (Err e) = Err (BadSchema (Table e))
 
--- a slot that must not be absent
-abbrev pub required : {A : Type 0} → Fault → Option A → Result A Fault
-required fault None = Err fault
-required fault (Some x) = Ok x
+-- ---- which fault refuses a schema
 
--- The answer is what the bytes mean, or refuses them for the reason that they give. Memory tells nothing.
-abbrev pub Gives : {X Y : Type 0} → (X → Y) → Result X Fault → Result Y Fault → Type 0
-Gives view (Ok x) meaning = meaning ≡ Ok (view x)
-Gives view (Err e) meaning = OwnFault e (meaning ≡ Err e)
+-- The same of a schema's table. Only an absent vector of fields is told as missing.
+abbrev pub RefusesTable : Fault → Spot → Type 0
+RefusesTable (OutOfSpec MissingFields) t = (schema_fields t ≡ Ok None) × (schema_at t ≡ None)
+RefusesTable e t = Refuses e (schema_at t ≡ None)
+
+abbrev pub GivesTable : {X : Type 0} → (X → Meaning) → Result X Fault → Spot → Type 0
+GivesTable view (Ok x) t = schema_at t ≡ Some (view x)
+GivesTable view (Err e) t = RefusesTable e t
+
+abbrev pub is_schema : Option (ℕ × Spot) → Bool
+is_schema None = false
+is_schema (Some h) = nat_eq h.0 1
+
+-- whether the header of a message is a schema, where it is well made
+abbrev pub has_schema : List ℕ → Option Bool
+has_schema m = given (made (root_at m)) (λ t. option_map is_schema (made (message_header t)))
+
+-- the vector of fields of the schema that a message has for its header
+abbrev pub fields_slot : ℕ × Spot → Option (Option Vector)
+fields_slot h = if nat_eq h.0 1 then made (schema_fields h.1) else None
+
+abbrev pub fields_of_message : List ℕ → Option (Option Vector)
+fields_of_message m = given (made (root_at m)) (λ t. given (present (message_header t)) fields_slot)
+
+-- The same of a message. Only a header that is none or another is told as no schema.
+abbrev pub RefusesMessage : Fault → List ℕ → Type 0
+RefusesMessage (BadSchema NotASchema) m = (has_schema m ≡ Some false) × (schema_of m ≡ None)
+RefusesMessage (OutOfSpec MissingFields) m = (fields_of_message m ≡ Some None) × (schema_of m ≡ None)
+RefusesMessage e m = Refuses e (schema_of m ≡ None)
+
+abbrev pub GivesMessage : {X : Type 0} → (X → Meaning) → Result X Fault → List ℕ → Type 0
+GivesMessage view (Ok x) m = schema_of m ≡ Some (view x)
+GivesMessage view (Err e) m = RefusesMessage e m

@@ -1,3 +1,5 @@
 //! What bytes say of a schema.
 
+mod metadata;
 pub mod schema;
+mod types;

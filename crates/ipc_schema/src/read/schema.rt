@@ -2,181 +2,301 @@
 //!
 //! Arrow columnar format, "Schema message": the header of the first message of a stream is a table
 //! `Schema`, whose fields are tables `Field`.
-ghost use Rattle.std.specs.Prelude.{◌≡◌, IfErr, IfOk, None, Some};
-ghost use Rattle.ipc_model.specs.Schemas.{schema_of};
-ghost use Rattle.ipc_schema.specs.Models.{Refuses, model_of};
-ghost use Rattle.ipc_devices.specs.Faults.{OnIo};
-ghost use Rattle.lower.specs.TypeTrees.{plain};
-ghost use Rattle.lower.specs.TypeViews.{type_view};
+ghost use Rattle.std.specs.Prelude.{◌≡◌, IfOk, option_map, string_bytes};
+ghost use Rattle.lower.specs.TypeViews.{fields_view, pairs_of, type_view};
+ghost use Rattle.ipc_base.specs.Fitting.{AllFit};
+ghost use Rattle.ipc_base.specs.IdTrees.{all_ids_view};
+ghost use Rattle.ipc_views.specs.SchemaSlots.{field_children, field_dictionary, field_name};
 ghost use Rattle.ipc_views.specs.Unions.{type_parts};
-ghost use Rattle.ipc_schema.specs.Reading.{Gives, in_schema, required};
-ghost use Rattle.ipc_schema.specs.SchemaMeaning.{integers, integer_type, int_at, type_at, field_at, all_fields, byte_order, schema_at, schema_message};
-ghost use Rattle.ipc_schema.specs.Views.{field_seen, fields_seen, schema_seen};
+ghost use Rattle.ipc_model.specs.Schemas.{order_of, made, present, given, encoding_at, optional_encoding, encoded, id_of, field_with, field_at, fields_from, first_field, some_fields, type_of_field};
+ghost use Rattle.ipc_schema.specs.Reading.{Gives, GivesFew, GivesMessage, GivesTable};
+ghost use Rattle.ipc_schema.specs.Views.{byte_order, child_number, child_seen, encoding_seen, field_number, field_seen, fields_number, fields_seen, inner_number, schema_seen, type_seen, with_one_id};
 
-use ipc_base::fault::{Fault, Nyi, OutOfSpecKind, SchemaFault, TableFault};
+use crate::read::metadata::{read_metadata, read_schema_metadata, with_extension};
+use crate::read::types::{
+    deserialize_ids, deserialize_integer, deserialize_plain, deserialize_size, in_schema,
+    union_mode,
+};
+use ipc_base::fault::{Fault, OutOfSpecKind, SchemaFault};
 use ipc_base::ipc::{IpcField, IpcSchema};
 use ipc_views::{
-    Endianness, FieldRef, FieldTable, IntRef, MessageHeaderRef, MessageRef, SchemaRef, Tables,
-    TypeRef,
+    DictionaryEncodingRef, Endianness, FieldRef, FieldTable, MessageHeaderRef, MessageRef,
+    SchemaRef, Tables, TypeRef,
 };
-use lower::datatypes::{DataType, Field, IntegerType, Schema};
-use std::alloc::Global;
-use std::collections::BTreeMap;
+use lower::datatypes::{DataType, Field, IntegerType, Metadata, Schema};
+use std::alloc::{AllocError, Global};
 
-// A slot of a table of a schema. An ill-made one is a fault of the schema.
-fn in_schema<T>(slot: Result<T, TableFault>) -> Result<T, Fault>
-    ensures meaning { result ≡ in_schema slot }
-    ensures device { OnIo result ⊥ }
-{
-    match slot {
-        Ok(value) => Ok(value),
-        Err(fault) => Err(Fault::Schema(SchemaFault::Table(fault))),
-    }
+/// How deep fields may go.
+const MAX_LEVELS: u64 = 64;
+
+// How a dictionary's keys stand for its values.
+#[derive(Clone, Copy)]
+struct Encoding {
+    keys: IntegerType,
+    id: i64,
+    is_ordered: bool,
 }
 
-fn integer_type(width: i32, is_signed: bool) -> Result<IntegerType, Fault>
-    ensures meaning { result ≡ integer_type width is_signed }
-    ensures device { OnIo result ⊥ }
+#[tactic(auto, unfolding(ipc_model::specs::Schemas::encoding_at))]
+fn deserialize_encoding(table: &DictionaryEncodingRef<'_>) -> Result<Encoding, Fault>
+    ensures { Gives encoding_seen result (encoding_at table.now) }
 {
-    match width {
-        8 => Ok(if is_signed {
-            IntegerType::Int8
-        } else {
-            IntegerType::UInt8
-        }),
-        16 => Ok(if is_signed {
-            IntegerType::Int16
-        } else {
-            IntegerType::UInt16
-        }),
-        32 => Ok(if is_signed {
-            IntegerType::Int32
-        } else {
-            IntegerType::UInt32
-        }),
-        64 => Ok(if is_signed {
-            IntegerType::Int64
-        } else {
-            IntegerType::UInt64
-        }),
-        _ => Err(Fault::Schema(SchemaFault::BadInteger)),
-    }
-}
-
-fn integers(integer: IntegerType) -> DataType
-    ensures { type_view result ≡ plain (integers integer) }
-{
-    match integer {
-        IntegerType::Int8 => DataType::Int8,
-        IntegerType::Int16 => DataType::Int16,
-        IntegerType::Int32 => DataType::Int32,
-        IntegerType::Int64 => DataType::Int64,
-        IntegerType::UInt8 => DataType::UInt8,
-        IntegerType::UInt16 => DataType::UInt16,
-        IntegerType::UInt32 => DataType::UInt32,
-        IntegerType::UInt64 => DataType::UInt64,
-    }
-}
-
-#[tactic(auto, unfolding(crate::specs::SchemaMeaning::int_at))]
-fn deserialize_integer(int: &IntRef<'_>) -> Result<IntegerType, Fault>
-    ensures meaning { result ≡ int_at int.now }
-    ensures device { OnIo result ⊥ }
-{
-    let width = in_schema(int.bit_width())?;
-    let is_signed = in_schema(int.is_signed())?;
-    integer_type(width, is_signed)
-}
-
-#[tactic(auto, unfolding(crate::specs::SchemaMeaning::type_at))]
-fn deserialize_type(type_: &TypeRef<'_>) -> Result<DataType, Fault>
-    ensures meaning { Gives type_view result (type_at (type_parts type_.now)) }
-    ensures device { OnIo result ⊥ }
-{
-    match type_ {
-        TypeRef::Int(int) => Ok(integers(deserialize_integer(int)?)),
-        _ => Err(Fault::NotYetImplemented(Nyi::Pending)),
-    }
-}
-
-#[tactic(auto, unfolding(crate::specs::SchemaMeaning::field_at))]
-fn deserialize_field(alloc: Global, field: &FieldRef<'_>) -> Result<(Field, IpcField), Fault>
-    ensures meaning { Gives field_seen result (field_at field.now) }
-    ensures device { OnIo result ⊥ }
-{
-    if in_schema(field.custom_metadata())?.is_some() {
-        return Err(Fault::NotYetImplemented(Nyi::Pending));
-    }
-    if in_schema(field.dictionary())?.is_some() {
-        return Err(Fault::NotYetImplemented(Nyi::Pending));
-    }
-    let Some(type_) = in_schema(field.type_())? else {
-        return Err(Fault::Schema(SchemaFault::NoType));
+    let id = in_schema(table.id())?;
+    let Some(index_type) = in_schema(table.index_type())? else {
+        return Err(Fault::Schema(SchemaFault::NoIndexType));
     };
-    let data_type = deserialize_type(&type_)?;
-    let Some(name) = in_schema(field.name())? else {
-        return Err(Fault::Schema(SchemaFault::NoName));
-    };
-    let is_nullable = in_schema(field.nullable())?;
-    let name = String::from_str(alloc, name)?;
-    let metadata = BTreeMap::new(alloc);
+    let keys = deserialize_integer(&index_type)?;
+    let is_ordered = in_schema(table.is_ordered())?;
+    Ok(Encoding {
+        keys,
+        id,
+        is_ordered,
+    })
+}
+
+// The encoding of a field, None where it has no dictionary.
+fn read_encoding(field: &FieldRef<'_>) -> Result<Option<Encoding>, Fault>
+    ensures { Gives (λ e. option_map encoding_seen e) result
+        (given (made (field_dictionary field.now)) optional_encoding) }
+{
+    match in_schema(field.dictionary())? {
+        Some(table) => Ok(Some(deserialize_encoding(&table)?)),
+        None => Ok(None),
+    }
+}
+
+// The type, or the dictionary of its values.
+fn encoded(
+    alloc: Global,
+    encoding: Option<Encoding>,
+    values: DataType,
+) -> Result<DataType, AllocError>
+    ensures { IfOk result (λ r. type_view r
+        ≡ encoded (option_map encoding_seen encoding) (type_view values)) }
+{
+    match encoding {
+        Some(e) => {
+            let values = Box::new(alloc, values)?;
+            Ok(DataType::Dictionary(e.keys, values, e.is_ordered))
+        }
+        None => Ok(values),
+    }
+}
+
+fn id_of(encoding: Option<Encoding>) -> Option<i64>
+    ensures { result ≡ id_of (option_map encoding_seen encoding) }
+{
+    match encoding {
+        Some(e) => Some(e.id),
+        None => None,
+    }
+}
+
+// The field of this name and these pairs, which may be null or not, and its ids.
+fn field_with(
+    alloc: Global,
+    name: String,
+    is_nullable: bool,
+    metadata: Metadata,
+    encoding: Option<Encoding>,
+    type_: (DataType, Vec<IpcField>),
+) -> Result<(Field, IpcField), AllocError>
+    ensures { IfOk result (λ r. field_seen r ≡ field_with (string_bytes name) is_nullable
+        (pairs_of metadata.entries) (option_map encoding_seen encoding)
+        (type_seen type_)) }
+{
+    let (data_type, fields) = type_;
+    let data_type = with_extension(alloc, &metadata, data_type)?;
+    let data_type = encoded(alloc, encoding, data_type)?;
     let field = Field {
         name,
         data_type,
         is_nullable,
         metadata,
     };
-    Ok((field, IpcField::empty(alloc)))
+    let ids = IpcField {
+        fields,
+        dictionary_id: id_of(encoding),
+    };
+    Ok((field, ids))
 }
 
+fn read_name(alloc: Global, field: &FieldRef<'_>) -> Result<String, Fault>
+    ensures { Gives string_bytes result (present (field_name field.now)) }
+{
+    match in_schema(field.name())? {
+        Some(name) => Ok(String::from_str(alloc, name)?),
+        None => Err(Fault::Schema(SchemaFault::NoName)),
+    }
+}
+
+// The field of a table, of as many levels at most. It is one of the fields that may still be met.
+#[cycle(fields)]
+#[tactic(auto, unfolding(ipc_model::specs::Schemas::field_at, ipc_model::specs::Schemas::field_from))]
+fn deserialize_field(
+    alloc: Global,
+    field: &FieldRef<'_>,
+    levels: u64,
+    left: &mut u64,
+) -> Result<(Field, IpcField), Fault>
+    ensures { GivesFew field_seen field_number left.old left.new result (field_at levels field.now) }
+{
+    if levels == 0 {
+        return Err(Fault::Schema(SchemaFault::TooDeep));
+    }
+    if *left == 0 {
+        return Err(Fault::Schema(SchemaFault::TooManyFields));
+    }
+    *left -= 1;
+    let name = read_name(alloc, field)?;
+    let is_nullable = in_schema(field.nullable())?;
+    let metadata = read_metadata(alloc, field)?;
+    let encoding = read_encoding(field)?;
+    let Some(type_) = in_schema(field.type_())? else {
+        return Err(Fault::Schema(SchemaFault::NoType));
+    };
+    let seen = deserialize_type(alloc, field, &type_, levels - 1, left)?;
+    let read = field_with(alloc, name, is_nullable, metadata, encoding, seen)?;
+    Ok(read)
+}
+
+// The type that a table says, whose children are those of the field that it stands in.
+#[cycle(fields)]
+#[tactic(auto, unfolding(ipc_model::specs::Schemas::single_at, ipc_model::specs::Schemas::group_at))]
+fn deserialize_type(
+    alloc: Global,
+    field: &FieldRef<'_>,
+    type_: &TypeRef<'_>,
+    levels: u64,
+    left: &mut u64,
+) -> Result<(DataType, Vec<IpcField>), Fault>
+    ensures { GivesFew type_seen inner_number left.old left.new result
+        (type_of_field (λ s. field_at levels s) field.now (type_parts type_.now)) }
+{
+    match type_ {
+        TypeRef::List(_) => {
+            let (child, ids) = deserialize_child(alloc, field, levels, left)?;
+            Ok((DataType::List(child), ids))
+        }
+        TypeRef::LargeList(_) => {
+            let (child, ids) = deserialize_child(alloc, field, levels, left)?;
+            Ok((DataType::LargeList(child), ids))
+        }
+        TypeRef::FixedSizeList(list) => {
+            let size = deserialize_size(in_schema(list.list_size())?)?;
+            let (child, ids) = deserialize_child(alloc, field, levels, left)?;
+            Ok((DataType::FixedSizeList(child, size), ids))
+        }
+        TypeRef::Map(map) => {
+            let is_sorted = in_schema(map.keys_sorted())?;
+            let (child, ids) = deserialize_child(alloc, field, levels, left)?;
+            Ok((DataType::Map(child, is_sorted), ids))
+        }
+        TypeRef::Struct(_) => {
+            let (fields, ids) = deserialize_children(alloc, field, levels, left)?;
+            Ok((DataType::Struct(fields), ids))
+        }
+        TypeRef::Union(union) => {
+            let mode = union_mode(in_schema(union.mode())?);
+            let type_ids = deserialize_ids(alloc, union)?;
+            let (fields, ids) = deserialize_children(alloc, field, levels, left)?;
+            Ok((DataType::Union(fields, type_ids, mode), ids))
+        }
+        _ => Ok((deserialize_plain(alloc, type_)?, Vec::new(alloc))),
+    }
+}
+
+// The first child of a field, and the ids of all its children: there is one.
+#[cycle(fields)]
+fn deserialize_child(
+    alloc: Global,
+    field: &FieldRef<'_>,
+    levels: u64,
+    left: &mut u64,
+) -> Result<(Box<Field>, Vec<IpcField>), Fault>
+    ensures { GivesFew child_seen child_number left.old left.new result
+        (option_map with_one_id (given (present (field_children field.now)) (first_field (λ s. field_at levels s)))) }
+{
+    let Some(tables) = in_schema(field.children())? else {
+        return Err(Fault::Schema(SchemaFault::NoChild));
+    };
+    if tables.is_empty() {
+        return Err(Fault::Schema(SchemaFault::NoChild));
+    }
+    let table = in_schema(tables.get(0))?;
+    let (child, id) = deserialize_field(alloc, &table, levels, left)?;
+    let child = Box::new(alloc, child)?;
+    let mut ids = Vec::new(alloc);
+    ids.push(id)?;
+    Ok((child, ids))
+}
+
+// The children of a field, at least one.
+#[cycle(fields)]
+fn deserialize_children(
+    alloc: Global,
+    field: &FieldRef<'_>,
+    levels: u64,
+    left: &mut u64,
+) -> Result<(Vec<Field>, Vec<IpcField>), Fault>
+    ensures { GivesFew fields_seen fields_number left.old left.new result
+        (given (present (field_children field.now)) (some_fields (λ s. field_at levels s))) }
+{
+    let Some(tables) = in_schema(field.children())? else {
+        return Err(Fault::Schema(SchemaFault::NoChild));
+    };
+    if tables.is_empty() {
+        return Err(Fault::Schema(SchemaFault::NoChild));
+    }
+    deserialize_fields(alloc, &tables, levels, left)
+}
+
+#[cycle(fields)]
 fn deserialize_fields(
     alloc: Global,
     tables: &Tables<'_, FieldTable>,
+    levels: u64,
+    left: &mut u64,
 ) -> Result<(Vec<Field>, Vec<IpcField>), Fault>
-    ensures meaning { Gives fields_seen result (all_fields tables.now) }
-    ensures device { OnIo result ⊥ }
+    ensures { GivesFew fields_seen fields_number left.old left.new result
+        (fields_from (λ s. field_at levels s) tables.now 0 tables.now.count) }
 {
     let mut fields = Vec::new(alloc);
     let mut ipc_fields = Vec::new(alloc);
     for i in 0..tables.len() {
         let table = in_schema(tables.get(i))?;
-        let (field, ipc_field) = deserialize_field(alloc, &table)?;
+        let (field, ipc_field) = deserialize_field(alloc, &table, levels, left)?;
         fields.push(field)?;
         ipc_fields.push(ipc_field)?;
     }
     Ok((fields, ipc_fields))
 }
 
-fn is_little_endian(order: Endianness) -> Result<bool, Fault>
-    ensures meaning { result ≡ byte_order order }
-    ensures device { OnIo result ⊥ }
+fn is_little_endian(order: Endianness) -> bool
+    ensures { byte_order result ≡ order_of order }
 {
     match order {
-        Endianness::Little => Ok(true),
-        Endianness::Big => Err(Fault::NotYetImplemented(Nyi::Pending)),
+        Endianness::Little => true,
+        Endianness::Big => false,
     }
 }
 
-/// The schema that a table `Schema` holds, and what IPC adds to it.
-///
-/// The faults are those of [`deserialize_schema`], but for `Schema(NotASchema)`.
-#[tactic(auto, unfolding(crate::specs::SchemaMeaning::schema_at))]
-pub fn deserialize_schema_table(
+#[tactic(auto, unfolding(ipc_model::specs::Schemas::schema_at))]
+fn read_schema(
     alloc: Global,
     schema: &SchemaRef<'_>,
+    message: &[u8],
 ) -> Result<(Schema, IpcSchema), Fault>
-    ensures meaning { Gives schema_seen result (schema_at schema.now) }
-    ensures device { OnIo result ⊥ }
+    requires { message.now ≡ schema.now.message }
+    ensures { GivesTable schema_seen result schema.now }
 {
-    if in_schema(schema.custom_metadata())?.is_some() {
-        return Err(Fault::NotYetImplemented(Nyi::Pending));
-    }
-    let is_little_endian = is_little_endian(in_schema(schema.endianness())?)?;
-    let Some(fields) = in_schema(schema.fields())? else {
+    let is_little_endian = is_little_endian(in_schema(schema.endianness())?);
+    let metadata = read_schema_metadata(alloc, schema)?;
+    let Some(tables) = in_schema(schema.fields())? else {
         return Err(Fault::OutOfSpec(OutOfSpecKind::MissingFields));
     };
-    let (fields, ipc_fields) = deserialize_fields(alloc, &fields)?;
-    let metadata = BTreeMap::new(alloc);
+    let mut left = message.len() as u64;
+    let (fields, ipc_fields) = deserialize_fields(alloc, &tables, MAX_LEVELS, &mut left)?;
     Ok((
         Schema { fields, metadata },
         IpcSchema {
@@ -186,35 +306,36 @@ pub fn deserialize_schema_table(
     ))
 }
 
-#[tactic(auto, unfolding(crate::specs::SchemaMeaning::schema_message))]
-fn deserialize_message(alloc: Global, message: &[u8]) -> Result<(Schema, IpcSchema), Fault>
-    ensures meaning { Gives schema_seen result (schema_message message.now) }
-    ensures device { OnIo result ⊥ }
+#[tactic(auto, unfolding(ipc_model::specs::Schemas::schema_of))]
+fn read_message(alloc: Global, message: &[u8]) -> Result<(Schema, IpcSchema), Fault>
+    ensures { GivesMessage schema_seen result message.now }
 {
-    let message = in_schema(MessageRef::read_as_root(message))?;
-    match in_schema(message.header())? {
-        Some(MessageHeaderRef::Schema(schema)) => deserialize_schema_table(alloc, &schema),
+    let root = in_schema(MessageRef::read_as_root(message))?;
+    match in_schema(root.header())? {
+        Some(MessageHeaderRef::Schema(schema)) => { read_schema(alloc, &schema, message) }
         _ => Err(Fault::Schema(SchemaFault::NotASchema)),
     }
 }
 
-/// The schema that a message holds, and what IPC adds to it.
+/// The schema that a message holds, and what IPC adds to it: the ids of dictionaries, and the order
+/// of bytes in the numbers of bodies.
 ///
-/// Faults: `Schema(Table(..))` where a table of the message is ill-made; `Schema(NotASchema)` where
-/// its header is none or another; `OutOfSpec(MissingFields)` where the schema has no vector of fields;
-/// `Schema(NoName)`, `Schema(NoType)` where a field has none; `Schema(BadInteger)` where an integer
-/// has another width than 8, 16, 32 or 64 bits; `NotYetImplemented(Pending)` where there are
-/// metadata, dictionaries, types other than integers, or numbers with their highest byte first;
-/// `Memory`.
+/// Ok exactly where the message means a schema. Faults: `Schema(Table(..))` where a table of it is
+/// ill-made; `Schema(NotASchema)` where its header is none or another; `OutOfSpec(MissingFields)`
+/// where the schema has no vector of fields; `Schema(NoName)`, `Schema(NoType)` where a field has
+/// none; `Schema(NoChild)` where a list, a map, a struct or a union has no child;
+/// `Schema(NoIndexType)` where a dictionary has no type of its keys; `Schema(BadInteger)` where an
+/// integer has another width than 8, 16, 32 or 64 bits; `Schema(BadTime)` where a time's unit and
+/// width don't go together; `Schema(BadSize)` where a fixed size is below 0; `Schema(BadDecimal)`
+/// where a decimal has another width than 128 or 256 bits, or a precision or scale below 0;
+/// `Schema(TooDeep)` where fields go to a 65th level; `Schema(TooManyFields)` where more field tables
+/// are met than the message has bytes; `Memory`.
 pub fn deserialize_schema(alloc: Global, message: &[u8]) -> Result<(Schema, IpcSchema), Fault>
-    // what is read is what the message means
-    ensures means { IfOk result (λ read. schema_of message.now ≡ Some (model_of (schema_seen read))) }
-    // what is refused, but for memory and for what is not carried, has no meaning
-    ensures refused { IfErr result (λ fault. Refuses fault (schema_of message.now ≡ None)) }
-    // each slot as it is read, and what refuses it
-    ensures meaning { Gives schema_seen result (schema_message message.now) }
-    ensures device { OnIo result ⊥ }
+    ensures meaning { GivesMessage schema_seen result message.now }
+    // the ids that are answered have the shape of the fields
+    ensures fits { IfOk result (λ r. AllFit (fields_view r.0.fields.items)
+        (all_ids_view r.1.fields.items)) }
 {
-    let read = deserialize_message(alloc, message)?;
+    let read = read_message(alloc, message)?;
     Ok(read)
 }

@@ -1,0 +1,111 @@
+//! Pairs of texts beside schemas and fields, and the extension that those of a field may name.
+//!
+//! Arrow columnar format, "Extension Types"; `custom_metadata` of `Schema.fbs`.
+ghost use Rattle.std.specs.Prelude.{◌≡◌, [], IfOk, option_map, string_bytes};
+ghost use Rattle.lower.specs.Normal.{with_pair};
+ghost use Rattle.lower.specs.TypeViews.{type_view, pairs_of};
+ghost use Rattle.ipc_model.specs.Schemas.{made, given, with_key_value, pairs_from, pairs_at, value_under, with_extension};
+ghost use Rattle.ipc_views.specs.SchemaSlots.{field_custom_metadata, schema_custom_metadata};
+ghost use Rattle.ipc_schema.specs.Reading.{Gives};
+
+use crate::read::types::in_schema;
+use ipc_base::fault::Fault;
+use ipc_views::{FieldRef, KeyValueRef, KeyValueTable, SchemaRef, Tables};
+use lower::datatypes::{DataType, Metadata};
+use std::alloc::{AllocError, Global};
+use std::collections::BTreeMap;
+
+/// The key under which a field names its extension type.
+const NAME_KEY: &str = "ARROW:extension:name";
+
+/// The key of what the extension type says of itself.
+const DATA_KEY: &str = "ARROW:extension:metadata";
+
+fn put(alloc: Global, pairs: &mut Metadata, key: &str, value: &str) -> Result<(), AllocError>
+    ensures { IfOk result (λ _. pairs_of pairs.new.entries
+        ≡ with_pair key.now value.now (pairs_of pairs.old.entries)) }
+{
+    let key = String::from_str(alloc, key)?;
+    let value = String::from_str(alloc, value)?;
+    drop(pairs.insert(key, value)?);
+    Ok(())
+}
+
+// Puts the pair of a table to the others. One without a key or a value is passed over, and a later
+// one takes the place of an earlier one with its key.
+fn read_pair(alloc: Global, pair: &KeyValueRef<'_>, pairs: &mut Metadata) -> Result<(), Fault>
+    ensures { Gives (λ _. pairs_of pairs.new.entries) result
+        (with_key_value pair.now (pairs_of pairs.old.entries)) }
+{
+    let key = in_schema(pair.key())?;
+    let value = in_schema(pair.value())?;
+    if let Some(key) = key {
+        if let Some(value) = value {
+            put(alloc, pairs, key, value)?;
+        }
+    }
+    Ok(())
+}
+
+fn read_pairs(alloc: Global, tables: &Tables<'_, KeyValueTable>) -> Result<Metadata, Fault>
+    ensures { Gives (λ pairs. pairs_of pairs.entries) result
+        (pairs_from tables.now 0 tables.now.count []) }
+{
+    let mut pairs = BTreeMap::new(alloc);
+    for i in 0..tables.len() {
+        let pair = in_schema(tables.get(i))?;
+        read_pair(alloc, &pair, &mut pairs)?;
+    }
+    Ok(pairs)
+}
+
+/// The pairs of a field, none where there is no vector of them.
+#[tactic(auto, unfolding(ipc_model::specs::Schemas::pairs_at))]
+pub(crate) fn read_metadata(alloc: Global, field: &FieldRef<'_>) -> Result<Metadata, Fault>
+    ensures { Gives (λ pairs. pairs_of pairs.entries) result
+        (given (made (field_custom_metadata field.now)) pairs_at) }
+{
+    match in_schema(field.custom_metadata())? {
+        Some(tables) => read_pairs(alloc, &tables),
+        None => Ok(BTreeMap::new(alloc)),
+    }
+}
+
+/// The pairs of a schema, none where there is no vector of them.
+#[tactic(auto, unfolding(ipc_model::specs::Schemas::pairs_at))]
+pub(crate) fn read_schema_metadata(alloc: Global, schema: &SchemaRef<'_>) -> Result<Metadata, Fault>
+    ensures { Gives (λ pairs. pairs_of pairs.entries) result
+        (given (made (schema_custom_metadata schema.now)) pairs_at) }
+{
+    match in_schema(schema.custom_metadata())? {
+        Some(tables) => read_pairs(alloc, &tables),
+        None => Ok(BTreeMap::new(alloc)),
+    }
+}
+
+fn value_under<'a>(pairs: &'a Metadata, key: &str) -> Option<&'a String>
+    ensures { option_map (λ s. string_bytes s.now) result
+        ≡ value_under key.now (pairs_of pairs.now.entries) }
+{
+    pairs.get(key)
+}
+
+/// The type with the extension that the pairs of its field name, if they do.
+pub(crate) fn with_extension(
+    alloc: Global,
+    pairs: &Metadata,
+    data_type: DataType,
+) -> Result<DataType, AllocError>
+    ensures { IfOk result (λ extended. type_view extended
+        ≡ with_extension (pairs_of pairs.now.entries) (type_view data_type)) }
+{
+    let Some(name) = value_under(pairs, NAME_KEY) else {
+        return Ok(data_type);
+    };
+    let text = match value_under(pairs, DATA_KEY) {
+        Some(text) => Some(text.clone()?),
+        None => None,
+    };
+    let storage = Box::new(alloc, data_type)?;
+    Ok(DataType::Extension(name.clone()?, storage, text))
+}
