@@ -4,3 +4,6 @@ pub mod NumberColumns
 pub mod SizeLemmas
 pub mod ColumnLists
 pub mod Batches
+pub mod Fields
+pub mod Meanings
+pub mod Refusals

@@ -1,19 +1,51 @@
 -- What a record batch is read as.
-use Rattle.std.specs.Prelude.{◌≡◌, ◌≤◌, List, [], length, Some}
+-- (Arrow columnar format, "RecordBatch message".)
+use Rattle.std.specs.Prelude.{◌≡◌, ℕ, List, [], map, Bool, if◌then◌else◌, Option, Some, None, IsSome, IsNone, Result}
+use Rattle.lower.specs.TypeViews.{fields_view}
 use Rattle.lower.specs.declared.datatypes.Field.{Field}
-use Rattle.lower_types.specs.declared.Endianness.TheVariants.{Little}
+use Rattle.lower_types.specs.declared.Endianness.{Endianness}
+use Rattle.lower_types.specs.declared.Endianness.TheVariants.{Little, Big}
+use Rattle.lower_arrays.specs.AnyLayouts.{layout_of}
+use Rattle.lower_arrays.specs.Layouts.{type_of}
+use Rattle.lower_arrays.specs.Slots.{slots}
 use Rattle.lower_arrays.specs.declared.array.AnyArray.{AnyArray}
+use Rattle.ipc_base.specs.IdTrees.{all_ids_view}
+use Rattle.ipc_base.specs.declared.ipc.IpcSchema.{IpcSchema}
+use Rattle.ipc_devices.specs.Faults.{Answers}
+use Rattle.ipc_devices.specs.declared.fault.Fault.{Fault}
 use Rattle.ipc_views.specs.Spot.{Spot}
-use Rattle.ipc_model.specs.Batches.{Body, Lists, lists_of, entries_of}
-use Rattle.ipc_read.specs.Columns.{HasColumns, AreColumns}
-use Rattle.ipc_read.specs.Sizes.{AreSizes, total_of}
+use Rattle.ipc_model.specs.Batches.{Schema, Body, lists_of, Column, Chunk, record_meaning}
+pub use Rattle.ipc_model.specs.CarriedStreams.{IsCarriedLists}
+use Rattle.ipc_model.specs.Entries.{Dictionaries}
 
--- The arrays are the columns that the batch t lists in a body: there is one for each field, and each is well formed.
-pub record IsRead (fs : List Field) (t : Spot) (b : Body) (xs : List AnyArray) : Type 0 where
-  pub lists : Lists
-  pub listed : lists_of t ≡ Some lists
-  pub sizes : AreSizes lists.buffers
-  pub total : total_of lists.buffers ≤ b.size
-  pub has : HasColumns (entries_of lists b Little 0 []) fs (length fs)
-  pub are : AreColumns (entries_of lists b Little 0 []) fs xs
-  pub count : length xs ≡ length fs
+-- an array as a column: its type and its slots
+abbrev pub column_seen : AnyArray → Column
+column_seen x = record { type = type_of (layout_of x); slots = slots (layout_of x) }
+
+-- the columns of some arrays, in order
+abbrev pub chunk_seen : List AnyArray → Chunk
+chunk_seen xs = map column_seen xs
+
+abbrev pub order_of : Bool → Endianness
+order_of is_little_endian = if is_little_endian then Little else Big
+
+-- What fields, their ids and their byte order say of a batch. The metadata of a schema say nothing of it.
+abbrev pub batch_schema : List Field → IpcSchema → Schema
+batch_schema fields s = record {
+  fields = fields_view fields;
+  metadata = [];
+  ids = all_ids_view s.fields.items;
+  order = order_of s.is_little_endian;
+}
+
+-- The record batch t in a body has a meaning, and is carried.
+pub record HasMeaning (schema : Schema) (extra : ℕ) (known : Dictionaries) (b : Body) (t : Spot) : Type 0 where
+  pub some : IsSome (record_meaning schema extra known b t None None)
+  pub carried : IsCarriedLists schema (lists_of t)
+
+-- A record batch was read, whatever dictionaries are known: exactly where it has a meaning and is carried, all of it
+-- is asked for, and then the arrays are the columns that it means.
+pub record GivesBatch {A B : Type 0} (schema : Schema) (extra : ℕ) (b : Body) (t : Spot) (projection : Option A) (limit : Option B) (r : Result (List AnyArray) Fault) : Type 0 where
+  pub each : (known : Dictionaries) → Answers r
+      (IsNone projection × IsNone limit × HasMeaning schema extra known b t)
+      (λ xs. record_meaning schema extra known b t None None ≡ Some (chunk_seen xs))

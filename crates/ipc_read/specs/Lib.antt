@@ -4,3 +4,4 @@ pub mod Carried
 pub mod Sizes
 pub mod Columns
 pub mod Chunks
+pub mod Refusals

@@ -1,4 +1,5 @@
 pub mod Words
 pub mod Openings
 pub mod Steps
-pub mod SchemaFits
+pub mod Bodies
+pub mod Runs

@@ -2,3 +2,5 @@ pub mod Frames
 pub mod Messages
 pub mod Metadata
 pub mod Streams
+pub mod Refusals
+pub mod Runs

@@ -1,10 +1,9 @@
 -- What the schema message at the front of a stream says.
-use Rattle.std.specs.Prelude.{◌≡◌, ℕ, List, Result, Ok, Err}
-use Rattle.lower.specs.TypeViews.{schema_view}
-use Rattle.ipc_base.specs.IdTrees.{ipc_schema_view}
+use Rattle.std.specs.Prelude.{◌≡◌, ℕ, List, Option, Some, None, option_map, Result, Ok, Err}
+use Rattle.std.specs.Result.{result_ok}
 use Rattle.ipc_devices.specs.Faults.{OwnFault}
 use Rattle.ipc_devices.specs.declared.fault.Fault.{Fault}
-use Rattle.ipc_devices.specs.declared.fault.Fault.TheVariants.{Ended, OutOfSpec, Schema}
+use Rattle.ipc_devices.specs.declared.fault.Fault.TheVariants.{Ended, OutOfSpec, Schema as BadSchema}
 use Rattle.ipc_devices.specs.declared.fault.OutOfSpecKind.TheVariants.{InvalidFlatbufferVersion}
 use Rattle.ipc_devices.specs.declared.fault.SchemaFault.TheVariants.{NotASchema, Table}
 use Rattle.ipc_devices.specs.declared.fault.TableFault.{TableFault}
@@ -12,8 +11,9 @@ use Rattle.ipc_views.specs.declared.schema.MetadataVersion.{MetadataVersion}
 use Rattle.ipc_views.specs.MessageSlots.{message_version}
 use Rattle.ipc_views.specs.Spot.{Spot}
 use Rattle.ipc_views.specs.Tables.{root_at}
-use Rattle.ipc_schema.specs.Reading.{next}
-use Rattle.ipc_schema.specs.SchemaMeaning.{SchemaSeen, schema_message}
+use Rattle.ipc_schema.specs.Views.{schema_seen}
+use Rattle.ipc_model.specs.Batches.{Schema}
+use Rattle.ipc_model.specs.Schemas.{given, schema_of}
 use Rattle.ipc_model.specs.Frame.{Frame, message, mark, waiting, broken}
 use Rattle.ipc_readers.specs.declared.read.stream.metadata.StreamMetadata.{StreamMetadata}
 use Rattle.ipc_readers.specs.Frames.{IsFramingFault}
@@ -24,7 +24,7 @@ version_slot (Err e) = Err (OutOfSpec (InvalidFlatbufferVersion e))
 
 abbrev pub table_version : Result Spot TableFault → Result MetadataVersion Fault
 table_version (Ok t) = version_slot (message_version t)
-table_version (Err e) = Err (Schema (Table e))
+table_version (Err e) = Err (BadSchema (Table e))
 
 -- the version that a message states
 unfoldable pub version_at : List ℕ → Result MetadataVersion Fault
@@ -32,20 +32,20 @@ version_at m = table_version (root_at m)
 
 -- the schema with its ids and byte order, and the version
 abbrev pub MetadataSeen : Type 0
-MetadataSeen = SchemaSeen × MetadataVersion
+MetadataSeen = Schema × MetadataVersion
 
 abbrev pub metadata_seen : StreamMetadata → MetadataSeen
-metadata_seen m = ((schema_view m.schema, ipc_schema_view m.ipc_schema), m.version)
+metadata_seen m = (schema_seen (m.schema, m.ipc_schema), m.version)
 
 -- what a schema message says
-unfoldable pub metadata_at : List ℕ → Result MetadataSeen Fault
-metadata_at m = next (schema_message m) (λ schema. next (version_at m) (λ version. Ok (schema, version)))
+unfoldable pub metadata_at : List ℕ → Option MetadataSeen
+metadata_at m = given (schema_of m) (λ schema. option_map (λ version. (schema, version)) (result_ok (version_at m)))
 
--- The answer is what the message at the front says, and rest what is left; or refuses it for the reason that it gives.
+-- The answer is what the message at the front says, and rest what is left; and a message that is refused says none.
 abbrev pub GivesMetadata : Frame → Result StreamMetadata Fault → (rest : List ℕ) → Type 0
-GivesMetadata (message m behind) (Ok x) rest = (metadata_at m ≡ Ok (metadata_seen x)) × (rest ≡ behind)
-GivesMetadata (message m behind) (Err e) rest = OwnFault e (metadata_at m ≡ Err e)
-GivesMetadata (mark behind) (Err e) rest = OwnFault e (e ≡ Schema NotASchema)
+GivesMetadata (message m behind) (Ok x) rest = (metadata_at m ≡ Some (metadata_seen x)) × (rest ≡ behind)
+GivesMetadata (message m behind) (Err e) rest = OwnFault e (metadata_at m ≡ None)
+GivesMetadata (mark behind) (Err e) rest = OwnFault e (e ≡ BadSchema NotASchema)
 GivesMetadata (waiting begun) (Err e) rest = OwnFault e (e ≡ Ended)
 GivesMetadata broken (Err e) rest = OwnFault e (IsFramingFault e)
 GivesMetadata _ (Ok x) rest = ⊥

@@ -1,13 +1,14 @@
 //! Reads batches.
-ghost use Rattle.std.specs.Prelude.{◌≡◌, ◌*◌, ◌≤◌, length, IfOk, IsSome, Some, IsTrue};
+ghost use Rattle.std.specs.Prelude.{◌≡◌, ◌*◌, ◌≤◌, ◌↔◌, All, length, IfOk, IfErr, IsSome, Some, IsTrue};
 ghost use Rattle.ipc_devices.specs.Device.{Rises};
-ghost use Rattle.ipc_devices.specs.Faults.{OnIo, Answers};
+ghost use Rattle.ipc_devices.specs.Faults.{OnIo, OwnFault, Answers};
 ghost use Rattle.lower.specs.TypeViews.{type_view};
-ghost use Rattle.ipc_model.specs.Batches.{lists_of};
+ghost use Rattle.ipc_model.specs.Batches.{extra_of, lists_of};
 ghost use Rattle.ipc_model.specs.Carried.{is_whole_type};
 ghost use Rattle.ipc_read.specs.Bodies.{Stands, entries};
-ghost use Rattle.ipc_read.specs.Chunks.{IsRead};
+ghost use Rattle.ipc_read.specs.Chunks.{GivesBatch, batch_schema};
 ghost use Rattle.ipc_read.specs.Columns.{AreColumns, HasColumns};
+ghost use Rattle.ipc_read.specs.Refusals.{IsBatchFault, IsColumnFault};
 ghost use Rattle.ipc_read.specs.Sizes.{AreSizes, total_of};
 
 use crate::read::Dictionaries;
@@ -42,7 +43,9 @@ fn is_integer(data_type: &DataType) -> bool
 }
 
 // Whether all columns are read.
-fn are_integers(fields: &[Field]) -> bool {
+fn are_integers(fields: &[Field]) -> bool
+    ensures { IsTrue result ↔ All (λ field. IsTrue (is_whole_type (type_view field.data_type))) fields.now }
+{
     fields.iter().all(|field| is_integer(&field.data_type))
 }
 
@@ -50,6 +53,7 @@ fn are_integers(fields: &[Field]) -> bool {
 #[tactic(auto, unfolding(ipc_model::specs::Batches::lists_of))]
 fn entries_of<'a>(batch: &RecordBatchRef<'a>) -> Result<(Nodes<'a>, Buffers<'a>), Fault>
     ensures own { OnIo result ⊥ }
+    ensures only { IfErr result (λ e. OwnFault e (IsBatchFault e)) }
     ensures exact { Answers result (IsSome (lists_of batch.now)) (λ r. lists_of batch.now ≡ Some (record { nodes = r.0; buffers = r.1 })) }
 {
     match batch.compression() {
@@ -70,8 +74,10 @@ fn entries_of<'a>(batch: &RecordBatchRef<'a>) -> Result<(Nodes<'a>, Buffers<'a>)
 }
 
 // How many bytes the buffers list together.
+#[tactic(auto, using(crate::proofs::Refusals::negative_batch))]
 fn listed_bytes(buffers: &Buffers) -> Result<u128, Fault>
     ensures own { OnIo result ⊥ }
+    ensures only { IfErr result (λ e. OwnFault e (IsBatchFault e)) }
     ensures exact { Answers result (AreSizes buffers.now) (λ n. n ≡ total_of buffers.now) }
 {
     let mut total = 0;
@@ -84,6 +90,7 @@ fn listed_bytes(buffers: &Buffers) -> Result<u128, Fault>
 // Refuses buffers that are together longer than what holds them.
 fn check_lengths(buffers: &Buffers, file_size: u64) -> Result<(), Fault>
     ensures own { OnIo result ⊥ }
+    ensures only { IfErr result (λ e. OwnFault e (IsBatchFault e)) }
     ensures exact { Answers result (AreSizes buffers.now × (total_of buffers.now ≤ file_size)) (λ _. Unit {0}) }
 {
     let total = listed_bytes(buffers)?;
@@ -99,6 +106,7 @@ fn check_lengths(buffers: &Buffers, file_size: u64) -> Result<(), Fault>
 // Refuses fewer entries than the columns need.
 fn check_counts(nodes: usize, buffers: usize, columns: usize) -> Result<(), Fault>
     ensures own { OnIo result ⊥ }
+    ensures only { IfErr result (λ e. OwnFault e (IsBatchFault e)) }
     ensures exact { Answers result ((columns ≤ nodes) × (2 * columns ≤ buffers)) (λ _. Unit {0}) }
 {
     if nodes < columns {
@@ -121,6 +129,7 @@ fn read_columns<R: Reads + Seeks>(
     requires nodes { length fields.now ≤ length body.now.nodes }
     requires buffers { 2 * length fields.now ≤ length body.now.buffers }
     requires stands { Stands R.still R.memory reader.old body.now }
+    ensures only { IfErr result (λ e. OwnFault e (IsColumnFault e)) }
     ensures monotone { R.failures reader.old ≤ R.failures reader.new }
     ensures failed { OnIo result (Rises (R.failures reader.old) (R.failures reader.new)) }
     ensures stands { Stands R.still R.memory reader.new body.now }
@@ -141,7 +150,8 @@ fn read_columns<R: Reads + Seeks>(
 }
 
 /// The columns of a record batch whose body begins at the place `block_offset` of a device and is at
-/// most `file_size` bytes long.
+/// most `file_size` bytes long (Arrow columnar format, "RecordBatch message"): those that it means. They
+/// come exactly where it has a meaning that this version carries, and there is memory for them.
 ///
 /// Faults: `InvalidFlatbufferCompression`, `InvalidFlatbufferBuffers`, `InvalidFlatbufferNodes` where
 /// these slots are ill-made, `MissingMessageBuffers`, `MissingMessageNodes` where they are absent or
@@ -150,7 +160,9 @@ fn read_columns<R: Reads + Seeks>(
 /// the buffers list more than `file_size` bytes, `InvalidBuffer` and `Ended` where bytes that are
 /// needed aren't listed or aren't there, `UnequalRows`. `Pending` where a projection or a limit is
 /// given, the numbers have their highest byte first, a field isn't of integers, or a column has nulls.
+/// `Io` and `Memory` come too, and no other.
 #[allow(clippy::too_many_arguments)]
+#[tactic(auto, using(crate::proofs::Refusals::column_batch))]
 pub fn read_record_batch<R: Reads + Seeks>(
     alloc: Global,
     batch: RecordBatchRef,
@@ -159,16 +171,18 @@ pub fn read_record_batch<R: Reads + Seeks>(
     projection: Option<&[usize]>,
     limit: Option<usize>,
     _dictionaries: &Dictionaries,
-    _version: MetadataVersion,
+    version: MetadataVersion,
     reader: &mut R,
     block_offset: u64,
     file_size: u64,
     _scratch: &mut Vec<u8>,
 ) -> Result<Chunk<AnyArray>, Fault>
+    ensures only { IfErr result (λ e. OwnFault e (IsBatchFault e)) }
     ensures monotone { R.failures reader.old ≤ R.failures reader.new }
     ensures failed { OnIo result (Rises (R.failures reader.old) (R.failures reader.new)) }
-    ensures memory { IsTrue R.known → IfOk result (λ chunk.
-        IsRead fields.now batch.entry (record { source = (R.memory reader.old).whole; base = block_offset; size = file_size }) chunk) }
+    ensures memory { IsTrue R.known → GivesBatch (batch_schema fields.now ipc_schema.now) (extra_of version)
+        (record { source = (R.memory reader.old).whole; base = block_offset; size = file_size }) batch.entry
+        projection.entry limit result }
     ensures whole { IsTrue R.still → (R.memory reader.new).whole ≡ (R.memory reader.old).whole }
 {
     if projection.is_some() || limit.is_some() || !ipc_schema.is_little_endian {

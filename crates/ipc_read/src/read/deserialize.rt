@@ -1,10 +1,11 @@
 //! Reads a column of each type.
-ghost use Rattle.std.specs.Prelude.{◌≡◌, ◌+◌, ◌≤◌, IsTrue};
-ghost use Rattle.ipc_devices.specs.Faults.{Answers};
+ghost use Rattle.std.specs.Prelude.{◌≡◌, ◌+◌, ◌≤◌, IsTrue, IfErr};
+ghost use Rattle.ipc_devices.specs.Faults.{Answers, OwnFault};
 ghost use Rattle.lower.specs.TypeViews.{type_view};
 ghost use Rattle.ipc_model.specs.Entries.{listed};
 ghost use Rattle.ipc_read.specs.Bodies.{Stands, entries};
 ghost use Rattle.ipc_read.specs.Carried.{HasColumn, HasRoom, IsColumn, integer_of_type};
+ghost use Rattle.ipc_read.specs.Refusals.{IsColumnFault};
 ghost use Rattle.ipc_read.specs.Steps.{Step};
 
 use crate::read::array::primitive::read_primitive;
@@ -28,6 +29,7 @@ pub fn read<R: Reads + Seeks>(
 ) -> Result<AnyArray, Fault>
     requires room { HasRoom body.now place }
     requires stands { Stands R.still R.memory reader.old body.now }
+    ensures only { IfErr result (λ e. OwnFault e (IsColumnFault e)) }
     ensures step { Step R.still R.memory R.failures R.given body.now (listed (entries R.memory body.now) (place.buffer + 1)) reader.old result reader.new }
     ensures memory { IsTrue R.known → let s = entries R.memory body.now in let t = type_view data_type.now in
         Answers result (HasColumn s (integer_of_type t) place.node place.buffer) (IsColumn s t place.node place.buffer) }

@@ -8,6 +8,7 @@ ghost use Rattle.lower_types.specs.Numbers.{values_of};
 ghost use Rattle.lower_types.specs.declared.Endianness.TheVariants.{Little};
 ghost use Rattle.ipc_model.specs.Entries.{IsSize, size, listed, bytes, Need};
 ghost use Rattle.ipc_read.specs.Bodies.{Stands, entries};
+ghost use Rattle.ipc_read.specs.Refusals.{IsColumnFault};
 ghost use Rattle.ipc_read.specs.Steps.{Step};
 
 use crate::read::body::Body;
@@ -131,7 +132,7 @@ fn fit(count: usize, width: usize, listed: usize) -> bool
 }
 
 // The first `count` numbers of the buffer at `index`.
-#[tactic(auto, unfolding(crate::specs::Bodies::entries))]
+#[tactic(auto, using(crate::proofs::Refusals::ended_column, crate::proofs::Refusals::negative_column), unfolding(crate::specs::Bodies::entries))]
 fn fetch_numbers<T: NativeType, R: Reads + Seeks>(
     alloc: Global,
     reader: &mut R,
@@ -141,6 +142,7 @@ fn fetch_numbers<T: NativeType, R: Reads + Seeks>(
 ) -> Result<Vec<T>, Fault>
     requires inside { index < length body.now.buffers }
     requires stands { Stands R.still R.memory reader.old body.now }
+    ensures only { IfErr result (λ e. OwnFault e (IsColumnFault e)) }
     ensures step { Step R.still R.memory R.failures R.given body.now (listed (entries R.memory body.now) index) reader.old result reader.new }
     ensures count { IfOk result (λ v. vec_len v ≡ count) }
     ensures memory { IsTrue R.known → let s = entries R.memory body.now in
@@ -178,6 +180,7 @@ pub fn read_buffer<T: NativeType, R: Reads + Seeks>(
 ) -> Result<Buffer<T>, Fault>
     requires inside { index < length body.now.buffers }
     requires stands { Stands R.still R.memory reader.old body.now }
+    ensures only { IfErr result (λ e. OwnFault e (IsColumnFault e)) }
     ensures step { Step R.still R.memory R.failures R.given body.now (listed (entries R.memory body.now) index) reader.old result reader.new }
     ensures count { IfOk result (λ values. length values ≡ count) }
     ensures memory { IsTrue R.known → let s = entries R.memory body.now in

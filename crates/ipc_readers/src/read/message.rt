@@ -1,10 +1,11 @@
 //! Opens the messages of a stream.
-ghost use Rattle.std.specs.Prelude.{◌≡◌, ◌<◌, ◌^◌, IfOk};
-ghost use Rattle.ipc_devices.specs.Faults.{OnIo};
+ghost use Rattle.std.specs.Prelude.{◌≡◌, ◌<◌, ◌^◌, IfOk, IfErr};
+ghost use Rattle.ipc_devices.specs.Faults.{OnIo, OwnFault};
 ghost use Rattle.ipc_views.specs.MessageSlots.{message_header, message_body_length};
 ghost use Rattle.ipc_views.specs.Unions.{header_parts};
 ghost use Rattle.ipc_model.specs.Streams.{header_of};
 ghost use Rattle.ipc_readers.specs.Messages.{GivesMessage, header_seen, natural_length, needed_header, opened, seen};
+ghost use Rattle.ipc_readers.specs.Refusals.{IsMessageFault};
 
 use ipc_devices::fault::{Fault, OutOfSpecKind};
 use ipc_views::{MessageHeaderRef, MessageRef};
@@ -22,6 +23,7 @@ pub struct Message<'a> {
 fn header_of<'a>(message: &MessageRef<'a>) -> Result<MessageHeaderRef<'a>, Fault>
     ensures value { seen header_parts result ≡ needed_header (message_header message.now) }
     ensures device { OnIo result ⊥ }
+    ensures only { IfErr result (λ e. OwnFault e (IsMessageFault e)) }
 {
     match message.header() {
         Ok(Some(header)) => Ok(header),
@@ -35,6 +37,7 @@ fn body_length_of(message: &MessageRef<'_>) -> Result<usize, Fault>
     ensures small { IfOk result (λ n. n < 2 ^ 63) }
     ensures value { result ≡ natural_length (message_body_length message.now) }
     ensures device { OnIo result ⊥ }
+    ensures only { IfErr result (λ e. OwnFault e (IsMessageFault e)) }
 {
     match message.body_length() {
         Ok(length) if length >= 0 => Ok(length as usize),
@@ -54,6 +57,7 @@ pub fn open_message(metadata: &[u8]) -> Result<Message<'_>, Fault>
     ensures message { GivesMessage (header_of metadata.now) result }
     ensures exact { seen header_seen result ≡ opened metadata.now }
     ensures device { OnIo result ⊥ }
+    ensures only { IfErr result (λ e. OwnFault e (IsMessageFault e)) }
 {
     let message = match MessageRef::read_as_root(metadata) {
         Ok(message) => message,

@@ -2,6 +2,7 @@
 mod metadata;
 mod next;
 mod reader;
+pub mod runs;
 
 pub use metadata::{StreamMetadata, read_stream_metadata};
 pub use reader::{StreamReader, StreamState};

@@ -1,6 +1,6 @@
 //! Reads columns of numbers.
-ghost use Rattle.std.specs.Prelude.{◌≡◌, ◌+◌, ◌<◌, IsTrue, None, MatchBool};
-ghost use Rattle.ipc_devices.specs.Faults.{Answers};
+ghost use Rattle.std.specs.Prelude.{◌≡◌, ◌+◌, ◌<◌, IsTrue, IfErr, None, MatchBool};
+ghost use Rattle.ipc_devices.specs.Faults.{Answers, OwnFault};
 ghost use Rattle.lower.specs.TypeViews.{type_view};
 ghost use Rattle.lower.specs.Physical.{physical};
 ghost use Rattle.lower.specs.declared.datatypes.physical_type.PhysicalType.TheVariants.{Primitive};
@@ -11,6 +11,7 @@ ghost use Rattle.ipc_model.specs.Entries.{size, listed};
 ghost use Rattle.ipc_model.specs.Columns.{column};
 ghost use Rattle.ipc_read.specs.Bodies.{Stands, entries};
 ghost use Rattle.ipc_read.specs.Carried.{HasRoom, HasNumbers};
+ghost use Rattle.ipc_read.specs.Refusals.{IsColumnFault};
 ghost use Rattle.ipc_read.specs.Steps.{Step};
 
 use crate::read::body::{Body, Place};
@@ -34,7 +35,8 @@ fn has_nulls(null_count: i64) -> bool
 ///
 /// `NegativeFooterLength` where its length or the offset of its values is below 0, `InvalidBuffer`
 /// where the buffer of its values is too short, `Ended` where the device is, `Pending` where its node
-/// tells of nulls.
+/// tells of nulls. `Io` and `Memory` come too, and no other.
+#[tactic(auto, using(crate::proofs::Refusals::negative_column))]
 pub fn read_primitive<T: NativeType, R: Reads + Seeks>(
     alloc: Global,
     data_type: &DataType,
@@ -45,6 +47,7 @@ pub fn read_primitive<T: NativeType, R: Reads + Seeks>(
     requires lies { physical (type_view data_type.now) ≡ Primitive T.primitive }
     requires room { HasRoom body.now place }
     requires stands { Stands R.still R.memory reader.old body.now }
+    ensures only { IfErr result (λ e. OwnFault e (IsColumnFault e)) }
     ensures step { Step R.still R.memory R.failures R.given body.now (listed (entries R.memory body.now) (place.buffer + 1)) reader.old result reader.new }
     ensures memory { IsTrue R.known → let s = entries R.memory body.now in
         Answers result (HasNumbers s T.primitive place.node place.buffer)

@@ -2,15 +2,15 @@
 ghost use Rattle.std.specs.Prelude.{◌≡◌, ◌≢◌, ◌≤◌, ◌<◌, ◌^◌, ◌↔◌, IsTrue, IsSome, IfOk, IfErr, false};
 ghost use Rattle.std.specs.Iterator.{endless};
 ghost use Rattle.ipc_devices.specs.Device.{Rises, after};
-ghost use Rattle.ipc_devices.specs.Faults.{OnIo};
+ghost use Rattle.ipc_devices.specs.Faults.{OnIo, OwnFault};
 ghost use Rattle.ipc_devices.specs.declared.fault.Fault.TheVariants.{NotYetImplemented};
 ghost use Rattle.ipc_devices.specs.declared.fault.Nyi.TheVariants.{Pending};
 ghost use Rattle.ipc_base.specs.Fitting.{AllFit};
 ghost use Rattle.ipc_base.specs.IdTrees.{all_ids_view};
 ghost use Rattle.lower.specs.TypeViews.{fields_view};
-ghost use Rattle.ipc_readers.specs.Frames.{begun_bytes};
 ghost use Rattle.ipc_readers.specs.Messages.{header_seen};
-ghost use Rattle.ipc_readers.specs.Streams.{NextStep, IsWaiting, HasChunk, Begins, TakesBody, TakesRecord, GivesItem, ahead, head_of};
+ghost use Rattle.ipc_readers.specs.Refusals.{IsStreamFault};
+ghost use Rattle.ipc_readers.specs.Streams.{NextStep, IsWaiting, HasChunk, Begins, GivesBody, GivesItem, ahead, begun_of, device_of, head_of, is_over, metadata_of};
 
 use crate::read::begun::{Begun, Frame};
 use crate::read::frame::read_frame;
@@ -60,16 +60,18 @@ impl Batches {
     ) -> Result<Chunk<AnyArray>, Fault>
         requires { body_length < 2 ^ 63 }
         ensures described { self.new.metadata ≡ self.old.metadata }
+        ensures only { IfErr result (λ e. OwnFault e (IsStreamFault e)) }
         ensures monotone { R.failures reader.old ≤ R.failures reader.new }
         ensures failed { OnIo result (Rises (R.failures reader.old) (R.failures reader.new)) }
-        ensures memory { IsTrue R.known → TakesBody body_length (after (R.memory reader.old)) result
+        ensures memory { IsTrue R.known → GivesBody (head_of self.old.metadata)
+            (record { tag = 3; table = batch.entry; body = body_length }) (after (R.memory reader.old)) result
             (after (R.memory reader.new)) }
         ensures whole { IsTrue R.still
             → (R.memory reader.new).whole ≡ (R.memory reader.old).whole }
     {
         read_into(reader, &mut self.body, body_length)?;
         let mut bytes = MemFile::new(self.body.as_slice());
-        let chunk = read_record_batch(
+        read_record_batch(
             self.alloc,
             batch,
             &self.metadata.schema.fields,
@@ -82,8 +84,7 @@ impl Batches {
             0,
             body_length as u64,
             &mut self.scratch,
-        )?;
-        Ok(chunk)
+        )
     }
 
     // What stands behind the metadata of a message.
@@ -94,11 +95,12 @@ impl Batches {
     ) -> Result<Chunk<AnyArray>, Fault>
         requires { message.body_length < 2 ^ 63 }
         ensures described { self.new.metadata ≡ self.old.metadata }
+        ensures only { IfErr result (λ e. OwnFault e (IsStreamFault e)) }
         ensures monotone { R.failures reader.old ≤ R.failures reader.new }
         ensures failed { OnIo result (Rises (R.failures reader.old) (R.failures reader.new)) }
         ensures memory { IsTrue R.known
-            → TakesRecord (header_seen message.entry) (after (R.memory reader.old)) result
-            (after (R.memory reader.new)) }
+            → GivesBody (head_of self.old.metadata) (header_seen message.entry) (after (R.memory reader.old))
+            result (after (R.memory reader.new)) }
         ensures whole { IsTrue R.still
             → (R.memory reader.new).whole ≡ (R.memory reader.old).whole }
     {
@@ -152,37 +154,38 @@ impl<R: Reads + Drop> StreamReader<R> {
 
     /// What the schema message said.
     pub fn metadata(&self) -> &StreamMetadata
-        ensures { result.now ≡ self.now.batches.metadata }
+        ensures { result.now ≡ metadata_of self.now }
     {
         &self.batches.metadata
     }
 
     /// The schema of the chunks.
     pub fn schema(&self) -> &Schema
-        ensures { result.now ≡ self.now.batches.metadata.schema }
+        ensures { result.now ≡ (metadata_of self.now).schema }
     {
         &self.batches.metadata.schema
     }
 
     /// Whether `next` gives None from now on.
     pub fn is_finished(&self) -> bool
-        ensures { result ≡ self.now.finished }
+        ensures { result ≡ is_over self.now }
     {
         self.finished
     }
 
     // The next chunk, or None at the mark.
-    #[tactic(auto, unfolding(ipc_model::specs::Streams::item, crate::specs::Streams::behind_record))]
+    #[tactic(auto, unfolding(ipc_model::specs::Streams::item, crate::specs::Streams::IsCarriedFront))]
     fn read_item(&mut self) -> Result<Option<StreamState>, Fault>
-        ensures monotone { R.failures self.old.reader ≤ R.failures self.new.reader }
-        ensures failed { OnIo result (Rises (R.failures self.old.reader) (R.failures self.new.reader)) }
-        ensures finished { self.new.finished ≡ self.old.finished }
-        ensures described { self.new.batches.metadata ≡ self.old.batches.metadata }
+        ensures monotone { R.failures (device_of self.old) ≤ R.failures (device_of self.new) }
+        ensures failed { OnIo result (Rises (R.failures (device_of self.old)) (R.failures (device_of self.new))) }
+        ensures only { IfErr result (λ e. OwnFault e (IsStreamFault e)) }
+        ensures finished { is_over self.new ≡ is_over self.old }
+        ensures described { metadata_of self.new ≡ metadata_of self.old }
         ensures memory { IsTrue R.known
-            → GivesItem (head_of self.old.batches.metadata) (ahead R.memory self.old) result
-            (begun_bytes self.new.begun) (ahead R.memory self.new) }
+            → GivesItem (head_of (metadata_of self.old)) (ahead R.memory self.old) result
+            (begun_of self.new) (ahead R.memory self.new) }
         ensures whole { IsTrue R.still
-            → (R.memory self.new.reader).whole ≡ (R.memory self.old.reader).whole }
+            → (R.memory (device_of self.new)).whole ≡ (R.memory (device_of self.old)).whole }
     {
         match read_frame(&mut self.reader, &mut self.begun, &mut self.message)? {
             Frame::Waiting => Ok(Some(StreamState::Waiting)),

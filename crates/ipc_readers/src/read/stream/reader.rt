@@ -11,11 +11,23 @@ use ipc_read::read::Dictionaries;
 use lower_arrays::array::AnyArray;
 use std::alloc::Global;
 
-/// Reads the chunks of a stream, one at a call of `next`.
+/// Reads the chunks of a stream, one at a call of `next` (Arrow columnar format, "IPC Streaming
+/// Format").
 ///
-/// `next` answers a chunk; [`StreamState::Waiting`] where the input ends before the next message, and
-/// then each later call goes on from there; None from the mark that ends the stream on; or a fault,
-/// once, and None from then on.
+/// `next` answers the chunk that the record batch at the front means; [`StreamState::Waiting`] where the
+/// input ends before the next message, and then each later call goes on from there; None from the mark
+/// that ends the stream on; or a fault, once, and None from then on.
+///
+/// Faults of `next`: those of [`read_frame`], [`open_message`] and [`read_record_batch`]; `Ended` where
+/// the body is shorter than stated; `OutOfSpec(UnexpectedMessageType)` where the message is neither a
+/// record batch nor a dictionary batch; `NotYetImplemented(Pending)` where it is a dictionary batch;
+/// `Io` where the device failed; `Memory`. No other comes. Over bytes in memory there is no `Io`, and a
+/// fault other than `Memory` comes only where what stands ahead means nothing, or what this version
+/// doesn't carry.
+///
+/// [`read_frame`]: crate::read::frame::read_frame
+/// [`open_message`]: crate::read::message::open_message
+/// [`read_record_batch`]: ipc_read::read::common::read_record_batch
 #[derive(Drop)]
 pub struct StreamReader<R> {
     pub(crate) reader: R,

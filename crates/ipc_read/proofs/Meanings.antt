@@ -1,0 +1,496 @@
+-- What is read of a batch is what it means.
+use Rattle.std.proofs.Common.{arith, ◌≡◌, ℕ, zero, suc, pos, ◌+◌, ◌*◌, ◌<◌, ◌≤◌, true, false, Bool, List, [], ◌∷◌, map, length, take, get_or, Option, None, Some, IsTrue, IsSome, IsNone, IsOk, IfOk, is_some, Result, Ok, Err, ◌↔◌, refl, sym, ap, subst, ◌∙◌, All, inl, inr}
+use Rattle.std.specs.List.{range_with_len, fold}
+use Rattle.std.specs.Option.{option_and_then}
+use Rattle.std.proofs.lemmas.Bool.{cases_lt}
+use Rattle.std.proofs.lemmas.List.{get_or_default, get_or-take, get_or-map, length-map, length-take}
+use Rattle.std.proofs.lemmas.List.FromFn.{length-map-range_with_len}
+use Rattle.lower.specs.Counts.{fields_nodes}
+use Rattle.lower.specs.TypeTrees.{Pairs, TypeTree, FieldTrees}
+use Rattle.lower.specs.TypeViews.{type_view, fields_view}
+use Rattle.lower.specs.declared.datatypes.Field.{Field}
+use Rattle.lower_types.specs.declared.Endianness.{Endianness}
+use Rattle.lower_types.specs.declared.Endianness.TheVariants.{Little}
+use Rattle.lower_types.specs.declared.PrimitiveType.{PrimitiveType}
+use Rattle.lower_arrays.specs.AnyLayouts.{layout_of}
+use Rattle.lower_arrays.specs.Layouts.{len_of, type_of}
+use Rattle.lower_arrays.specs.Slots.{Slot, slots, slots_from}
+use Rattle.lower_arrays.specs.declared.array.AnyArray.{AnyArray}
+use Rattle.ipc_devices.specs.Faults.{OwnFault}
+use Rattle.ipc_devices.specs.declared.fault.Fault.{Fault}
+use Rattle.ipc_devices.specs.declared.fault.Fault.TheVariants as Faults
+use Rattle.ipc_base.specs.Chunks.{row_count, AreEqualRows}
+use Rattle.ipc_base.specs.IdTrees.{IdTrees, no_ids}
+use Rattle.ipc_views.specs.Spot.{Spot}
+use Rattle.ipc_views.specs.declared.message.FieldNode.{FieldNode}
+use Rattle.ipc_views.specs.declared.schema.Buffer.{Buffer}
+use Rattle.ipc_model.proofs.Addresses.{own_node, address_law}
+use Rattle.ipc_model.proofs.Pruned.{batch_is, batch_some, read_first}
+use Rattle.ipc_model.proofs.TypeKinds.{node_count_law}
+use Rattle.ipc_model.specs.Batches.{Schema, Body, Lists, lists_of, entries_of, kind_at, type_at, nodes_before, buffers_before, IsWellAt, rows_at, slots_of_column, AllRead, first_rows, IsBatch, Column, Chunk, chunk_of, batch, record_meaning}
+use Rattle.ipc_model.specs.Carried.{are_whole, IsCarriedBatch}
+use Rattle.ipc_model.specs.Columns.{WithRows, IsWell, column}
+use Rattle.ipc_model.specs.Entries.{Entries, Part, IsSize, size, part_at, node, Dictionaries, rows}
+use Rattle.ipc_model.specs.Kinds.{Kind, number_kind, Kinds, count, nodes}
+use Rattle.ipc_model.specs.TypeKinds.{kind_of, kinds_of}
+use Rattle.ipc_read.specs.Carried.{integer_of_type, HasNumbers, HasColumn, IsColumn}
+use Rattle.ipc_read.specs.Chunks.{column_seen, chunk_seen, IsCarriedLists, HasMeaning, GivesBatch, order_of}
+use Rattle.ipc_read.specs.Columns.{HasColumns, AreColumns}
+use Rattle.ipc_read.specs.Sizes.{AreSizes, total_of}
+use Rattle.ipc_read.proofs.Fetches.{denies_through}
+use Rattle.ipc_read.proofs.Fields.{whole_type, AtField, at_field, node_total, buffer_total, field_count, type_is, each_whole, AreWhole}
+
+-- ---- options
+
+pub some_inj : {X : Type 0} (x y : X) → Some x ≡ Some y → x ≡ y
+some_inj x y e = cc
+
+-- what is there
+pub some_of : {X : Type 0} (o : Option X) → IsSome o → (x : X) × (o ≡ Some x)
+some_of (Some x) h = (x, refl)
+some_of None h = absurd cc
+
+pub some_is : {X : Type 0} (o : Option X) (x : X) → o ≡ Some x → IsSome o
+some_is o x e = rw e refl
+
+-- ---- a column by its own entries and in the whole batch
+
+pub column_well : (s : Entries) (fs : FieldTrees) (is : IdTrees) (j : ℕ) (at : AtField s.extra fs is j) → IsWellAt s (kinds_of fs is) None j
+    → IsWell s (number_kind at.form) j (2 * j) None
+column_well s fs is j at v =
+    let ts = kinds_of fs is in
+    let whole : IsWell s (kind_at ts j) (nodes_before ts j) (buffers_before s.extra ts j) None = (address_law s ts None j).to_whole v in
+    subst (λ (n : ℕ). IsWell s (number_kind at.form) j n None) at.buffer_place
+    (subst (λ (n : ℕ). IsWell s (number_kind at.form) n (buffers_before s.extra ts j) None) at.node_place
+    (subst (λ (t : Kind). IsWell s t (nodes_before ts j) (buffers_before s.extra ts j) None) at.kind_is whole))
+
+pub well_column : (s : Entries) (fs : FieldTrees) (is : IdTrees) (j : ℕ) (at : AtField s.extra fs is j)
+    → IsWell s (number_kind at.form) j (2 * j) None → IsWellAt s (kinds_of fs is) None j
+well_column s fs is j at v =
+    let ts = kinds_of fs is in
+    (address_law s ts None j).from_whole
+    (subst (λ (t : Kind). IsWell s t (nodes_before ts j) (buffers_before s.extra ts j) None) (sym at.kind_is)
+    (subst (λ (n : ℕ). IsWell s (number_kind at.form) n (buffers_before s.extra ts j) None) (sym at.node_place)
+    (subst (λ (n : ℕ). IsWell s (number_kind at.form) j n None) (sym at.buffer_place) v)))
+
+pub column_rows : (s : Entries) (fs : FieldTrees) (is : IdTrees) (j : ℕ) (at : AtField s.extra fs is j)
+    → rows_at s (kinds_of fs is) None j ≡ size (node s j).length
+column_rows s fs is j at =
+    let ts = kinds_of fs is in
+    let first : 0 < nodes (kind_at ts j) = let e = ap nodes at.kind_is in omega (arith, e) in
+    ap (λ (n : FieldNode). size n.length)
+    (own_node s ts j 0 first ∙ (let place : nodes_before ts j + 0 ≡ j = omega (arith, at.node_place) in ap (node s) place))
+
+pub column_slots : (s : Entries) (fs : FieldTrees) (is : IdTrees) (j : ℕ) (at : AtField s.extra fs is j) → IsWellAt s (kinds_of fs is) None j
+    → slots_of_column s (kinds_of fs is) None j ≡ column s (number_kind at.form) j (2 * j) None
+column_slots s fs is j at v =
+    let ts = kinds_of fs is in
+    (address_law s ts None j).slots v
+    ∙ ap (λ (t : Kind). column s t (nodes_before ts j) (buffers_before s.extra ts j) None) at.kind_is
+    ∙ ap (λ n. column s (number_kind at.form) n (buffers_before s.extra ts j) None) at.node_place
+    ∙ ap (λ n. column s (number_kind at.form) j n None) at.buffer_place
+
+-- ---- the sizes of buffers
+
+lengths_are : (w : List ℕ) (base : ℕ) (bs : List Buffer) → All (λ (p : Part). IsSize p.length) (map (part_at w base) bs) → AreSizes bs
+lengths_are w base bs all = record {
+  each = λ i d h.
+      subst (λ (p : Part). IsSize p.length) (get_or-map (part_at w base) bs i d (part_at w base d) h)
+      (all i (part_at w base d) (omega (arith, h, length-map bs (part_at w base))));
+}
+
+are_lengths : (w : List ℕ) (base : ℕ) (bs : List Buffer) → AreSizes bs → All (λ (p : Part). IsSize p.length) (map (part_at w base) bs)
+are_lengths w base bs sizes = λ i d h.
+    let none : Buffer = record { offset = pos 0; length = pos 0 } in
+    let inside : i < length bs = omega (arith, h, length-map bs (part_at w base)) in
+    subst (λ (p : Part). IsSize p.length) (sym (get_or-map (part_at w base) bs i none d inside)) (sizes.each i none inside)
+
+total_from : (w : List ℕ) (base n : ℕ) (bs : List Buffer)
+    → fold (λ m (p : Part). m + size p.length) n (map (part_at w base) bs) ≡ fold (λ m (r : Buffer). m + size r.length) n bs
+total_from w base n [] = refl
+total_from w base n (b ∷ bs) = total_from w base (n + size b.length) bs
+
+-- ---- one source under all dictionaries
+
+numbers_same :
+    (lists : Lists) (b : Body) (order : Endianness) (extra : ℕ) (known : Dictionaries) (p : PrimitiveType) (i j : ℕ)
+    → HasNumbers (entries_of lists b order extra known) p i j → HasNumbers (entries_of lists b Little 0 []) p i j
+unfolding entries_of
+numbers_same lists b order extra known p i j h = record {
+  well = (record { length_is = h.well.0.length_is; validity = h.well.0.validity }, h.well.1);
+  whole = h.whole;
+}
+
+same_well :
+    (lists : Lists) (b : Body) (order : Endianness) (extra : ℕ) (known : Dictionaries) (p : PrimitiveType) (i j : ℕ)
+    → HasNumbers (entries_of lists b Little 0 []) p i j → IsWell (entries_of lists b order extra known) (number_kind p) i j None
+unfolding entries_of
+same_well lists b order extra known p i j h = (record { length_is = h.well.0.length_is; validity = h.well.0.validity }, h.well.1)
+
+same_column :
+    (lists : Lists) (b : Body) (order : Endianness) (extra : ℕ) (known : Dictionaries) (p : PrimitiveType) (i j : ℕ) → order ≡ Little
+    → column (entries_of lists b order extra known) (number_kind p) i j None ≡ column (entries_of lists b Little 0 []) (number_kind p) i j None
+unfolding entries_of
+same_column lists b order extra known p i j e = λ k. column (entries_of lists b (e k) 0 []) (number_kind p) i j None
+
+same_extra : (lists : Lists) (b : Body) (order : Endianness) (extra : ℕ) (known : Dictionaries) → (entries_of lists b order extra known).extra ≡ extra
+unfolding entries_of
+same_extra lists b order extra known = refl
+
+-- ---- what is judged of a batch
+
+-- each of the columns from a on
+read_each :
+    (s : Entries) (ts : Kinds) (k a n : ℕ) → AllRead s ts None k (range_with_len a n)
+    → (j : ℕ) → a ≤ j → j < a + n → WithRows (IsWellAt s ts None j) (rows_at s ts None j) k
+read_each s ts k a zero v j h l = absurd (omega (arith, h, l))
+read_each s ts k a (suc n) v j h l = elim (cases_lt a j) [
+  | inl p ↦ read_each s ts k (a + 1) n v.1 j (omega arith) (omega arith)
+  | inr p ↦ let e : a ≡ j = omega arith in subst (λ (i : ℕ). WithRows (IsWellAt s ts None i) (rows_at s ts None i) k) e v.0
+]
+
+read_range :
+    (s : Entries) (ts : Kinds) (k n : ℕ) → ((j : ℕ) → j < n → WithRows (IsWellAt s ts None j) (rows_at s ts None j) k)
+    → (a m : ℕ) → a + m ≤ n → AllRead s ts None k (range_with_len a m)
+read_range s ts k n each a zero h = tt
+read_range s ts k n each a (suc m) h = (each a (omega (arith, h)), read_range s ts k n each (a + 1) m (omega (arith, h)))
+
+-- the batch can be read: k rows in each column
+pub record Judged (fs : List Field) (lists : Lists) (b : Body) (k : ℕ) : Type 0 where
+  pub sizes : AreSizes lists.buffers
+  pub total : total_of lists.buffers ≤ b.size
+  pub nodes : length fs ≤ length lists.nodes
+  pub buffers : 2 * length fs ≤ length lists.buffers
+  pub has : HasColumns (entries_of lists b Little 0 []) fs (length fs)
+  pub rows : (j : ℕ) → j < length fs → size (node (entries_of lists b Little 0 []) j).length ≡ k
+
+-- what the model judges as carried and well formed can be read
+judged_batch :
+    (fs : List Field) (is : IdTrees) (lists : Lists) (b : Body) (order : Endianness) (extra : ℕ) (known : Dictionaries)
+    → IsTrue (are_whole (fields_view fs)) → All (λ (n : FieldNode). size n.null_count ≡ 0) (take (fields_nodes (fields_view fs)) lists.nodes)
+    → IsBatch (entries_of lists b order extra known) b.size (kinds_of (fields_view fs) is) (range_with_len 0 (count (kinds_of (fields_view fs) is))) None
+    → (k : ℕ) × Judged fs lists b k
+unfolding entries_of
+judged_batch fs is lists b order extra known w none v =
+    let s = entries_of lists b order extra known in
+    let ts = kinds_of (fields_view fs) is in
+    let counted = field_count fs is in
+    let listed = node_total (fields_view fs) is w in
+    let k = first_rows s ts None (range_with_len 0 (count ts)) in
+    let m = fields_nodes (fields_view fs) in
+    let first : m ≡ length fs = sym (node_count_law (fields_view fs) is) ∙ listed ∙ counted in
+    let fits : length fs ≤ length lists.nodes = omega (arith, v.nodes_listed, listed, counted) in
+    let no_node : FieldNode = record { length = pos 0; null_count = pos 0 } in
+    let at : (j : ℕ) → j < length fs → AtField extra (fields_view fs) is j =
+    λ j h. at_field extra (fields_view fs) is j w (omega (arith, h, counted)) in
+    let each : (j : ℕ) → j < length fs → WithRows (IsWellAt s ts None j) (rows_at s ts None j) k =
+    λ j h. read_each s ts k 0 (count ts) v.columns j (omega arith) (omega (arith, h, counted)) in
+    let whole : (j : ℕ) → j < length fs → size (node s j).null_count ≡ 0 =
+    λ j h. sym (ap (λ (n : FieldNode). size n.null_count) (get_or-take m lists.nodes j no_node (omega (arith, h, first))))
+    ∙ none j no_node (omega (arith, length-take m lists.nodes, h, first, fits)) in (
+      k,
+      record {
+        sizes = lengths_are b.source b.base lists.buffers v.bounded.lengths;
+        total = let e = total_from b.source b.base 0 lists.buffers in omega (arith, e, v.bounded.total);
+        nodes = fits;
+        buffers = omega (arith, v.buffers_listed, buffer_total extra (fields_view fs) is w, counted, length-map lists.buffers (part_at b.source b.base));
+        has = record {
+          each = λ j d h.
+              let form : integer_of_type (type_view (get_or fs j d).data_type) ≡ Some (at j h).form =
+              sym (ap integer_of_type (type_is fs j d h)) ∙ (at j h).integer in
+              subst (λ (o : Option PrimitiveType). HasColumn (entries_of lists b Little 0 []) o j (2 * j)) (sym form)
+              (numbers_same lists b order extra known (at j h).form j (2 * j)
+              (record { well = column_well s (fields_view fs) is j (at j h) (each j h).0; whole = whole j h }));
+        };
+        rows = λ j h. sym (column_rows s (fields_view fs) is j (at j h)) ∙ (each j h).1;
+      },
+    )
+
+-- ---- what was read
+
+-- as many slots as rows
+length-slots_from : (f : ℕ → Slot) (a n : ℕ) → length (slots_from f a n) ≡ n
+length-slots_from f a zero = refl
+length-slots_from f a (suc n) = ap suc (length-slots_from f (a + 1) n)
+
+array_rows : (s : Entries) (t : TypeTree) (i j : ℕ) (x : AnyArray) → IsColumn s t i j x → len_of (layout_of x) ≡ size (node s i).length
+array_rows s t i j x is =
+    sym (length-slots_from _ 0 (len_of (layout_of x))) ∙ ap length is.slots ∙ length-map-range_with_len _ 0 (rows s i None)
+
+-- the columns of a range are those of a list
+columns_listed :
+    (g : ℕ → Column) (xs : List AnyArray) (a : ℕ) → ((i : ℕ) (x : AnyArray) → i < length xs → g (a + i) ≡ column_seen (get_or xs i x))
+    → map g (range_with_len a (length xs)) ≡ chunk_seen xs
+columns_listed g [] a each = refl
+columns_listed g (x ∷ xs) a each =
+    let here : g a ≡ column_seen x = (let e : a ≡ a + 0 = omega arith in ap g e) ∙ each 0 x (omega arith) in
+    let rest = columns_listed g xs (a + 1)
+    (λ i y h. (let e : a + 1 + i ≡ a + suc i = omega arith in ap g e) ∙ each (suc i) y (omega (arith, h))) in
+    λ k. here k ∷ rest k
+
+abbrev any_rows : AnyArray → ℕ
+any_rows x = len_of (layout_of x)
+
+-- the rows of equal columns
+first_is : (xs : List AnyArray) (j : ℕ) (x : AnyArray) → AreEqualRows any_rows xs → j < length xs → any_rows (get_or xs j x) ≡ row_count any_rows xs
+first_is xs j x equal h = equal j x h
+
+-- an array, where there is one
+array_in : (xs : List AnyArray) (j : ℕ) → j < length xs → AnyArray
+array_in [] j h = absurd (omega (arith, h))
+array_in (x ∷ xs) j h = x
+
+-- a field, where there is one
+field_in : (fs : List Field) (j : ℕ) → j < length fs → Field
+field_in [] j h = absurd (omega (arith, h))
+field_in (f ∷ fs) j h = f
+
+-- column j of a batch is the array that was read of it
+record ReadColumn (s : Entries) (fs : FieldTrees) (is : IdTrees) (j k : ℕ) (x : AnyArray) : Type 0 where
+  pub well : WithRows (IsWellAt s (kinds_of fs is) None j) (rows_at s (kinds_of fs is) None j) k
+  pub seen : record { type = type_at fs j; slots = slots_of_column s (kinds_of fs is) None j } ≡ column_seen x
+
+read_column :
+    (fs : List Field) (is : IdTrees) (lists : Lists) (b : Body) (order : Endianness) (extra : ℕ) (known : Dictionaries) (j k : ℕ) (d : Field) (x : AnyArray)
+    → order ≡ Little → IsTrue (are_whole (fields_view fs)) → j < length fs
+    → HasColumn (entries_of lists b Little 0 []) (integer_of_type (type_view (get_or fs j d).data_type)) j (2 * j)
+    → IsColumn (entries_of lists b Little 0 []) (type_view (get_or fs j d).data_type) j (2 * j) x → any_rows x ≡ k
+    → ReadColumn (entries_of lists b order extra known) (fields_view fs) is j k x
+unfolding entries_of
+read_column fs is lists b order extra known j k d x little w h has col rows =
+    let s = entries_of lists b order extra known in
+    let s0 = entries_of lists b Little 0 [] in
+    let ts = kinds_of (fields_view fs) is in
+    let t = type_view (get_or fs j d).data_type in
+    let counted = field_count fs is in
+    let at : AtField extra (fields_view fs) is j = at_field extra (fields_view fs) is j w (omega (arith, h, counted)) in
+    let typed : type_at (fields_view fs) j ≡ t = type_is fs j d h in
+    let form : integer_of_type t ≡ Some at.form = sym (ap integer_of_type typed) ∙ at.integer in
+    let numbers : HasNumbers s0 at.form j (2 * j) = subst (λ (o : Option PrimitiveType). HasColumn s0 o j (2 * j)) form has in
+    let well : IsWellAt s ts None j = well_column s (fields_view fs) is j at (same_well lists b order extra known at.form j (2 * j) numbers) in
+    let own_type = whole_type t None no_ids (each_whole fs w j d h) in
+    let same_form : own_type.0 ≡ at.form = some_inj own_type.0 at.form (sym own_type.1 ∙ form) in
+    let kind_is : kind_of t None no_ids ≡ number_kind at.form = own_type.2 ∙ ap number_kind same_form in
+    let slots_are : slots_of_column s ts None j ≡ slots (layout_of x) =
+    column_slots s (fields_view fs) is j at well
+    ∙ same_column lists b order extra known at.form j (2 * j) little
+    ∙ ap (λ (q : Kind). column s0 q j (2 * j) None) (sym kind_is)
+    ∙ sym col.slots in
+    let type_same : type_at (fields_view fs) j ≡ type_of (layout_of x) = typed ∙ sym col.type in
+    record {
+      well = (well, column_rows s (fields_view fs) is j at ∙ sym (array_rows s0 t j (2 * j) x col) ∙ rows);
+      seen = λ i. record { type = type_same i; slots = slots_are i };
+    }
+
+-- arrays that were read make a batch of the model
+batch_read :
+    (fs : List Field) (is : IdTrees) (metadata : Pairs) (lists : Lists) (b : Body) (order : Endianness) (extra : ℕ) (known : Dictionaries) (xs : List AnyArray)
+    → order ≡ Little → IsTrue (are_whole (fields_view fs)) → AreSizes lists.buffers → total_of lists.buffers ≤ b.size
+    → length fs ≤ length lists.nodes → 2 * length fs ≤ length lists.buffers → HasColumns (entries_of lists b Little 0 []) fs (length fs)
+    → AreColumns (entries_of lists b Little 0 []) fs xs → length xs ≡ length fs → AreEqualRows any_rows xs
+    → batch (entries_of lists b order extra known) b.size (record { fields = fields_view fs; metadata = metadata; ids = is; order = order }) None None ≡ Some (chunk_seen xs)
+unfolding entries_of
+batch_read fs is metadata lists b order extra known xs little w sizes total nodes buffers has are count_is equal =
+    let s = entries_of lists b order extra known in
+    let schema : Schema = record { fields = fields_view fs; metadata = metadata; ids = is; order = order } in
+    let ts = kinds_of (fields_view fs) is in
+    let counted = field_count fs is in
+    let n = count ts in
+    let k = row_count any_rows xs in
+    let read : (j : ℕ) (x : AnyArray) → j < length xs → ReadColumn s (fields_view fs) is j k (get_or xs j x) =
+    λ j x h.
+    let inside : j < length fs = omega (arith, h, count_is) in
+    let d = field_in fs j inside in
+    read_column fs is lists b order extra known j k d (get_or xs j x) little w inside (has.each j d inside) (are.each j d x h) (equal j x h) in
+    let any : (j : ℕ) → j < n → WithRows (IsWellAt s ts None j) (rows_at s ts None j) k =
+    λ j h. let inside : j < length xs = omega (arith, h, counted, count_is) in (read j (array_in xs j inside) inside).well in
+    let listed = node_total (fields_view fs) is w in
+    let is_batch : IsBatch s b.size ts (range_with_len 0 n) None = record {
+      bounded = record {
+        lengths = are_lengths b.source b.base lists.buffers sizes;
+        total = let e = total_from b.source b.base 0 lists.buffers in omega (arith, e, total);
+      };
+      nodes_listed = omega (arith, listed, counted, nodes);
+      buffers_listed = omega (arith, buffer_total extra (fields_view fs) is w, counted, length-map lists.buffers (part_at b.source b.base), buffers);
+      columns = read_first s ts None k (range_with_len 0 n) (read_range s ts k n any 0 n (omega arith));
+    } in
+    batch_is s b.size schema None None is_batch
+    ∙ ap (λ m. Some (chunk_of s (fields_view fs) ts (range_with_len 0 m) None)) (let e : n ≡ length xs = omega (arith, counted, count_is) in e)
+    ∙ ap Some (columns_listed (λ j. record { type = type_at (fields_view fs) j; slots = slots_of_column s ts None j }) xs 0
+    (λ j x h. (let e : 0 + j ≡ j = omega arith in ap (λ m. record { type = type_at (fields_view fs) m; slots = slots_of_column s ts None m }) e) ∙ (read j x h).seen))
+
+-- ---- both directions
+
+-- what has a meaning that is carried can be read
+pub judged :
+    (fs : List Field) (is : IdTrees) (metadata : Pairs) (order : Endianness) (lists : Lists) (b : Body) (t : Spot) (extra : ℕ) (known : Dictionaries)
+    → lists_of t ≡ Some lists → HasMeaning (record { fields = fields_view fs; metadata = metadata; ids = is; order = order }) extra known b t
+    → (order ≡ Little) × IsTrue (are_whole (fields_view fs)) × ((k : ℕ) × Judged fs lists b k)
+unfolding record_meaning
+judged fs is metadata order lists b t extra known listed h =
+    let schema : Schema = record { fields = fields_view fs; metadata = metadata; ids = is; order = order } in
+    let meant : Option Lists → Option Chunk = λ (o : Option Lists). option_and_then (λ (l : Lists). batch (entries_of l b schema.order extra known) b.size schema None None) o in
+    let there : IsSome (meant (Some lists)) = subst (λ (o : Option Lists). IsSome (meant o)) listed h.some in
+    let c = some_of (meant (Some lists)) there in
+    let carried : IsCarriedBatch schema lists.nodes = subst (λ (o : Option Lists). IsCarriedLists schema o) listed h.carried in
+    let found = batch_some (entries_of lists b schema.order extra known) b.size schema None None c.0 c.1 in
+    (carried.carried.order, carried.carried.fields, judged_batch fs is lists b order extra known carried.carried.fields carried.no_nulls found.0)
+
+-- what was read is what is meant
+pub meant :
+    (fs : List Field) (is : IdTrees) (metadata : Pairs) (order : Endianness) (lists : Lists) (b : Body) (t : Spot) (extra : ℕ) (known : Dictionaries) (xs : List AnyArray)
+    → lists_of t ≡ Some lists → order ≡ Little → IsTrue (are_whole (fields_view fs)) → AreSizes lists.buffers → total_of lists.buffers ≤ b.size
+    → length fs ≤ length lists.nodes → 2 * length fs ≤ length lists.buffers → HasColumns (entries_of lists b Little 0 []) fs (length fs)
+    → AreColumns (entries_of lists b Little 0 []) fs xs → length xs ≡ length fs → AreEqualRows any_rows xs
+    → record_meaning (record { fields = fields_view fs; metadata = metadata; ids = is; order = order }) extra known b t None None ≡ Some (chunk_seen xs)
+unfolding record_meaning
+meant fs is metadata order lists b t extra known xs listed little w sizes total nodes buffers has are count_is equal =
+    let schema : Schema = record { fields = fields_view fs; metadata = metadata; ids = is; order = order } in
+    ap (λ (o : Option Lists). option_and_then (λ (l : Lists). batch (entries_of l b schema.order extra known) b.size schema None None) o) listed
+    ∙ batch_read fs is metadata lists b order extra known xs little w sizes total nodes buffers has are count_is equal
+
+some_listed : {X Y : Type 0} (f : X → Option Y) (o : Option X) → IsSome (option_and_then f o) → IsSome o
+some_listed f (Some x) h = refl
+some_listed f None h = h
+
+-- a meaning is one of listed entries
+pub listed_of : (schema : Schema) (extra : ℕ) (known : Dictionaries) (b : Body) (t : Spot) → HasMeaning schema extra known b t → IsSome (lists_of t)
+unfolding record_meaning
+listed_of schema extra known b t h =
+    some_listed (λ (l : Lists). batch (entries_of l b schema.order extra known) b.size schema None None) (lists_of t) h.some
+
+-- columns of numbers have no nulls
+carried_batch :
+    (fs : List Field) (is : IdTrees) (metadata : Pairs) (lists : Lists) (b : Body) → IsTrue (are_whole (fields_view fs))
+    → length fs ≤ length lists.nodes → HasColumns (entries_of lists b Little 0 []) fs (length fs)
+    → IsCarriedBatch (record { fields = fields_view fs; metadata = metadata; ids = is; order = Little }) lists.nodes
+unfolding entries_of
+carried_batch fs is metadata lists b w nodes has =
+    let s0 = entries_of lists b Little 0 [] in
+    let m = fields_nodes (fields_view fs) in
+    let first : m ≡ length fs = sym (node_count_law (fields_view fs) is) ∙ node_total (fields_view fs) is w ∙ field_count fs is in
+    record {
+      carried = record { fields = w; order = refl };
+      no_nulls = λ j d h.
+          let inside : j < length fs = omega (arith, h, length-take m lists.nodes, first) in
+          let f = field_in fs j inside in
+          let own_type = whole_type (type_view (get_or fs j f).data_type) None no_ids (each_whole fs w j f inside) in
+          let numbers : HasNumbers s0 own_type.0 j (2 * j) = subst (λ (o : Option PrimitiveType). HasColumn s0 o j (2 * j)) own_type.1 (has.each j f inside) in
+          let same : get_or (take m lists.nodes) j d ≡ node s0 j =
+          get_or-take m lists.nodes j d (omega (arith, inside, first)) ∙ get_or_default lists.nodes j d (record { length = pos 0; null_count = pos 0 }) (omega (arith, inside, nodes)) in
+          ap (λ (n : FieldNode). size n.null_count) same ∙ numbers.whole;
+    }
+
+-- columns of equal rows
+equal_columns :
+    (fs : List Field) (s : Entries) (xs : List AnyArray) (k : ℕ) → AreColumns s fs xs → length xs ≡ length fs
+    → ((j : ℕ) → j < length fs → size (node s j).length ≡ k) → AreEqualRows any_rows xs
+equal_columns fs s [] k are count_is rows = λ j x h. absurd (omega (arith, h))
+equal_columns fs s (y ∷ ys) k are count_is rows = λ j x h.
+    let inside : j < length fs = omega (arith, h, count_is) in
+    let first : 0 < length fs = omega (arith, h, count_is) in
+    let f = field_in fs j inside in
+    array_rows s (type_view (get_or fs j f).data_type) j (2 * j) (get_or (y ∷ ys) j x) (are.each j f x h)
+    ∙ rows j inside ∙ sym (rows 0 first)
+    ∙ sym (array_rows s (type_view (get_or fs 0 f).data_type) 0 (2 * 0) y (are.each 0 f y (omega arith)))
+
+own_any : (e : Fault) (P : Type 0) → P → OwnFault e P
+own_any (Faults.OutOfSpec k) P h = h
+own_any Faults.Ended P h = h
+own_any (Faults.NotYetImplemented n) P h = h
+own_any (Faults.Schema s) P h = h
+own_any (Faults.Argument a) P h = h
+own_any (Faults.State s) P h = h
+own_any Faults.TooManyDictionaries P h = h
+own_any (Faults.Io e) P h = tt
+own_any Faults.Memory P h = tt
+own_any (Faults.Lower e) P h = h
+
+-- ---- the answer
+
+-- what was read of a batch: all but the count of the rows
+pub record Fetched (fs : List Field) (order : Endianness) (lists : Lists) (b : Body) (t : Spot) (ys : List AnyArray) : Type 0 where
+  pub listed : lists_of t ≡ Some lists
+  pub little : order ≡ Little
+  pub whole : IsTrue (are_whole (fields_view fs))
+  pub sizes : AreSizes lists.buffers
+  pub total : total_of lists.buffers ≤ b.size
+  pub nodes : length fs ≤ length lists.nodes
+  pub buffers : 2 * length fs ≤ length lists.buffers
+  pub has : HasColumns (entries_of lists b Little 0 []) fs (length fs)
+  pub are : AreColumns (entries_of lists b Little 0 []) fs ys
+  pub count : length ys ≡ length fs
+
+fetched_meaning :
+    (fs : List Field) (is : IdTrees) (order : Endianness) (lists : Lists) (b : Body) (t : Spot) (extra : ℕ) (known : Dictionaries) (ys : List AnyArray)
+    → Fetched fs order lists b t ys → AreEqualRows any_rows ys
+    → record_meaning (record { fields = fields_view fs; metadata = []; ids = is; order = order }) extra known b t None None ≡ Some (chunk_seen ys)
+fetched_meaning fs is order lists b t extra known ys f equal =
+    meant fs is [] order lists b t extra known ys f.listed f.little f.whole f.sizes f.total f.nodes f.buffers f.has f.are f.count equal
+
+fetched_carried :
+    (fs : List Field) (is : IdTrees) (order : Endianness) (lists : Lists) (b : Body) (t : Spot) (ys : List AnyArray) → Fetched fs order lists b t ys
+    → IsCarriedLists (record { fields = fields_view fs; metadata = []; ids = is; order = order }) (lists_of t)
+fetched_carried fs is order lists b t ys f =
+    subst (λ (e : Endianness). IsCarriedLists (record { fields = fields_view fs; metadata = []; ids = is; order = e }) (lists_of t)) (sym f.little)
+    (subst (λ (o : Option Lists). IsCarriedLists (record { fields = fields_view fs; metadata = []; ids = is; order = Little }) o) (sym f.listed)
+    (carried_batch fs is [] lists b f.whole f.nodes f.has))
+
+pub gives_batch :
+    {A B : Type 0} (fs : List Field) (is : IdTrees) (order : Endianness) (lists : Lists) (b : Body) (t : Spot) (extra : ℕ)
+    (projection : Option A) (limit : Option B) (ys : List AnyArray) (r : Result (List AnyArray) Fault)
+    → IsNone projection → IsNone limit → Fetched fs order lists b t ys → (IsOk r ↔ AreEqualRows any_rows ys) → IfOk r (λ xs. xs ≡ ys)
+    → GivesBatch (record { fields = fields_view fs; metadata = []; ids = is; order = order }) extra b t projection limit r
+gives_batch fs is order lists b t extra projection limit ys (Ok xs) all some f ok told = record {
+  each = λ known.
+      let equal : AreEqualRows any_rows ys = ok.0 refl in
+      let means = fetched_meaning fs is order lists b t extra known ys f equal in (
+        (all, some, record { some = some_is _ (chunk_seen ys) means; carried = fetched_carried fs is order lists b t ys f }),
+        means ∙ ap (λ (zs : List AnyArray). Some (chunk_seen zs)) (sym told),
+      );
+}
+gives_batch fs is order lists b t extra projection limit ys (Err e) all some f ok told = record {
+  each = λ known. own_any e _ (λ h.
+      let j = judged fs is [] order lists b t extra known f.listed h.2 in
+      let no : false ≡ true = ok.1 (equal_columns fs (entries_of lists b Little 0 []) ys j.2.0 f.are f.count j.2.1.rows) in
+      absurd cc);
+}
+
+-- ---- refusals
+
+pub refused :
+    {A B : Type 0} (e : Fault) (P : Type 0) (schema : Schema) (extra : ℕ) (b : Body) (t : Spot) (projection : Option A) (limit : Option B)
+    → OwnFault e (P → ⊥) → ((known : Dictionaries) → HasMeaning schema extra known b t → P) → GivesBatch schema extra b t projection limit (Err e)
+refused e P schema extra b t projection limit denied f = record {
+  each = λ known. denies_through e P (IsNone projection × IsNone limit × HasMeaning schema extra known b t) (λ h. f known h.2) denied;
+}
+
+order_true : (b : Bool) → order_of b ≡ Little → IsTrue b
+order_true true e = refl
+order_true false e = absurd cc
+
+-- a batch with a meaning that is carried has the lowest byte first
+pub little_first :
+    (fs : List Field) (is : IdTrees) (little : Bool) (b : Body) (t : Spot) (extra : ℕ) (known : Dictionaries)
+    → HasMeaning (record { fields = fields_view fs; metadata = []; ids = is; order = order_of little }) extra known b t → IsTrue little
+little_first fs is little b t extra known h =
+    let lists = some_of (lists_of t) (listed_of (record { fields = fields_view fs; metadata = []; ids = is; order = order_of little }) extra known b t h) in
+    order_true little (judged fs is [] (order_of little) lists.0 b t extra known lists.1 h).0
+
+pub none_some : {A : Type 0} (o : Option A) → IsNone o → is_some o ≡ true → ⊥
+none_some (Some x) h e = absurd cc
+none_some None h e = absurd cc
+
+-- the lists of a batch with a meaning, and what is judged of them
+pub judged_lists :
+    (fs : List Field) (is : IdTrees) (order : Endianness) (lists : Lists) (b : Body) (t : Spot) (extra : ℕ) (known : Dictionaries)
+    → lists_of t ≡ Some lists → HasMeaning (record { fields = fields_view fs; metadata = []; ids = is; order = order }) extra known b t
+    → (k : ℕ) × Judged fs lists b k
+judged_lists fs is order lists b t extra known listed h = (judged fs is [] order lists b t extra known listed h).2
+
+-- so are its fields
+pub judged_fields :
+    (fs : List Field) (is : IdTrees) (order : Endianness) (lists : Lists) (b : Body) (t : Spot) (extra : ℕ) (known : Dictionaries)
+    → lists_of t ≡ Some lists → HasMeaning (record { fields = fields_view fs; metadata = []; ids = is; order = order }) extra known b t
+    → AreWhole fs
+judged_fields fs is order lists b t extra known listed h = each_whole fs (judged fs is [] order lists b t extra known listed h).1
