@@ -1,6 +1,7 @@
 -- How a message stands in a stream or a file: Arrow columnar format, "Encapsulated message format".
-use Rattle.std.specs.Prelude.{ℕ, ℤ, pos, ◌+◌, ◌-◌, List, ◌∷◌, ◌++◌, length, replicate}
-use Rattle.std.specs.Int.{w32, to_le_bytes, cast_unsigned, next_multiple_of}
+use Rattle.std.specs.Prelude.{ℕ, ℤ, pos, ◌+◌, ◌-◌, List, ◌++◌, length, replicate}
+use Rattle.std.specs.Int.{w32, cast_unsigned, next_multiple_of}
+use Rattle.ipc_model.specs.WrittenLaws.{prefix}
 
 -- these bytes, and zeros up to the next multiple
 unfoldable pub padded : List ℕ → ℕ → List ℕ
@@ -8,7 +9,7 @@ padded bytes multiple = bytes ++ replicate (next_multiple_of (length bytes) mult
 
 -- the marker, and a length as a signed number of 32 bits, lowest byte first
 unfoldable pub prefix_bytes : ℤ → List ℕ
-prefix_bytes n = 255 ∷ 255 ∷ 255 ∷ 255 ∷ to_le_bytes w32 (cast_unsigned w32 n)
+prefix_bytes n = prefix (cast_unsigned w32 n)
 
 -- A message: the prefix with the length of the padded metadata, the metadata padded to a multiple of 8,
 -- and the body padded to a multiple of 64.

@@ -1,5 +1,5 @@
 -- What the calls of a stream's writer do.
-use Rattle.std.specs.Prelude.{◌≡◌, ℕ, ◌≤◌, ◌^◌, Bool, IsTrue, List, [], ◌∷◌, Vec, Ok, length, map, All, Option, Some, None, IfSome, Result, OnOk}
+use Rattle.std.specs.Prelude.{◌≡◌, ℕ, ◌≤◌, ◌^◌, Bool, IsTrue, List, [], ◌∷◌, Vec, length, map, All, Option, Some, None, IfSome, Result, OnOk}
 use Rattle.std.specs.List.{AllZip}
 use Rattle.std.specs.Borrow.{Bor}
 use Rattle.std.specs.declared.alloc.Global.{Global}
@@ -15,39 +15,59 @@ use Rattle.lower.specs.Normal.{norm}
 use Rattle.lower.specs.Counts.{fields_places}
 use Rattle.lower.specs.TypeTrees.{FieldTrees, Pairs, TypeTree, field, more_fields, no_fields}
 use Rattle.lower.specs.TypeViews.{type_view}
-use Rattle.lower.specs.declared.datatypes.DataType.{DataType}
 use Rattle.ipc_schema.specs.DefaultIds.{default_all}
-use Rattle.ipc_schema.specs.SchemaMeaning.{schema_message}
-use Rattle.ipc_schema.specs.WriterAnswers.{IsWritable, RefusesSchema, written}
-use Rattle.lower_arrays.specs.Layouts.{type_of}
-use Rattle.lower_arrays.specs.AnyLayouts.{layout_of}
+use Rattle.ipc_model.specs.Schemas.{head_of}
+use Rattle.ipc_schema.specs.WriterAnswers.{IsWritable, RefusesSchema, written_head}
 use Rattle.lower_arrays.specs.declared.array.AnyArray.{AnyArray}
 use Rattle.ipc_parts.specs.Encodes.{IsEncoding}
 use Rattle.ipc_write.specs.Batches.{RefusesChunk, chunk_slots}
 use Rattle.ipc_write.specs.Columns.{IsCarried, body_of}
+use Rattle.ipc_write.specs.Meaning.{normal_type}
 use Rattle.ipc_write.specs.Sending.{FailsOrIsFull, WritesSome}
 use Rattle.ipc_write.specs.declared.stream.StreamWriter.{StreamWriter}
 use Rattle.ipc_write.specs.declared.stream.WriterState.{WriterState}
 use Rattle.ipc_write.specs.declared.stream.WriterState.TheVariants.{New, Started, Finished, Failed}
 
--- the normal type of a column
-abbrev pub normal_type : AnyArray → TypeTree
-normal_type a = norm (type_of (layout_of a))
+-- ---- what is seen of a writer
+
+-- What a writer writes to, how far it is, the types of the columns that it takes, in their normal form,
+-- the ids that it was started with, and the message that it made last.
+pub record WriterSeen (W : Type 0) : Type 0 where
+  pub device : W
+  pub state : WriterState
+  pub types : List TypeTree
+  pub ids : IdTrees
+  pub metadata : List ℕ
+  pub body : List ℕ
+
+abbrev pub seen : {W : Type 0} → StreamWriter W → WriterSeen W
+seen w = record {
+  device = w.writer;
+  state = w.state;
+  types = map type_view w.types.items;
+  ids = all_ids_view w.ipc_fields.items;
+  metadata = w.encoded.ipc_message.items;
+  body = w.encoded.arrow_data.items;
+}
+
+-- ---- types
 
 -- the column has this type, in its normal form
-abbrev pub HasType : AnyArray → DataType → Type 0
-HasType a t = normal_type a ≡ type_view t
+abbrev pub HasType : AnyArray → TypeTree → Type 0
+HasType a t = normal_type a ≡ t
 
 -- the columns have these types, one each
-abbrev pub HaveTypes : List AnyArray → List DataType → Type 0
+abbrev pub HaveTypes : List AnyArray → List TypeTree → Type 0
 HaveTypes columns types = AllZip HasType columns types
 
 -- why columns are refused whose types are to be these
-abbrev pub RefusesTypes : List AnyArray → List DataType → Fault → Type 0
+abbrev pub RefusesTypes : List AnyArray → List TypeTree → Fault → Type 0
 RefusesTypes columns types (Argument ColumnCount) = ¬ (length columns ≡ length types)
 RefusesTypes columns types (Argument ColumnType) = ¬ HaveTypes columns types
 RefusesTypes columns types NoMemory = Unit {0}
 RefusesTypes columns types _ = ⊥
+
+-- ---- calls
 
 -- a writer that isn't started refuses what only a started one takes
 abbrev pub RefusesState : WriterState → Fault → Type 0
@@ -56,32 +76,28 @@ RefusesState s (State faults.Finished) = s ≡ Finished
 RefusesState s (State faults.Failed) = s ≡ Failed
 RefusesState s _ = ⊥
 
--- the ids that a writer started with
-abbrev pub ids_of : {W : Type 0} → StreamWriter W → IdTrees
-ids_of w = all_ids_view w.ipc_fields.items
-
 -- Nothing was sent, and the writer is as it was.
-pub record Kept {W : Type 0} (a b : StreamWriter W) : Type 0 where
-  pub writer : b.writer ≡ a.writer
+pub record Kept {W : Type 0} (a b : WriterSeen W) : Type 0 where
+  pub device : b.device ≡ a.device
   pub state : b.state ≡ a.state
-  pub types : map type_view b.types.items ≡ map type_view a.types.items
-  pub ids : ids_of b ≡ ids_of a
+  pub types : b.types ≡ a.types
+  pub ids : b.ids ≡ a.ids
 
 -- What a call that sends these bytes does to its device, and what a refused one leaves.
-pub record SendStep {W : Type 0} (known grows : Bool) (failures room : W → ℕ) (memory : W → Memory) (a : StreamWriter W) (r : Result Unit Fault) (b : StreamWriter W) (bytes : List ℕ) (count : ℕ) : Type 0 where
-  pub monotone : failures a.writer ≤ failures b.writer
-  pub io : OnIo r ((b.state ≡ Failed) × FailsOrIsFull grows (failures a.writer) (failures b.writer) (room a.writer) count)
+pub record SendStep {W : Type 0} (known grows : Bool) (failures room : W → ℕ) (memory : W → Memory) (a : WriterSeen W) (r : Result Unit Fault) (b : WriterSeen W) (bytes : List ℕ) (count : ℕ) : Type 0 where
+  pub monotone : failures a.device ≤ failures b.device
+  pub io : OnIo r ((b.state ≡ Failed) × FailsOrIsFull grows (failures a.device) (failures b.device) (room a.device) count)
   pub refused : OnRefused r (Kept a b)
-  pub all_sent : IsTrue known → OnOk r (WritesOver (memory a.writer) (memory b.writer) bytes)
-  pub some_sent : IsTrue known → WritesSome (memory a.writer) (memory b.writer) bytes
+  pub all_sent : IsTrue known → OnOk r (WritesOver (memory a.device) (memory b.device) bytes)
+  pub some_sent : IsTrue known → WritesSome (memory a.device) (memory b.device) bytes
 
 -- why a writer refuses a chunk with these ids
-abbrev pub RefusesWrite : {W : Type 0} → StreamWriter W → List AnyArray → Option IdTrees → Fault → Type 0
+abbrev pub RefusesWrite : {W : Type 0} → WriterSeen W → List AnyArray → Option IdTrees → Fault → Type 0
 RefusesWrite w columns ids (State e) = RefusesState w.state (State e)
 RefusesWrite w columns None (Argument FieldsDiffer) = ⊥
-RefusesWrite w columns (Some ids) (Argument FieldsDiffer) = ¬ (ids ≡ ids_of w)
-RefusesWrite w columns ids (Argument ColumnCount) = RefusesTypes columns w.types.items (Argument ColumnCount)
-RefusesWrite w columns ids (Argument ColumnType) = RefusesTypes columns w.types.items (Argument ColumnType)
+RefusesWrite w columns (Some ids) (Argument FieldsDiffer) = ¬ (ids ≡ w.ids)
+RefusesWrite w columns ids (Argument ColumnCount) = RefusesTypes columns w.types (Argument ColumnCount)
+RefusesWrite w columns ids (Argument ColumnType) = RefusesTypes columns w.types (Argument ColumnType)
 RefusesWrite w columns ids (NotYetImplemented e) = RefusesChunk columns (NotYetImplemented e)
 RefusesWrite w columns ids (Argument TooLong) = RefusesChunk columns (Argument TooLong)
 RefusesWrite w columns ids (Argument TooLarge) = RefusesChunk columns (Argument TooLarge)
@@ -90,16 +106,16 @@ RefusesWrite w columns ids (Io e) = Unit {0}
 RefusesWrite w columns ids _ = ⊥
 
 -- A chunk was taken: the message that was sent is that of the chunk.
-pub record TakesChunk {W : Type 0} (a b : StreamWriter W) (columns : List AnyArray) (ids : Option IdTrees) : Type 0 where
+pub record TakesChunk {W : Type 0} (a b : WriterSeen W) (columns : List AnyArray) (ids : Option IdTrees) : Type 0 where
   pub was : a.state ≡ Started
   pub is : b.state ≡ Started
-  pub types : map type_view b.types.items ≡ map type_view a.types.items
-  pub ids_stay : ids_of b ≡ ids_of a
-  pub ids_same : IfSome ids (λ given. given ≡ ids_of a)
-  pub fits : HaveTypes columns a.types.items
+  pub types : b.types ≡ a.types
+  pub ids_stay : b.ids ≡ a.ids
+  pub ids_same : IfSome ids (λ given. given ≡ a.ids)
+  pub fits : HaveTypes columns a.types
   pub carried : All IsCarried columns
-  pub metadata : IsEncoding b.encoded.ipc_message.items (chunk_slots columns)
-  pub body : b.encoded.arrow_data.items ≡ body_of columns
+  pub metadata : IsEncoding b.metadata (chunk_slots columns)
+  pub body : b.body ≡ body_of columns
 
 -- the ids that are handed in, where any are
 abbrev pub seen_ids : Option (Bor (List IpcField)) → Option IdTrees
@@ -123,14 +139,14 @@ chosen_ids None fs = default_all 0 fs
 chosen_ids (Some given) fs = all_ids_view given.items
 
 -- A writer was started: the message that was sent is that of the schema in its normal form.
-pub record StartsWith {W : Type 0} (a b : StreamWriter W) (fields : FieldTrees) (metadata : Pairs) (ids : IdTrees) : Type 0 where
+pub record StartsWith {W : Type 0} (a b : WriterSeen W) (fields : FieldTrees) (metadata : Pairs) (ids : IdTrees) : Type 0 where
   pub was : a.state ≡ New
   pub is : b.state ≡ Started
-  pub types : map type_view b.types.items ≡ normal_types fields
-  pub ids_are : ids_of b ≡ ids
+  pub types : b.types ≡ normal_types fields
+  pub ids_are : b.ids ≡ ids
   pub writable : IsWritable fields metadata ids
-  pub means : schema_message b.encoded.ipc_message.items ≡ Ok (written fields metadata ids)
-  pub body : b.encoded.arrow_data.items ≡ []
+  pub means : head_of b.metadata ≡ Some (written_head fields metadata ids)
+  pub body : b.body ≡ []
 
 -- a writer that was started before refuses a start
 abbrev pub RefusesNew : WriterState → Fault → Type 0

@@ -1,9 +1,12 @@
 //! What is written.
-ghost use Rattle.std.specs.Prelude.{◌≡◌, [], All, IfErr, OnOk};
+ghost use Rattle.std.specs.Prelude.{◌≡◌, ◌%◌, [], length, All, IfErr, OnOk};
 ghost use Rattle.ipc_parts.specs.Encodes.{IsEncoding};
 ghost use Rattle.ipc_tables.specs.Messages.{message_slots};
 ghost use Rattle.ipc_write.specs.Batches.{RefusesChunk, chunk_slots, message_of};
 ghost use Rattle.ipc_write.specs.Columns.{IsCarried, body_of};
+ghost use Rattle.ipc_write.specs.Meaning.{MeansColumns};
+ghost use Rattle.ipc_tables.specs.declared.message.MessageHeader.TheVariants.{RecordBatch as a_record_batch};
+ghost use Rattle.ipc_views.specs.declared.schema.MetadataVersion.TheVariants.{V5};
 
 use crate::serialize::write_columns;
 use ipc_base::chunk::Chunk;
@@ -46,7 +49,13 @@ fn record_message(
     buffers: Vec<Buffer>,
     body_length: i64,
 ) -> Message
-    ensures { message_slots result ≡ message_of length nodes.items buffers.items body_length }
+    ensures value { result ≡ record {
+      version = V5;
+      header = a_record_batch
+          (record { length = length; nodes = nodes; buffers = buffers });
+      body_length = body_length;
+    } }
+    ensures slots { message_slots result ≡ message_of length nodes.items buffers.items body_length }
 {
     Message {
         version: MetadataVersion::V5,
@@ -61,10 +70,10 @@ fn record_message(
 
 /// Encodes a chunk as a record batch, in the memory of an earlier message.
 ///
-/// Faults: `NotYetImplemented(Pending)` for a column with a validity; `Argument(TooLong)` where a
-/// column has more than `2^63 - 1` slots; `Argument(TooLarge)` where the body would end past
-/// `2^63 - 1`, or the metadata would have more than `2^31 - 1` bytes; `Memory`. What `encoded` holds
-/// after a fault is open.
+/// Faults: `NotYetImplemented(Pending)` for a column with a validity, or whose type is an extension;
+/// `Argument(TooLong)` where a column has more than `2^63 - 1` slots; `Argument(TooLarge)` where the
+/// body would end past `2^63 - 1`, or the metadata would have more than `2^31 - 1` bytes; `Memory`.
+/// What `encoded` holds after a fault is open.
 pub(crate) fn chunk_to_bytes_amortized(
     alloc: Global,
     chunk: &Chunk<AnyArray>,
@@ -74,6 +83,8 @@ pub(crate) fn chunk_to_bytes_amortized(
     ensures body { OnOk result (encoded.new.arrow_data.items ≡ body_of chunk.now) }
     ensures metadata { OnOk result (IsEncoding encoded.new.ipc_message.items (chunk_slots chunk.now)) }
     ensures only { IfErr result (RefusesChunk chunk.now) }
+    ensures means { OnOk result (MeansColumns encoded.new.ipc_message.items encoded.new.arrow_data.items chunk.now) }
+    ensures whole { OnOk result (length encoded.new.ipc_message.items % 8 ≡ 0) }
 {
     let Ok(length) = i64::try_from(chunk.len()) else {
         return Err(Fault::Argument(ArgFault::TooLong));

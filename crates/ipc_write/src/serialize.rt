@@ -1,16 +1,19 @@
 //! Columns as the nodes, the buffers and the body of a record batch: Arrow columnar format,
 //! "RecordBatch message".
-ghost use Rattle.std.specs.Prelude.{◌≡◌, ◌-◌, ◌*◌, ◌^◌, ◌≤◌, ◌<◌, ◌++◌, ◌∷◌, [], pos, ◌+ℤ◌, ◌≤ℤ◌, length, map, All, IfErr, IfOk, OnOk, vec_len, replicate};
+ghost use Rattle.std.specs.Prelude.{◌≡◌, ◌↔◌, IsTrue, ◌-◌, ◌*◌, ◌^◌, ◌≤◌, ◌<◌, ◌++◌, ◌∷◌, [], pos, ◌+ℤ◌, ◌≤ℤ◌, length, map, All, IfErr, IfOk, OnOk, vec_len, replicate};
 ghost use Rattle.std.specs.Int.{next_multiple_of};
 ghost use Rattle.std.specs.List.{flat_map};
+ghost use Rattle.lower.specs.TypeViews.{type_view};
 ghost use Rattle.lower_arrays.specs.Layouts.{len_of};
 ghost use Rattle.lower_arrays.specs.AnyLayouts.{layout_of};
+ghost use Rattle.ipc_model.specs.WrittenBatches.{entry};
 ghost use Rattle.ipc_write.specs.Framing.{padded};
-ghost use Rattle.ipc_write.specs.Columns.{buffer, buffers_of, node_of, number_bytes, array_bytes, end_of, order_of, IsCarried, RefusesBuffer, RefusesColumn, RefusesColumns, all_buffers_of, body_of, end_of_all};
+ghost use Rattle.ipc_write.specs.Columns.{buffers_of, node_of, number_bytes, array_bytes, end_of, order_of, is_extension, AreIntegers, HasIntegers, IsCarried, IsSound, NumbersFit, RefusesBuffer, RefusesColumn, RefusesColumns, all_buffers_of, body_of, end_of_all};
 
 use crate::common_sync::{padding, zeros};
 use ipc_devices::{ArgFault, Fault, Nyi};
 use ipc_views::{Buffer, FieldNode};
+use lower::datatypes::DataType;
 use lower::types::{Endianness, NativeType, append_bytes};
 use lower_arrays::array::{AnyArray, AnyPrimitive};
 
@@ -26,7 +29,7 @@ fn end_buffer(
     ensures body { let len = vec_len arrow_data.old - start in
         OnOk result (arrow_data.new.items ≡ arrow_data.old.items ++ replicate (next_multiple_of len 64 - len) 0) }
     ensures buffers { OnOk result
-        (buffers.new.items ≡ buffers.old.items ++ buffer offset.old (vec_len arrow_data.old - start) ∷ []) }
+        (buffers.new.items ≡ buffers.old.items ++ entry offset.old (vec_len arrow_data.old - start) ∷ []) }
     ensures offset { OnOk result
         (offset.new ≡ offset.old +ℤ pos (next_multiple_of (vec_len arrow_data.old - start) 64)) }
     ensures positive { OnOk result (pos 0 ≤ℤ offset.new) }
@@ -59,7 +62,7 @@ fn write_values<T: NativeType>(
     ensures body { OnOk result
         (arrow_data.new.items ≡ arrow_data.old.items ++ padded (flat_map (T.spelt order) values.now) 64) }
     ensures buffers { OnOk result
-        (buffers.new.items ≡ buffers.old.items ++ buffer offset.old (length (flat_map (T.spelt order) values.now)) ∷ []) }
+        (buffers.new.items ≡ buffers.old.items ++ entry offset.old (length (flat_map (T.spelt order) values.now)) ∷ []) }
     ensures offset { OnOk result (offset.new ≡ end_of offset.old (flat_map (T.spelt order) values.now)) }
     ensures positive { OnOk result (pos 0 ≤ℤ offset.new) }
     ensures only { IfErr result (RefusesBuffer offset.old (length (flat_map (T.spelt order) values.now))) }
@@ -67,6 +70,16 @@ fn write_values<T: NativeType>(
     let start = arrow_data.len();
     append_bytes(arrow_data, values, order)?;
     end_buffer(buffers, arrow_data, start, offset)
+}
+
+// Reads each number once, since each that is read is known to be in the range of its type. Nothing comes
+// of it, so that a build drops the loop.
+fn read_ranges<T: NativeType>(values: &[T])
+    ensures { All T.fits values.now }
+{
+    for value in values {
+        let _ = value.is_same(*value);
+    }
 }
 
 // Writes the numbers of an array, which has no validity: an entry for the absent one at the present
@@ -86,7 +99,9 @@ fn write_primitive<T: NativeType>(
     ensures offset { OnOk result (offset.new ≡ end_of offset.old (flat_map (T.spelt order) values.now)) }
     ensures positive { OnOk result (pos 0 ≤ℤ offset.new) }
     ensures only { IfErr result (RefusesBuffer offset.old (length (flat_map (T.spelt order) values.now))) }
+    ensures fits { All T.fits values.now }
 {
+    read_ranges(values);
     buffers.push(Buffer {
         offset: *offset,
         length: 0,
@@ -102,7 +117,8 @@ fn write_numbers(
     offset: &mut i64,
     order: Endianness,
 ) -> Result<(), Fault>
-    requires { pos 0 ≤ℤ offset.old }
+    requires integers { AreIntegers array.now }
+    requires offset { pos 0 ≤ℤ offset.old }
     ensures body { OnOk result
         (arrow_data.new.items ≡ arrow_data.old.items ++ padded (number_bytes order array.now) 64) }
     ensures buffers { OnOk result
@@ -110,6 +126,7 @@ fn write_numbers(
     ensures offset { OnOk result (offset.new ≡ end_of offset.old (number_bytes order array.now)) }
     ensures positive { OnOk result (pos 0 ≤ℤ offset.new) }
     ensures only { IfErr result (RefusesBuffer offset.old (length (number_bytes order array.now))) }
+    ensures fits { NumbersFit array.now }
 {
     match array {
         AnyPrimitive::Int8(array) => {
@@ -184,15 +201,54 @@ fn write_numbers(
                 order,
             )
         }
+        // No other type of numbers comes here.
+        _ => Err(Fault::NotYetImplemented(Nyi::Pending)),
+    }
+}
+
+// Whether it is a column of integers of 8 to 64 bits.
+fn has_integers(array: &AnyArray) -> bool
+    ensures { IsTrue result ↔ HasIntegers array.now }
+{
+    match array {
+        AnyArray::Primitive(numbers) => are_integers(numbers),
+        _ => false,
+    }
+}
+
+// Whether the numbers are integers of 8 to 64 bits.
+fn are_integers(numbers: &AnyPrimitive) -> bool
+    ensures { IsTrue result ↔ AreIntegers numbers.now }
+{
+    match numbers {
+        AnyPrimitive::Int8(_)
+        | AnyPrimitive::Int16(_)
+        | AnyPrimitive::Int32(_)
+        | AnyPrimitive::Int64(_)
+        | AnyPrimitive::UInt8(_)
+        | AnyPrimitive::UInt16(_)
+        | AnyPrimitive::UInt32(_)
+        | AnyPrimitive::UInt64(_) => true,
+        _ => false,
+    }
+}
+
+fn is_extension(data_type: &DataType) -> bool
+    ensures { result ≡ is_extension (type_view data_type.now) }
+{
+    match data_type {
+        DataType::Extension(..) => true,
+        _ => false,
     }
 }
 
 /// Writes a column: adds its node, the entries of its buffers and their bytes, each buffer padded with
 /// zeros to a multiple of 64. `offset` is where the next buffer begins in the body; it isn't below 0.
 ///
-/// Faults: `NotYetImplemented(Pending)` for a column with a validity; `Argument(TooLong)` where it has
-/// more than `2^63 - 1` slots; `Argument(TooLarge)` where a buffer would end past `2^63 - 1`; `Memory`.
-/// After a fault the vectors may hold parts of the column.
+/// Faults: `NotYetImplemented(Pending)` for a column with a validity, of another kind than integers of 8
+/// to 64 bits, or whose type is an extension; `Argument(TooLong)` where it has more than `2^63 - 1`
+/// slots; `Argument(TooLarge)` where a buffer would end past `2^63 - 1`; `Memory`. After a fault the
+/// vectors may hold parts of the column.
 pub fn write(
     array: &AnyArray,
     buffers: &mut Vec<Buffer>,
@@ -211,8 +267,9 @@ pub fn write(
     ensures offset { OnOk result (offset.new ≡ end_of offset.old (array_bytes (order_of is_little_endian) array.now)) }
     ensures positive { OnOk result (pos 0 ≤ℤ offset.new) }
     ensures only { IfErr result (RefusesColumn (order_of is_little_endian) offset.old array.now) }
+    ensures sound { OnOk result (IsSound array.now) }
 {
-    if array.validity().is_some() {
+    if array.validity().is_some() || !has_integers(array) || is_extension(array.data_type()) {
         return Err(Fault::NotYetImplemented(Nyi::Pending));
     }
     let Ok(length) = i64::try_from(array.len()) else {
@@ -225,6 +282,8 @@ pub fn write(
     let order = byte_order(is_little_endian);
     match array {
         AnyArray::Primitive(array) => write_numbers(array, buffers, arrow_data, offset, order),
+        // No other kind comes here.
+        _ => Err(Fault::NotYetImplemented(Nyi::Pending)),
     }
 }
 
@@ -244,6 +303,7 @@ pub(crate) fn write_columns(
     ensures buffers { OnOk result (buffers.new.items ≡ buffers.old.items ++ all_buffers_of offset.old columns.now) }
     ensures end { IfOk result (λ end. end ≡ end_of_all offset.old columns.now) }
     ensures only { IfErr result (RefusesColumns offset.old columns.now) }
+    ensures sound { OnOk result (All IsSound columns.now) }
 {
     for column in columns {
         write(column, buffers, arrow_data, nodes, offset, true)?;

@@ -10,7 +10,10 @@ ghost use Rattle.ipc_devices.specs.declared.fault.ArgFault.TheVariants.{FieldsDi
 ghost use Rattle.ipc_write.specs.Framing.{message_bytes, message_len, prefix_bytes};
 ghost use Rattle.ipc_write.specs.Sending.{FailsOrIsFull, IsIoOr, WritesSome};
 ghost use Rattle.ipc_write.specs.declared.stream.WriterState.TheVariants.{Failed, Finished, New, Started};
-ghost use Rattle.ipc_write.specs.Writers.{HasType, HaveTypes, RefusesFinish, RefusesNew, RefusesStart, RefusesState, RefusesTypes, RefusesWrite, SendStep, StartsWith, TakesChunk, chosen_ids, ids_of, normal_types, seen_ids};
+ghost use Rattle.ipc_write.specs.Agreement.{Appends, Begins, IsFresh, Remains};
+ghost use Rattle.ipc_write.specs.Meaning.{chunk_written};
+ghost use Rattle.ipc_write.specs.Writers.{HasType, HaveTypes, RefusesFinish, RefusesNew, RefusesStart, RefusesState, RefusesTypes, RefusesWrite, SendStep, StartsWith, TakesChunk, chosen_ids, normal_types, seen, seen_ids};
+ghost use Rattle.ipc_schema.specs.WriterAnswers.{written_head};
 
 use crate::common::{EncodedData, WriteOptions, chunk_to_bytes_amortized};
 use crate::common_sync::{write_continuation, write_message};
@@ -56,7 +59,7 @@ pub struct StreamWriter<W> {
 
 // Whether a column has this type, in its normal form.
 fn has_type(column: &AnyArray, data_type: &DataType) -> Result<bool, AllocError>
-    ensures { IfOk result (λ b. IsTrue b ↔ HasType column.now data_type.now) }
+    ensures { IfOk result (λ b. IsTrue b ↔ HasType column.now (type_view data_type.now)) }
 {
     let normal = column.data_type().normal()?;
     Ok(is_same_type(&normal, data_type))
@@ -64,8 +67,8 @@ fn has_type(column: &AnyArray, data_type: &DataType) -> Result<bool, AllocError>
 
 // Refuses columns that have not these types, one each.
 fn check_types(columns: &[AnyArray], types: &[DataType]) -> Result<(), Fault>
-    ensures ok { OnOk result (HaveTypes columns.now types.now) }
-    ensures only { IfErr result (RefusesTypes columns.now types.now) }
+    ensures ok { OnOk result (HaveTypes columns.now (map type_view types.now)) }
+    ensures only { IfErr result (RefusesTypes columns.now (map type_view types.now)) }
 {
     if columns.len() != types.len() {
         return Err(Fault::Argument(ArgFault::ColumnCount));
@@ -171,9 +174,9 @@ impl<W: Writes + Drop> StreamWriter<W> {
 
     // Refuses ids that aren't those of the start.
     fn check_ids(&self, ipc_fields: Option<&[IpcField]>) -> Result<(), Fault>
-        ensures ok { OnOk result (IfSome (seen_ids ipc_fields.entry) (λ given. given ≡ ids_of self.now)) }
+        ensures ok { OnOk result (IfSome (seen_ids ipc_fields.entry) (λ given. given ≡ (seen self.now).ids)) }
         ensures only { IfErr result (λ e. (e ≡ Argument FieldsDiffer)
-            × IsSomeAnd (seen_ids ipc_fields.entry) (λ given. ¬ (given ≡ ids_of self.now))) }
+            × IsSomeAnd (seen_ids ipc_fields.entry) (λ given. ¬ (given ≡ (seen self.now).ids))) }
     {
         match ipc_fields {
             Some(given) if !are_same_ids(given, &self.ipc_fields) => {
@@ -185,8 +188,9 @@ impl<W: Writes + Drop> StreamWriter<W> {
 
     /// A writer of a stream, which writes nothing yet. It takes no memory.
     pub fn new(alloc: Global, writer: W, write_options: WriteOptions) -> StreamWriter<W>
-        ensures writer { result.writer ≡ writer }
-        ensures state { result.state ≡ New }
+        ensures device { (seen result).device ≡ writer }
+        ensures state { (seen result).state ≡ New }
+        ensures means { IsFresh W.memory (seen result) }
     {
         StreamWriter {
             alloc,
@@ -201,7 +205,7 @@ impl<W: Writes + Drop> StreamWriter<W> {
 
     /// What was written to.
     pub fn into_inner(self) -> W
-        ensures { result ≡ self.writer }
+        ensures { result ≡ (seen self).device }
     {
         self.writer
     }
@@ -217,15 +221,18 @@ impl<W: Writes + Drop> StreamWriter<W> {
     /// device failed, or where it is memory whose growth was refused: then some of the first bytes were
     /// sent, and each later call answers `State(Failed)`.
     pub fn start(&mut self, schema: &Schema, ipc_fields: Option<Vec<IpcField>>) -> Result<(), Fault>
-        ensures step { SendStep W.known W.grows W.failures W.room W.memory self.old result self.new
-            (message_bytes self.new.encoded.ipc_message.items self.new.encoded.arrow_data.items)
-            (message_len self.new.encoded.ipc_message.items self.new.encoded.arrow_data.items) }
+        ensures step { SendStep W.known W.grows W.failures W.room W.memory (seen self.old) result (seen self.new)
+            (message_bytes (seen self.new).metadata (seen self.new).body)
+            (message_len (seen self.new).metadata (seen self.new).body) }
         ensures ok { let fields = fields_view schema.now.fields.items in
-            OnOk result (StartsWith self.old self.new fields (pairs_of schema.now.metadata.entries)
+            OnOk result (StartsWith (seen self.old) (seen self.new) fields (pairs_of schema.now.metadata.entries)
             (chosen_ids ipc_fields fields)) }
         ensures only { let fields = fields_view schema.now.fields.items in
-            IfErr result (RefusesStart self.old.state fields (pairs_of schema.now.metadata.entries)
+            IfErr result (RefusesStart (seen self.old).state fields (pairs_of schema.now.metadata.entries)
             (chosen_ids ipc_fields fields)) }
+        ensures means { let fields = fields_view schema.now.fields.items in
+            Begins W.known W.memory (seen self.old) result (seen self.new)
+            (written_head fields (pairs_of schema.now.metadata.entries) (chosen_ids ipc_fields fields)) }
     {
         self.check_new()?;
         let ipc_fields = match ipc_fields {
@@ -248,7 +255,7 @@ impl<W: Writes + Drop> StreamWriter<W> {
     /// Faults: `State(NotStarted)`, `State(Finished)`, `State(Failed)` by the writer's state;
     /// `Argument(FieldsDiffer)` for other ids; `Argument(ColumnCount)` for another number of columns;
     /// `Argument(ColumnType)` for a column of another type; `NotYetImplemented(Pending)` for a column
-    /// with a validity; `Argument(TooLong)` for a column of more than `2^63 - 1` slots;
+    /// with a validity, or whose type is an extension; `Argument(TooLong)` for a column of more than `2^63 - 1` slots;
     /// `Argument(TooLarge)` where the body would end past `2^63 - 1`, or the metadata would have more
     /// than `2^31 - 1` bytes; `Memory`: after these nothing was sent and the writer is as it was. `Io`
     /// where the device failed, or where it is memory whose growth was refused: then some of the first
@@ -258,11 +265,12 @@ impl<W: Writes + Drop> StreamWriter<W> {
         columns: &Chunk<AnyArray>,
         ipc_fields: Option<&[IpcField]>,
     ) -> Result<(), Fault>
-        ensures step { SendStep W.known W.grows W.failures W.room W.memory self.old result self.new
-            (message_bytes self.new.encoded.ipc_message.items self.new.encoded.arrow_data.items)
-            (message_len self.new.encoded.ipc_message.items self.new.encoded.arrow_data.items) }
-        ensures ok { OnOk result (TakesChunk self.old self.new columns.now (seen_ids ipc_fields.entry)) }
-        ensures only { IfErr result (RefusesWrite self.old columns.now (seen_ids ipc_fields.entry)) }
+        ensures step { SendStep W.known W.grows W.failures W.room W.memory (seen self.old) result (seen self.new)
+            (message_bytes (seen self.new).metadata (seen self.new).body)
+            (message_len (seen self.new).metadata (seen self.new).body) }
+        ensures ok { OnOk result (TakesChunk (seen self.old) (seen self.new) columns.now (seen_ids ipc_fields.entry)) }
+        ensures only { IfErr result (RefusesWrite (seen self.old) columns.now (seen_ids ipc_fields.entry)) }
+        ensures means { Appends W.known W.memory (seen self.old) result (seen self.new) (chunk_written columns.now) }
     {
         self.check_started()?;
         self.check_ids(ipc_fields)?;
@@ -277,10 +285,11 @@ impl<W: Writes + Drop> StreamWriter<W> {
     /// which nothing was sent and the writer is as it was; `Io` where the device failed, or where it is
     /// memory whose growth was refused, after which each later call answers `State(Failed)`.
     pub fn finish(&mut self) -> Result<(), Fault>
-        ensures step { SendStep W.known W.grows W.failures W.room W.memory self.old result self.new
+        ensures step { SendStep W.known W.grows W.failures W.room W.memory (seen self.old) result (seen self.new)
             (prefix_bytes (pos 0)) 8 }
-        ensures ok { OnOk result ((self.old.state ≡ Started) × (self.new.state ≡ Finished)) }
-        ensures only { IfErr result (RefusesFinish self.old.state) }
+        ensures ok { OnOk result (((seen self.old).state ≡ Started) × ((seen self.new).state ≡ Finished)) }
+        ensures only { IfErr result (RefusesFinish (seen self.old).state) }
+        ensures means { Remains W.known W.memory (seen self.old) (seen self.new) }
     {
         self.check_started()?;
         match write_continuation(&mut self.writer, 0) {

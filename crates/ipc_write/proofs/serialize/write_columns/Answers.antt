@@ -1,7 +1,8 @@
 use Rattle.std.proofs.lemmas.List.Elements.{All-more}
 use Rattle.std.proofs.lemmas.List.{take_all}
 use Rattle.std.proofs.lemmas.Result.{err_from_is_err_and}
-use Rattle.ipc_write.specs.Columns.{IsCarried}
+use Rattle.ipc_write.specs.Columns.{IsCarried, IsSound}
+use Rattle.ipc_write.specs.Framing.{padded}
 use Rattle.ipc_write.proofs.ColumnLists.{moved, next_column, refuses_all}
 use Rattle.ipc_write.proofs.serialize.write_columns.Goals as goal
 
@@ -13,6 +14,7 @@ returns-in_err-write-clause-only c =
     c.loop-column-test.true c.column-item.is inv.positive inv.end c.in_err-write.ensures.only)
 
 pub loop-column-preserved : goal.loop-column-preserved
+unfolding padded
 loop-column-preserved c =
     let i = c.loop-column.column-index in
     let a = c.column-item.result in
@@ -21,6 +23,7 @@ loop-column-preserved c =
     record {
       positive = c.in_ok-write.ensures.positive;
       carried = All-more IsCarried c.args.columns.now i a c.loop-column-test.true inv.carried (rw c.column-item.is at c.in_ok-write.ensures.carried);
+      sound = All-more IsSound c.args.columns.now i a c.loop-column-test.true inv.sound (rw c.column-item.is at c.in_ok-write.ensures.sound);
       nodes = moved _ _ _ _ _ c.in_ok-write.ensures.nodes (rw next at inv.nodes);
       body = moved _ _ _ _ _ c.in_ok-write.ensures.body (rw next at inv.body);
       buffers = rw c.in_ok-write.ensures.offset (moved _ _ _ _ _ c.in_ok-write.ensures.buffers (rw next at inv.buffers));
@@ -30,3 +33,7 @@ loop-column-preserved c =
 pub returns-clause-carried : goal.returns-clause-carried
 returns-clause-carried c =
     rw (take_all c.loop-column.column-index c.args.columns.now c.loop-column-test.false) at c.loop-column.invariant.carried
+
+pub returns-clause-sound : goal.returns-clause-sound
+returns-clause-sound c =
+    rw (take_all c.loop-column.column-index c.args.columns.now c.loop-column-test.false) at c.loop-column.invariant.sound
