@@ -1,0 +1,238 @@
+-- What is read of a whole stream is what its bytes mean.
+use Rattle.std.proofs.Common.{arith, ◌≡◌, ◌-◌, ℕ, length, append-nil, take_all, subst, List, [], ◌++◌, Option, None, Some, Result, Ok, Err, Bool, true, false, refl, sym, ap, ◌∙◌}
+use Rattle.std.specs.Prelude.{option_map, Vec}
+use Rattle.std.specs.declared.alloc.Global.{Global}
+use Rattle.std.specs.Result.{result_ok}
+use Rattle.lower.specs.TypeViews.{schema_view}
+use Rattle.ipc_base.specs.IdTrees.{ipc_schema_view}
+use Rattle.std.specs.Borrow.{Bor}
+use Rattle.ipc_devices.specs.Device.{Memory, after, before}
+use Rattle.ipc_devices.specs.declared.memory.MemFile.{MemFile}
+use Rattle.ipc_devices.specs.Faults.{OwnFault}
+use Rattle.ipc_devices.specs.declared.fault.Fault.{Fault}
+use Rattle.ipc_devices.specs.declared.fault.Fault.TheVariants as faults
+use Rattle.ipc_devices.specs.declared.fault.TableFault.{TableFault}
+use Rattle.ipc_views.specs.MessageSlots.{message_version}
+use Rattle.ipc_views.specs.Spot.{Spot}
+use Rattle.ipc_views.specs.Tables.{root_at}
+use Rattle.ipc_views.specs.declared.schema.MetadataVersion.{MetadataVersion}
+use Rattle.ipc_model.specs.Batches.{Chunk, Schema, extra_of}
+use Rattle.ipc_model.specs.CarriedStreams.{BehindSchema, IsCarriedOn}
+use Rattle.ipc_model.specs.Frame.{Frame, message, mark, waiting, broken, frame}
+use Rattle.ipc_model.specs.Schemas.{given, made, schema_of}
+use Rattle.ipc_model.specs.Schemas.{head_of as head_at}
+use Rattle.ipc_model.specs.Streams.{End, Head, marked, waits, faulty, Known, Meant, meaning, nothing_known}
+use Rattle.ipc_model.specs.WholeStreams.{Stream, stream_from, stream_of}
+use Rattle.ipc_read.specs.Chunks.{order_of}
+use Rattle.ipc_readers.specs.Metadata.{GivesMetadata, MetadataSeen, metadata_at, metadata_seen, table_version, version_at, version_slot}
+use Rattle.ipc_readers.proofs.Bodies.{claims_through}
+use Rattle.ipc_readers.specs.Streams.{Begins, ahead, device_of, head_of, metadata_of}
+use Rattle.ipc_readers.specs.declared.read.stream.metadata.StreamMetadata.{StreamMetadata}
+use Rattle.ipc_readers.specs.declared.read.stream.reader.StreamReader.{StreamReader}
+use Rattle.ipc_round_trip.specs.Reading.{EndsAs, IsReadable, RefusesAhead, meant_ahead}
+use Rattle.ipc_write.specs.Agreement.{Agrees, IsClosed, Remains, StreamIs}
+use Rattle.ipc_write.specs.Writers.{WriterSeen}
+use Rattle.ipc_write.specs.declared.stream.WriterState.TheVariants.{Finished}
+use Rattle.ipc_round_trip.specs.RoundTrip.{EndsStream, FinishedLaw, OpenLaw, ReadableLaw, RefusesRoundTrip, vector}
+use Rattle.ipc_round_trip.specs.declared.read.WholeStream.{WholeStream}
+
+-- a stream that is there
+abbrev stream_or : Option Stream → Stream → Stream
+stream_or (Some s) other = s
+stream_or None other = other
+
+-- ---- the schema message
+
+abbrev with_version : Schema → MetadataVersion → Option Head
+with_version schema version = Some (record { schema = schema; extra = extra_of version })
+
+slot_head : (schema : Schema) (v : Result MetadataVersion TableFault) (x : MetadataSeen) → option_map (λ version. (schema, version)) (result_ok (version_slot v)) ≡ Some x
+    → given (made v) (with_version schema) ≡ Some (record { schema = x.0; extra = extra_of x.1 })
+slot_head schema (Ok v) x e = cc
+slot_head schema (Err f) x e = absurd cc
+
+table_head : (schema : Schema) (t : Result Spot TableFault) (x : MetadataSeen) → option_map (λ version. (schema, version)) (result_ok (table_version t)) ≡ Some x
+    → given (made t) (λ spot. given (made (message_version spot)) (with_version schema)) ≡ Some (record { schema = x.0; extra = extra_of x.1 })
+table_head schema (Ok t) x e = slot_head schema (message_version t) x e
+table_head schema (Err f) x e = absurd cc
+
+schema_head : (o : Option Schema) (t : Result Spot TableFault) (x : MetadataSeen) → given o (λ schema. option_map (λ version. (schema, version)) (result_ok (table_version t))) ≡ Some x
+    → given o (λ schema. given (made t) (λ spot. given (made (message_version spot)) (with_version schema))) ≡ Some (record { schema = x.0; extra = extra_of x.1 })
+schema_head None t x e = absurd cc
+schema_head (Some schema) t x e = table_head schema t x e
+
+-- the head that a schema message says
+head_is : (m : List ℕ) (x : StreamMetadata) → metadata_at m ≡ Some (metadata_seen x) → head_at m ≡ Some (head_of x)
+unfolding metadata_at head_at version_at
+head_is m x e = schema_head (schema_of m) (root_at m) (metadata_seen x) e
+
+stream_at : (f : Frame) (rest : List ℕ) (x : StreamMetadata) → GivesMetadata f (Ok x) rest
+    → stream_from f ≡ Some (record { head = head_of x; meant = meaning (head_of x) nothing_known rest })
+stream_at (message m behind) rest x h = rw (head_is m x h.0, h.1) refl
+stream_at (mark behind) rest x h = absurd h
+stream_at (waiting begun) rest x h = absurd h
+stream_at broken rest x h = absurd h
+
+pub whole_stream : (bytes xs rest : List ℕ) (x : StreamMetadata) → xs ≡ bytes → GivesMetadata (frame xs) (Ok x) rest
+    → stream_of bytes ≡ Some (record { head = head_of x; meant = meaning (head_of x) nothing_known rest })
+unfolding stream_of
+whole_stream bytes xs rest x same h =
+    stream_at (frame bytes) rest x (subst (λ ys. GivesMetadata (frame ys) (Ok x) rest) same h)
+
+-- ---- a schema message that is refused
+
+no_slot : (schema : Schema) (v : Result MetadataVersion TableFault) → option_map {U = MetadataSeen} (λ version. (schema, version)) (result_ok (version_slot v)) ≡ None
+    → given (made v) (with_version schema) ≡ None
+no_slot schema (Ok v) e = absurd cc
+no_slot schema (Err f) e = refl
+
+no_table : (schema : Schema) (t : Result Spot TableFault) → option_map {U = MetadataSeen} (λ version. (schema, version)) (result_ok (table_version t)) ≡ None
+    → given (made t) (λ spot. given (made (message_version spot)) (with_version schema)) ≡ None
+no_table schema (Ok t) e = no_slot schema (message_version t) e
+no_table schema (Err f) e = refl
+
+no_schema : (o : Option Schema) (t : Result Spot TableFault) → given {B = MetadataSeen} o (λ schema. option_map (λ version. (schema, version)) (result_ok (table_version t))) ≡ None
+    → given o (λ schema. given (made t) (λ spot. given (made (message_version spot)) (with_version schema))) ≡ None
+no_schema None t e = refl
+no_schema (Some schema) t e = no_table schema t e
+
+no_head : (m : List ℕ) → metadata_at m ≡ None → head_at m ≡ None
+unfolding metadata_at head_at version_at
+no_head m e = no_schema (schema_of m) (root_at m) e
+
+no_stream : (f : Frame) (e : Fault) (rest : List ℕ) → GivesMetadata f (Err e) rest → OwnFault e (stream_from f ≡ None)
+no_stream (message m behind) e rest h =
+    claims_through e _ _ (λ none. ap (option_map (λ x. record { head = x; meant = meaning x nothing_known behind })) (no_head m none)) h
+no_stream (mark behind) e rest h = claims_through e _ _ (λ x. refl) h
+no_stream (waiting begun) e rest h = claims_through e _ _ (λ x. refl) h
+no_stream broken e rest h = claims_through e _ _ (λ x. refl) h
+
+-- bytes that begin with no schema can't be read
+pub unreadable : (bytes xs rest : List ℕ) (e : Fault) → xs ≡ bytes → GivesMetadata (frame xs) (Err e) rest → OwnFault e (¬ (IsReadable bytes))
+unfolding stream_of
+unreadable bytes xs rest e same h =
+    claims_through e _ _ (λ none readable. let there = sym none ∙ readable.stream in absurd cc)
+    (no_stream (frame bytes) e rest (subst (λ ys. GivesMetadata (frame ys) (Err e) rest) same h))
+
+-- ---- a new reader
+
+-- bytes in memory, from the place on that was reached
+abbrev pub slice_memory : MemFile (Bor (List ℕ)) → Memory
+slice_memory f = record { whole = f.inner.now; place = f.position }
+
+pub head_same : (a b : StreamMetadata) → schema_view a.schema ≡ schema_view b.schema → a.version ≡ b.version → ipc_schema_view a.ipc_schema ≡ ipc_schema_view b.ipc_schema
+    → head_of a ≡ head_of b
+head_same a b s v d = λ i. record {
+  schema = record { fields = (s i).0; metadata = (s i).1; ids = (d i).0; order = order_of (d i).1 };
+  extra = extra_of (v i);
+}
+
+new_rest : {R : Type 0} (memory : R → Memory) (device : R) (a : StreamMetadata) (r : StreamReader R) → Begins device a r → ahead memory r ≡ after (memory device)
+new_rest memory device a r h =
+    ap (λ xs. xs ++ after (memory (device_of r))) h.begun
+    ∙ ap (λ d. after (memory d)) h.reader
+
+pub new_ahead : {R : Type 0} (memory : R → Memory) (device : R) (a b : StreamMetadata) (r : StreamReader R) → Begins device a r → head_of a ≡ head_of b
+    → meant_ahead memory r ≡ meaning (head_of b) nothing_known (after (memory device))
+new_ahead memory device a b r h e =
+    ap (λ x. meaning (head_of x) nothing_known (ahead memory r)) h.described
+    ∙ ap (λ x. meaning x nothing_known (ahead memory r)) e
+    ∙ ap (meaning (head_of b) nothing_known) (new_rest memory device a r h)
+
+pub ends_same : (x y : Bool) (m n : Meant) → x ≡ y → m ≡ n → EndsAs y m.end → EndsAs x n.end
+ends_same x y m n e f h = subst (λ (k : Meant). EndsAs x k.end) f (subst (λ (b : Bool). EndsAs b m.end) (sym e) h)
+
+-- ---- chunks that are refused
+
+carried_rest : (P : List ℕ → Type 0) (f : Frame) (rest : List ℕ) (x : StreamMetadata) → GivesMetadata f (Ok x) rest → BehindSchema P f → P rest
+carried_rest P (message m behind) rest x h b = subst P (sym h.1) b
+carried_rest P (mark behind) rest x h b = absurd h
+carried_rest P (waiting begun) rest x h b = absurd h
+carried_rest P broken rest x h b = absurd h
+
+-- a stream whose chunks are refused can't be read
+pub refused_chunks : {R : Type 0} (memory : R → Memory) (device : R) (bytes xs : List ℕ) (a b : StreamMetadata) (r : StreamReader R) (e : Fault) → xs ≡ bytes
+    → GivesMetadata (frame xs) (Ok b) (after (memory device)) → Begins device a r → head_of a ≡ head_of b → RefusesAhead memory r e → OwnFault e (¬ (IsReadable bytes))
+refused_chunks memory device bytes xs a b r e same h begins heads refused =
+    claims_through e _ _ (λ ends readable.
+    let rest = after (memory device) in
+    let given_ = subst (λ ys. GivesMetadata (frame ys) (Ok b) rest) same h in
+    let there = sym (whole_stream bytes xs rest b same h) ∙ readable.stream in
+    let none : Stream = record { head = head_of b; meant = meaning (head_of b) nothing_known rest } in
+    let head_is : readable.head ≡ head_of (metadata_of r) =
+    sym (ap (λ (o : Option Stream). (stream_or o none).head) there) ∙ sym heads ∙ sym (ap head_of begins.described) in
+    let rest_is : rest ≡ ahead memory r = sym (new_rest memory device a r begins) in
+    let behind = carried_rest (IsCarriedOn readable.head nothing_known) (frame bytes) rest b given_ readable.carried.behind in
+    let carried : IsCarriedOn (head_of (metadata_of r)) nothing_known (ahead memory r) =
+    subst (λ bs. IsCarriedOn (head_of (metadata_of r)) nothing_known bs) rest_is (subst (λ (x : Head). IsCarriedOn x nothing_known rest) head_is behind) in
+    let end_is = ap (λ (m : Meant). m.end) (sym (new_ahead memory device a b r begins heads)) ∙ ends carried in
+    readable.sound (sym (ap (λ (o : Option Stream). (stream_or o none).meant.end) there) ∙ end_is)) refused
+
+-- ---- what was written
+
+ends_marked : (over : Bool) (e : End) → e ≡ marked → EndsAs over e → over ≡ true
+ends_marked true e is h = refl
+ends_marked false (waits k begun) is h = absurd cc
+ends_marked false marked is h = absurd h
+ends_marked false faulty is h = absurd h
+
+ends_waiting : (over : Bool) (e : End) (k : Known) → e ≡ waits k [] → EndsAs over e → over ≡ false
+ends_waiting true e k is h = absurd cc
+ends_waiting false e k is h = refl
+
+abbrev seen_stream : WholeStream → Meant → Stream
+seen_stream s meant = record { head = head_of s.metadata; meant = meant }
+
+pub finished_law : FinishedLaw
+finished_law bytes head chunks s w h =
+    let same = sym h.stream ∙ w.stream in
+    let x = seen_stream s h.meant in
+    record {
+      schema = ap (λ (o : Option Stream). (stream_or o x).head) same;
+      same = sym h.chunks ∙ ap (λ (o : Option Stream). (stream_or o x).meant.chunks) same;
+      ended = ends_marked s.is_finished h.meant.end (ap (λ (o : Option Stream). (stream_or o x).meant.end) same) h.end;
+    }
+
+pub readable_law : ReadableLaw
+readable_law bytes head chunks w = record { head = head; meant = _; stream = w.stream.stream; sound = λ e. cc; carried = w.carried }
+
+pub open_law : OpenLaw
+open_law bytes head chunks s w h =
+    let same = sym h.stream ∙ w.stream in
+    let x = seen_stream s h.meant in
+    record {
+      schema = ap (λ (o : Option Stream). (stream_or o x).head) same;
+      same = sym h.chunks ∙ ap (λ (o : Option Stream). (stream_or o x).meant.chunks) same;
+      ended = ends_waiting s.is_finished h.meant.end nothing_known (ap (λ (o : Option Stream). (stream_or o x).meant.end) same) h.end;
+    }
+
+-- ---- the bytes of an ended writer
+
+whole_before : (xs : List ℕ) (n : ℕ) → length xs ≡ n → before (record { whole = xs; place = n }) ≡ xs
+whole_before xs n h = let none : n - length xs ≡ 0 = omega arith in rw (none, append-nil, take_all n xs (omega arith)) refl
+
+pub vector_before : (v : Vec ℕ Global) → before (vector v) ≡ v.items
+vector_before v = whole_before v.items v.len (omega (arith, v.ok))
+
+-- A writer that is finished holds the stream that it wrote.
+pub ends_stream : (a b : WriterSeen (Vec ℕ Global)) (v : Vec ℕ Global) → Remains true vector a b → b.state ≡ Finished → v ≡ b.device → EndsStream a v.items
+ends_stream a b v remains over same = record {
+  stream = λ head chunks agrees. held head chunks (remains.kept refl [] head chunks agrees);
+}
+  where
+    held : (head : Head) (chunks : List Chunk) → Agrees vector b [] head chunks → IsClosed v.items head chunks
+    held head chunks h =
+        let stream : IsClosed h.bytes head chunks = subst (λ s. StreamIs s b.types h.bytes head chunks) over h.stream in
+        let all : v.items ≡ h.bytes = sym (vector_before v) ∙ ap (λ w. before (vector w)) same ∙ h.held in
+        subst (λ xs. IsClosed xs head chunks) (sym all) stream
+
+-- ---- what is never refused
+
+no_own_fault : (e : Fault) → OwnFault e ⊥ → RefusesRoundTrip e
+no_own_fault faults.Memory h = tt
+no_own_fault (faults.Io x) h = tt
+no_own_fault _ h = absurd h
+
+-- a stream that can be read is refused for want of memory, and for nothing else
+pub never_refused : (bytes : List ℕ) (e : Fault) → IsReadable bytes → OwnFault e (¬ (IsReadable bytes)) → RefusesRoundTrip e
+never_refused bytes e readable h = no_own_fault e (claims_through e _ _ (λ no. no readable) h)

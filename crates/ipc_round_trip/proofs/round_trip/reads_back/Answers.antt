@@ -1,0 +1,11 @@
+use Rattle.ipc_round_trip.proofs.Streams.{finished_law, open_law, readable_law}
+use Rattle.ipc_round_trip.proofs.round_trip.reads_back.Goals as goal
+
+pub returns-clause-finished : goal.returns-clause-finished
+returns-clause-finished c = finished_law
+
+pub returns-clause-readable : goal.returns-clause-readable
+returns-clause-readable c = readable_law
+
+pub returns-clause-open : goal.returns-clause-open
+returns-clause-open c = open_law

@@ -1,0 +1,5 @@
+//! Whole streams in memory: what a stream writer wrote is what a stream reader reads.
+#![tactic(auto)]
+
+pub mod read;
+pub mod round_trip;

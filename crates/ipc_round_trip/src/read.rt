@@ -1,0 +1,73 @@
+//! Reads whole streams.
+ghost use Rattle.std.specs.Prelude.{◌≡◌, ◌<◌, false, IsTrue, IfErr, IfOk, vec_len};
+ghost use Rattle.ipc_readers.specs.Streams.{is_over, metadata_of};
+ghost use Rattle.ipc_round_trip.specs.Reading.{GivesAll, PushesNext, ReadsStream, RefusesAhead};
+
+use ipc_base::chunk::Chunk;
+use ipc_devices::{Fault, MemFile, Reads};
+use ipc_readers::read::stream::{StreamMetadata, StreamReader, StreamState, read_stream_metadata};
+use lower_arrays::array::AnyArray;
+use std::alloc::Global;
+
+/// All of a stream.
+#[derive(Drop)]
+pub struct WholeStream {
+    /// What its schema message says.
+    pub metadata: StreamMetadata,
+    /// Its chunks, in order.
+    pub chunks: Vec<Chunk<AnyArray>>,
+    /// Whether it ends by its mark. Else it waits for more.
+    pub is_finished: bool,
+}
+
+// Adds the next chunk, and answers whether there was one.
+fn push_next<R: Reads + Drop>(
+    reader: &mut StreamReader<R>,
+    chunks: &mut Vec<Chunk<AnyArray>>,
+) -> Result<bool, Fault>
+    ensures more { IfOk result (λ b. IsTrue b → vec_len chunks.old < vec_len chunks.new) }
+    ensures memory { PushesNext R.known R.memory reader.old chunks.old.items result reader.new chunks.new.items }
+{
+    match reader.next() {
+        Some(Ok(StreamState::Some(chunk))) => {
+            chunks.push(chunk)?;
+            Ok(true)
+        }
+        Some(Ok(StreamState::Waiting)) | None => Ok(false),
+        Some(Err(fault)) => Err(fault),
+    }
+}
+
+// All chunks up to the mark, or up to where the stream waits.
+fn read_chunks<R: Reads + Drop>(
+    alloc: Global,
+    reader: &mut StreamReader<R>,
+) -> Result<Vec<Chunk<AnyArray>>, Fault>
+    ensures described { metadata_of reader.new ≡ metadata_of reader.old }
+    ensures memory { IsTrue R.known → is_over reader.old ≡ false
+        → IfOk result (λ chunks. GivesAll R.memory reader.old chunks.items reader.new) }
+    ensures refused { IsTrue R.known → is_over reader.old ≡ false → IfErr result (RefusesAhead R.memory reader.old) }
+{
+    let mut chunks = Vec::new(alloc);
+    while push_next(reader, &mut chunks)? {}
+    Ok(chunks)
+}
+
+/// Reads a stream to its mark, or to where it waits for more.
+///
+/// Faults: those of [`read_stream_metadata`] and of the calls of [`StreamReader`], each of which but `Memory`
+/// says that the bytes mean no stream, or one that is not carried.
+pub fn read_stream(alloc: Global, bytes: &[u8]) -> Result<WholeStream, Fault>
+    ensures { ReadsStream bytes.now result }
+{
+    let mut input = MemFile::new(bytes);
+    let metadata = read_stream_metadata(alloc, &mut input)?;
+    let copy = metadata.clone()?;
+    let mut reader = StreamReader::new(alloc, input, copy, None)?;
+    let chunks = read_chunks(alloc, &mut reader)?;
+    Ok(WholeStream {
+        metadata,
+        chunks,
+        is_finished: reader.is_finished(),
+    })
+}
