@@ -1,14 +1,13 @@
 //! Columns of one length.
 
-use crate::fixtures::{int32, is_same_chunk};
+use crate::fixtures::{is_same_chunk, two_rows};
 use arrow2_ipc::chunk::Chunk;
 use std::test::Fail;
 
 #[test]
 fn a_chunk_gives_what_it_was_made_of(rt: HostRuntime) -> Result<(), Fail> {
     let alloc = rt.alloc();
-    let columns = vec![in alloc; int32(alloc, &[-1, 1])?, int32(alloc, &[1, -1])?]?;
-    let chunk = Chunk::try_new(columns)?;
+    let chunk = two_rows(alloc)?;
     assert_eq!(rt; chunk.len(), 2);
     assert!(rt; !chunk.is_empty());
     assert_eq!(rt; chunk.arrays().len(), 2);

@@ -52,10 +52,30 @@ pub fn int64(alloc: Global, numbers: &[i64]) -> Result<AnyArray, Fault> {
     Ok(AnyArray::Primitive(AnyPrimitive::Int64(array)))
 }
 
+/// A chunk of one column.
+pub fn one_column(alloc: Global, column: AnyArray) -> Result<Chunk<AnyArray>, Fault> {
+    let mut columns = Vec::new(alloc);
+    columns.push(column)?;
+    Chunk::try_new(columns)
+}
+
+/// A chunk of two columns.
+pub fn two_columns(
+    alloc: Global,
+    first: AnyArray,
+    second: AnyArray,
+) -> Result<Chunk<AnyArray>, Fault> {
+    let mut columns = Vec::new(alloc);
+    columns.push(first)?;
+    columns.push(second)?;
+    Chunk::try_new(columns)
+}
+
 /// Two columns of two rows each.
 pub fn two_rows(alloc: Global) -> Result<Chunk<AnyArray>, Fault> {
-    let columns = vec![in alloc; int32(alloc, &[-1, 1])?, int32(alloc, &[1, -1])?]?;
-    Chunk::try_new(columns)
+    let first = int32(alloc, &[-1, 1])?;
+    let second = int32(alloc, &[1, -1])?;
+    two_columns(alloc, first, second)
 }
 
 /// Whether the columns of both have the same types and slots.

@@ -10,6 +10,10 @@ mod chunks;
 #[cfg(test)]
 mod fixtures;
 #[cfg(test)]
+mod refusals;
+#[cfg(test)]
+mod round_trips;
+#[cfg(test)]
 mod schemas;
 #[cfg(test)]
 mod streams;

@@ -1,12 +1,12 @@
 //! Whole streams, written and read.
 
 use crate::fixtures::{
-    SMALLEST_SCHEMA, field, five_chunks, int64, is_same_chunk, two_int32, two_rows,
+    SMALLEST_SCHEMA, field, five_chunks, int64, is_same_chunk, two_columns, two_int32, two_rows,
 };
 use arrow2_ipc::array::{AnyArray, AnyPrimitive, PrimitiveArray};
 use arrow2_ipc::buffer::Buffer;
 use arrow2_ipc::chunk::Chunk;
-use arrow2_ipc::datatypes::{DataType, Metadata, Schema};
+use arrow2_ipc::datatypes::{DataType, Field, Metadata, Schema};
 use arrow2_ipc::io::ipc::fault::{Fault, MemFile};
 use arrow2_ipc::io::ipc::read::{StreamReader, StreamState, read_stream_metadata};
 use arrow2_ipc::io::ipc::write::{StreamWriter, WriteOptions};
@@ -109,32 +109,51 @@ fn a_stated_length_of_two_gigabytes_before_twenty_bytes_ends(rt: HostRuntime) {
     assert!(rt; matches!(&read, Err(Fault::Ended)));
 }
 
+// A column of the greatest number without a sign, and one of the least with a sign.
+fn greatest_and_least(alloc: Global) -> Result<Chunk<AnyArray>, Fault> {
+    let values = Buffer::new(Vec::from_slice(alloc, &[u64::MAX])?)?;
+    let greatest = PrimitiveArray::try_new(DataType::UInt64, values, None)?;
+    let greatest = AnyArray::Primitive(AnyPrimitive::UInt64(greatest));
+    let least = int64(alloc, &[i64::MIN])?;
+    two_columns(alloc, greatest, least)
+}
+
+// A stream of these fields and this chunk, which waits for more.
+fn stream_of_one(
+    alloc: Global,
+    fields: Vec<Field>,
+    chunk: &Chunk<AnyArray>,
+) -> Result<Vec<u8>, Fault> {
+    let schema = Schema {
+        fields,
+        metadata: Metadata::new(alloc),
+    };
+    let mut writer = StreamWriter::new(alloc, Vec::new(alloc), WriteOptions::default());
+    writer.start(&schema, None)?;
+    writer.write(chunk, None)?;
+    Ok(writer.into_inner())
+}
+
+// Whether a stream has this chunk, and then waits.
+fn has_one(alloc: Global, bytes: &[u8], wanted: &Chunk<AnyArray>) -> Result<bool, Fault> {
+    let mut input = MemFile::new(bytes);
+    let metadata = read_stream_metadata(alloc, &mut input)?;
+    let mut reader = StreamReader::new(alloc, input, metadata, None)?;
+    match next_chunk(&mut reader)? {
+        Some(chunk) if is_same_chunk(&chunk, wanted) => {
+            Ok(matches!(reader.next(), Some(Ok(StreamState::Waiting))))
+        }
+        _ => Ok(false),
+    }
+}
+
 #[test]
 fn the_greatest_number_of_64_bits_comes_back(rt: HostRuntime) -> Result<(), Fail> {
     let alloc = rt.alloc();
-    let schema = Schema {
-        fields: vec![in alloc;
-            field(alloc, "a", DataType::UInt64)?,
-            field(alloc, "b", DataType::Int64)?,
-        ]?,
-        metadata: Metadata::new(alloc),
-    };
-    let values = Buffer::new(Vec::from_slice(alloc, &[u64::MAX])?)?;
-    let greatest = PrimitiveArray::try_new(DataType::UInt64, values, None)?;
-    let columns = vec![in alloc;
-        AnyArray::Primitive(AnyPrimitive::UInt64(greatest)),
-        int64(alloc, &[i64::MIN])?,
-    ]?;
-    let chunk = Chunk::try_new(columns)?;
-    let mut writer = StreamWriter::new(alloc, Vec::new(alloc), WriteOptions::default());
-    writer.start(&schema, None)?;
-    writer.write(&chunk, None)?;
-    let bytes = writer.into_inner();
-    let mut input = MemFile::new(bytes.as_slice());
-    let metadata = read_stream_metadata(alloc, &mut input)?;
-    let mut reader = StreamReader::new(alloc, input, metadata, None)?;
-    let again = next_chunk(&mut reader)?;
-    assert!(rt; again.is_some_and(|again| is_same_chunk(&again, &chunk)));
-    assert!(rt; matches!(reader.next(), Some(Ok(StreamState::Waiting))));
+    let a = field(alloc, "a", DataType::UInt64)?;
+    let b = field(alloc, "b", DataType::Int64)?;
+    let chunk = greatest_and_least(alloc)?;
+    let bytes = stream_of_one(alloc, vec![in alloc; a, b]?, &chunk)?;
+    assert!(rt; has_one(alloc, &bytes, &chunk)?);
     Ok(())
 }

@@ -1,11 +1,14 @@
 //! What the stream writer writes, and what it refuses.
 
-use crate::fixtures::{int32, int64, two_int32, two_rows};
-use arrow2_ipc::chunk::Chunk;
-use arrow2_ipc::io::ipc::fault::{ArgFault, Fault, StateFault};
+use crate::fixtures::{five_chunks, int32, int64, one_column, two_columns, two_int32, two_rows};
+use arrow2_ipc::io::ipc::fault::{ArgFault, Fault, MemFile, StateFault};
+use arrow2_ipc::io::ipc::format::{Buffer, FieldNode, MessageHeaderRef, MessageRef};
 use arrow2_ipc::io::ipc::write::{
     EncodedData, StreamWriter, WriteOptions, write_continuation, write_message,
 };
+use ipc_devices::reading::read_bytes;
+use ipc_readers::read::begun::{Begun, Frame};
+use ipc_readers::read::frame::read_frame;
 use std::test::Fail;
 
 #[test]
@@ -84,10 +87,11 @@ fn chunks_of_other_columns_are_refused_and_leave_the_bytes(rt: HostRuntime) -> R
     let schema = two_int32(alloc)?;
     let mut writer = StreamWriter::new(alloc, Vec::new(alloc), WriteOptions::default());
     writer.start(&schema, None)?;
-    let one = Chunk::try_new(vec![in alloc; int32(alloc, &[1])?]?)?;
+    let one = one_column(alloc, int32(alloc, &[1])?)?;
     let refused = writer.write(&one, None);
     assert!(rt; matches!(&refused, Err(Fault::Argument(ArgFault::ColumnCount))));
-    let other = Chunk::try_new(vec![in alloc; int32(alloc, &[1])?, int64(alloc, &[1])?]?)?;
+    let first = int32(alloc, &[1])?;
+    let other = two_columns(alloc, first, int64(alloc, &[1])?)?;
     let refused = writer.write(&other, None);
     assert!(rt; matches!(&refused, Err(Fault::Argument(ArgFault::ColumnType))));
     writer.write(&two_rows(alloc)?, None)?;
@@ -98,5 +102,56 @@ fn chunks_of_other_columns_are_refused_and_leave_the_bytes(rt: HostRuntime) -> R
     writer.write(&two_rows(alloc)?, None)?;
     let wanted = writer.into_inner();
     assert_eq!(rt; bytes.as_slice(), wanted.as_slice());
+    Ok(())
+}
+
+fn buffer(offset: i64, length: i64) -> Buffer {
+    Buffer { offset, length }
+}
+
+// The body of each record: two columns of 8 bytes, each padded to 64.
+const TWO_COLUMNS: [u8; 16] = [
+    0xff, 0xff, 0xff, 0xff, 1, 0, 0, 0, 1, 0, 0, 0, 0xff, 0xff, 0xff, 0xff,
+];
+
+#[test]
+fn each_record_has_two_nodes_four_buffers_and_128_bytes(rt: HostRuntime) -> Result<(), Fail> {
+    let alloc = rt.alloc();
+    let bytes = five_chunks(alloc)?;
+    let mut input = MemFile::new(bytes.as_slice());
+    let mut metadata = Vec::new(alloc);
+    let schema = read_frame(&mut input, &mut Begun::new(), &mut metadata)?;
+    assert_eq!(rt; schema, Frame::Message);
+    for _ in 0..5 {
+        let record = read_frame(&mut input, &mut Begun::new(), &mut metadata)?;
+        assert_eq!(rt; record, Frame::Message);
+        let message = MessageRef::read_as_root(&metadata).expect(&rt, "a message");
+        assert_eq!(rt; message.body_length(), Ok(128));
+        let Ok(Some(MessageHeaderRef::RecordBatch(batch))) = message.header() else {
+            return Err(Fail::from(Fault::Ended));
+        };
+        assert_eq!(rt; batch.length(), Ok(2));
+        let nodes = batch.nodes().expect(&rt, "well made").expect(&rt, "there");
+        assert_eq!(rt; nodes.len(), 2);
+        let node = FieldNode {
+            length: 2,
+            null_count: 0,
+        };
+        assert_eq!(rt; (nodes.get(0), nodes.get(1)), (node, node));
+        let buffers = batch
+            .buffers()
+            .expect(&rt, "well made")
+            .expect(&rt, "there");
+        assert_eq!(rt; buffers.len(), 4);
+        assert_eq!(rt; buffers.get(0), buffer(0, 0));
+        assert_eq!(rt; buffers.get(1), buffer(0, 8));
+        assert_eq!(rt; buffers.get(2), buffer(64, 0));
+        assert_eq!(rt; buffers.get(3), buffer(64, 8));
+        let body = read_bytes(alloc, &mut input, 128)?;
+        assert_eq!(rt; &body[..8], &TWO_COLUMNS[..8]);
+        assert_eq!(rt; &body[8..64], [0; 56].as_slice());
+        assert_eq!(rt; &body[64..72], &TWO_COLUMNS[8..]);
+        assert_eq!(rt; &body[72..], [0; 56].as_slice());
+    }
     Ok(())
 }

@@ -30,9 +30,10 @@ fn write(alloc: Global) -> Result<Vec<u8>, Fault> {
         fields: vec![in alloc; field(alloc, "year")?, field(alloc, "rain")?]?,
         metadata: Metadata::new(alloc),
     };
-    let years = column(alloc, &[2023, 2024, 2025])?;
-    let rain = column(alloc, &[651, 702, 590])?;
-    let chunk = Chunk::try_new(vec![in alloc; years, rain]?)?;
+    let mut columns = Vec::new(alloc);
+    columns.push(column(alloc, &[2023, 2024, 2025])?)?;
+    columns.push(column(alloc, &[651, 702, 590])?)?;
+    let chunk = Chunk::try_new(columns)?;
     let mut writer = StreamWriter::new(alloc, Vec::new(alloc), WriteOptions::default());
     writer.start(&schema, None)?;
     writer.write(&chunk, None)?;

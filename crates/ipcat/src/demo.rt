@@ -37,7 +37,10 @@ fn demo_field(alloc: Global, name: &str) -> Result<Field, Fault> {
 }
 
 fn demo_chunk(alloc: Global) -> Result<Chunk<AnyArray>, Fault> {
-    Chunk::try_new(vec![in alloc; demo_column(alloc, [-1, 1])?, demo_column(alloc, [1, -1])?]?)
+    let mut columns = Vec::new(alloc);
+    columns.push(demo_column(alloc, [-1, 1])?)?;
+    columns.push(demo_column(alloc, [1, -1])?)?;
+    Chunk::try_new(columns)
 }
 
 fn demo_column(alloc: Global, numbers: [i32; 2]) -> Result<AnyArray, Fault> {

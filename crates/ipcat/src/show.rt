@@ -5,7 +5,7 @@ use crate::printer::Printer;
 use arrow2_ipc::array::{AnyArray, AnyPrimitive, PrimitiveArray};
 use arrow2_ipc::chunk::Chunk;
 use arrow2_ipc::datatypes::Schema;
-use arrow2_ipc::io::ipc::fault::{Fault, Reads, Writes};
+use arrow2_ipc::io::ipc::fault::{Fault, Nyi, Reads, Writes};
 use arrow2_ipc::io::ipc::read::{StreamReader, StreamState, read_stream_metadata};
 use arrow2_ipc::types::NativeType;
 use itoa::{Buffer, Integer};
@@ -103,6 +103,8 @@ fn put_slot<W: Writes>(
         AnyArray::Primitive(AnyPrimitive::UInt16(numbers)) => put_slot_of(printer, numbers, row),
         AnyArray::Primitive(AnyPrimitive::UInt32(numbers)) => put_slot_of(printer, numbers, row),
         AnyArray::Primitive(AnyPrimitive::UInt64(numbers)) => put_slot_of(printer, numbers, row),
+        // No other column is read.
+        _ => Err(Fault::NotYetImplemented(Nyi::Pending)),
     }
 }
 
