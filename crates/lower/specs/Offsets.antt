@@ -1,6 +1,9 @@
 -- Offsets of slots: slot i lies from offset i to offset i + 1.
 -- (Arrow columnar format, "Variable-size Binary Layout".)
-use Rattle.std.specs.Prelude.{ℕ, ℤ, pos, negsuc, ◌+◌, ◌<◌, ◌≤◌, ◌≤ℤ◌, List, length, map, slice_index, slice_index_or}
+use Rattle.std.specs.Prelude.{◌≡◌, ℕ, ℤ, pos, negsuc, ◌+◌, ◌<◌, ◌≤◌, ◌≤ℤ◌, List, [], length, map, slice_index, slice_index_or}
+use Rattle.lower.specs.declared.error.Error.{Error}
+use Rattle.lower.specs.declared.error.Error.TheVariants.{OutOfSpec}
+use Rattle.lower.specs.declared.error.Rule.TheVariants.{NoOffset, FallingOffset}
 
 -- the numbers that a list holds, by a function that says which number each is: there is one, the
 -- first is not negative, and none is below the one before it
@@ -8,6 +11,12 @@ pub record AreOffsets {O : Type 0} (integer : O → ℤ) (offsets : List O) : Ty
   pub some : 0 < length offsets
   pub start : (d : O) → pos 0 ≤ℤ integer (slice_index_or offsets 0 d)
   pub rising : (k : ℕ) (d : O) → k + 1 < length offsets → integer (slice_index_or offsets k d) ≤ℤ integer (slice_index_or offsets (k + 1) d)
+
+-- the rule that an error names isn't kept
+abbrev pub BreaksOffsets : {O : Type 0} → (O → ℤ) → List O → Error → Type 0
+BreaksOffsets integer offsets (OutOfSpec NoOffset) = offsets ≡ []
+BreaksOffsets integer offsets (OutOfSpec FallingOffset) = (0 < length offsets) × ¬ (AreOffsets integer offsets)
+BreaksOffsets integer offsets (OutOfSpec _) = ⊥
 
 -- the place that an offset names
 abbrev pub place : ℤ → ℕ

@@ -2,8 +2,8 @@
 //!
 //! Arrow columnar format, "Variable-size Binary Layout": slot i lies from offset i to offset i + 1,
 //! so there is one offset more than there are slots.
-ghost use Rattle.std.specs.Prelude.{◌≡◌, ℕ, ℤ, pos, ◌+◌, ◌-◌, ◌^◌, ◌<◌, ◌≤◌, ◌≤ℤ◌, ◌↔◌, length, take, drop, map, slice_index, IsTrue, MatchResult, MatchOption};
-ghost use Rattle.lower.specs.Offsets.{AreOffsets, IsOffsets, places, NeverFalls};
+ghost use Rattle.std.specs.Prelude.{◌≡◌, ℕ, ℤ, pos, ◌+◌, ◌-◌, ◌^◌, ◌<◌, ◌≤◌, ◌≤ℤ◌, ◌↔◌, length, take, drop, map, slice_index, IsTrue, IfErr, MatchResult, MatchOption};
+ghost use Rattle.lower.specs.Offsets.{AreOffsets, BreaksOffsets, IsOffsets, places, NeverFalls};
 
 use crate::buffer::Buffer;
 use crate::error::{Error, Rule};
@@ -136,9 +136,10 @@ impl<O: Offset> OffsetsBuffer<O> {
     /// The offsets, where they are some, the first is not negative and none is below the one before
     /// it; else an error that says which of this isn't so.
     pub fn try_new(offsets: Buffer<O>) -> Result<OffsetsBuffer<O>, Error>
-        ensures { MatchResult result
+        ensures exact { MatchResult result
             (λ o. (map pos o ≡ map O.integer offsets) × IsOffsets o)
             (λ _. ¬ (AreOffsets O.integer offsets)) }
+        ensures only { IfErr result (BreaksOffsets O.integer offsets) }
     {
         if offsets.is_empty() {
             return Err(Error::OutOfSpec(Rule::NoOffset));
