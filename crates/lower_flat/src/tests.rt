@@ -1,4 +1,7 @@
 //! Flat arrays at work.
+mod numbers;
+mod spans;
+
 use crate::{BooleanArray, NullArray};
 use lower::bitmap::Bitmap;
 use lower::buffer::Buffer;
