@@ -2,9 +2,10 @@
 use Rattle.std.proofs.Common.{arith, ◌≡◌, refl, ℕ, ℤ, pos, negsuc, zero, suc, ◌+◌, ◌<◌, ◌≤◌, List, [], ◌∷◌, Some, None, length, map, get_or, sym, ap}
 use Rattle.lower_arrays.specs.Layouts.{Layouts, no_layouts, more_layouts, layouts, len_of, height, heights}
 use Rattle.lower_arrays.specs.Slots.{null_slot, each_at, slot_at, children_at}
-use Rattle.lower_arrays.specs.Keys.{place_of, KeyFits}
+use Rattle.lower_keys.specs.Keys.{place_of, KeyFits}
 use Rattle.lower_arrays.specs.Children.{child_count, AllHave}
-use Rattle.lower_arrays.specs.Choices.{TypeIds, child_number, NamesChild, child}
+use Rattle.lower_keys.specs.Ids.{TypeIds, child_number, NamesChild}
+use Rattle.lower_arrays.specs.Choices.{child}
 use Rattle.lower_arrays.specs.AnyLayouts.{layout_of}
 use Rattle.lower_arrays.specs.declared.array.AnyArray.{AnyArray}
 

@@ -1,10 +1,7 @@
-pub mod Keys
 pub mod Children
 pub mod Choices
-pub mod TypeIds
 pub mod CutRules
 pub mod Unions
 pub mod NestedParts
 pub mod Slices
-pub mod ItemPlaces
-pub mod SameSlots
+pub mod HeldBytes

@@ -4,47 +4,31 @@ use Rattle.std.specs.Prelude.{slice_index}
 use Rattle.std.proofs.lemmas.List.{take-take, drop-take, drop-drop}
 use Rattle.std.proofs.Math.Nat.{add-mul}
 use Rattle.std.proofs.lemmas.Nat.{mul-le}
-use Rattle.lower_types.specs.NumberTypes.{Number, whole}
+use Rattle.lower_types.specs.NumberTypes.{whole}
 use Rattle.lower_types.specs.declared.PrimitiveType.{PrimitiveType}
 use Rattle.lower_flat.specs.Validities.{Validity, is_valid, part, cut_validity}
-use Rattle.lower_flat.specs.Primitives.{PrimitiveSeen, cut_primitive}
+use Rattle.lower_keys.specs.Numbers.{NumbersSeen, cut_numbers}
 use Rattle.lower_flat.specs.Nulls.{NullSeen, cut_null}
 use Rattle.lower_flat.specs.Booleans.{BooleanSeen, cut_boolean}
 use Rattle.lower_flat.specs.FixedBinaries.{FixedBinarySeen, cut_fixed}
 use Rattle.lower_flat.specs.Spans.{SpansSeen, span, span_count, cut_spans}
-use Rattle.lower_flat.proofs.Cuts.{get_or-part, length-part, map-part}
+use Rattle.lower_flat.proofs.Cuts.{get_or-part, length-part}
 use Rattle.lower_arrays.specs.Layouts.{Parts, nothing, truths, numbers, fixed_bytes, bytes, texts, lists, fixed_lists, maps, records, Layout, layout, Layouts, no_layouts, more_layouts, len_of, keys, choices, layouts}
 use Rattle.lower_arrays.specs.Slots.{Slot, null_slot, truth_slot, number_slot, bytes_slot, text_slot, list_slot, record_slot, slots_of, slot_where, first_child, list_at, each_at, value_at, slot_at, children_at, slots_from, slots, variant_slot, variant_at}
 use Rattle.lower_arrays.specs.Cuts.{cut_parts, cut_below, cut, cut_each}
 use Rattle.lower_arrays.proofs.NestedParts.{list_part, fixed_list_part, struct_part, map_part}
-use Rattle.lower_arrays.specs.Primitives.{primitive_layout}
+use Rattle.lower_arrays.specs.Primitives.{numbers_layout}
 use Rattle.lower_arrays.specs.Flat.{null_layout, boolean_layout, fixed_layout, bytes_layout, texts_layout}
 use Rattle.lower.specs.TypeTrees.{TypeTree}
-use Rattle.lower_arrays.specs.Keys.{place_of}
-use Rattle.lower_arrays.specs.Choices.{TypeIds, child_number, union_ids}
+use Rattle.lower_keys.specs.Keys.{place_of}
+use Rattle.lower_keys.specs.Ids.{TypeIds, child_number, union_ids}
 use Rattle.lower_arrays.specs.Dictionaries.{DictionarySeen, dictionary_layout, cut_dictionary}
 use Rattle.lower_arrays.specs.Unions.{UnionSeen, union_seen, union_layout, cut_union}
 use Rattle.lower_arrays.proofs.Children.{layouts-cut}
 
-layout-cut_primitive :
-    {T : Type 0} (p : PrimitiveType) (f : T → Number) (o n : ℕ) (a : PrimitiveSeen T) → o + n ≤ length a.values
-    → primitive_layout p f (cut_primitive o n a) ≡ cut o n (primitive_layout p f a)
-layout-cut_primitive p f o n a h =
-    λ i. layout
-    (record {
-      type = a.type;
-      len = length-part o n a.values h i;
-      validity = cut_validity o n a.validity;
-      parts = numbers p (map-part f o n a.values i);
-    })
-    no_layouts
-
--- some numbers b of an array a, which l is the tree of
-pub primitive_part :
-    {T : Type 0} (p : PrimitiveType) (f : T → Number) (o n : ℕ) (a b : PrimitiveSeen T) (l : Layout) → b ≡ cut_primitive o n a
-    → l ≡ primitive_layout p f a → o + n ≤ length a.values → primitive_layout p f b ≡ cut o n l
-primitive_part p f o n a b l e d h =
-    ap (primitive_layout p f) e ∙ layout-cut_primitive p f o n a h ∙ ap (cut o n) (sym d)
+-- the array of some numbers of an array, which l is the tree of
+pub numbers_part : (o n : ℕ) (a b : NumbersSeen) (l : Layout) → b ≡ cut_numbers o n a → l ≡ numbers_layout a → numbers_layout b ≡ cut o n l
+numbers_part o n a b l e d = ap numbers_layout e ∙ ap (cut o n) (sym d)
 
 is_valid-cut : (o n : ℕ) (v : Validity) (i : ℕ) → i < n → is_valid (cut_validity o n v) i ≡ is_valid v (o + i)
 is_valid-cut o n None i h = refl
@@ -268,4 +252,4 @@ pub slots_of_part : (l m : Layout) (o n : ℕ) → m ≡ cut o n l → o + n ≤
 slots_of_part l m o n e h = ap slots e ∙ slots-cut l o n h
 
 -- what slicing is proved by, kind by kind
-pub ruleset slicing = (primitive_part, null_part, boolean_part, fixed_part, bytes_part, texts_part, list_part, fixed_list_part, struct_part, map_part, dictionary_part, union_part)
+pub ruleset slicing = (numbers_part, null_part, boolean_part, fixed_part, bytes_part, texts_part, list_part, fixed_list_part, struct_part, map_part, dictionary_part, union_part)

@@ -4,7 +4,8 @@ use Rattle.lower.specs.TypeTrees.{TypeTree}
 use Rattle.lower_arrays.specs.Layouts.{Layout, Layouts, layouts, len_of}
 use Rattle.lower_arrays.specs.Slots.{IsArray}
 use Rattle.lower_arrays.specs.Children.{child_count}
-use Rattle.lower_arrays.specs.Choices.{TypeIds, union_ids, child_number, PlacesFit, child, place_in}
+use Rattle.lower_keys.specs.Ids.{TypeIds, union_ids, child_number}
+use Rattle.lower_arrays.specs.Choices.{PlacesFit, child, place_in}
 use Rattle.lower_arrays.specs.Unions.{UnionSeen, union_seen, union_layout, IsUnion, cut_union}
 use Rattle.lower_arrays.proofs.Choices.{number_below, number_fits, child_has}
 use Rattle.lower_arrays.proofs.CutRules.{IsArray-cut}

@@ -1,14 +1,12 @@
 -- What is seen of an array of any kind.
-use Rattle.std.specs.Prelude.{pos}
-use Rattle.lower_types.specs.NumberTypes.{whole, wide, day_time, month_day_nano}
 use Rattle.lower_types.specs.declared.PrimitiveType.TheVariants as Named
 use Rattle.lower_arrays.specs.Layouts.{Layout}
-use Rattle.lower_arrays.specs.Primitives.{primitive_layout}
+use Rattle.lower_arrays.specs.Primitives.{numbers_layout}
 use Rattle.lower_arrays.specs.Flat.{null_layout, boolean_layout, fixed_layout, bytes_layout, texts_layout}
 use Rattle.lower_arrays.specs.Dictionaries.{dictionary_layout}
 use Rattle.lower_arrays.specs.Unions.{union_layout}
-use Rattle.lower_arrays.specs.declared.array.AnyPrimitive.{AnyPrimitive}
-use Rattle.lower_arrays.specs.declared.array.AnyPrimitive.TheVariants.{Int8, Int16, Int32, Int64, Int128, Int256, UInt8, UInt16, UInt32, UInt64, DaysMs, MonthDayNano}
+use Rattle.lower_keys.specs.AnyNumbers.{numbers_seen}
+use Rattle.lower_keys.specs.declared.numbers.AnyPrimitive.{AnyPrimitive}
 use Rattle.lower_arrays.specs.declared.array.AnyArray.{AnyArray}
 use Rattle.lower_arrays.specs.declared.array.AnyArray.TheVariants.{Null, Boolean, Primitive, FixedSizeBinary, Binary, LargeBinary, Utf8, LargeUtf8, Dictionary, Union, List as ListOf, FixedSizeList, Struct, Map}
 use Rattle.lower_arrays.specs.Lists.{list_layout}
@@ -17,18 +15,7 @@ use Rattle.lower_arrays.specs.Structs.{struct_layout}
 use Rattle.lower_arrays.specs.Maps.{map_layout}
 
 abbrev pub any_primitive_layout : AnyPrimitive → Layout
-any_primitive_layout (Int8 a) = primitive_layout Named.Int8 (λ x. whole x) a
-any_primitive_layout (Int16 a) = primitive_layout Named.Int16 (λ x. whole x) a
-any_primitive_layout (Int32 a) = primitive_layout Named.Int32 (λ x. whole x) a
-any_primitive_layout (Int64 a) = primitive_layout Named.Int64 (λ x. whole x) a
-any_primitive_layout (Int128 a) = primitive_layout Named.Int128 (λ x. whole x) a
-any_primitive_layout (Int256 a) = primitive_layout Named.Int256 (λ x. wide x.high x.low) a
-any_primitive_layout (UInt8 a) = primitive_layout Named.UInt8 (λ x. whole (pos x)) a
-any_primitive_layout (UInt16 a) = primitive_layout Named.UInt16 (λ x. whole (pos x)) a
-any_primitive_layout (UInt32 a) = primitive_layout Named.UInt32 (λ x. whole (pos x)) a
-any_primitive_layout (UInt64 a) = primitive_layout Named.UInt64 (λ x. whole (pos x)) a
-any_primitive_layout (DaysMs a) = primitive_layout Named.DaysMs (λ x. day_time x.days x.milliseconds) a
-any_primitive_layout (MonthDayNano a) = primitive_layout Named.MonthDayNano (λ x. month_day_nano x.months x.days x.nanoseconds) a
+any_primitive_layout a = numbers_layout (numbers_seen a)
 
 -- the large forms have offsets of 64 bits
 abbrev pub layout_of : AnyArray → Layout

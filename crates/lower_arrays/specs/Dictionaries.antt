@@ -1,6 +1,6 @@
 -- What contracts see of an array whose slots are places among the values of a dictionary.
 -- (Arrow columnar format, "Dictionary-encoded Layout".)
-use Rattle.std.specs.Prelude.{◌≡◌, ℕ, ℤ, List, length, map, refl}
+use Rattle.std.specs.Prelude.{◌≡◌, ℕ, ℤ, List, length, refl}
 use Rattle.std.specs.Coded.{Coded, code_by, coded_list, coded_ℤ, coded×}
 use Rattle.lower.specs.TypeTrees.{TypeTree, plain}
 use Rattle.lower.specs.Physical.{physical, integer}
@@ -10,28 +10,16 @@ use Rattle.lower.specs.declared.error.Error.{Error}
 use Rattle.lower.specs.declared.error.Error.TheVariants.{OutOfSpec}
 use Rattle.lower.specs.declared.error.Rule.TheVariants.{DictionaryKey, DictionaryValues, PhysicalType as WrongType}
 use Rattle.lower_flat.specs.TypeCodes.{coded_type}
-use Rattle.lower_flat.specs.Validities.{Validity, ValidityFits, part, cut_validity}
-use Rattle.lower_flat.specs.Primitives.{PrimitiveSeen}
-use Rattle.lower_arrays.specs.Layouts.{keys, Layout, layout, no_layouts, more_layouts, len_of, type_of}
+use Rattle.lower_flat.specs.Validities.{Validity}
+use Rattle.lower_arrays.specs.Layouts.{Parts, keys, Layout, layout, no_layouts, more_layouts, len_of, type_of}
 use Rattle.lower_arrays.specs.LayoutCodes.{coded_integer, coded_validity, coded_layout}
-use Rattle.lower_arrays.specs.Keys.{values_type, KeysFit}
+use Rattle.lower_keys.specs.Keys.{values_type, KeysFit, KeysSeen, IsKeys, cut_keys}
 use Rattle.lower_arrays.specs.Slots.{IsArray}
-
--- the keys: the type of integers that they are, the type of their array, the integers, and which of them are null
-pub record KeysSeen : Type 0 where
-  pub key : IntegerType
-  pub type : TypeTree
-  pub integers : List ℤ
-  pub validity : Validity
 
 pub record DictionarySeen : Type 0 where
   pub type : TypeTree
   pub keys : KeysSeen
   pub values : Layout
-
--- the keys in an array of numbers
-abbrev pub keys_in : {T : Type 0} → IntegerType → (T → ℤ) → PrimitiveSeen T → KeysSeen
-keys_in k f a = record { key = k; type = a.type; integers = map f a.values; validity = a.validity }
 
 abbrev pub dictionary_seen : TypeTree → KeysSeen → Layout → DictionarySeen
 dictionary_seen t ks l = record { type = t; keys = ks; values = l }
@@ -56,10 +44,10 @@ dictionary_layout a =
     (record { type = a.type; len = length a.keys.integers; validity = a.keys.validity; parts = keys a.keys.key a.keys.integers })
     (more_layouts a.values no_layouts)
 
--- keys are integers, and a validity has a bit for each of them
-pub record IsKeys (a : KeysSeen) : Type 0 where
-  pub type : a.type ≡ plain (integer a.key)
-  pub fits : ValidityFits a.validity (length a.integers)
+-- the slots are places among the values of a dictionary
+abbrev pub HasKeys : Parts → Type 0
+HasKeys (keys k ks) = Unit {0}
+HasKeys _ = ⊥
 
 -- the type is one of a dictionary with such keys, the values are an array of the type that it names, and each key that is not null
 -- is a place among them
@@ -78,8 +66,5 @@ BreaksDictionary a (OutOfSpec DictionaryKey) = ¬ (KeysFit a.keys.validity a.key
 BreaksDictionary a (OutOfSpec _) = ⊥
 
 -- the n slots from place o on: their keys, over the same values
-abbrev pub cut_keys : ℕ → ℕ → KeysSeen → KeysSeen
-cut_keys o n a = record { key = a.key; type = a.type; integers = part o n a.integers; validity = cut_validity o n a.validity }
-
 abbrev pub cut_dictionary : ℕ → ℕ → DictionarySeen → DictionarySeen
 cut_dictionary o n a = record { type = a.type; keys = cut_keys o n a.keys; values = a.values }

@@ -1,6 +1,5 @@
 pub mod Layouts
 pub mod LayoutCodes
-pub mod Keys
 pub mod Children
 pub mod ListTypes
 pub mod Choices
@@ -13,9 +12,7 @@ pub mod FixedLists
 pub mod Structs
 pub mod Maps
 pub mod Dictionaries
-pub mod AnyKeys
 pub mod Unions
 pub mod AnyLayouts
 pub mod Falls
-pub mod Values
-pub mod Sameness
+pub mod Held

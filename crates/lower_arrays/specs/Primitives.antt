@@ -1,13 +1,13 @@
 -- Arrays of numbers as trees of levels.
-use Rattle.std.specs.Prelude.{map, length}
 use Rattle.lower_types.specs.NumberTypes.{Number}
 use Rattle.lower_types.specs.declared.PrimitiveType.{PrimitiveType}
 use Rattle.lower_arrays.specs.Layouts.{numbers, Layout, layout, no_layouts}
+use Rattle.lower_keys.specs.Numbers.{NumbersSeen, numbers_in}
 pub use Rattle.lower_flat.specs.Primitives.{PrimitiveSeen}
+
+abbrev pub numbers_layout : NumbersSeen → Layout
+numbers_layout a = layout (record { type = a.type; len = a.len; validity = a.validity; parts = numbers a.number a.numbers }) no_layouts
 
 -- with each value as the number that it is
 abbrev pub primitive_layout : {T : Type 0} → PrimitiveType → (T → Number) → PrimitiveSeen T → Layout
-primitive_layout p number a =
-    layout
-    (record { type = a.type; len = length a.values; validity = a.validity; parts = numbers p (map number a.values) })
-    no_layouts
+primitive_layout p number a = numbers_layout (numbers_in p number a)

@@ -13,7 +13,8 @@ use Rattle.lower_flat.specs.Validities.{part}
 use Rattle.lower_arrays.specs.Layouts.{choices, Layout, layout, layouts}
 use Rattle.lower_arrays.specs.LayoutCodes.{coded_layout}
 use Rattle.lower_arrays.specs.Children.{child_fields, field_count, child_count, ChildTypes}
-use Rattle.lower_arrays.specs.Choices.{union_ids, union_mode, IdsFit, AreNamed, OffsetsGiven, PlacesFit, ChoicesFit}
+use Rattle.lower_keys.specs.Ids.{union_ids, union_mode, IdsFit, AreNamed, OffsetsGiven}
+use Rattle.lower_arrays.specs.Choices.{PlacesFit, ChoicesFit}
 use Rattle.lower_arrays.specs.Slots.{AreArrays}
 use Rattle.lower_arrays.specs.Cuts.{cut}
 

@@ -2,57 +2,34 @@
 ghost use Rattle.std.specs.Prelude.{◌≡◌, ◌↔◌, ◌+◌, ◌<◌, ◌≤◌, take, drop, IsTrue, IfOk};
 ghost use Rattle.std.specs.Option.{option_copied};
 ghost use Rattle.lower.specs.TypeViews.{type_view};
-ghost use Rattle.lower_arrays.specs.Layouts.{level, len_of, type_of, nulls_of, null_count_of};
+ghost use Rattle.lower_arrays.specs.Layouts.{level, len_of, type_of, nulls_of};
 ghost use Rattle.lower_arrays.specs.Slots.{IsArray, slots};
 ghost use Rattle.lower_arrays.specs.Cuts.{cut};
-ghost use Rattle.lower_arrays.specs.AnyLayouts.{any_primitive_layout, layout_of};
+ghost use Rattle.lower_arrays.specs.AnyLayouts.{layout_of};
 
 mod children;
 mod dictionary;
-mod equality;
 mod fixed_size_list;
 mod list;
 mod map;
-#[cfg(test)]
-mod nested_tests;
 mod struct_;
-#[cfg(test)]
-mod tests;
 mod union;
-mod value;
 
-pub use dictionary::{DictionaryArray, DictionaryKey, DictionaryKeys};
-pub use equality::equal;
+pub use dictionary::{DictionaryArray, is_dictionary};
 pub use fixed_size_list::FixedSizeListArray;
 pub use list::{ListArray, ListOffsets};
 use lower::bitmap::Bitmap;
 use lower::datatypes::DataType;
-use lower::types::{days_ms, i256, months_days_ns};
 pub use lower_flat::{
     BinaryArray, BooleanArray, FixedSizeBinaryArray, NullArray, PrimitiveArray, Utf8Array,
 };
+pub use lower_keys::keys::{DictionaryKey, DictionaryKeys};
+pub use lower_keys::numbers::AnyPrimitive;
 pub use map::MapArray;
 use std::alloc::AllocError;
 use std::mem;
 pub use struct_::StructArray;
 pub use union::UnionArray;
-
-/// An array of numbers, of any type of number.
-#[derive(Drop)]
-pub enum AnyPrimitive {
-    Int8(PrimitiveArray<i8>),
-    Int16(PrimitiveArray<i16>),
-    Int32(PrimitiveArray<i32>),
-    Int64(PrimitiveArray<i64>),
-    Int128(PrimitiveArray<i128>),
-    Int256(PrimitiveArray<i256>),
-    UInt8(PrimitiveArray<u8>),
-    UInt16(PrimitiveArray<u16>),
-    UInt32(PrimitiveArray<u32>),
-    UInt64(PrimitiveArray<u64>),
-    DaysMs(PrimitiveArray<days_ms>),
-    MonthDayNano(PrimitiveArray<months_days_ns>),
-}
 
 /// An array of any kind.
 #[cycle(arrays)]
@@ -72,137 +49,6 @@ pub enum AnyArray {
     Union(UnionArray),
     Map(MapArray),
     Dictionary(DictionaryArray),
-}
-
-impl AnyPrimitive {
-    /// The type of its slots.
-    pub fn data_type(&self) -> &DataType
-        ensures tree { type_view result.now ≡ type_of (any_primitive_layout self.now) }
-        ensures valid { IsArray (any_primitive_layout self.now) }
-    {
-        match self {
-            AnyPrimitive::Int8(array) => array.data_type(),
-            AnyPrimitive::Int16(array) => array.data_type(),
-            AnyPrimitive::Int32(array) => array.data_type(),
-            AnyPrimitive::Int64(array) => array.data_type(),
-            AnyPrimitive::Int128(array) => array.data_type(),
-            AnyPrimitive::Int256(array) => array.data_type(),
-            AnyPrimitive::UInt8(array) => array.data_type(),
-            AnyPrimitive::UInt16(array) => array.data_type(),
-            AnyPrimitive::UInt32(array) => array.data_type(),
-            AnyPrimitive::UInt64(array) => array.data_type(),
-            AnyPrimitive::DaysMs(array) => array.data_type(),
-            AnyPrimitive::MonthDayNano(array) => array.data_type(),
-        }
-    }
-
-    /// The bits that say which slots are valid, or `None` where all are.
-    pub fn validity(&self) -> Option<&Bitmap>
-        ensures bits { option_copied result ≡ (level (any_primitive_layout self.now)).validity }
-        ensures valid { IsArray (any_primitive_layout self.now) }
-    {
-        match self {
-            AnyPrimitive::Int8(array) => array.validity(),
-            AnyPrimitive::Int16(array) => array.validity(),
-            AnyPrimitive::Int32(array) => array.validity(),
-            AnyPrimitive::Int64(array) => array.validity(),
-            AnyPrimitive::Int128(array) => array.validity(),
-            AnyPrimitive::Int256(array) => array.validity(),
-            AnyPrimitive::UInt8(array) => array.validity(),
-            AnyPrimitive::UInt16(array) => array.validity(),
-            AnyPrimitive::UInt32(array) => array.validity(),
-            AnyPrimitive::UInt64(array) => array.validity(),
-            AnyPrimitive::DaysMs(array) => array.validity(),
-            AnyPrimitive::MonthDayNano(array) => array.validity(),
-        }
-    }
-
-    /// How many slots it has.
-    pub fn len(&self) -> usize
-        ensures len { result ≡ len_of (any_primitive_layout self.now) }
-        ensures valid { IsArray (any_primitive_layout self.now) }
-    {
-        match self {
-            AnyPrimitive::Int8(array) => array.len(),
-            AnyPrimitive::Int16(array) => array.len(),
-            AnyPrimitive::Int32(array) => array.len(),
-            AnyPrimitive::Int64(array) => array.len(),
-            AnyPrimitive::Int128(array) => array.len(),
-            AnyPrimitive::Int256(array) => array.len(),
-            AnyPrimitive::UInt8(array) => array.len(),
-            AnyPrimitive::UInt16(array) => array.len(),
-            AnyPrimitive::UInt32(array) => array.len(),
-            AnyPrimitive::UInt64(array) => array.len(),
-            AnyPrimitive::DaysMs(array) => array.len(),
-            AnyPrimitive::MonthDayNano(array) => array.len(),
-        }
-    }
-
-    /// How many slots are null.
-    pub fn null_count(&self) -> usize
-        ensures { result ≡ null_count_of (level (any_primitive_layout self.now)).validity }
-    {
-        match self {
-            AnyPrimitive::Int8(array) => array.null_count(),
-            AnyPrimitive::Int16(array) => array.null_count(),
-            AnyPrimitive::Int32(array) => array.null_count(),
-            AnyPrimitive::Int64(array) => array.null_count(),
-            AnyPrimitive::Int128(array) => array.null_count(),
-            AnyPrimitive::Int256(array) => array.null_count(),
-            AnyPrimitive::UInt8(array) => array.null_count(),
-            AnyPrimitive::UInt16(array) => array.null_count(),
-            AnyPrimitive::UInt32(array) => array.null_count(),
-            AnyPrimitive::UInt64(array) => array.null_count(),
-            AnyPrimitive::DaysMs(array) => array.null_count(),
-            AnyPrimitive::MonthDayNano(array) => array.null_count(),
-        }
-    }
-
-    /// The `len` slots from `offset` on. It takes no memory.
-    #[tactic(auto, using(crate::proofs::Slices::primitive_part))]
-    pub fn sliced(self, offset: usize, len: usize) -> Self
-        requires { offset + len ≤ len_of (any_primitive_layout self) }
-        ensures { any_primitive_layout result ≡ cut offset len (any_primitive_layout self) }
-    {
-        match self {
-            AnyPrimitive::Int8(array) => AnyPrimitive::Int8(array.sliced(offset, len)),
-            AnyPrimitive::Int16(array) => AnyPrimitive::Int16(array.sliced(offset, len)),
-            AnyPrimitive::Int32(array) => AnyPrimitive::Int32(array.sliced(offset, len)),
-            AnyPrimitive::Int64(array) => AnyPrimitive::Int64(array.sliced(offset, len)),
-            AnyPrimitive::Int128(array) => AnyPrimitive::Int128(array.sliced(offset, len)),
-            AnyPrimitive::Int256(array) => AnyPrimitive::Int256(array.sliced(offset, len)),
-            AnyPrimitive::UInt8(array) => AnyPrimitive::UInt8(array.sliced(offset, len)),
-            AnyPrimitive::UInt16(array) => AnyPrimitive::UInt16(array.sliced(offset, len)),
-            AnyPrimitive::UInt32(array) => AnyPrimitive::UInt32(array.sliced(offset, len)),
-            AnyPrimitive::UInt64(array) => AnyPrimitive::UInt64(array.sliced(offset, len)),
-            AnyPrimitive::DaysMs(array) => AnyPrimitive::DaysMs(array.sliced(offset, len)),
-            AnyPrimitive::MonthDayNano(array) => AnyPrimitive::MonthDayNano(array.sliced(
-                offset, len,
-            )),
-        }
-    }
-}
-
-impl Clone for AnyPrimitive {
-    ghost is_clone = { λ a b. any_primitive_layout b ≡ any_primitive_layout a };
-
-    /// The same slots once more, which share their memory with these.
-    fn clone(&self) -> Result<Self, AllocError> {
-        match self {
-            AnyPrimitive::Int8(array) => Ok(AnyPrimitive::Int8(array.clone()?)),
-            AnyPrimitive::Int16(array) => Ok(AnyPrimitive::Int16(array.clone()?)),
-            AnyPrimitive::Int32(array) => Ok(AnyPrimitive::Int32(array.clone()?)),
-            AnyPrimitive::Int64(array) => Ok(AnyPrimitive::Int64(array.clone()?)),
-            AnyPrimitive::Int128(array) => Ok(AnyPrimitive::Int128(array.clone()?)),
-            AnyPrimitive::Int256(array) => Ok(AnyPrimitive::Int256(array.clone()?)),
-            AnyPrimitive::UInt8(array) => Ok(AnyPrimitive::UInt8(array.clone()?)),
-            AnyPrimitive::UInt16(array) => Ok(AnyPrimitive::UInt16(array.clone()?)),
-            AnyPrimitive::UInt32(array) => Ok(AnyPrimitive::UInt32(array.clone()?)),
-            AnyPrimitive::UInt64(array) => Ok(AnyPrimitive::UInt64(array.clone()?)),
-            AnyPrimitive::DaysMs(array) => Ok(AnyPrimitive::DaysMs(array.clone()?)),
-            AnyPrimitive::MonthDayNano(array) => Ok(AnyPrimitive::MonthDayNano(array.clone()?)),
-        }
-    }
 }
 
 impl AnyArray {

@@ -5,3 +5,4 @@
 #![tactic(auto)]
 
 pub mod array;
+pub mod held;

@@ -3,21 +3,22 @@ ghost use Rattle.std.specs.Prelude.{◌≡◌, ◌↔◌, ℕ, pos, None, ◌+�
 ghost use Rattle.std.specs.Option.{option_copied};
 ghost use Rattle.lower.specs.TypeViews.{type_view};
 ghost use Rattle.lower_arrays.specs.Layouts.{layouts, len_of};
-ghost use Rattle.lower_arrays.specs.Keys.{place_of, KeyFits};
+ghost use Rattle.lower_keys.specs.Keys.{KeyFits};
+ghost use Rattle.lower_keys.specs.Ids.{union_ids, child_number, NamesChild, AreNamed};
 ghost use Rattle.lower_arrays.specs.Children.{child_count};
-ghost use Rattle.lower_arrays.specs.Choices.{union_ids, union_mode, place_among, child_number, NamesChild, AreIds, IdsFit, AreNamed, OffsetsGiven, OffsetsFit, PlacesGiven, PlacesFit, child, place_in};
+ghost use Rattle.lower_arrays.specs.Choices.{OffsetsFit, PlacesGiven, PlacesFit, child, place_in};
 ghost use Rattle.lower_arrays.specs.Unions.{union_seen, union_layout, IsUnion, BreaksUnion, cut_fields, cut_union};
 ghost use Rattle.lower_arrays.specs.AnyLayouts.{layout_of};
-
-#[cfg(test)]
-mod tests;
 
 use super::AnyArray;
 use super::children::{are_as_many, child_fields, copy_each, have_len, have_types, sliced_each};
 use lower::bitmap::Bitmap;
 use lower::buffer::Buffer;
-use lower::datatypes::{DataType, PhysicalType, UnionMode};
+use lower::datatypes::{DataType, PhysicalType};
 use lower::error::{Error, Rule};
+use lower_keys::ids::{
+    are_given, are_named, child_number, ids_fit, is_place, union_ids, union_mode,
+};
 use std::alloc::AllocError;
 use std::marker::Model;
 
@@ -58,125 +59,6 @@ impl Model for UnionArray {
     ghost size_decreases = { λ a h. omega (arith, most_le-heights a.fields.items) };
 }
 
-// The ids that a union type gives its children, or `None` where they are 0, 1 and on.
-fn ids(data_type: &DataType) -> Option<&[i32]>
-    ensures { option_copied result ≡ union_ids (type_view data_type.now) }
-{
-    match data_type.to_logical_type() {
-        DataType::Union(_, Some(ids), _) => Some(ids),
-        _ => None,
-    }
-}
-
-// Whether the children of a union type stand slot by slot, or at offsets.
-fn mode(data_type: &DataType) -> UnionMode
-    ensures { result ≡ union_mode (type_view data_type.now) }
-{
-    match data_type.to_logical_type() {
-        DataType::Union(_, _, mode) => *mode,
-        _ => UnionMode::Sparse,
-    }
-}
-
-// The place of the first such id, or how many there are.
-#[tactic(auto, using(crate::proofs::TypeIds::places))]
-fn place_among(id: i32, ids: &[i32]) -> usize
-    ensures { result ≡ place_among id ids.now }
-{
-    for place in 0..ids.len() {
-        if ids[place] == id {
-            return place;
-        }
-    }
-    ids.len()
-}
-
-// The number of the child that an id names.
-fn child_number(ids: Option<&[i32]>, id: i8) -> usize
-    ensures { result ≡ child_number (option_copied ids.entry) id }
-{
-    match ids {
-        None if id < 0 => 0,
-        None => id.cast_unsigned() as usize,
-        Some(ids) => place_among(i32::from(id), ids),
-    }
-}
-
-// Whether an id names one of `count` children.
-fn names_child(ids: Option<&[i32]>, count: usize, id: i8) -> bool
-    ensures { IsTrue result ↔ NamesChild (option_copied ids.entry) count id }
-{
-    match ids {
-        None => id >= 0 && (id.cast_unsigned() as usize) < count,
-        Some(ids) => place_among(i32::from(id), ids) < count,
-    }
-}
-
-// Whether each slot's id names one of `count` children.
-fn are_named(ids: Option<&[i32]>, types: &[i8], count: usize) -> bool
-    ensures { IsTrue result ↔ AreNamed (option_copied ids.entry) types.now count }
-{
-    for index in 0..types.len() {
-        if !names_child(ids, count, types[index]) {
-            return false;
-        }
-    }
-    true
-}
-
-// Whether an id is from 0 to 126, and none before it is the same.
-fn is_id(ids: &[i32], index: usize) -> bool
-    requires { index < length ids.now }
-    ensures { IsTrue result ↔ (KeyFits (get_or ids.now index (pos 0)) 127 × (place_among (get_or ids.now index (pos 0)) ids.now ≡ index)) }
-{
-    let id = ids[index];
-    id >= 0 && id < 127 && place_among(id, ids) == index
-}
-
-// Whether these are distinct ids of `count` children, from 0 to 126.
-#[tactic(auto, using(crate::proofs::TypeIds::distinct))]
-fn are_ids(ids: &[i32], count: usize) -> bool
-    ensures { IsTrue result ↔ AreIds ids.now count }
-{
-    if ids.len() != count {
-        return false;
-    }
-    for index in 0..ids.len() {
-        if !is_id(ids, index) {
-            return false;
-        }
-    }
-    true
-}
-
-// Whether the ids, where a type gives any, are distinct ids of `count` children.
-fn ids_fit(ids: Option<&[i32]>, count: usize) -> bool
-    ensures { IsTrue result ↔ IdsFit (option_copied ids.entry) count }
-{
-    match ids {
-        None => true,
-        Some(ids) => are_ids(ids, count),
-    }
-}
-
-// Whether a dense union has an offset for each of `len` slots, a sparse one none.
-fn are_given(mode: UnionMode, offsets: &Option<Buffer<i32>>, len: usize) -> bool
-    ensures { IsTrue result ↔ OffsetsGiven mode offsets.now len }
-{
-    match (mode, offsets) {
-        (UnionMode::Dense, Some(offsets)) => offsets.len() == len,
-        (UnionMode::Sparse, None) => true,
-        _ => false,
-    }
-}
-
-// Whether an offset is from 0 to below the length of the child.
-fn is_place(offset: i32, child: &AnyArray) -> bool
-    ensures { IsTrue result ↔ KeyFits offset (len_of (layout_of child.now)) }
-{
-    offset >= 0 && (offset.cast_unsigned() as usize) < child.len()
-}
-
 // The number of the child that the slot at `index` is of.
 fn child_at(ids: Option<&[i32]>, types: &[i8], index: usize) -> usize
     requires { index < length types.now }
@@ -199,7 +81,7 @@ fn has_place(
     ensures { IsTrue result ↔ KeyFits (get_or offsets.now index (pos 0)) (len_of (child (layouts (map layout_of fields.now)) (child_number (option_copied ids.entry) (get_or types.now index (pos 0))))) }
 {
     let child = &fields[child_at(ids, types, index)];
-    is_place(offsets[index], child)
+    is_place(offsets[index], child.len())
 }
 
 // Whether each offset is a place of the slot's child.
@@ -267,16 +149,16 @@ impl UnionArray {
         if !have_types(child_fields(&data_type), &fields) {
             return Err(Error::OutOfSpec(Rule::ChildType));
         }
-        if !ids_fit(ids(&data_type), fields.len()) {
+        if !ids_fit(union_ids(&data_type), fields.len()) {
             return Err(Error::OutOfSpec(Rule::UnionIds));
         }
-        if !are_named(ids(&data_type), types.as_slice(), fields.len()) {
+        if !are_named(union_ids(&data_type), types.as_slice(), fields.len()) {
             return Err(Error::OutOfSpec(Rule::UnionType));
         }
-        if !are_given(mode(&data_type), &offsets, types.len()) {
+        if !are_given(union_mode(&data_type), &offsets, types.len()) {
             return Err(Error::OutOfSpec(Rule::UnionOffsets));
         }
-        if !places_fit(ids(&data_type), types.as_slice(), &offsets, &fields) {
+        if !places_fit(union_ids(&data_type), types.as_slice(), &offsets, &fields) {
             return Err(Error::OutOfSpec(match offsets {
                 None => Rule::ChildLength,
                 Some(_) => Rule::UnionOffset,
@@ -370,7 +252,7 @@ impl UnionArray {
         ensures child { result.0 < child_count (layouts self.now.children) }
         ensures bound { result.1 < len_of (child (layouts self.now.children) result.0) }
     {
-        let number = child_number(ids(self.data_type()), self.type_at(index));
+        let number = child_number(union_ids(self.data_type()), self.type_at(index));
         match self.offsets() {
             None => (number, index),
             Some(offsets) => (number, offsets.as_slice()[index].cast_unsigned() as usize),

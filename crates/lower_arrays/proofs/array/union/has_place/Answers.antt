@@ -1,8 +1,9 @@
 use Rattle.std.proofs.Common.{rules, arith, ◌≡◌, ◌↔◌, ◌<◌, IsTrue, pos, length, map, get_or, subst, sym, ap, ◌∙◌}
 use Rattle.std.specs.Option.{option_copied}
 use Rattle.lower_arrays.specs.Layouts.{layouts, len_of}
-use Rattle.lower_arrays.specs.Keys.{KeyFits}
-use Rattle.lower_arrays.specs.Choices.{child, child_number}
+use Rattle.lower_keys.specs.Keys.{KeyFits}
+use Rattle.lower_keys.specs.Ids.{child_number}
+use Rattle.lower_arrays.specs.Choices.{child}
 use Rattle.lower_arrays.specs.AnyLayouts.{layout_of}
 use Rattle.lower_arrays.proofs.Choices.{child_is, number_below}
 use Rattle.lower_arrays.proofs.array.union.has_place.Goals as goal

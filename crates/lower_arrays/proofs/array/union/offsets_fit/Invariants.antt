@@ -1,8 +1,9 @@
 use Rattle.std.proofs.Common.{ℕ, pos, ◌<◌, get_or, map}
 use Rattle.std.specs.Option.{option_copied}
 use Rattle.lower_arrays.specs.Layouts.{layouts, len_of}
-use Rattle.lower_arrays.specs.Keys.{KeyFits}
-use Rattle.lower_arrays.specs.Choices.{child, child_number}
+use Rattle.lower_keys.specs.Keys.{KeyFits}
+use Rattle.lower_keys.specs.Ids.{child_number}
+use Rattle.lower_arrays.specs.Choices.{child}
 use Rattle.lower_arrays.specs.AnyLayouts.{layout_of}
 use Rattle.lower_arrays.proofs.array.union.offsets_fit.Given as goal
 

@@ -1,0 +1,2 @@
+pub mod ItemPlaces
+pub mod SameSlots

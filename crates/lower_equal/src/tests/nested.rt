@@ -1,0 +1,345 @@
+//! Arrays with children at work.
+use crate::equal;
+use lower::bitmap::Bitmap;
+use lower::buffer::Buffer;
+use lower::datatypes::{DataType, Field, Metadata};
+use lower::error::{Error, Rule};
+use lower::offset::OffsetsBuffer;
+use lower_arrays::array::{
+    AnyArray, AnyPrimitive, BooleanArray, FixedSizeListArray, ListArray, ListOffsets, MapArray,
+    PrimitiveArray, StructArray, Utf8Array,
+};
+use std::alloc::{AllocError, Global};
+use std::test::Fail;
+
+// As many bits as are asked, of a byte.
+fn bits(alloc: Global, byte: u8, count: usize) -> Result<Option<Bitmap>, Fail> {
+    let bytes = Buffer::new(Vec::from_slice(alloc, &[byte])?)?;
+    Ok(Some(Bitmap::try_new(bytes, count)?))
+}
+
+fn int32s(alloc: Global, values: &[i32], validity: Option<Bitmap>) -> Result<AnyArray, Fail> {
+    let values = Buffer::new(Vec::from_slice(alloc, values)?)?;
+    let array = PrimitiveArray::try_new(DataType::Int32, values, validity)?;
+    Ok(AnyArray::Primitive(AnyPrimitive::Int32(array)))
+}
+
+fn booleans(alloc: Global, byte: u8, count: usize) -> Result<AnyArray, Fail> {
+    let bytes = Buffer::new(Vec::from_slice(alloc, &[byte])?)?;
+    let values = Bitmap::try_new(bytes, count)?;
+    Ok(AnyArray::Boolean(BooleanArray::try_new(DataType::Boolean, values, None)?))
+}
+
+fn texts(alloc: Global, offsets: &[i32], values: &[u8]) -> Result<AnyArray, Fail> {
+    let offsets = OffsetsBuffer::try_new(Buffer::new(Vec::from_slice(alloc, offsets)?)?)?;
+    let values = Buffer::new(Vec::from_slice(alloc, values)?)?;
+    Ok(AnyArray::Utf8(Utf8Array::try_new(DataType::Utf8, offsets, values, None)?))
+}
+
+fn field(alloc: Global, name: &str, data_type: DataType) -> Result<Field, AllocError> {
+    Ok(Field {
+        name: String::from_str(alloc, name)?,
+        data_type,
+        is_nullable: true,
+        metadata: Metadata::new(alloc),
+    })
+}
+
+fn list_of(alloc: Global, item: DataType) -> Result<DataType, AllocError> {
+    Ok(DataType::List(Box::new(alloc, field(alloc, "item", item)?)?))
+}
+
+fn fixed_list_of(alloc: Global, item: DataType, size: usize) -> Result<DataType, AllocError> {
+    Ok(DataType::FixedSizeList(Box::new(alloc, field(alloc, "item", item)?)?, size))
+}
+
+// A struct of two fields, b and c.
+fn struct_of(alloc: Global, b: DataType, c: DataType) -> Result<DataType, AllocError> {
+    let mut fields = Vec::new(alloc);
+    fields.push(field(alloc, "b", b)?)?;
+    fields.push(field(alloc, "c", c)?)?;
+    Ok(DataType::Struct(fields))
+}
+
+fn map_of(alloc: Global, entries: DataType) -> Result<DataType, AllocError> {
+    Ok(DataType::Map(Box::new(alloc, field(alloc, "entries", entries)?)?, false))
+}
+
+fn offsets(alloc: Global, numbers: &[i32]) -> Result<OffsetsBuffer<i32>, Fail> {
+    Ok(OffsetsBuffer::try_new(Buffer::new(Vec::from_slice(alloc, numbers)?)?)?)
+}
+
+fn small(alloc: Global, numbers: &[i32]) -> Result<ListOffsets, Fail> {
+    Ok(ListOffsets::Small(offsets(alloc, numbers)?))
+}
+
+fn large(alloc: Global, numbers: &[i64]) -> Result<ListOffsets, Fail> {
+    let numbers = Buffer::new(Vec::from_slice(alloc, numbers)?)?;
+    Ok(ListOffsets::Large(OffsetsBuffer::try_new(numbers)?))
+}
+
+// Lists of these numbers.
+fn list(alloc: Global, places: &[i32], values: &[i32]) -> Result<AnyArray, Fail> {
+    let values = Box::new(alloc, int32s(alloc, values, None)?)?;
+    let data_type = list_of(alloc, DataType::Int32)?;
+    Ok(AnyArray::List(ListArray::try_new(data_type, small(alloc, places)?, values, None)?))
+}
+
+// What refuses lists of the numbers 1 and 2, whose type is a list of `item`.
+fn list_fault(
+    alloc: Global,
+    item: DataType,
+    places: &[i32],
+    validity: Option<Bitmap>,
+) -> Result<Option<Error>, Fail> {
+    let values = Box::new(alloc, int32s(alloc, &[1, 2], None)?)?;
+    let data_type = list_of(alloc, item)?;
+    Ok(ListArray::try_new(data_type, small(alloc, places)?, values, validity).err())
+}
+
+// What refuses a list of the numbers 1 and 2 with large offsets.
+fn large_list_fault(alloc: Global) -> Result<Option<Error>, Fail> {
+    let values = Box::new(alloc, int32s(alloc, &[1, 2], None)?)?;
+    let data_type = list_of(alloc, DataType::Int32)?;
+    Ok(ListArray::try_new(data_type, large(alloc, &[0, 2])?, values, None).err())
+}
+
+// Pairs of these numbers.
+fn pairs(alloc: Global, values: &[i32], validity: Option<Bitmap>) -> Result<AnyArray, Fail> {
+    let values = Box::new(alloc, int32s(alloc, values, None)?)?;
+    let data_type = fixed_list_of(alloc, DataType::Int32, 2)?;
+    Ok(AnyArray::FixedSizeList(FixedSizeListArray::try_new(data_type, values, validity)?))
+}
+
+// What refuses lists of one size of the numbers 1 and 2.
+fn fixed_list_fault(
+    alloc: Global,
+    data_type: DataType,
+    validity: Option<Bitmap>,
+) -> Result<Option<Error>, Fail> {
+    let values = Box::new(alloc, int32s(alloc, &[1, 2], None)?)?;
+    Ok(FixedSizeListArray::try_new(data_type, values, validity).err())
+}
+
+fn sized_fault(
+    alloc: Global,
+    item: DataType,
+    size: usize,
+    validity: Option<Bitmap>,
+) -> Result<Option<Error>, Fail> {
+    fixed_list_fault(alloc, fixed_list_of(alloc, item, size)?, validity)
+}
+
+// Records of bits and numbers, as many of each.
+fn records(
+    alloc: Global,
+    byte: u8,
+    numbers: &[i32],
+    validity: Option<Bitmap>,
+) -> Result<AnyArray, Fail> {
+    let mut values = Vec::new(alloc);
+    values.push(booleans(alloc, byte, numbers.len())?)?;
+    values.push(int32s(alloc, numbers, None)?)?;
+    let data_type = struct_of(alloc, DataType::Boolean, DataType::Int32)?;
+    Ok(AnyArray::Struct(StructArray::try_new(data_type, values, validity)?))
+}
+
+// What refuses records of `count` bits and the numbers 1 and 2.
+fn struct_fault(
+    alloc: Global,
+    data_type: DataType,
+    count: usize,
+    validity: Option<Bitmap>,
+) -> Result<Option<Error>, Fail> {
+    let mut values = Vec::new(alloc);
+    values.push(booleans(alloc, 0, count)?)?;
+    values.push(int32s(alloc, &[1, 2], None)?)?;
+    Ok(StructArray::try_new(data_type, values, validity).err())
+}
+
+// The same, of a type of bits and of `c`.
+fn record_fault(
+    alloc: Global,
+    c: DataType,
+    count: usize,
+    validity: Option<Bitmap>,
+) -> Result<Option<Error>, Fail> {
+    struct_fault(
+        alloc,
+        struct_of(alloc, DataType::Boolean, c)?,
+        count,
+        validity,
+    )
+}
+
+// Texts with numbers: "a" with 1, "b" with 2, "c" with null.
+fn entries(alloc: Global) -> Result<AnyArray, Fail> {
+    let mut values = Vec::new(alloc);
+    values.push(texts(alloc, &[0, 1, 2, 3], b"abc")?)?;
+    values.push(int32s(alloc, &[1, 2, 9], bits(alloc, 0b011, 3)?)?)?;
+    let data_type = struct_of(alloc, DataType::Utf8, DataType::Int32)?;
+    Ok(AnyArray::Struct(StructArray::try_new(data_type, values, None)?))
+}
+
+fn map(alloc: Global, places: &[i32], pairs: AnyArray) -> Result<AnyArray, Fail> {
+    let data_type = map_of(alloc, struct_of(alloc, DataType::Utf8, DataType::Int32)?)?;
+    let places = offsets(alloc, places)?;
+    let pairs = Box::new(alloc, pairs)?;
+    Ok(AnyArray::Map(MapArray::try_new(data_type, places, pairs, None)?))
+}
+
+// What refuses maps of the entries, from texts to `numbers`.
+fn map_fault(
+    alloc: Global,
+    numbers: DataType,
+    places: &[i32],
+    validity: Option<Bitmap>,
+) -> Result<Option<Error>, Fail> {
+    let data_type = map_of(alloc, struct_of(alloc, DataType::Utf8, numbers)?)?;
+    let pairs = Box::new(alloc, entries(alloc)?)?;
+    Ok(MapArray::try_new(data_type, offsets(alloc, places)?, pairs, validity).err())
+}
+
+// What refuses a map of this type, of the number 1.
+fn child_fault(alloc: Global, data_type: DataType) -> Result<Option<Error>, Fail> {
+    let child = Box::new(alloc, int32s(alloc, &[1], None)?)?;
+    Ok(MapArray::try_new(data_type, offsets(alloc, &[0, 1])?, child, None).err())
+}
+
+fn is_refused(fault: Option<Error>, rule: Rule) -> bool {
+    fault == Some(Error::OutOfSpec(rule))
+}
+
+#[test]
+fn lists_of_five_numbers(rt: HostRuntime) -> Result<(), Fail> {
+    let alloc = rt.alloc();
+    let array = list(alloc, &[0, 2, 2, 3, 5], &[1, 2, 3, 4, 5])?;
+    assert_eq!(rt; array.len(), 4);
+    assert_eq!(rt; array.null_count(), 0);
+    assert!(rt; equal(&array, &array.clone()?));
+    let part = array.sliced(1, 2);
+    assert_eq!(rt; part.len(), 2);
+    assert!(rt; equal(&part, &list(alloc, &[0, 0, 1], &[3])?));
+    assert!(rt; !equal(&part, &list(alloc, &[0, 1, 1], &[3])?));
+    Ok(())
+}
+
+#[test]
+fn lists_refused(rt: HostRuntime) -> Result<(), Fail> {
+    let alloc = rt.alloc();
+    let long = list_fault(alloc, DataType::Int32, &[0, 1, 2], bits(alloc, 0, 3)?)?;
+    assert!(rt; is_refused(long, Rule::ValidityLength));
+    let past = list_fault(alloc, DataType::Int32, &[0, 3], None)?;
+    assert!(rt; is_refused(past, Rule::OffsetsPastValues));
+    assert!(rt; is_refused(large_list_fault(alloc)?, Rule::PhysicalType));
+    let other = list_fault(alloc, DataType::Int64, &[0, 2], None)?;
+    assert!(rt; is_refused(other, Rule::ChildType));
+    Ok(())
+}
+
+#[test]
+fn a_pair_of_six_numbers(rt: HostRuntime) -> Result<(), Fail> {
+    let alloc = rt.alloc();
+    let array = pairs(alloc, &[1, 2, 3, 4, 5, 6], None)?;
+    assert_eq!(rt; array.len(), 3);
+    assert!(rt; equal(&array, &array.clone()?));
+    let part = array.sliced(1, 1);
+    assert_eq!(rt; part.len(), 1);
+    assert!(rt; equal(&part, &pairs(alloc, &[3, 4], None)?));
+    assert!(rt; !equal(&part, &pairs(alloc, &[3, 4], bits(alloc, 0, 1)?)?));
+    Ok(())
+}
+
+#[test]
+fn lists_of_one_size_refused(rt: HostRuntime) -> Result<(), Fail> {
+    let alloc = rt.alloc();
+    let fault = fixed_list_fault(alloc, list_of(alloc, DataType::Int32)?, None)?;
+    assert!(rt; is_refused(fault, Rule::PhysicalType));
+    let none = sized_fault(alloc, DataType::Int32, 0, None)?;
+    assert!(rt; is_refused(none, Rule::ZeroSize));
+    let rest = sized_fault(alloc, DataType::Int32, 3, None)?;
+    assert!(rt; is_refused(rest, Rule::ChildLength));
+    let other = sized_fault(alloc, DataType::UInt32, 2, None)?;
+    assert!(rt; is_refused(other, Rule::ChildType));
+    let long = sized_fault(alloc, DataType::Int32, 2, bits(alloc, 0, 2)?)?;
+    assert!(rt; is_refused(long, Rule::ValidityLength));
+    Ok(())
+}
+
+#[test]
+fn records_of_bits_and_numbers(rt: HostRuntime) -> Result<(), Fail> {
+    let alloc = rt.alloc();
+    let array = records(alloc, 0x0c, &[42, 28, 19, 31], bits(alloc, 0x0b, 4)?)?;
+    assert_eq!(rt; array.len(), 4);
+    assert_eq!(rt; array.null_count(), 1);
+    assert!(rt; equal(&array, &array.clone()?));
+    let hidden = records(alloc, 0x08, &[42, 28, 7, 31], bits(alloc, 0x0b, 4)?)?;
+    assert!(rt; equal(&array, &hidden));
+    let part = array.sliced(2, 2);
+    assert_eq!(rt; part.null_count(), 1);
+    assert!(rt;
+        equal(
+            &part,
+            &records(alloc, 0b10, &[0, 31], bits(alloc, 0b10, 2)?)?
+        )
+    );
+    assert!(rt;
+        !equal(
+            &part,
+            &records(alloc, 0b00, &[0, 31], bits(alloc, 0b10, 2)?)?
+        )
+    );
+    Ok(())
+}
+
+#[test]
+fn records_refused(rt: HostRuntime) -> Result<(), Fail> {
+    let alloc = rt.alloc();
+    let fault = struct_fault(alloc, DataType::Int32, 2, None)?;
+    assert!(rt; is_refused(fault, Rule::PhysicalType));
+    let none = StructArray::try_new(DataType::Struct(Vec::new(alloc)), Vec::new(alloc), None);
+    assert!(rt; is_refused(none.err(), Rule::NoChild));
+    let fault = struct_fault(alloc, DataType::Struct(Vec::new(alloc)), 2, None)?;
+    assert!(rt; is_refused(fault, Rule::ChildCount));
+    let other = record_fault(alloc, DataType::Int64, 2, None)?;
+    assert!(rt; is_refused(other, Rule::ChildType));
+    let more = record_fault(alloc, DataType::Int32, 3, None)?;
+    assert!(rt; is_refused(more, Rule::ChildLength));
+    let long = record_fault(alloc, DataType::Int32, 2, bits(alloc, 0, 3)?)?;
+    assert!(rt; is_refused(long, Rule::ValidityLength));
+    Ok(())
+}
+
+#[test]
+fn maps_from_texts_to_numbers(rt: HostRuntime) -> Result<(), Fail> {
+    let alloc = rt.alloc();
+    let array = map(alloc, &[0, 1, 3], entries(alloc)?)?;
+    assert_eq!(rt; array.len(), 2);
+    assert_eq!(rt; array.null_count(), 0);
+    assert!(rt; equal(&array, &array.clone()?));
+    let part = array.sliced(1, 1);
+    assert_eq!(rt; part.len(), 1);
+    let last = entries(alloc)?;
+    assert_eq!(rt; last.len(), 3);
+    assert!(rt; equal(&part, &map(alloc, &[0, 2], last.sliced(1, 2))?));
+    let first = entries(alloc)?;
+    assert_eq!(rt; first.len(), 3);
+    assert!(rt; !equal(&part, &map(alloc, &[0, 2], first.sliced(0, 2))?));
+    Ok(())
+}
+
+#[test]
+fn maps_refused(rt: HostRuntime) -> Result<(), Fail> {
+    let alloc = rt.alloc();
+    let past = map_fault(alloc, DataType::Int32, &[0, 4], None)?;
+    assert!(rt; is_refused(past, Rule::OffsetsPastValues));
+    let other = map_fault(alloc, DataType::Int64, &[0, 3], None)?;
+    assert!(rt; is_refused(other, Rule::ChildType));
+    let long = map_fault(alloc, DataType::Int32, &[0, 3], bits(alloc, 0, 2)?)?;
+    assert!(rt; is_refused(long, Rule::ValidityLength));
+    let lists = child_fault(alloc, list_of(alloc, DataType::Int32)?)?;
+    assert!(rt; is_refused(lists, Rule::PhysicalType));
+    let numbers = child_fault(alloc, map_of(alloc, DataType::Int32)?)?;
+    assert!(rt; is_refused(numbers, Rule::MapChild));
+    Ok(())
+}

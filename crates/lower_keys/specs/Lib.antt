@@ -1,0 +1,5 @@
+pub mod Numbers
+pub mod AnyNumbers
+pub mod Keys
+pub mod AnyKeys
+pub mod Ids

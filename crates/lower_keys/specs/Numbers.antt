@@ -1,0 +1,38 @@
+-- What contracts see of numbers of any type.
+-- (Arrow columnar format, "Fixed-size Primitive Layout".)
+use Rattle.std.specs.Prelude.{◌≡◌, ℕ, List, length, map}
+use Rattle.lower_types.specs.NumberTypes.{Number}
+use Rattle.lower_types.specs.declared.PrimitiveType.{PrimitiveType}
+use Rattle.lower.specs.TypeTrees.{TypeTree}
+use Rattle.lower.specs.Physical.{physical}
+use Rattle.lower.specs.declared.datatypes.physical_type.PhysicalType.TheVariants.{Primitive}
+use Rattle.lower_flat.specs.Validities.{Validity, ValidityFits, part, cut_validity}
+use Rattle.lower_flat.specs.Primitives.{PrimitiveSeen}
+
+-- the type of numbers that they are, the type of their array, how many there are, the numbers, and which of them are null
+pub record NumbersSeen : Type 0 where
+  pub number : PrimitiveType
+  pub type : TypeTree
+  pub len : ℕ
+  pub numbers : List Number
+  pub validity : Validity
+
+-- an array of numbers, each as the number that it is
+abbrev pub numbers_in : {T : Type 0} → PrimitiveType → (T → Number) → PrimitiveSeen T → NumbersSeen
+numbers_in p f a = record { number = p; type = a.type; len = length a.values; numbers = map f a.values; validity = a.validity }
+
+-- the rules of an array of numbers, whatever their type
+pub record IsNumbers (a : NumbersSeen) : Type 0 where
+  pub lies : physical a.type ≡ Primitive a.number
+  pub fits : ValidityFits a.validity a.len
+  pub count : length a.numbers ≡ a.len
+
+-- the n slots from place o on
+abbrev pub cut_numbers : ℕ → ℕ → NumbersSeen → NumbersSeen
+cut_numbers o n a = record {
+  number = a.number;
+  type = a.type;
+  len = n;
+  numbers = part o n a.numbers;
+  validity = cut_validity o n a.validity;
+}
