@@ -7,7 +7,7 @@ ghost use Rattle.ipc_devices.specs.declared.fault.Fault.TheVariants.{Ended};
 
 use crate::device::Reads;
 use crate::fault::Fault;
-use std::alloc::Global;
+use std::alloc::{AllocError, Global};
 use std::io;
 
 // The most bytes that are read at once, and so taken from memory for a length that is only stated.
@@ -55,8 +55,20 @@ fn add_piece<R: Reads>(reader: &mut R, bytes: &mut Vec<u8>, count: usize) -> Res
     Ok(())
 }
 
-/// Reads this many bytes in place of those that `bytes` holds, by at most 65,536 at a time: a stated
-/// length alone takes no memory. `Ended` comes exactly where there are fewer.
+// Takes memory for more bytes where there is none left: for three times as many as have come. So what has come is seldom moved, and a
+// stated length alone takes no memory.
+fn make_room(bytes: &mut Vec<u8>, piece: usize, left: usize) -> Result<(), AllocError>
+    ensures { bytes.new.items ≡ bytes.old.items }
+{
+    if bytes.capacity().saturating_sub(bytes.len()) < piece {
+        let more = bytes.len().saturating_mul(3).max(piece).min(left);
+        bytes.reserve(more)?;
+    }
+    Ok(())
+}
+
+/// Reads this many bytes in place of those that `bytes` holds, by at most 65,536 at a time, and takes memory for no more than four
+/// times as many as have come: a stated length alone takes none. `Ended` comes exactly where there are fewer.
 pub fn read_into<R: Reads>(reader: &mut R, bytes: &mut Vec<u8>, count: usize) -> Result<(), Fault>
     requires { count < 2 ^ 63 }
     ensures count { OnOk result (length bytes.new.items ≡ count) }
@@ -73,7 +85,9 @@ pub fn read_into<R: Reads>(reader: &mut R, bytes: &mut Vec<u8>, count: usize) ->
 {
     bytes.clear();
     while bytes.len() < count {
-        let piece = (count - bytes.len()).min(MOST_AT_ONCE);
+        let left = count - bytes.len();
+        let piece = left.min(MOST_AT_ONCE);
+        make_room(bytes, piece, left)?;
         add_piece(reader, bytes, piece)?;
     }
     Ok(())
