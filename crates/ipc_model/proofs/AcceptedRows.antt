@@ -24,11 +24,11 @@ both_texts = record {
 }
 
 -- the first byte of a text
-abbrev byte_of : Slot → ℕ
+abbrev pub byte_of : Slot → ℕ
 byte_of (text_slot (x ∷ xs)) = x
 byte_of _ = 0
 
-abbrev first_byte : List Slot → ℕ
+abbrev pub first_byte : List Slot → ℕ
 first_byte [] = 0
 first_byte (x ∷ xs) = byte_of x
 

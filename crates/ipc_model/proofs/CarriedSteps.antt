@@ -1,5 +1,5 @@
 -- A stream whose messages are carried stays so with each step of its writer.
-use Rattle.std.proofs.Common.{◌≡◌, ℕ, ◌^◌, ◌<◌, List, [], ◌++◌, length, Option, Some, zero, suc, refl, sym, ap, subst, ◌∙◌, append-nil}
+use Rattle.std.proofs.Common.{◌≡◌, ℕ, List, [], ◌++◌, length, Option, zero, suc, refl, sym, ap, subst, ◌∙◌, append-nil}
 use Rattle.ipc_model.proofs.Frames.{frame_append}
 use Rattle.ipc_model.proofs.Growing.{begins_with}
 use Rattle.ipc_model.proofs.Meanings.{item_append, item_message, item_waits, meaning_done, meaning_more}
@@ -8,7 +8,7 @@ use Rattle.ipc_model.proofs.WriterSteps.{item_mark, item_none}
 use Rattle.ipc_model.specs.Batches.{Chunk, lists_of}
 use Rattle.ipc_model.specs.CarriedStreams.{IsCarriedLists, IsCarriedMessage, IsCarriedHeader, IsCarriedFrame, IsCarriedFront, Behind, IsCarriedWithin, IsCarriedOn, BehindSchema, IsCarriedStream, CarriedFrontLaw, CarriedStartLaw, CarriedWriteLaw, CarriedFinishLaw}
 use Rattle.ipc_model.specs.Frame.{Frame, frame}
-use Rattle.ipc_model.specs.Streams.{Head, Header, header_of, Known, nothing_known, waits, Item, more, done, item, Meant, meaning}
+use Rattle.ipc_model.specs.Streams.{Head, header_of, Known, nothing_known, waits, Item, more, done, item, Meant, meaning}
 use Rattle.ipc_model.specs.WholeStreams.{Stream, stream_of}
 use Rattle.ipc_model.specs.Writers.{IsStarted, after_record}
 use Rattle.ipc_model.specs.WrittenLaws.{prefix, IsWritten}

@@ -3,6 +3,7 @@ use Rattle.std.proofs.Common.{◌≡◌, ℕ, zero, suc, ◌≤◌, nat_eq, Bool
 use Rattle.std.specs.Option.{option_and_then}
 use Rattle.ipc_views.specs.declared.file.Block.{Block}
 use Rattle.ipc_model.proofs.Followed.{record_follow_law, dictionary_follow_law}
+use Rattle.ipc_model.proofs.Given.{given-some, then-some}
 use Rattle.ipc_model.proofs.Frames.{frame_append}
 use Rattle.ipc_model.specs.AddressLaws.{Followed}
 use Rattle.ipc_model.specs.Batches.{Chunk}
@@ -13,10 +14,6 @@ use Rattle.ipc_model.specs.Frame.{Frame, message, mark, waiting, broken, frame}
 use Rattle.ipc_model.specs.Schemas.{given}
 
 -- ---- optional values
-
-pub given_some : {A B : Type 0} (o : Option A) (f : A → Option B) (c : B) → given o f ≡ Some c → (x : A) × (o ≡ Some x) × (f x ≡ Some c)
-given_some None f c e = absurd cc
-given_some (Some x) f c e = (x, refl, e)
 
 given_is : {A B : Type 0} (o : Option A) (f : A → Option B) (x : A) (c : B) → o ≡ Some x → f x ≡ Some c → given o f ≡ Some c
 given_is o f x c e h = ap (λ p. given p f) e ∙ h
@@ -71,9 +68,9 @@ chunk_then : (m : FileMetadata) (size : ℕ) (known : Dictionaries) (b : Block) 
     → chunk_at m known xs b projection limit ≡ Some c → chunk_at (resized m size) known (xs ++ ys) b projection limit ≡ Some c
 unfolding chunk_at
 chunk_then m size known b projection limit c xs ys le e =
-    let p = given_some (placed b) _ c e in
-    let t = given_some (metadata_at xs p.0) _ c p.2 in
-    let h = given_some (block_header t.0) _ c t.2 in
+    let p = given-some (placed b) _ c e in
+    let t = given-some (metadata_at xs p.0) _ c p.2 in
+    let h = given-some (block_header t.0) _ c t.2 in
     given_is (placed b) _ p.0 c p.1
     (given_is (metadata_at (xs ++ ys) p.0) _ t.0 c (metadata_then xs ys p.0 t.0 t.1)
     (given_is (block_header t.0) _ h.0 c h.1 (record_then m size known p.0 projection limit h.0 c xs ys le h.2)))
@@ -82,9 +79,9 @@ dictionary_then : (m : FileMetadata) (size : ℕ) (known after : Dictionaries) (
     → dictionaries_at m known xs b ≡ Some after → dictionaries_at (resized m size) known (xs ++ ys) b ≡ Some after
 unfolding dictionaries_at
 dictionary_then m size known after b xs ys le e =
-    let p = given_some (placed b) _ after e in
-    let t = given_some (metadata_at xs p.0) _ after p.2 in
-    let h = given_some (block_header t.0) _ after t.2 in
+    let p = given-some (placed b) _ after e in
+    let t = given-some (metadata_at xs p.0) _ after p.2 in
+    let h = given-some (block_header t.0) _ after t.2 in
     given_is (placed b) _ p.0 after p.1
     (given_is (metadata_at (xs ++ ys) p.0) _ t.0 after (metadata_then xs ys p.0 t.0 t.1)
     (given_is (block_header t.0) _ h.0 after h.1 (values_then m size known after p.0 h.0 xs ys le h.2)))
@@ -95,7 +92,7 @@ dictionaries_then : (m : FileMetadata) (size : ℕ) (seen then : Block → List 
     → dictionaries_after m seen known bs ≡ Some after → dictionaries_after (resized m size) then known bs ≡ Some after
 dictionaries_then m size seen then known after [] f le e = e
 dictionaries_then m size seen then known after (b ∷ bs) f le e =
-    let d = given_some (dictionaries_at m known (seen b) b) _ after e in
+    let d = given-some (dictionaries_at m known (seen b) b) _ after e in
     given_is (dictionaries_at (resized m size) known (then b) b) _ d.0 after
     (ap (λ source. dictionaries_at (resized m size) known source b) (f.behind b)
     ∙ dictionary_then m size known d.0 b (seen b) (f.added b) le d.1)
@@ -127,10 +124,6 @@ blocks_follow_law m size seen then known cs f le v = record {
 
 -- ---- a file
 
-then_some : {A B : Type 0} (g : A → Option B) (o : Option A) (c : B) → option_and_then g o ≡ Some c → (a : A) × (o ≡ Some a) × (g a ≡ Some c)
-then_some g None c e = absurd cc
-then_some g (Some a) c e = (a, refl, e)
-
 all_more : (bytes added : List ℕ) → SeesMore (all_of bytes) (all_of (bytes ++ added))
 all_more bytes added = record { added = λ b. added; behind = λ b. refl }
 
@@ -139,7 +132,7 @@ file_follow_law m size bytes added le = record {
   dictionaries = λ known e.
       dictionaries_then m size (all_of bytes) (all_of (bytes ++ added)) [] known m.dictionaries (all_more bytes added) le e;
   chunk = λ known projection limit i c e.
-      let found = then_some _ (slice_get m.blocks i) c e in
+      let found = then-some _ (slice_get m.blocks i) c e in
       ap (option_and_then (λ b. chunk_at (resized m size) known (bytes ++ added) b projection limit)) found.1
       ∙ chunk_then m size known found.0 projection limit c bytes added le found.2;
 }

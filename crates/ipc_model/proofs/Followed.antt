@@ -10,6 +10,7 @@ use Rattle.ipc_devices.specs.declared.fault.TableFault.{TableFault}
 use Rattle.ipc_views.specs.Spot.{Spot}
 use Rattle.ipc_views.specs.MessageSlots.{dictionary_batch_id, dictionary_batch_data, dictionary_batch_is_delta}
 use Rattle.ipc_views.specs.declared.schema.Buffer.{Buffer}
+use Rattle.ipc_model.proofs.Given.{then-some}
 use Rattle.ipc_model.proofs.Agreement.{own_parts, lengths_same, total_same, count_same}
 use Rattle.ipc_model.proofs.ExtendedSlots.{extend_law}
 use Rattle.ipc_model.proofs.Pruned.{bounded_decides, batch_some, batch_is}
@@ -162,17 +163,13 @@ batch_then lists x y order extra ds schema projection limit c f e =
     batch_is t y.size schema projection limit is
     ∙ ap Some (chunk_then lists x y order extra ds schema.fields ts limit k js f found.0.columns ∙ found.1)
 
-then_some : {A B : Type 0} (g : A → Option B) (o : Option A) (c : B) → option_and_then g o ≡ Some c → (a : A) × (o ≡ Some a) × (g a ≡ Some c)
-then_some g None c e = absurd cc
-then_some g (Some a) c e = (a, refl, e)
-
 then_is : {A B : Type 0} (g : A → Option B) (o : Option A) (a : A) (c : B) → o ≡ Some a → g a ≡ Some c → option_and_then g o ≡ Some c
 then_is g o a c e h = ap (option_and_then g) e ∙ h
 
 pub record_follow_law : RecordFollowLaw
 unfolding record_meaning
 record_follow_law schema extra known x y t projection limit c f e =
-    let found = then_some _ (lists_of t) c e in
+    let found = then-some _ (lists_of t) c e in
     then_is _ (lists_of t) found.0 c found.1 (batch_then found.0 x y schema.order extra known schema projection limit c f found.2)
 
 -- ---- dictionaries
@@ -180,14 +177,14 @@ record_follow_law schema extra known x y t projection limit c f e =
 values_then : (schema : Schema) (extra : ℕ) (known after : Dictionaries) (x y : Body) (id : ℤ) (d : Spot) (p : Place) → Followed x y
     → values_meaning schema extra known x id d p ≡ Some after → values_meaning schema extra known y id d p ≡ Some after
 values_then schema extra known after x y id d p f e =
-    let found = then_some (with_values known id p) (record_meaning (values_schema p schema.order) extra known x d None None) after e in
+    let found = then-some (with_values known id p) (record_meaning (values_schema p schema.order) extra known x d None None) after e in
     then_is (with_values known id p) (record_meaning (values_schema p schema.order) extra known y d None None) found.0 after
     (record_follow_law (values_schema p schema.order) extra known x y d None None found.0 f found.1) found.2
 
 slots_then : (schema : Schema) (extra : ℕ) (known after : Dictionaries) (x y : Body) (i : Result ℤ TableFault) (b : Result Bool TableFault) (d : Result (Option Spot) TableFault) → Followed x y
     → batch_meaning schema extra known x i b d ≡ Some after → batch_meaning schema extra known y i b d ≡ Some after
 slots_then schema extra known after x y (Ok id) (Ok false) (Ok (Some d)) f e =
-    let found = then_some (values_meaning schema extra known x id d) (place_of (places schema.fields schema.ids) id) after e in
+    let found = then-some (values_meaning schema extra known x id d) (place_of (places schema.fields schema.ids) id) after e in
     then_is (values_meaning schema extra known y id d) (place_of (places schema.fields schema.ids) id) found.0 after found.1
     (values_then schema extra known after x y id d found.0 f found.2)
 slots_then schema extra known after x y (Ok id) (Ok false) (Ok None) f e = absurd cc

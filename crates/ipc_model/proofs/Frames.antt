@@ -40,7 +40,7 @@ pub sized_is : (n : ℕ) (bytes : List ℕ) → n ≤ length bytes → 0 < n →
 unfolding sized
 sized_is n bytes within some small = grind (arith, nat_tests)
 
-message_same : (a b c d : List ℕ) → a ≡ b → c ≡ d → message a c ≡ message b d
+pub message_same : (a b c d : List ℕ) → a ≡ b → c ≡ d → message a c ≡ message b d
 message_same a b c d e f = cc
 
 sized_same : (n k : ℕ) (a b : List ℕ) → n ≡ k → a ≡ b → sized n a ≡ sized k b

@@ -145,7 +145,7 @@ read_at s ts limit k (j ∷ js) zero v h = v.0.0
 read_at s ts limit k (j ∷ js) (suc i) v h = read_at s ts limit k js i v.1 (omega arith)
 
 -- what is listed from a buffer on is among what all list
-listed_in : (s : Entries) (b n : ℕ) → listed_from s b n ≤ sum_by (λ (p : Part). size p.length) (drop b s.parts)
+pub listed_in : (s : Entries) (b n : ℕ) → listed_from s b n ≤ sum_by (λ (p : Part). size p.length) (drop b s.parts)
 listed_in s b zero = omega arith
 listed_in s b (suc n) =
     let d : Part = record { offset = pos 0; length = pos 0; bytes = [] } in

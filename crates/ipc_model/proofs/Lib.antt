@@ -30,3 +30,10 @@ pub mod NeededRows
 pub mod Visiting
 pub mod AcceptedRows
 pub mod FileFollowing
+pub mod OfferRows
+pub mod ChosenNeeds
+pub mod Given
+pub mod FieldLists
+pub mod PairLists
+pub mod Places
+pub mod OfferCounts

@@ -11,4 +11,8 @@ needed_rows = record {
   two_maps = refl;
   sliced_union = refl;
   omitted = refl;
+  both_columns = refl;
+  second_column = refl;
+  second_listed = refl;
+  chosen_twice = refl;
 }

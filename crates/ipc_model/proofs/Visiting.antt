@@ -4,7 +4,7 @@ use Rattle.std.proofs.lemmas.Bool.{leb-true}
 use Rattle.ipc_views.specs.SchemaSlots.{schema_endianness, schema_fields, schema_custom_metadata}
 use Rattle.lower.specs.TypeTrees.{Pairs}
 use Rattle.lower_types.specs.declared.Endianness.{Endianness}
-use Rattle.ipc_model.proofs.FileFollowing.{given_some}
+use Rattle.ipc_model.proofs.Given.{given-some}
 use Rattle.ipc_model.specs.Batches.{Schema}
 use Rattle.ipc_model.specs.Schemas.{made, present, order_of, ReadAll, pairs_at, fields_from, field_at, most_levels, fields_count, schema_with, schema_at}
 use Rattle.ipc_model.specs.Visits.{visits, VisitLaw}
@@ -21,9 +21,9 @@ few most order es all schema e =
 pub visit_law : VisitLaw
 unfolding schema_at
 visit_law t schema e =
-    let order = given_some (made (schema_endianness t)) _ schema e in
-    let v = given_some (made (schema_custom_metadata t)) _ schema order.2 in
-    let es = given_some (pairs_at v.0) _ schema v.2 in
-    let fields = given_some (present (schema_fields t)) _ schema es.2 in
-    let all = given_some (fields_from (λ s. field_at most_levels s) fields.0 0 fields.0.count) _ schema fields.2 in
+    let order = given-some (made (schema_endianness t)) _ schema e in
+    let v = given-some (made (schema_custom_metadata t)) _ schema order.2 in
+    let es = given-some (pairs_at v.0) _ schema v.2 in
+    let fields = given-some (present (schema_fields t)) _ schema es.2 in
+    let all = given-some (fields_from (λ s. field_at most_levels s) fields.0 0 fields.0.count) _ schema fields.2 in
     few (length t.message) (order_of order.0) es.0 all.0 schema all.2

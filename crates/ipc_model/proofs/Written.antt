@@ -4,9 +4,9 @@ use Rattle.std.specs.Int.{w32, to_le_bytes, from_le_bytes}
 use Rattle.std.proofs.lemmas.Bool.{le-ltb, eq-eqb}
 use Rattle.std.proofs.lemmas.List.{take_at, drop_at}
 use Rattle.std.proofs.lemmas.Nat.{from_le_bytes-to_le_bytes_4}
-use Rattle.ipc_model.proofs.Frames.{frame_newer, marked_is, sized_is}
+use Rattle.ipc_model.proofs.Frames.{frame_newer, marked_is, message_same, sized_is}
 use Rattle.ipc_model.specs.Batches.{Chunk, record_meaning}
-use Rattle.ipc_model.specs.Frame.{message, frame, sized, word}
+use Rattle.ipc_model.specs.Frame.{frame, sized, word}
 use Rattle.ipc_model.specs.Streams.{Header, whole, with_chunk, body_item, message_item, frame_item, item}
 use Rattle.ipc_model.specs.WrittenLaws.{prefix, WrittenFrameLaw, WrittenMarkLaw, WrittenRecordLaw}
 
@@ -27,9 +27,6 @@ marker_then n rest h =
     ∙ marked_is (to_le_bytes w32 n ++ rest) long
     ∙ ap (λ m. sized m (drop 4 (to_le_bytes w32 n ++ rest))) (prefix_word n rest h)
     ∙ ap (sized n) (prefix_rest n rest)
-
-message_same : (a b c d : List ℕ) → a ≡ b → c ≡ d → message a c ≡ message b d
-message_same a b c d e f = cc
 
 pub written_frame : WrittenFrameLaw
 written_frame metadata rest some short =

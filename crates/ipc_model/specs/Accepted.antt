@@ -13,8 +13,8 @@ pub record Brought : Type 0 where
   pub id : ℤ
   pub values : Dictionary
 
--- What a chunk brings to a writer: its columns, the values at its dictionary places, and for each message
--- that is to be written the lengths of its nodes and of its buffers.
+-- What a chunk brings to a writer: its columns, the values at its dictionary places, and for the message of each dictionary
+-- and that of the record the lengths of the nodes and of the buffers.
 pub record Offer : Type 0 where
   pub columns : Chunk
   pub dictionaries : List Brought

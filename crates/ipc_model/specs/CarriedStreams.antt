@@ -1,12 +1,12 @@
 -- Which streams this version reads and writes: each message is carried, up to the end of the stream.
 -- The definitions of what a stream means are for all; this stands beside them.
 -- (Arrow columnar format, "IPC Streaming Format".)
-use Rattle.std.specs.Prelude.{◌≡◌, ◌≢◌, ℕ, zero, suc, ◌^◌, ◌<◌, List, [], ◌∷◌, ◌++◌, length, Option, Some, None}
+use Rattle.std.specs.Prelude.{◌≡◌, ◌≢◌, ℕ, zero, suc, ◌^◌, ◌<◌, List, [], ◌++◌, length, Option, Some, None}
 use Rattle.ipc_model.specs.Batches.{Schema, Chunk, Lists, lists_of}
 use Rattle.ipc_model.specs.Carried.{IsCarriedBatch}
 use Rattle.ipc_model.specs.Frame.{Frame, message, frame}
 use Rattle.ipc_model.specs.Streams.{Head, Header, header_of, Known, Item, more, done, item, nothing_known}
-use Rattle.ipc_model.specs.Writers.{IsStarted, after_record}
+use Rattle.ipc_model.specs.Writers.{IsStarted}
 use Rattle.ipc_model.specs.WrittenLaws.{prefix, IsWritten}
 
 -- ---- one message

@@ -37,3 +37,6 @@ pub mod Visits
 pub mod Accepted
 pub mod AcceptedRows
 pub mod FileFollowLaws
+pub mod Offers
+pub mod OfferRows
+pub mod FieldLists

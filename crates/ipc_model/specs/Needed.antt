@@ -1,9 +1,10 @@
 -- How many bytes a column needs: what is held of it where it was read, dictionaries aside.
 -- (Arrow columnar format, "Buffer Listing for Each Layout".)
-use Rattle.std.specs.Prelude.{ℕ, zero, suc, ◌+◌, ◌*◌, ◌≤◌, ◌==◌, if◌then◌else◌, None, Some}
+use Rattle.std.specs.Prelude.{ℕ, zero, suc, ◌+◌, ◌*◌, ◌≤◌, ◌==◌, List, if◌then◌else◌, Option, None, Some}
+use Rattle.std.specs.List.{IsDistinct, sum_by}
 use Rattle.lower.specs.declared.datatypes.UnionMode.TheVariants.{Sparse, Dense}
 use Rattle.lower_types.specs.NumberTypes.{width_of}
-use Rattle.ipc_model.specs.Batches.{chosen, IsBatch}
+use Rattle.ipc_model.specs.Batches.{kind_at, own, chosen, listed_bytes, IsBatch}
 use Rattle.ipc_model.specs.Columns.{is_omitted, last_offset, IsWell}
 use Rattle.ipc_model.specs.Entries.{Entries, size, node, listed, Limit, rows, times, bytes_for}
 use Rattle.ipc_model.specs.Kinds.{offsets_32, OffsetWidth, offset_width, Kind, null_kind, boolean_kind, number_kind, float_kind, fixed_binary_kind, binary_kind, utf8_kind, list_kind, map_kind, fixed_list_kind, struct_kind, union_kind, dictionary_kind, extension_kind, Kinds, no_kinds, more_kinds, count, nodes, buffers}
@@ -62,3 +63,28 @@ NeededLaw = (s : Entries) (t : Kind) (a b : ℕ) (limit : Limit) → IsWell s t 
 abbrev pub BatchNeededLaw : Type 0
 BatchNeededLaw = (s : Entries) (most : ℕ) (ts : Kinds) (limit : Limit) → IsBatch s most ts (chosen None (count ts)) limit
     → all_needed s ts 0 0 limit ≤ most
+
+-- ---- chosen columns
+
+-- no column is chosen twice
+abbrev pub IsOnce : Option (List ℕ) → Type 0
+IsOnce None = Unit {0}
+IsOnce (Some js) = IsDistinct (λ i j. i == j) js
+
+-- the bytes that some columns need, each in its own entries, and those that their buffers list
+abbrev pub columns_needed : Entries → Kinds → Limit → List ℕ → ℕ
+columns_needed s ts limit js = sum_by (λ j. needed (own s ts j) (kind_at ts j) 0 0 limit) js
+
+abbrev pub columns_listed : Entries → Kinds → List ℕ → ℕ
+columns_listed s ts js = sum_by (λ j. listed_bytes (own s ts j)) js
+
+-- some columns need no more than their own buffers list, and these no more than so much
+pub record NeedNoMore (s : Entries) (most : ℕ) (ts : Kinds) (js : List ℕ) (limit : Limit) : Type 0 where
+  pub own_buffers : columns_needed s ts limit js ≤ columns_listed s ts js
+  pub all_buffers : columns_listed s ts js ≤ most
+
+-- The columns that are chosen of a batch, each of them once, need no more than their own buffers list, and these list no more than all
+-- buffers may.
+abbrev pub ChosenNeededLaw : Type 0
+ChosenNeededLaw = (s : Entries) (most : ℕ) (ts : Kinds) (projection : Option (List ℕ)) (limit : Limit) → IsOnce projection
+    → IsBatch s most ts (chosen projection (count ts)) limit → NeedNoMore s most ts (chosen projection (count ts)) limit

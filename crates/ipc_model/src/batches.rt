@@ -2,7 +2,8 @@
 
 ghost use Rattle.ipc_model.specs.AddressLaws.{AddressLaw, DictionaryFollowLaw, OrderLaw, RecordFollowLaw};
 ghost use Rattle.ipc_model.specs.WrittenBatches.{WrittenBatchLaw};
-ghost use Rattle.ipc_model.specs.Needed.{BatchNeededLaw};
+ghost use Rattle.ipc_model.specs.Needed.{BatchNeededLaw, ChosenNeededLaw};
+ghost use Rattle.ipc_model.specs.Offers.{EntryCountLaw};
 ghost use Rattle.ipc_model.specs.BatchLaws.{AgreeLaw, BatchTestLaw, PruneLaw};
 
 /// Whether the entries of a batch have a meaning can be computed.
@@ -52,4 +53,15 @@ pub fn written_batches()
 /// All columns of a batch together need no more bytes than its buffers may list.
 pub fn bytes_of_batches()
     ensures { BatchNeededLaw }
+{}
+
+/// The chosen columns of a batch need no more bytes than their own buffers list, and these no more than all
+/// buffers may list: under each projection that names a column once, and each limit.
+pub fn bytes_of_chosen_columns()
+    ensures { ChosenNeededLaw }
+{}
+
+/// What is written of an array has as many nodes and buffers as a column of its type takes.
+pub fn entries_of_arrays()
+    ensures { EntryCountLaw }
 {}

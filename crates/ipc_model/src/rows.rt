@@ -5,6 +5,7 @@ ghost use Rattle.ipc_model.specs.ColumnRows.{CountRows, FlatRows, ListRows, MapR
 ghost use Rattle.ipc_model.specs.DictionaryRows.{DictionaryRows, NestedRows, SharedRows};
 ghost use Rattle.ipc_model.specs.FileRows.{FileRows};
 ghost use Rattle.ipc_model.specs.NeededRows.{NeededRows};
+ghost use Rattle.ipc_model.specs.OfferRows.{ChunkRows, LengthRows, FilledRows};
 ghost use Rattle.ipc_model.specs.SlicedRows.{SlicedRows};
 ghost use Rattle.ipc_model.specs.StreamRows.{ChosenRows, DemoRows, MetadataRows, SmallestRows};
 ghost use Rattle.ipc_model.specs.WeightRows.{PlaceRows, WeightRows};
@@ -106,4 +107,12 @@ pub fn bytes_needed()
 /// Chunks that a writer takes, and that it refuses.
 pub fn accepted_chunks()
     ensures { AcceptedRows }
+{}
+
+/// The lengths of nodes and buffers of arrays, what chunks bring to a writer, and which of them it takes.
+#[tactic(auto, using(crate::proofs::OfferRows::length_rows, crate::proofs::OfferRows::place_rows, crate::proofs::OfferRows::chunk_rows))]
+pub fn offered_chunks()
+    ensures lengths { LengthRows }
+    ensures dictionaries { FilledRows }
+    ensures chunks { ChunkRows }
 {}

@@ -9,6 +9,4 @@ pub mod kinds;
 pub mod numbers;
 pub mod record;
 pub mod slots;
-#[cfg(test)]
-mod tests;
 pub mod well;

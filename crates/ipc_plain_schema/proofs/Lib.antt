@@ -1,5 +1,3 @@
 pub mod FieldLists
 pub mod FieldSteps
 pub mod Leaves
-pub mod Places
-pub mod Steps

@@ -1,8 +1,6 @@
 -- What was read of a part of a schema message, which knows how many fields may still be read.
 -- (Arrow columnar format, "Schema message".)
 use Rattle.std.specs.Prelude.{◌≡◌, ℕ, ◌+◌, ◌<◌, Bool, true, false, IfSome, IsSomeAnd, None, Option, Some}
-use Rattle.lower.specs.TypeTrees.{FieldTrees, no_fields, more_fields, FieldTree}
-use Rattle.ipc_base.specs.IdTrees.{IdTrees, no_ids, more_ids, IdTree}
 use Rattle.ipc_model.specs.Schemas.{Read, ReadAll, ReadType, field_count, fields_count, inner_count}
 use Rattle.ipc_plain_schema.specs.OtherTypes.{type_has_other, field_has_other, fields_have_other}
 use Rattle.ipc_plain_schema.specs.declared.seen.Seen.{Seen}
@@ -40,15 +38,3 @@ IsSeen view other count before s y = IsPlain view other s.plain y × (before ≡
 abbrev pub Sees : {X Y : Type 0} → (X → Y) → (Y → Bool) → (Y → ℕ) → ℕ → Option (Seen X) → Option Y → Type 0
 Sees view other count before None meaning = IfSome meaning (λ y. before < count y)
 Sees view other count before (Some s) meaning = IsSomeAnd meaning (IsSeen view other count before s)
-
--- fields with one more behind them
-abbrev pub and_field : FieldTrees → FieldTree → FieldTrees
-and_field no_fields f = more_fields f no_fields
-and_field (more_fields g gs) f = more_fields g (and_field gs f)
-
-abbrev pub and_id : IdTrees → IdTree → IdTrees
-and_id no_ids i = more_ids i no_ids
-and_id (more_ids j js) i = more_ids j (and_id js i)
-
-abbrev pub and_read : ReadAll → Read → ReadAll
-and_read all x = (and_field all.0 x.0, and_id all.1 x.1)

@@ -6,11 +6,12 @@ ghost use Rattle.lower.specs.TypeTrees as trees;
 ghost use Rattle.ipc_base.specs.IdTrees.{no_ids};
 ghost use Rattle.ipc_views.specs.SchemaSlots.{field_children};
 ghost use Rattle.ipc_views.specs.Unions.{type_parts};
+ghost use Rattle.ipc_model.specs.FieldLists.{and_read};
 ghost use Rattle.ipc_model.specs.Schemas;
 ghost use Rattle.ipc_model.specs.Schemas.{Read, ReadAll, given, present};
 ghost use Rattle.ipc_plain_schema.specs.PlainTypes.{field_view, fields_view, type_view};
 ghost use Rattle.ipc_plain_schema.specs.Shapes.{group_of, leaf_of, single_of};
-ghost use Rattle.ipc_plain_schema.specs.Sights.{IsPlain, IsSeen, Sees, and_read, read_count, read_other, reads_count, reads_other, type_count, type_other};
+ghost use Rattle.ipc_plain_schema.specs.Sights.{IsPlain, IsSeen, Sees, read_count, read_other, reads_count, reads_other, type_count, type_other};
 
 use crate::head::{field_with, head_at};
 use crate::seen::{Seen, present};

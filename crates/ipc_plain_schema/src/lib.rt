@@ -9,6 +9,4 @@ mod metadata;
 pub mod schema;
 mod seen;
 mod shape;
-#[cfg(test)]
-mod tests;
 pub mod types;

@@ -10,7 +10,9 @@ use Rattle.ipc_model.specs.Schemas.{Read, field_at, field_with, fields_from, fir
 use Rattle.ipc_plain_schema.specs.Heads.{head_at}
 use Rattle.ipc_plain_schema.specs.PlainTypes.{field_view, fields_view, type_view}
 use Rattle.ipc_plain_schema.specs.Sights.{IsSeen, Sees, read_count, read_other, reads_count, reads_other, type_count, type_other}
-use Rattle.ipc_plain_schema.proofs.FieldLists.{fields-more, if-none, if-ok, if-some, no-table, some-and, too-many}
+use Rattle.ipc_model.proofs.FieldLists.{fields-more}
+use Rattle.ipc_model.proofs.Given.{if-some}
+use Rattle.ipc_plain_schema.proofs.FieldLists.{if-none, if-ok, no-table, some-and, too-many}
 use Rattle.ipc_plain_schema.proofs.FieldSteps.{field-is, group-form, no-head, no-level, no-type, present-map, single-form, some-field}
 use Rattle.ipc_plain_schema.proofs.field.+fields.Goals as goal
 

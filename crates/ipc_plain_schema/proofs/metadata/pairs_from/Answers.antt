@@ -1,7 +1,7 @@
 use Rattle.std.proofs.Common.{◌≡◌, ◌∙◌, sym, arith, Some}
 use Rattle.lower.specs.TypeViews.{pairs_of}
 use Rattle.ipc_model.specs.Schemas.{with_key_value}
-use Rattle.ipc_plain_schema.proofs.Steps.{pairs-step}
+use Rattle.ipc_model.proofs.PairLists.{pairs-step}
 use Rattle.ipc_plain_schema.proofs.metadata.pairs_from.Goals as goal
 
 pub loop-i-preserved : goal.loop-i-preserved

@@ -2,7 +2,7 @@ use Rattle.std.proofs.Common.{◌∙◌, ap, sym, Some, Ok}
 use Rattle.std.specs.Option.{option_map}
 use Rattle.ipc_views.specs.Tables.{map_ok}
 use Rattle.ipc_views.specs.Unions.{header_parts}
-use Rattle.ipc_plain_schema.proofs.Places.{root-message, header-message}
+use Rattle.ipc_model.proofs.Places.{root-message, header-message}
 use Rattle.ipc_plain_schema.proofs.schema.plain_schema.Goals as goal
 
 pub schema_at-requires : goal.schema_at-requires

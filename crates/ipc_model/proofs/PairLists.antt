@@ -1,4 +1,4 @@
--- Loops over vectors of tables of pairs.
+-- The pairs of a vector of their tables, one after another.
 use Rattle.std.proofs.Common.{◌≡◌, ℕ, suc, ◌+◌, ◌-◌, ◌<◌, Some, None, Ok, Err, refl, arith}
 use Rattle.lower.specs.TypeTrees.{Pairs}
 use Rattle.ipc_devices.specs.declared.fault.TableFault.{TableFault}
