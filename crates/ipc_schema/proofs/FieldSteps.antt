@@ -15,7 +15,9 @@ use Rattle.ipc_views.specs.Tables.{map_ok, table_in}
 use Rattle.ipc_model.specs.Schemas.{Encoding, Read, ReadAll, ReadType, made, present, given, encoded, extended, value_under, with_extension, optional_encoding, pairs_at, field_at, field_count, field_from, field_with, fields_count, fields_from, first_field, group_with, inner_count, single_with, some_fields, type_of_field}
 use Rattle.ipc_schema.specs.Reading.{Refuses, in_schema}
 use Rattle.ipc_schema.specs.Views.{Child, with_one_id}
-use Rattle.ipc_schema.proofs.FieldLists.{OneField, given-given, if-some, if-some-at, one-field}
+use Rattle.ipc_model.proofs.FieldLists.{OneField, one-field}
+use Rattle.ipc_model.proofs.Given.{if-some, if-some-at}
+use Rattle.ipc_schema.proofs.FieldLists.{given-given}
 use Rattle.ipc_schema.proofs.Steps.{in_schema-ok}
 
 -- ---- refusals

@@ -1,16 +1,6 @@
-pub mod Carried
-pub mod DefaultsFit
 pub mod FieldLists
-pub mod FieldReads
 pub mod FieldSteps
 pub mod Found
-pub mod IdAppends
-pub mod Lists
-pub mod Places
 pub mod ReadFits
-pub mod SchemaReads
-pub mod SlotReads
 pub mod Steps
 pub mod TypeShapes
-pub mod WrittenHeads
-pub mod WrittenSchema

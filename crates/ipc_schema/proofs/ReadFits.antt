@@ -12,7 +12,7 @@ use Rattle.ipc_views.specs.Spot.{Spot, Vector}
 use Rattle.ipc_views.specs.Tables.{root_at, table_in}
 use Rattle.ipc_model.specs.Batches.{Schema}
 use Rattle.ipc_model.specs.Schemas.{Encoding, Read, ReadAll, ReadType, encoded, extended, field_at, field_from, field_with, fields_count, fields_from, first_field, given, group_at, group_with, id_of, is_group_tag, is_single_tag, made, most_levels, optional_encoding, order_of, pairs_at, plain_at, present, schema_at, schema_header, schema_of, schema_with, single_at, single_with, some_fields, type_of_field}
-use Rattle.ipc_schema.proofs.FieldLists.{given-some, map-some}
+use Rattle.ipc_model.proofs.Given.{given-some, map-some}
 
 -- what is read has the shape
 ReadsFitting : (Spot → Option Read) → Type 0

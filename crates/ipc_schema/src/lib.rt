@@ -1,7 +1,4 @@
-//! Schemas as the first message of a stream, and of a file, holds them: read and written.
+//! Schemas as the first message of a stream, and of a file, holds them: read.
 #![tactic(auto)]
 
 pub mod read;
-#[cfg(test)]
-mod tests;
-pub mod write;

@@ -2,7 +2,8 @@ use Rattle.std.proofs.Common.{◌∙◌, ◌<◌, sym, arith}
 use Rattle.std.proofs.lemmas.Result.{err_from_is_err_and}
 use Rattle.lower.specs.TypeViews.{pairs_of}
 use Rattle.ipc_schema.proofs.FieldSteps.{refuses-weaker}
-use Rattle.ipc_schema.proofs.Steps.{in_schema-ok, pairs-none, pairs-step}
+use Rattle.ipc_model.proofs.PairLists.{pairs-none, pairs-step}
+use Rattle.ipc_schema.proofs.Steps.{in_schema-ok}
 use Rattle.ipc_schema.proofs.read.metadata.read_pairs.Goals as goal
 
 pub loop-i-preserved : goal.loop-i-preserved

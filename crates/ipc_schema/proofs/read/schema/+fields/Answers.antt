@@ -10,7 +10,9 @@ use Rattle.ipc_views.specs.Tables.{table_in}
 use Rattle.ipc_views.specs.Unions.{type_parts}
 use Rattle.ipc_model.specs.Schemas.{Read, field_at, field_count, field_with, fields_count, fields_from, first_field, inner_count, made, present, some_fields, type_of_field, single_at, group_at, size_of}
 use Rattle.ipc_schema.specs.Views.{encoding_seen, field_number, type_seen}
-use Rattle.ipc_schema.proofs.FieldLists.{if-some, fields-more, view-push, ids-push, count-push}
+use Rattle.ipc_model.proofs.FieldLists.{count-and, fields-more}
+use Rattle.ipc_model.proofs.Given.{if-some}
+use Rattle.ipc_schema.proofs.FieldLists.{view-push, ids-push}
 use Rattle.ipc_schema.proofs.FieldSteps.{refuses-weaker, slot-made, slot-present, field-is, no-dictionary, level-down, count-with, some-field, mapped-few, one-child, several, no-table, too-many}
 use Rattle.ipc_schema.proofs.TypeShapes.{view-List, view-LargeList, view-FixedSizeList, view-Map, view-Struct, view-Union}
 use Rattle.ipc_schema.proofs.Steps.{in_schema-ok, in_schema-err}
@@ -82,7 +84,7 @@ deserialize_fields-loop-i-preserved t c =
     let led = sym c.get.ensures ∙ in_schema-ok c.get.result c.in_ok-table.table c.in_ok-table.ensures in
     let start : 0 + i ≡ i = omega arith in
     let more = fields-more (λ s. field_at c.args.levels s) v 0 i (fields_view fs, all_ids_view is) c.in_ok-table.table (field_view x, ids_view y) c.loop-i.invariant.0 (ap (table_in v) start ∙ led) c.in_ok-field.ensures.0 in
-    let count = count-push (fields_view fs) (field_view x) in
+    let count = count-and (fields_view fs) (field_view x) in
     let taken = c.in_ok-field.ensures.1 in
     let before = c.loop-i.invariant.1 in
     let one : i + 1 ≡ suc i = omega arith in

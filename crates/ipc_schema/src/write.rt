@@ -1,4 +1,0 @@
-//! Schemas as bytes.
-
-pub mod defaults;
-pub mod schema;

@@ -1,0 +1,12 @@
+pub mod DefaultsFit
+pub mod FieldTables
+pub mod IdAppends
+pub mod Pairs
+pub mod PlaceIds
+pub mod SchemaReads
+pub mod SlotReads
+pub mod TableReads
+pub mod TypeTables
+pub mod Unions
+pub mod WrittenHeads
+pub mod WrittenSchema

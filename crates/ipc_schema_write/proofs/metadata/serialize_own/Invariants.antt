@@ -1,0 +1,9 @@
+use Rattle.std.proofs.Common.{◌≡◌, ◌++◌}
+use Rattle.lower.specs.Normal.{data_key, name_key, without}
+use Rattle.lower.specs.TypeViews.{pairs_of}
+use Rattle.ipc_schema_write.specs.Meanings.{pairs_in}
+use Rattle.ipc_schema_write.proofs.metadata.serialize_own.Given as goal
+
+abbrev pub invariant-loop-key : goal.invariant-loop-key
+invariant-loop-key l =
+    pairs_in l.pairs.items ++ without name_key (without data_key (pairs_of l.key-iterator)) ≡ without name_key (without data_key (pairs_of l.metadata.entries))

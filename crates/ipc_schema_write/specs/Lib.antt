@@ -1,0 +1,5 @@
+pub mod DefaultIds
+pub mod Ids
+pub mod Meanings
+pub mod Refusals
+pub mod WriterAnswers

@@ -1,0 +1,100 @@
+//! The dictionary ids of a schema where none are given.
+ghost use Rattle.std.specs.Prelude.{◌≡◌, ◌+◌, ◌≤◌, ◌^◌, IfOk, length, pos};
+ghost use Rattle.lower.specs.Counts.{fields_places};
+ghost use Rattle.lower.specs.TypeViews.{type_view, field_view, fields_view};
+ghost use Rattle.ipc_base.specs.IdTrees.{ids_view, all_ids_view};
+ghost use Rattle.ipc_base.specs.Fitting.{AllFit};
+ghost use Rattle.ipc_schema_write.specs.DefaultIds.{count_below, count_field, count_all, default_children, default_ids, default_all};
+ghost use Rattle.ipc_schema_write.specs.Refusals.{RefusesCount};
+
+use ipc_base::fault::{ArgFault, Fault};
+use ipc_base::ipc::IpcField;
+use lower::datatypes::counts::is_dictionary_type;
+use lower::datatypes::{DataType, Field};
+use std::alloc::Global;
+
+/// The ids that fields get where none are given: 0, 1, 2 and on, in pre-order of the dictionary fields.
+///
+/// Faults: `Argument(TooLarge)` only where the ids pass `i64::MAX`; `Memory`.
+pub fn default_ipc_fields(alloc: Global, fields: &[Field]) -> Result<Vec<IpcField>, Fault>
+    ensures ids { IfOk result (λ r. all_ids_view r.items ≡ default_all 0 (fields_view fields.now)) }
+    ensures fit { IfOk result (λ r. AllFit (fields_view fields.now) (all_ids_view r.items)) }
+    ensures only { RefusesCount result (2 ^ 63 ≤ length (fields_places (fields_view fields.now))) }
+{
+    let mut next = 0;
+    let ids = ids_from(alloc, fields, &mut next)?;
+    Ok(ids)
+}
+
+#[cycle(defaults)]
+fn ids_from(alloc: Global, fields: &[Field], next: &mut u64) -> Result<Vec<IpcField>, Fault>
+    ensures ids { IfOk result (λ r. all_ids_view r.items ≡ default_all next.old (fields_view fields.now)) }
+    ensures after { IfOk result (λ _. next.new ≡ next.old + count_all (fields_view fields.now)) }
+    ensures only { RefusesCount result (2 ^ 63 ≤ next.old + count_all (fields_view fields.now)) }
+{
+    let mut all = Vec::new(alloc);
+    for field in fields {
+        all.push(ids_of(alloc, field, next)?)?;
+    }
+    Ok(all)
+}
+
+#[cycle(defaults)]
+fn ids_of(alloc: Global, field: &Field, next: &mut u64) -> Result<IpcField, Fault>
+    ensures ids { IfOk result (λ r. ids_view r ≡ default_ids next.old (field_view field.now)) }
+    ensures after { IfOk result (λ _. next.new ≡ next.old + count_field (field_view field.now)) }
+    ensures only { RefusesCount result (2 ^ 63 ≤ next.old + count_field (field_view field.now)) }
+{
+    if is_dictionary_type(&field.data_type) {
+        let dictionary_id = take_id(next)?;
+        let fields = ids_below(alloc, &field.data_type, next)?;
+        Ok(IpcField {
+            fields,
+            dictionary_id: Some(dictionary_id),
+        })
+    } else {
+        let fields = ids_below(alloc, &field.data_type, next)?;
+        Ok(IpcField {
+            fields,
+            dictionary_id: None,
+        })
+    }
+}
+
+// The next id.
+fn take_id(next: &mut u64) -> Result<i64, Fault>
+    ensures id { IfOk result (λ id. id ≡ pos next.old) }
+    ensures after { IfOk result (λ _. next.new ≡ next.old + 1) }
+    ensures only { RefusesCount result (2 ^ 63 ≤ next.old + 1) }
+{
+    if *next >= i64::MAX as u64 {
+        return Err(Fault::Argument(ArgFault::TooLarge));
+    }
+    let id = next.cast_signed();
+    *next += 1;
+    Ok(id)
+}
+
+#[cycle(defaults)]
+fn ids_below(alloc: Global, data_type: &DataType, next: &mut u64) -> Result<Vec<IpcField>, Fault>
+    ensures ids { IfOk result (λ r. all_ids_view r.items ≡ default_children next.old (type_view data_type.now)) }
+    ensures after { IfOk result (λ _. next.new ≡ next.old + count_below (type_view data_type.now)) }
+    ensures only { RefusesCount result (2 ^ 63 ≤ next.old + count_below (type_view data_type.now)) }
+{
+    match data_type {
+        DataType::List(field)
+        | DataType::LargeList(field)
+        | DataType::FixedSizeList(field, _)
+        | DataType::Map(field, _) => {
+            let only = ids_of(alloc, field, next)?;
+            let mut all = Vec::new(alloc);
+            all.push(only)?;
+            Ok(all)
+        }
+        DataType::Struct(fields) | DataType::Union(fields, _, _) => ids_from(alloc, fields, next),
+        DataType::Dictionary(_, inner, _) | DataType::Extension(_, inner, _) => {
+            ids_below(alloc, inner, next)
+        }
+        _ => Ok(Vec::new(alloc)),
+    }
+}

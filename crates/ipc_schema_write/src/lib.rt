@@ -1,0 +1,13 @@
+//! Schemas as the first message of a stream, and of a file, holds them: written.
+#![tactic(auto)]
+
+pub mod defaults;
+mod dictionaries;
+mod fields;
+mod metadata;
+pub mod schema;
+#[cfg(test)]
+mod tests;
+mod types;
+mod weights;
+mod writable;
