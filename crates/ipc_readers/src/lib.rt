@@ -2,5 +2,3 @@
 #![tactic(auto)]
 
 pub mod read;
-#[cfg(test)]
-mod tests;

@@ -42,7 +42,8 @@ fn size_of(number: i64) -> usize
 }
 
 /// Reads the next `count` numbers. They go through a block of 4,096 bytes straight into their
-/// vector, so that a stated count alone takes no memory. `Ended` where there are fewer.
+/// vector, whose memory is taken at once: the caller has seen that so many bytes are listed, and that
+/// what is listed is there. `Ended` where there are fewer.
 #[tactic(auto, using(crate::proofs::Pieces::reading))]
 pub fn read_numbers<T: NativeType, R: Reads>(
     alloc: Global,
@@ -59,7 +60,7 @@ pub fn read_numbers<T: NativeType, R: Reads>(
         (λ v. v.items ≡ values_of (T.value Little) T.width (take (T.width * count) (after (R.memory reader.old)))) }
     ensures whole { IsTrue R.still → (R.memory reader.new).whole ≡ (R.memory reader.old).whole }
 {
-    let mut numbers = Vec::new(alloc);
+    let mut numbers = Vec::with_capacity(alloc, count)?;
     let mut block = [0u8; BLOCK];
     let width = T::width();
     let most = BLOCK / width;

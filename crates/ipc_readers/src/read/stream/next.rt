@@ -1,5 +1,5 @@
 //! Reads the next chunk of a stream.
-ghost use Rattle.std.specs.Prelude.{◌≡◌, ◌≢◌, ◌≤◌, ◌<◌, ◌^◌, ◌↔◌, IsTrue, IsSome, IfOk, IfErr, false};
+ghost use Rattle.std.specs.Prelude.{◌≡◌, ◌≢◌, ◌≤◌, ◌<◌, ◌^◌, ◌↔◌, IsTrue, IsSome, IfOk, IfErr, OnOk, None, false};
 ghost use Rattle.std.specs.Iterator.{endless};
 ghost use Rattle.ipc_devices.specs.Device.{Rises, after};
 ghost use Rattle.ipc_devices.specs.Faults.{OnIo, OwnFault};
@@ -131,6 +131,7 @@ impl<R: Reads + Drop> StreamReader<R> {
         requires { AllFit (fields_view metadata.schema.fields.items)
             (all_ids_view metadata.ipc_schema.fields.items) }
         ensures ok { IfOk result (λ made. Begins reader metadata made) }
+        ensures all { OnOk result (projection ≡ None) }
         ensures only { IfErr result (λ e. (e ≡ NotYetImplemented Pending) × IsSome projection) }
     {
         if projection.is_some() {
