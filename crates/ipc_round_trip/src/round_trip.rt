@@ -2,8 +2,8 @@
 ghost use Rattle.std.specs.Prelude.{IfErr, IfOk};
 ghost use Rattle.lower.specs.TypeViews.{fields_view, pairs_of};
 ghost use Rattle.ipc_model.specs.Writers.{taken};
-ghost use Rattle.ipc_schema.specs.DefaultIds.{default_all};
-ghost use Rattle.ipc_schema.specs.WriterAnswers.{written_head};
+ghost use Rattle.ipc_schema_write.specs.DefaultIds.{default_all};
+ghost use Rattle.ipc_schema_write.specs.WriterAnswers.{written_head};
 ghost use Rattle.ipc_write.specs.Calls.{answered};
 ghost use Rattle.ipc_write.specs.Writers.{seen};
 ghost use Rattle.ipc_round_trip.specs.RoundTrip.{ComesBack, EndsStream, FinishedLaw, OpenLaw, ReadableLaw, RefusesRoundTrip};

@@ -1,51 +1,61 @@
--- A schema that is written is carried.
-use Rattle.std.proofs.Common.{◌≡◌, List, [], ◌∷◌, Bool, true, false, ◌&&◌, IsTrue, Option, None, Some, IsSome, option_map, refl}
-use Rattle.lower.specs.Normal.{norm_field, norm_fields}
-use Rattle.lower.specs.TypeTrees.{Plain, int8, int16, int32, int64, uint8, uint16, uint32, uint64, TypeTree, plain, single, group, dictionary, extension, FieldTree, field, FieldTrees, no_fields, more_fields, Pairs}
-use Rattle.ipc_parts.specs.Tree.{Part}
-use Rattle.ipc_tables.specs.declared.types.FieldType.{FieldType}
-use Rattle.ipc_base.specs.IdTrees.{IdTrees}
-use Rattle.ipc_model.specs.Carried.{IsCarried, are_whole, is_whole, is_whole_field}
-use Rattle.ipc_schema.specs.WriterAnswers.{written}
-use Rattle.ipc_schema.specs.Written.{field_table, field_tables, plain_field, plain_table, type_table, with_table}
+-- A schema that is taken is carried, and has no dictionaries.
+use Rattle.std.proofs.Common.{◌≡◌, ℕ, List, [], Bool, IsTrue, refl, arith}
+use Rattle.std.proofs.lemmas.Bool.{and_parts}
+use Rattle.lower.specs.Normal.{norm, norm_fields}
+use Rattle.lower.specs.TypeTrees.{TypeTree, plain, single, group, dictionary, extension, field, FieldTrees, no_fields, more_fields, Pairs}
+use Rattle.ipc_base.specs.IdTrees.{IdTree, ids, IdTrees}
+use Rattle.ipc_model.specs.Batches.{field_places, places}
+use Rattle.ipc_model.specs.Carried.{IsCarried, are_whole, is_whole_type}
+use Rattle.ipc_model.specs.TypeKinds.{first_ids, other_ids}
+use Rattle.ipc_devices.specs.declared.fault.ArgFault.TheVariants.{FieldsShape, NotWritable}
+use Rattle.ipc_devices.specs.declared.fault.Fault.{Fault}
+use Rattle.ipc_devices.specs.declared.fault.Fault.TheVariants.{Argument, Memory, NotYetImplemented}
+use Rattle.ipc_devices.specs.declared.fault.Nyi.TheVariants.{Pending}
+use Rattle.ipc_schema_write.specs.WriterAnswers.{RefusesSchema, ShareAnId, written}
+use Rattle.ipc_write.specs.Writers.{IsCarriedSchema, RefusesStart, are_carried}
+use Rattle.ipc_write.specs.declared.stream.WriterState.{WriterState}
 
-both_true : (a b : Bool) → IsTrue a → IsTrue b → IsTrue (a && b)
-both_true true b h g = g
-both_true false b h g = absurd cc
+type_whole : (t : TypeTree) → IsTrue (is_whole_type t) → IsTrue (is_whole_type (norm t))
+type_whole (plain p) h = h
+type_whole (single s f) h = absurd cc
+type_whole (group g fs) h = absurd cc
+type_whole (dictionary keys t ordered) h = absurd cc
+type_whole (extension name t text) h = absurd cc
 
-both_there : (a : Option Part) (b : Option (List Part)) → IsSome (with_table a b) → IsSome a × IsSome b
-both_there None b h = absurd cc
-both_there (Some x) None h = absurd cc
-both_there (Some x) (Some xs) h = (refl, refl)
-
-plain_whole : (p : Plain) → IsSome (plain_table p) → IsTrue (is_whole p)
-plain_whole int8 h = refl
-plain_whole int16 h = refl
-plain_whole int32 h = refl
-plain_whole int64 h = refl
-plain_whole uint8 h = refl
-plain_whole uint16 h = refl
-plain_whole uint32 h = refl
-plain_whole uint64 h = refl
-plain_whole _ h = absurd cc
-
-was_there : {A B : Type 0} (f : A → B) (o : Option A) → IsSome (option_map f o) → IsSome o
-was_there f None h = absurd cc
-was_there f (Some x) h = refl
-
-field_whole : (f : FieldTree) → IsSome (field_table f) → IsTrue (is_whole_field (norm_field f))
-field_whole (field name (plain p) nullable []) h = plain_whole p (was_there (plain_field name nullable) (plain_table p) h)
-field_whole (field name (single s c) nullable []) h = absurd cc
-field_whole (field name (group g cs) nullable []) h = absurd cc
-field_whole (field name (dictionary keys t ordered) nullable []) h = absurd cc
-field_whole (field name (extension called t text) nullable []) h = absurd cc
-field_whole (field name t nullable (e ∷ es)) h = absurd cc
-
-fields_whole : (fs : FieldTrees) → IsSome (field_tables fs) → IsTrue (are_whole (norm_fields fs))
+fields_whole : (fs : FieldTrees) → IsTrue (are_carried fs) → IsTrue (are_whole (norm_fields fs))
 fields_whole no_fields h = refl
-fields_whole (more_fields f fs) h =
-    let parts = both_there (field_table f) (field_tables fs) h in
-    both_true (is_whole_field (norm_field f)) (are_whole (norm_fields fs)) (field_whole f parts.0) (fields_whole fs parts.1)
+fields_whole (more_fields (field name t nullable es) fs) h =
+    let (own, rest) = and_parts _ _ h in
+    let (none, whole) = and_parts _ _ own in
+    let here = type_whole t whole in
+    let after = fields_whole fs rest in
+    rw (here, after) refl
 
-pub written_carried : (fs : FieldTrees) (es : Pairs) (is : IdTrees) → IsSome (field_tables fs) → IsCarried (written fs es is)
-written_carried fs es is h = record { fields = fields_whole fs h; order = refl }
+pub written_carried : (fs : FieldTrees) (es : Pairs) (is : IdTrees) → IsCarriedSchema fs es → IsCarried (written fs es is)
+written_carried fs es is h = record { fields = fields_whole fs h.whole; order = refl }
+
+field_placeless : (name : List ℕ) (t : TypeTree) (nullable : Bool) (es : Pairs) (i : IdTree) → IsTrue (is_whole_type t) → field_places (field name t nullable es) i ≡ []
+field_placeless name (plain p) nullable es (ids id is) h = refl
+field_placeless name (single s f) nullable es i h = absurd cc
+field_placeless name (group g fs) nullable es i h = absurd cc
+field_placeless name (dictionary keys t ordered) nullable es i h = absurd cc
+field_placeless name (extension n t text) nullable es i h = absurd cc
+
+placeless : (fs : FieldTrees) (is : IdTrees) → IsTrue (are_carried fs) → places fs is ≡ []
+placeless no_fields is h = refl
+placeless (more_fields (field name t nullable es) fs) is h =
+    let (own, rest) = and_parts _ _ h in
+    let (none, whole) = and_parts _ _ own in
+    rw (field_placeless name t nullable es (first_ids is) whole, placeless fs (other_ids is) rest) refl
+
+-- a schema in which dictionaries share an id isn't taken
+share_none : (fs : FieldTrees) (is : IdTrees) → IsTrue (are_carried fs) → ShareAnId fs is → ⊥
+share_none fs is h shared = shared (rw (placeless fs is h) (λ i j d before inside. absurd (omega (arith, inside))))
+
+-- why a schema that is taken is refused
+pub refused_start : (s : WriterState) (fs : FieldTrees) (es : Pairs) (is : IdTrees) (e : Fault) → IsCarriedSchema fs es → RefusesSchema e fs es is → RefusesStart s fs es is e
+refused_start s fs es is Memory k h = tt
+refused_start s fs es is (NotYetImplemented Pending) k h = λ c. share_none fs is c.whole h
+refused_start s fs es is (Argument FieldsShape) k h = h
+refused_start s fs es is (Argument NotWritable) k h = h
+refused_start s fs es is _ k h = absurd h

@@ -17,7 +17,7 @@ use Rattle.lower_types.specs.declared.PrimitiveType.TheVariants as forms
 use Rattle.lower_arrays.specs.Layouts.{level, len_of, type_of}
 use Rattle.lower_arrays.specs.AnyLayouts.{layout_of}
 use Rattle.lower_arrays.specs.Slots.{IsArray, slots}
-use Rattle.lower_arrays.specs.declared.array.AnyPrimitive.TheVariants.{Int8, Int16, Int32, Int64, UInt8, UInt16, UInt32, UInt64}
+use Rattle.lower_keys.specs.declared.numbers.AnyPrimitive.TheVariants.{Int8, Int16, Int32, Int64, UInt8, UInt16, UInt32, UInt64}
 use Rattle.lower_arrays.specs.declared.array.AnyArray.{AnyArray}
 use Rattle.lower_arrays.specs.declared.array.AnyArray.TheVariants.{Primitive}
 use Rattle.ipc_base.specs.IdTrees.{IdTree, ids, IdTrees}

@@ -18,8 +18,8 @@ use Rattle.lower_types.specs.declared.PrimitiveType.TheVariants as Form
 use Rattle.lower_arrays.specs.Layouts.{Parts, numbers, level, len_of, type_of}
 use Rattle.lower_arrays.specs.AnyLayouts.{layout_of}
 use Rattle.lower_arrays.specs.Slots.{IsArray}
-use Rattle.lower_arrays.specs.declared.array.AnyPrimitive.{AnyPrimitive}
-use Rattle.lower_arrays.specs.declared.array.AnyPrimitive.TheVariants.{Int8, Int16, Int32, Int64, UInt8, UInt16, UInt32, UInt64}
+use Rattle.lower_keys.specs.declared.numbers.AnyPrimitive.{AnyPrimitive}
+use Rattle.lower_keys.specs.declared.numbers.AnyPrimitive.TheVariants.{Int8, Int16, Int32, Int64, UInt8, UInt16, UInt32, UInt64}
 use Rattle.lower_arrays.specs.declared.array.AnyArray.{AnyArray}
 use Rattle.lower_arrays.specs.declared.array.AnyArray.TheVariants.{Primitive}
 use Rattle.ipc_model.specs.WrittenBatches.{Numbers, buffers_from, entry}

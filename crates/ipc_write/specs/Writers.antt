@@ -1,5 +1,5 @@
 -- What the calls of a stream's writer do.
-use Rattle.std.specs.Prelude.{◌≡◌, ℕ, ◌≤◌, ◌^◌, Bool, IsTrue, List, [], ◌∷◌, Vec, length, map, All, Option, Some, None, IfSome, Result, OnOk}
+use Rattle.std.specs.Prelude.{◌≡◌, ◌==◌, ◌&&◌, ℕ, ◌≤◌, ◌^◌, Bool, true, IsTrue, List, [], ◌∷◌, Vec, length, map, All, Option, Some, None, IfSome, Result, OnOk}
 use Rattle.std.specs.List.{AllZip}
 use Rattle.std.specs.Borrow.{Bor}
 use Rattle.std.specs.declared.alloc.Global.{Global}
@@ -10,14 +10,17 @@ use Rattle.ipc_devices.specs.Faults.{OnIo, OnRefused}
 use Rattle.ipc_devices.specs.declared.fault.Fault.{Fault}
 use Rattle.ipc_devices.specs.declared.fault.Fault.TheVariants.{Argument, Io, Memory as NoMemory, NotYetImplemented, State}
 use Rattle.ipc_devices.specs.declared.fault.ArgFault.TheVariants.{ColumnCount, ColumnType, FieldsDiffer, TooLarge, TooLong}
+use Rattle.ipc_devices.specs.declared.fault.Nyi.TheVariants.{Pending}
 use Rattle.ipc_devices.specs.declared.fault.StateFault.TheVariants as faults
 use Rattle.lower.specs.Normal.{norm}
 use Rattle.lower.specs.Counts.{fields_places}
 use Rattle.lower.specs.TypeTrees.{FieldTrees, Pairs, TypeTree, field, more_fields, no_fields}
 use Rattle.lower.specs.TypeViews.{type_view}
-use Rattle.ipc_schema.specs.DefaultIds.{default_all}
+use Rattle.ipc_schema_write.specs.DefaultIds.{default_all}
+use Rattle.ipc_model.specs.Carried.{is_whole_type}
 use Rattle.ipc_model.specs.Schemas.{head_of}
-use Rattle.ipc_schema.specs.WriterAnswers.{IsWritable, RefusesSchema, written_head}
+use Rattle.ipc_model.specs.Writable.{IsWritable}
+use Rattle.ipc_schema_write.specs.WriterAnswers.{RefusesSchema, written_head}
 use Rattle.lower_arrays.specs.declared.array.AnyArray.{AnyArray}
 use Rattle.ipc_parts.specs.Encodes.{IsEncoding}
 use Rattle.ipc_write.specs.Batches.{RefusesChunk, chunk_slots}
@@ -138,13 +141,28 @@ abbrev pub chosen_ids : Option (Vec IpcField Global) → FieldTrees → IdTrees
 chosen_ids None fs = default_all 0 fs
 chosen_ids (Some given) fs = all_ids_view given.items
 
+-- fields of integers without metadata
+abbrev pub are_carried : FieldTrees → Bool
+are_carried no_fields = true
+are_carried (more_fields (field name t nullable metadata) fields) = ((length metadata == 0) && is_whole_type t) && are_carried fields
+
+-- a schema that this writer takes: fields of integers, and no metadata
+pub record IsCarriedSchema (fields : FieldTrees) (metadata : Pairs) : Type 0 where
+  pub whole : IsTrue (are_carried fields)
+  pub without : metadata ≡ []
+
+-- A schema with these ids that is taken can be written.
+pub record IsTaken (fields : FieldTrees) (metadata : Pairs) (ids : IdTrees) : Type 0 where
+  pub carried : IsCarriedSchema fields metadata
+  pub writable : IsWritable fields metadata ids
+
 -- A writer was started: the message that was sent is that of the schema in its normal form.
 pub record StartsWith {W : Type 0} (a b : WriterSeen W) (fields : FieldTrees) (metadata : Pairs) (ids : IdTrees) : Type 0 where
   pub was : a.state ≡ New
   pub is : b.state ≡ Started
   pub types : b.types ≡ normal_types fields
   pub ids_are : b.ids ≡ ids
-  pub writable : IsWritable fields metadata ids
+  pub writable : IsTaken fields metadata ids
   pub means : head_of b.metadata ≡ Some (written_head fields metadata ids)
   pub body : b.body ≡ []
 
@@ -158,7 +176,7 @@ RefusesNew s _ = ⊥
 -- why a writer refuses a schema with these ids
 abbrev pub RefusesStart : WriterState → FieldTrees → Pairs → IdTrees → Fault → Type 0
 RefusesStart s fs es is (State e) = RefusesNew s (State e)
-RefusesStart s fs es is (NotYetImplemented e) = RefusesSchema (NotYetImplemented e) fs es is
+RefusesStart s fs es is (NotYetImplemented Pending) = IsCarriedSchema fs es → ⊥
 RefusesStart s fs es is (Argument TooLarge) = 2 ^ 63 ≤ length (fields_places fs)
 RefusesStart s fs es is (Argument e) = RefusesSchema (Argument e) fs es is
 RefusesStart s fs es is NoMemory = Unit {0}

@@ -1,8 +1,8 @@
 //! Lists of calls of a writer of streams, and what its bytes mean after them.
 ghost use Rattle.std.specs.Prelude.{[], ◌∷◌, IfOk};
 ghost use Rattle.lower.specs.TypeViews.{fields_view, pairs_of};
-ghost use Rattle.ipc_schema.specs.DefaultIds.{default_all};
-ghost use Rattle.ipc_schema.specs.WriterAnswers.{written_head};
+ghost use Rattle.ipc_schema_write.specs.DefaultIds.{default_all};
+ghost use Rattle.ipc_schema_write.specs.WriterAnswers.{written_head};
 ghost use Rattle.ipc_model.specs.Writers.{taken};
 ghost use Rattle.ipc_write.specs.Agreement.{Follows};
 ghost use Rattle.ipc_write.specs.Calls.{answered};

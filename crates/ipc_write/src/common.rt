@@ -13,7 +13,7 @@ use ipc_base::chunk::Chunk;
 use ipc_devices::{ArgFault, Fault};
 use ipc_tables::message::{Message, MessageHeader, RecordBatch};
 use ipc_views::{Buffer, FieldNode, MetadataVersion};
-use lower_arrays::array::AnyArray;
+use lower_arrays::array::{AnyArray, AnyPrimitive};
 use std::alloc::Global;
 
 /// How a writer writes. There is nothing to choose yet.
@@ -40,6 +40,27 @@ impl EncodedData {
             arrow_data: Vec::new(alloc),
         }
     }
+}
+
+// How many bytes a number of the column takes; none where it is of a kind that isn't written.
+fn width(column: &AnyArray) -> usize {
+    match column {
+        AnyArray::Primitive(AnyPrimitive::Int8(_) | AnyPrimitive::UInt8(_)) => 1,
+        AnyArray::Primitive(AnyPrimitive::Int16(_) | AnyPrimitive::UInt16(_)) => 2,
+        AnyArray::Primitive(AnyPrimitive::Int32(_) | AnyPrimitive::UInt32(_)) => 4,
+        AnyArray::Primitive(AnyPrimitive::Int64(_) | AnyPrimitive::UInt64(_)) => 8,
+        _ => 0,
+    }
+}
+
+// Room for the body of the chunk, padding among it, so that its memory is taken at once.
+fn room(chunk: &Chunk<AnyArray>) -> usize {
+    let mut room = 0usize;
+    for column in chunk.arrays() {
+        let bytes = column.len().saturating_mul(width(column));
+        room = room.saturating_add(bytes).saturating_add(64);
+    }
+    room
 }
 
 // The message of a record batch.
@@ -92,6 +113,7 @@ pub(crate) fn chunk_to_bytes_amortized(
     let mut nodes = Vec::new(alloc);
     let mut buffers = Vec::new(alloc);
     encoded.arrow_data.clear();
+    encoded.arrow_data.reserve(room(chunk))?;
     let body_length = write_columns(
         chunk.arrays(),
         &mut buffers,

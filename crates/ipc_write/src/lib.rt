@@ -6,5 +6,3 @@ pub mod common;
 pub mod common_sync;
 pub mod serialize;
 pub mod stream;
-#[cfg(test)]
-mod tests;

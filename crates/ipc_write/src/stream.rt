@@ -5,23 +5,25 @@ ghost use Rattle.lower.specs.TypeViews.{fields_view, pairs_of, type_view};
 ghost use Rattle.ipc_base.specs.IdTrees.{all_ids_view, ids_view};
 ghost use Rattle.ipc_devices.specs.Device.{WritesOver};
 ghost use Rattle.ipc_devices.specs.Faults.{OnIo, OnRefused};
-ghost use Rattle.ipc_devices.specs.declared.fault.Fault.TheVariants.{Argument};
+ghost use Rattle.ipc_devices.specs.declared.fault.Fault.TheVariants.{Argument, NotYetImplemented};
+ghost use Rattle.ipc_devices.specs.declared.fault.Nyi.TheVariants.{Pending};
 ghost use Rattle.ipc_devices.specs.declared.fault.ArgFault.TheVariants.{FieldsDiffer, TooLarge};
 ghost use Rattle.ipc_write.specs.Framing.{message_bytes, message_len, prefix_bytes};
 ghost use Rattle.ipc_write.specs.Sending.{FailsOrIsFull, IsIoOr, WritesSome};
 ghost use Rattle.ipc_write.specs.declared.stream.WriterState.TheVariants.{Failed, Finished, New, Started};
 ghost use Rattle.ipc_write.specs.Agreement.{Appends, Begins, IsFresh, Remains};
 ghost use Rattle.ipc_write.specs.Meaning.{chunk_written};
-ghost use Rattle.ipc_write.specs.Writers.{HasType, HaveTypes, RefusesFinish, RefusesNew, RefusesStart, RefusesState, RefusesTypes, RefusesWrite, SendStep, StartsWith, TakesChunk, chosen_ids, normal_types, seen, seen_ids};
-ghost use Rattle.ipc_schema.specs.WriterAnswers.{written_head};
+ghost use Rattle.ipc_write.specs.Writers.{HasType, HaveTypes, IsCarriedSchema, RefusesFinish, RefusesNew, RefusesStart, RefusesState, RefusesTypes, RefusesWrite, SendStep, StartsWith, TakesChunk, are_carried, chosen_ids, normal_types, seen, seen_ids};
+ghost use Rattle.ipc_model.specs.Carried.{is_whole_type};
+ghost use Rattle.ipc_schema_write.specs.WriterAnswers.{written_head};
 
 use crate::common::{EncodedData, WriteOptions, chunk_to_bytes_amortized};
 use crate::common_sync::{write_continuation, write_message};
 use ipc_base::chunk::Chunk;
 use ipc_base::ipc::IpcField;
-use ipc_devices::{ArgFault, Fault, StateFault, Writes};
-use ipc_schema::write::defaults::default_ipc_fields;
-use ipc_schema::write::schema::schema_to_bytes;
+use ipc_devices::{ArgFault, Fault, Nyi, StateFault, Writes};
+use ipc_schema_write::defaults::default_ipc_fields;
+use ipc_schema_write::schema::schema_to_bytes;
 use lower::datatypes::equal::is_same_type;
 use lower::datatypes::{DataType, Field, Schema};
 use lower_arrays::array::AnyArray;
@@ -145,6 +147,53 @@ fn is_same_id(a: &IpcField, b: &IpcField) -> bool
     a.dictionary_id == b.dictionary_id && are_same_ids(&a.fields, &b.fields)
 }
 
+// Whether the type is one of the integers.
+fn is_integer(data_type: &DataType) -> bool
+    ensures { result ≡ is_whole_type (type_view data_type.now) }
+{
+    match data_type {
+        DataType::Int8
+        | DataType::Int16
+        | DataType::Int32
+        | DataType::Int64
+        | DataType::UInt8
+        | DataType::UInt16
+        | DataType::UInt32
+        | DataType::UInt64 => true,
+        _ => false,
+    }
+}
+
+// Whether the fields are of integers, and without metadata.
+fn are_carried(fields: &[Field]) -> bool
+    ensures { result ≡ are_carried (fields_view fields.now) }
+{
+    for field in fields {
+        if !field.metadata.is_empty() {
+            return false;
+        }
+        if !is_integer(&field.data_type) {
+            return false;
+        }
+    }
+    true
+}
+
+// Refuses a schema whose columns this writer doesn't take.
+fn check_carried(schema: &Schema) -> Result<(), Fault>
+    ensures ok { OnOk result (IsCarriedSchema (fields_view schema.now.fields.items) (pairs_of schema.now.metadata.entries)) }
+    ensures only { IfErr result (λ e. (e ≡ NotYetImplemented Pending)
+        × (IsCarriedSchema (fields_view schema.now.fields.items) (pairs_of schema.now.metadata.entries) → ⊥)) }
+{
+    if !schema.metadata.is_empty() {
+        return Err(Fault::NotYetImplemented(Nyi::Pending));
+    }
+    if !are_carried(&schema.fields) {
+        return Err(Fault::NotYetImplemented(Nyi::Pending));
+    }
+    Ok(())
+}
+
 impl<W: Writes + Drop> StreamWriter<W> {
     // Refuses a writer that isn't started.
     fn check_started(&self) -> Result<(), Fault>
@@ -235,6 +284,7 @@ impl<W: Writes + Drop> StreamWriter<W> {
             (written_head fields (pairs_of schema.now.metadata.entries) (chosen_ids ipc_fields fields)) }
     {
         self.check_new()?;
+        check_carried(schema)?;
         let ipc_fields = match ipc_fields {
             Some(given) => given,
             None => default_ipc_fields(self.alloc, &schema.fields)?,

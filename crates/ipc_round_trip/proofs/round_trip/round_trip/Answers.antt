@@ -3,8 +3,8 @@ use Rattle.std.proofs.lemmas.Result.{err_from_is_err_and}
 use Rattle.lower.specs.TypeViews.{fields_view, pairs_of}
 use Rattle.ipc_devices.specs.Device.{before}
 use Rattle.ipc_model.specs.Writers.{taken}
-use Rattle.ipc_schema.specs.DefaultIds.{default_all}
-use Rattle.ipc_schema.specs.WriterAnswers.{written_head}
+use Rattle.ipc_schema_write.specs.DefaultIds.{default_all}
+use Rattle.ipc_schema_write.specs.WriterAnswers.{written_head}
 use Rattle.ipc_write.specs.Agreement.{Agrees}
 use Rattle.ipc_write.specs.Calls.{answered}
 use Rattle.ipc_write.specs.Writers.{seen}

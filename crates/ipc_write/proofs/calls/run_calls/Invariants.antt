@@ -1,7 +1,7 @@
 use Rattle.std.proofs.Common.{◌≡◌, length, take}
 use Rattle.lower.specs.TypeViews.{fields_view, pairs_of}
-use Rattle.ipc_schema.specs.DefaultIds.{default_all}
-use Rattle.ipc_schema.specs.WriterAnswers.{written_head}
+use Rattle.ipc_schema_write.specs.DefaultIds.{default_all}
+use Rattle.ipc_schema_write.specs.WriterAnswers.{written_head}
 use Rattle.ipc_model.specs.Writers.{taken}
 use Rattle.ipc_write.specs.Agreement.{Follows}
 use Rattle.ipc_write.specs.Calls.{answered}

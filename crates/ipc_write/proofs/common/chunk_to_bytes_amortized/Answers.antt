@@ -1,5 +1,5 @@
 use Rattle.std.proofs.Common.{rules, arith, ◌≡◌, pos, ◌<◌, ◌≤◌, ◌^◌, to_z, of_z, w64, SFits}
-use Rattle.ipc_schema.proofs.WrittenHeads.{message-eighth}
+use Rattle.ipc_schema_write.proofs.WrittenHeads.{message-eighth}
 use Rattle.ipc_tables.specs.Messages.{message_slots}
 use Rattle.ipc_write.specs.Batches.{rows_of}
 use Rattle.ipc_write.proofs.BatchMessages.{encodes_chunk, too_long}

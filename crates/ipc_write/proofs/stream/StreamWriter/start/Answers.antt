@@ -1,10 +1,11 @@
 use Rattle.std.proofs.Common.{rules, arith, ◌≡◌, ◌<◌, ◌^◌, Some, map, length, refl, sym, ◌∙◌}
+use Rattle.std.proofs.lemmas.Result.{err_from_is_err_and}
 use Rattle.lower.specs.TypeViews.{fields_view, pairs_of, type_view}
 use Rattle.ipc_model.specs.Schemas.{head_of}
-use Rattle.ipc_schema.specs.WriterAnswers.{written_head}
+use Rattle.ipc_schema_write.specs.WriterAnswers.{RefusesSchema, written_head}
 use Rattle.ipc_write.specs.Writers.{chosen_ids, normal_types}
-use Rattle.ipc_write.proofs.Agreements.{sent_schema, types_are}
-use Rattle.ipc_write.proofs.CarriedHeads.{written_carried}
+use Rattle.ipc_write.proofs.Agreements.{sent_schema, types_are, unsent_schema}
+use Rattle.ipc_write.proofs.CarriedHeads.{refused_start, written_carried}
 use Rattle.ipc_write.proofs.stream.StreamWriter.start.Goals as goal
 
 pub returns-clause-means : goal.returns-clause-means
@@ -15,8 +16,23 @@ returns-clause-means g c =
     let types : map type_view c.in_ok-types.types.items ≡ normal_types fields = search rules in
     let headed : head_of metadata ≡ Some head = search rules in
     let long = c.in_ok-self.ensures.2 in
-    let light = c.in_ok-self.ensures.0.writable.light in
+    let light = c.in_ok-self.ensures.0.light in
     let short : length metadata < 2 ^ 31 = omega (arith, long, light) in
     sent_schema _ _ _ _ metadata head c.in_ok-check_new.ensures.ok refl c.in_ok-self.ensures.4 short headed
-    (record { order = refl; types_are = types_are fields ∙ sym types; carried = written_carried fields _ _ c.in_ok-self.ensures.0.carried })
+    (record { order = refl; types_are = types_are fields ∙ sym types; carried = written_carried fields _ _ c.in_ok-check_carried.ensures.ok })
     (λ k. rw c.clear.ensures.items at (c.in_ok-send.ensures.memory k)) _
+
+pub returns-in_err-self-clause-only : goal.returns-in_err-self-clause-only
+returns-in_err-self-clause-only g c =
+    let fields = fields_view c.args.schema.now.fields.items in
+    let p = err_from_is_err_and c.from_residual-in_err-self.result c.from_residual-in_err-self.ensures.1 in
+    let refused : RefusesSchema c.in_err-self.field-0.0 fields (pairs_of c.args.schema.now.metadata.entries) (chosen_ids c.args.ipc_fields fields) = search rules in
+    rw (p.1, p.2) (refused_start c.args.self.now.state fields (pairs_of c.args.schema.now.metadata.entries) (chosen_ids c.args.ipc_fields fields) c.in_err-self.field-0.0 c.in_ok-check_carried.ensures.ok refused)
+
+pub returns-in_err-send-clause-means : goal.returns-in_err-send-clause-means
+returns-in_err-send-clause-means g c =
+    let fields = fields_view c.args.schema.now.fields.items in
+    let head = written_head fields (pairs_of c.args.schema.now.metadata.entries) (chosen_ids c.args.ipc_fields fields) in
+    let p = err_from_is_err_and c.from_residual-in_err-send.result c.from_residual-in_err-send.ensures.1 in
+    let sent = c.in_err-send.ensures in
+    rw (p.1, p.2) (unsent_schema _ _ _ _ c.in_err-send.field-0.0 _ head _ _ c.in_ok-check_new.ensures.ok refl sent.refused sent.io sent.part)
