@@ -3,8 +3,8 @@
 //! Nothing is written here: each item is one of a crate below, where its contract stands.
 #![tactic(auto)]
 
+pub mod array;
 pub mod io;
 
 pub use ipc_base::chunk;
 pub use lower::{bitmap, buffer, datatypes, error, offset, types};
-pub use lower_arrays::array;

@@ -1,10 +1,13 @@
 //! Schema messages, written out.
 
 use crate::fixtures::{SMALLEST_SCHEMA, field, two_int32};
-use arrow2_ipc::datatypes::{DataType, Metadata, Schema};
+use arrow2_ipc::datatypes::{
+    DataType, Field, IntegerType, IntervalUnit, Metadata, Schema, TimeUnit, UnionMode,
+};
 use arrow2_ipc::io::ipc::fault::{Fault, OutOfSpecKind, SchemaFault, TableFault};
 use arrow2_ipc::io::ipc::read::deserialize_schema;
 use arrow2_ipc::io::ipc::write::{default_ipc_fields, schema_to_bytes};
+use std::alloc::{AllocError, Global};
 use std::test::Fail;
 
 #[test]
@@ -104,5 +107,143 @@ fn ids_of_another_shape_are_refused(rt: HostRuntime) -> Result<(), Fail> {
             Err(Fault::Argument(arrow2_ipc::io::ipc::fault::ArgFault::FieldsShape))
         )
     );
+    Ok(())
+}
+
+fn put(metadata: &mut Metadata, alloc: Global, key: &str, value: &str) -> Result<(), AllocError> {
+    let key = String::from_str(alloc, key)?;
+    let value = String::from_str(alloc, value)?;
+    drop(metadata.insert(key, value)?);
+    Ok(())
+}
+
+// Whether a schema of these fields, with a pair of its own, is read as its normal form.
+fn come_back(alloc: Global, fields: Vec<Field>) -> Result<bool, Fault> {
+    let mut metadata = Metadata::new(alloc);
+    put(&mut metadata, alloc, "key", "value")?;
+    let schema = Schema { fields, metadata };
+    let ids = default_ipc_fields(alloc, &schema.fields)?;
+    let bytes = schema_to_bytes(alloc, &schema, &ids)?;
+    let (again, again_ids) = deserialize_schema(alloc, &bytes)?;
+    let normal = schema.normal()?;
+    Ok(again == normal && again_ids.fields == ids && again_ids.is_little_endian)
+}
+
+fn comes_back(alloc: Global, data_type: DataType) -> Result<bool, Fault> {
+    come_back(alloc, vec![in alloc; field(alloc, "f", data_type)?]?)
+}
+
+#[test]
+fn each_type_of_times_comes_back(rt: HostRuntime) -> Result<(), Fail> {
+    let alloc = rt.alloc();
+    let zone = String::from_str(alloc, "Europe/Berlin")?;
+    assert!(rt;
+        comes_back(
+            alloc,
+            DataType::Timestamp(TimeUnit::Microsecond, Some(zone))
+        )?
+    );
+    assert!(rt; comes_back(alloc, DataType::Timestamp(TimeUnit::Second, None))?);
+    assert!(rt; comes_back(alloc, DataType::Date32)?);
+    assert!(rt; comes_back(alloc, DataType::Date64)?);
+    assert!(rt; comes_back(alloc, DataType::Time32(TimeUnit::Millisecond))?);
+    assert!(rt; comes_back(alloc, DataType::Time64(TimeUnit::Nanosecond))?);
+    assert!(rt; comes_back(alloc, DataType::Duration(TimeUnit::Nanosecond))?);
+    assert!(rt; comes_back(alloc, DataType::Interval(IntervalUnit::YearMonth))?);
+    assert!(rt; comes_back(alloc, DataType::Interval(IntervalUnit::MonthDayNano))?);
+    Ok(())
+}
+
+#[test]
+fn each_other_type_without_children_comes_back(rt: HostRuntime) -> Result<(), Fail> {
+    let alloc = rt.alloc();
+    assert!(rt; comes_back(alloc, DataType::Null)?);
+    assert!(rt; comes_back(alloc, DataType::Boolean)?);
+    assert!(rt; comes_back(alloc, DataType::Binary)?);
+    assert!(rt; comes_back(alloc, DataType::LargeBinary)?);
+    assert!(rt; comes_back(alloc, DataType::Utf8)?);
+    assert!(rt; comes_back(alloc, DataType::LargeUtf8)?);
+    assert!(rt; comes_back(alloc, DataType::FixedSizeBinary(16))?);
+    assert!(rt; comes_back(alloc, DataType::Decimal(38, 9))?);
+    assert!(rt; comes_back(alloc, DataType::Decimal256(76, 38))?);
+    Ok(())
+}
+
+fn child(alloc: Global, name: &str, data_type: DataType) -> Result<Box<Field>, Fault> {
+    Ok(Box::new(alloc, field(alloc, name, data_type)?)?)
+}
+
+fn pairs(alloc: Global) -> Result<Vec<Field>, Fault> {
+    let key = field(alloc, "key", DataType::Utf8)?;
+    let value = field(alloc, "value", DataType::Int32)?;
+    Ok(vec![in alloc; key, value]?)
+}
+
+#[test]
+fn each_list_comes_back(rt: HostRuntime) -> Result<(), Fail> {
+    let alloc = rt.alloc();
+    let list = DataType::List(child(alloc, "item", DataType::Utf8)?);
+    assert!(rt; comes_back(alloc, list)?);
+    let large = DataType::LargeList(child(alloc, "item", DataType::Date32)?);
+    assert!(rt; comes_back(alloc, large)?);
+    let fixed = DataType::FixedSizeList(child(alloc, "item", DataType::Boolean)?, 3);
+    assert!(rt; comes_back(alloc, fixed)?);
+    let map = DataType::Map(
+        child(alloc, "entries", DataType::Struct(pairs(alloc)?))?,
+        true,
+    );
+    assert!(rt; comes_back(alloc, map)?);
+    Ok(())
+}
+
+#[test]
+fn structs_and_unions_come_back(rt: HostRuntime) -> Result<(), Fail> {
+    let alloc = rt.alloc();
+    assert!(rt; comes_back(alloc, DataType::Struct(pairs(alloc)?))?);
+    let ids = Vec::from_slice(alloc, &[5, 9])?;
+    let dense = DataType::Union(pairs(alloc)?, Some(ids), UnionMode::Dense);
+    assert!(rt; comes_back(alloc, dense)?);
+    let sparse = DataType::Union(pairs(alloc)?, None, UnionMode::Sparse);
+    assert!(rt; comes_back(alloc, sparse)?);
+    Ok(())
+}
+
+#[test]
+fn an_extension_comes_back_in_the_metadata_of_its_field(rt: HostRuntime) -> Result<(), Fail> {
+    let alloc = rt.alloc();
+    let name = String::from_str(alloc, "uuid")?;
+    let text = String::from_str(alloc, "of four")?;
+    let storage = Box::new(alloc, DataType::FixedSizeBinary(16))?;
+    let mut with = field(alloc, "e", DataType::Extension(name, storage, Some(text)))?;
+    put(&mut with.metadata, alloc, "own", "pair")?;
+    // what an earlier extension left is not written
+    let mut without = field(alloc, "p", DataType::Int8)?;
+    put(&mut without.metadata, alloc, "ARROW:extension:name", "old")?;
+    put(&mut without.metadata, alloc, "own", "pair")?;
+    assert!(rt; come_back(alloc, vec![in alloc; with, without]?)?);
+    Ok(())
+}
+
+#[test]
+fn dictionaries_come_back_with_their_ids(rt: HostRuntime) -> Result<(), Fail> {
+    let alloc = rt.alloc();
+    let texts = DataType::Dictionary(IntegerType::UInt16, Box::new(alloc, DataType::Utf8)?, true);
+    let bytes = DataType::Dictionary(IntegerType::Int8, Box::new(alloc, DataType::Binary)?, false);
+    let lists = Box::new(alloc, DataType::List(child(alloc, "item", bytes)?))?;
+    let nested = DataType::Dictionary(IntegerType::Int64, lists, false);
+    let a = field(alloc, "a", texts)?;
+    let b = field(alloc, "b", nested)?;
+    assert!(rt; come_back(alloc, vec![in alloc; a, b]?)?);
+    Ok(())
+}
+
+#[test]
+fn fields_of_64_levels_come_back(rt: HostRuntime) -> Result<(), Fail> {
+    let alloc = rt.alloc();
+    let mut data_type = DataType::Boolean;
+    for _ in 0..63 {
+        data_type = DataType::List(child(alloc, "item", data_type)?);
+    }
+    assert!(rt; comes_back(alloc, data_type)?);
     Ok(())
 }

@@ -1,7 +1,8 @@
 //! How fast streams are written and read, beside a plain copy of the same bytes in the same run.
 //!
-//! `ipc_speed ROWS COLUMNS ROUNDS` writes a stream of so many Int64 columns to memory, reads it back, and prints
-//! for each the least time of all rounds. With no words it does nothing.
+//! `ipc_speed ROWS COLUMNS ROUNDS [CHUNKS]` writes a stream of so many Int64 columns to memory, reads it back, and
+//! prints for each the least time of all rounds. Each of its chunks has so many rows; where their number is left out
+//! there is one. With no words it does nothing.
 #![tactic(auto)]
 
 use arrow2_ipc::array::{AnyArray, AnyPrimitive, PrimitiveArray};
@@ -46,20 +47,28 @@ fn table(alloc: Global, rows: u32, columns: u32) -> Result<(Schema, Chunk<AnyArr
     Ok((Schema { fields, metadata }, Chunk::try_new(arrays)?))
 }
 
-fn write(alloc: Global, schema: &Schema, chunk: &Chunk<AnyArray>) -> Result<Vec<u8>, Fault> {
+// A stream of the chunk, so many times.
+fn write(
+    alloc: Global,
+    schema: &Schema,
+    chunk: &Chunk<AnyArray>,
+    chunks: u32,
+) -> Result<Vec<u8>, Fault> {
     let mut writer = StreamWriter::new(alloc, Vec::new(alloc), WriteOptions::default());
     writer.start(schema, None)?;
-    writer.write(chunk, None)?;
+    for _ in 0..chunks {
+        writer.write(chunk, None)?;
+    }
     writer.finish()?;
     Ok(writer.into_inner())
 }
 
-// How many rows a stream holds.
-fn read(alloc: Global, bytes: &[u8]) -> Result<usize, Fault> {
+// How many rows a stream of so many chunks holds.
+fn read(alloc: Global, bytes: &[u8], chunks: u32) -> Result<usize, Fault> {
     let mut input = MemFile::new(bytes);
     let metadata = read_stream_metadata(alloc, &mut input)?;
     let mut rows = 0usize;
-    for state in StreamReader::new(alloc, input, metadata, None)?.take(2) {
+    for state in StreamReader::new(alloc, input, metadata, None)?.take(chunks as usize) {
         if let StreamState::Some(chunk) = state? {
             rows = rows.saturating_add(chunk.len());
         }
@@ -72,14 +81,15 @@ fn measure<R: Runtime>(
     alloc: Global,
     schema: &Schema,
     chunk: &Chunk<AnyArray>,
+    chunks: u32,
 ) -> Result<Times, Fault> {
     let start = Instant::now(rt)?;
-    let bytes = write(alloc, schema, chunk)?;
+    let bytes = write(alloc, schema, chunk, chunks)?;
     let write = start.elapsed(rt)?;
     let start = Instant::now(rt)?;
-    let rows = read(alloc, &bytes)?;
+    let rows = read(alloc, &bytes, chunks)?;
     let read = start.elapsed(rt)?;
-    if rows != chunk.len() {
+    if rows != chunk.len().saturating_mul(chunks as usize) {
         return Err(Fault::Ended);
     }
     let start = Instant::now(rt)?;
@@ -110,18 +120,19 @@ fn run<R: Runtime>(
     rows: u32,
     columns: u32,
     rounds: u32,
+    chunks: u32,
 ) -> Result<(), Fault> {
     let (schema, chunk) = table(alloc, rows, columns)?;
-    let mut best = measure(rt, alloc, &schema, &chunk)?;
+    let mut best = measure(rt, alloc, &schema, &chunk, chunks)?;
     for _ in 1..rounds {
-        let times = measure(rt, alloc, &schema, &chunk)?;
+        let times = measure(rt, alloc, &schema, &chunk, chunks)?;
         best = Times {
             write: best.write.min(times.write),
             read: best.read.min(times.read),
             copy: best.copy.min(times.copy),
         };
     }
-    let bytes = 8.0 * (rows as f64) * (columns as f64);
+    let bytes = 8.0 * (rows as f64) * (columns as f64) * (chunks as f64);
     print(rt, "write", best.write, best.copy, bytes)?;
     print(rt, "read", best.read, best.copy, bytes)?;
     print(rt, "copy", best.copy, best.copy, bytes)
@@ -134,7 +145,10 @@ fn main(rt: HostRuntime) -> Result<(), Fault> {
         .filter_map(|word| word.parse::<u32>().ok())
         .collect(rt.alloc())?;
     match numbers.as_slice() {
-        [rows, columns, rounds] => run(&rt, rt.alloc(), *rows, *columns, *rounds),
+        [rows, columns, rounds] => run(&rt, rt.alloc(), *rows, *columns, *rounds, 1),
+        [rows, columns, rounds, chunks] => {
+            run(&rt, rt.alloc(), *rows, *columns, *rounds, *chunks)
+        }
         _ => Ok(()),
     }
 }

@@ -1,0 +1,7 @@
+//! arrow2's `array`: the arrays of each kind and of any kind, and which of them are the same.
+pub use lower_arrays::array::{
+    AnyArray, AnyPrimitive, BinaryArray, BooleanArray, DictionaryArray, DictionaryKey,
+    DictionaryKeys, FixedSizeBinaryArray, FixedSizeListArray, ListArray, ListOffsets, MapArray,
+    NullArray, PrimitiveArray, StructArray, UnionArray, Utf8Array, is_dictionary,
+};
+pub use lower_equal::equal;

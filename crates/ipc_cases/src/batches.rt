@@ -1,0 +1,242 @@
+//! Record batches of integer columns, and what is refused.
+ghost use Rattle.std.specs.Prelude.{◌<◌, length};
+
+use ipc_base::chunk::Chunk;
+use ipc_base::ipc::IpcSchema;
+use ipc_devices::MemFile;
+use ipc_devices::fault::{ArgFault, Fault, Nyi, OutOfSpecKind};
+use ipc_read::read::Dictionaries;
+use ipc_read::read::common::read_record_batch;
+use ipc_views::{MessageHeaderRef, MessageRef, MetadataVersion};
+use lower::datatypes::{DataType, Field};
+use lower_arrays::array::{AnyArray, AnyPrimitive};
+use std::alloc::{AllocError, Global};
+use std::collections::{BTreeMap, HashMap};
+use std::test::Fail;
+
+// A vector of structs, each of two numbers.
+fn push_structs(out: &mut Vec<u8>, numbers: &[i64]) -> Result<(), AllocError>
+    requires { length numbers.now < 100 }
+{
+    let count = numbers.len() / 2;
+    out.extend_from_slice(&(count as u32).to_le_bytes())?;
+    for number in numbers {
+        out.extend_from_slice(&number.to_le_bytes())?;
+    }
+    Ok(())
+}
+
+// The metadata of a record message that lists these nodes and buffers, as pairs of numbers.
+fn metadata(alloc: Global, nodes: &[i64], buffers: &[i64]) -> Result<Vec<u8>, AllocError>
+    requires nodes { length nodes.now < 100 }
+    requires buffers { length buffers.now < 100 }
+{
+    let mut out = Vec::new(alloc);
+    // The place of the message, its vtable, and the message: its header's place and tag, version V5.
+    out.extend_from_slice(&[16, 0, 0, 0])?;
+    out.extend_from_slice(&[12, 0, 12, 0, 10, 0, 8, 0, 4, 0, 0, 0])?;
+    out.extend_from_slice(&[12, 0, 0, 0, 28, 0, 0, 0, 3, 0, 4, 0])?;
+    // Eight bytes that nothing uses, the vtable of the record batch, and the record batch: the
+    // places of the nodes and of the buffers.
+    out.extend_from_slice(&[0, 0, 0, 0, 0, 0, 0, 0])?;
+    out.extend_from_slice(&[10, 0, 12, 0, 0, 0, 4, 0, 8, 0, 0, 0])?;
+    out.extend_from_slice(&[12, 0, 0, 0, 8, 0, 0, 0])?;
+    let behind_nodes = 8 + 8 * nodes.len();
+    out.extend_from_slice(&(behind_nodes as u32).to_le_bytes())?;
+    push_structs(&mut out, nodes)?;
+    push_structs(&mut out, buffers)?;
+    Ok(out)
+}
+
+// Two fields of 32-bit integers.
+fn fields(alloc: Global) -> Result<Vec<Field>, AllocError> {
+    let mut fields = Vec::new(alloc);
+    for name in ["x", "y"] {
+        fields.push(Field {
+            name: String::from_str(alloc, name)?,
+            data_type: DataType::Int32,
+            is_nullable: true,
+            metadata: BTreeMap::new(alloc),
+        })?;
+    }
+    Ok(fields)
+}
+
+// The two columns that are listed so of a body.
+fn two_columns(
+    alloc: Global,
+    nodes: &[i64],
+    buffers: &[i64],
+    body: &[u8],
+) -> Result<Result<Chunk<AnyArray>, Fault>, Fail>
+    requires nodes { length nodes.now < 100 }
+    requires buffers { length buffers.now < 100 }
+{
+    let message = metadata(alloc, nodes, buffers)?;
+    read_two(alloc, &message, body, true)
+}
+
+fn read_two(
+    alloc: Global,
+    message: &[u8],
+    body: &[u8],
+    is_little_endian: bool,
+) -> Result<Result<Chunk<AnyArray>, Fault>, Fail> {
+    let ids = IpcSchema {
+        fields: Vec::new(alloc),
+        is_little_endian,
+    };
+    let dictionaries: Dictionaries = HashMap::new(alloc);
+    let Some(MessageHeaderRef::RecordBatch(batch)) = MessageRef::read_as_root(message)?.header()?
+    else {
+        return Ok(Err(OutOfSpecKind::UnexpectedMessageType.into()));
+    };
+    Ok(read_record_batch(
+        alloc,
+        batch,
+        &fields(alloc)?,
+        &ids,
+        None,
+        None,
+        &dictionaries,
+        MetadataVersion::V5,
+        &mut MemFile::new(body),
+        0,
+        body.len() as u64,
+        &mut Vec::new(alloc),
+    ))
+}
+
+const NODES: [i64; 4] = [2, 0, 2, 0];
+
+const BUFFERS: [i64; 8] = [0, 0, 0, 8, 64, 0, 64, 8];
+
+// The numbers -1, 1 and 1, -1, each column padded to 64 bytes.
+fn body(alloc: Global) -> Result<Vec<u8>, AllocError> {
+    let mut body = Vec::new(alloc);
+    body.extend_from_slice(&[255, 255, 255, 255, 1, 0, 0, 0])?;
+    body.resize(64, 0)?;
+    body.extend_from_slice(&[1, 0, 0, 0, 255, 255, 255, 255])?;
+    body.resize(128, 0)?;
+    Ok(body)
+}
+
+#[test]
+fn two_columns_of_two_numbers(rt: HostRuntime) -> Result<(), Fail> {
+    let alloc = rt.alloc();
+    let chunk = two_columns(alloc, &NODES, &BUFFERS, &body(alloc)?)??;
+    assert_eq!(rt; chunk.arrays().len(), 2);
+    assert_eq!(rt; chunk.len(), 2);
+    assert!(rt; is_numbers(&chunk.arrays()[0], &[-1, 1]));
+    assert!(rt; is_numbers(&chunk.arrays()[1], &[1, -1]));
+    Ok(())
+}
+
+// Whether a column is of these numbers of 32 bits.
+fn is_numbers(column: &AnyArray, numbers: &[i32]) -> bool {
+    match column {
+        AnyArray::Primitive(AnyPrimitive::Int32(array)) => array.values().as_slice() == numbers,
+        _ => false,
+    }
+}
+
+#[test]
+fn only_needed_bytes_have_to_be_there(rt: HostRuntime) -> Result<(), Fail> {
+    let alloc = rt.alloc();
+    let mut body = body(alloc)?;
+    body.truncate(72);
+    assert!(rt; two_columns(alloc, &NODES, &BUFFERS, &body)?.is_ok());
+    body.truncate(71);
+    let short = two_columns(alloc, &NODES, &BUFFERS, &body)?;
+    assert!(rt; matches!(short, Err(Fault::Ended)));
+    Ok(())
+}
+
+#[test]
+fn faults_of_entries(rt: HostRuntime) -> Result<(), Fail> {
+    let alloc = rt.alloc();
+    let body = body(alloc)?;
+    let nodes = two_columns(alloc, &NODES[..2], &BUFFERS, &body)?;
+    assert!(rt;
+        matches!(
+            nodes,
+            Err(Fault::OutOfSpec(OutOfSpecKind::MissingMessageNodes))
+        )
+    );
+    let buffers = two_columns(alloc, &NODES, &BUFFERS[..6], &body)?;
+    assert!(rt;
+        matches!(
+            buffers,
+            Err(Fault::OutOfSpec(OutOfSpecKind::ExpectedBuffer))
+        )
+    );
+    let short = two_columns(alloc, &NODES, &[0, 0, 0, 7, 64, 0, 64, 8], &body)?;
+    assert!(rt;
+        matches!(
+            short,
+            Err(Fault::OutOfSpec(OutOfSpecKind::InvalidBuffer { .. }))
+        )
+    );
+    let negative = two_columns(alloc, &NODES, &[0, -1, 0, 8, 64, 0, 64, 8], &body)?;
+    assert!(rt;
+        matches!(
+            negative,
+            Err(Fault::OutOfSpec(OutOfSpecKind::NegativeFooterLength))
+        )
+    );
+    let place = two_columns(alloc, &NODES, &[0, 0, -1, 8, 64, 0, 64, 8], &body)?;
+    assert!(rt;
+        matches!(
+            place,
+            Err(Fault::OutOfSpec(OutOfSpecKind::NegativeFooterLength))
+        )
+    );
+    let length = two_columns(alloc, &[-1, 0, 2, 0], &BUFFERS, &body)?;
+    assert!(rt;
+        matches!(
+            length,
+            Err(Fault::OutOfSpec(OutOfSpecKind::NegativeFooterLength))
+        )
+    );
+    let unequal = two_columns(alloc, &[1, 0, 2, 0], &BUFFERS, &body)?;
+    assert!(rt; matches!(unequal, Err(Fault::Argument(ArgFault::UnequalRows))));
+    let nulls = two_columns(alloc, &[2, 1, 2, 0], &BUFFERS, &body)?;
+    assert!(rt; matches!(nulls, Err(Fault::NotYetImplemented(Nyi::Pending))));
+    Ok(())
+}
+
+#[test]
+fn buffers_longer_than_the_body(rt: HostRuntime) -> Result<(), Fail> {
+    let alloc = rt.alloc();
+    let body = body(alloc)?;
+    let long = two_columns(
+        alloc,
+        &NODES,
+        &[0, i64::MAX, 0, i64::MAX, 64, 0, 64, 8],
+        &body,
+    )?;
+    let Err(
+        Fault::OutOfSpec(
+            OutOfSpecKind::InvalidBuffersLength {
+                buffers_size,
+                file_size,
+            },
+        ),
+    ) = long
+    else {
+        assert!(rt; false);
+        return Ok(());
+    };
+    assert_eq!(rt; buffers_size, u64::MAX);
+    assert_eq!(rt; file_size, 128);
+    Ok(())
+}
+
+#[test]
+fn the_highest_byte_first_is_pending(rt: HostRuntime) -> Result<(), Fail> {
+    let alloc = rt.alloc();
+    let message = metadata(alloc, &NODES, &BUFFERS)?;
+    let big = read_two(alloc, &message, &body(alloc)?, false)?;
+    assert!(rt; matches!(big, Err(Fault::NotYetImplemented(Nyi::Pending))));
+    Ok(())
+}
