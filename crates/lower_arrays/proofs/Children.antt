@@ -1,12 +1,11 @@
 -- Children one by one, as the code goes over them.
-use Rattle.std.proofs.Common.{arith, ◌≡◌, refl, ℕ, zero, suc, ◌+◌, ◌<◌, ◌≤◌, List, [], ◌∷◌, ◌++◌, length, take, map, get_or, subst, sym, ap, ◌∙◌, ◌⊎◌, inl, inr, ⊎_elim}
-use Rattle.std.proofs.lemmas.List.{length-map, get_or-map, map_more}
-use Rattle.lower.specs.TypeTrees.{null, plain, FieldTree, field}
+use Rattle.std.proofs.Common.{arith, ◌≡◌, refl, ℕ, zero, suc, ◌+◌, ◌<◌, ◌≤◌, List, [], ◌∷◌, ◌++◌, length, take, map, get_or, subst, sym, ap, ◌∙◌}
+use Rattle.std.proofs.lemmas.List.{length-map, map_more}
+use Rattle.lower.specs.TypeTrees.{FieldTree}
 use Rattle.lower.specs.TypeViews.{fields_of, field_view}
 use Rattle.lower.specs.declared.datatypes.Field.{Field}
-use Rattle.std.specs.Prelude.{false}
-use Rattle.lower_arrays.specs.Layouts.{Layout, layout, Layouts, no_layouts, more_layouts, layouts, len_of, type_of, height, heights, nothing}
-use Rattle.lower_arrays.specs.Children.{field_type, field_count, child_count, ChildTypes, HasChild, AllHave, AllReach}
+use Rattle.lower_arrays.specs.Layouts.{Layout, more_layouts, layouts, len_of, type_of, height, heights}
+use Rattle.lower_arrays.specs.Children.{field_type, child_count, ChildTypes, AllHave, AllReach}
 use Rattle.lower_arrays.specs.Slots.{IsArray, AreArrays}
 use Rattle.lower_arrays.specs.Cuts.{cut, cut_each}
 use Rattle.lower_arrays.specs.AnyLayouts.{layout_of}
@@ -17,15 +16,8 @@ pub count_children : (cs : List Layout) → child_count (layouts cs) ≡ length 
 count_children [] = refl
 count_children (c ∷ cs) = let rest = count_children cs in omega (arith, rest)
 
-pub count_fields : (fs : List FieldTree) → field_count (fields_of fs) ≡ length fs
-count_fields [] = refl
-count_fields (f ∷ fs) = let rest = count_fields fs in omega (arith, rest)
-
 pub children_counted : (xs : List AnyArray) → child_count (layouts (map layout_of xs)) ≡ length xs
 children_counted xs = count_children (map layout_of xs) ∙ length-map xs layout_of
-
-pub fields_counted : (xs : List Field) → field_count (fields_of (map field_view xs)) ≡ length xs
-fields_counted xs = count_fields (map field_view xs) ∙ length-map xs field_view
 
 -- ---- types
 same_count : (fs : List FieldTree) (cs : List Layout) → ChildTypes (fields_of fs) (layouts cs) → length fs ≡ length cs
@@ -130,7 +122,5 @@ all_cut o n (x ∷ xs) (y ∷ ys) h =
 pub layouts-cut : (o n : ℕ) (cs : List Layout) → layouts (map (cut o n) cs) ≡ cut_each o n (layouts cs)
 layouts-cut o n [] = refl
 layouts-cut o n (c ∷ cs) = ap (λ ds. more_layouts (cut o n c) ds) (layouts-cut o n cs)
-
-pub ruleset counts = (children_counted, fields_counted)
 
 pub ruleset one_more = (len_at, len_more, arrays_more)

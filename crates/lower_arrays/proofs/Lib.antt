@@ -5,3 +5,4 @@ pub mod Unions
 pub mod NestedParts
 pub mod Slices
 pub mod HeldBytes
+pub mod Checked

@@ -1,9 +1,9 @@
 -- Some slots of the arrays with children.
-use Rattle.std.proofs.Common.{arith, ◌≡◌, refl, ℕ, ◌+◌, ◌-◌, ◌*◌, ◌<◌, ◌≤◌, List, length, map, subst, sym, ap, ◌∙◌}
+use Rattle.std.proofs.Common.{arith, ◌≡◌, ℕ, ◌+◌, ◌<◌, ◌≤◌, List, length, subst, sym, ap, ◌∙◌}
 use Rattle.lower_flat.specs.Validities.{part, cut_validity}
 use Rattle.lower_flat.specs.Spans.{span_count}
 use Rattle.lower_flat.proofs.Cuts.{length-part}
-use Rattle.lower_arrays.specs.Layouts.{lists, fixed_lists, maps, records, Layout, layout, no_layouts, more_layouts, layouts}
+use Rattle.lower_arrays.specs.Layouts.{lists, maps, records, Layout, layout, no_layouts, more_layouts}
 use Rattle.lower_arrays.specs.Slots.{IsArray}
 use Rattle.lower_arrays.specs.Cuts.{cut, cut_level}
 use Rattle.lower_arrays.specs.Lists.{ListSeen, list_layout, cut_list}

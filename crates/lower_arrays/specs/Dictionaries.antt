@@ -2,15 +2,14 @@
 -- (Arrow columnar format, "Dictionary-encoded Layout".)
 use Rattle.std.specs.Prelude.{◌≡◌, ℕ, ℤ, List, length, refl}
 use Rattle.std.specs.Coded.{Coded, code_by, coded_list, coded_ℤ, coded×}
-use Rattle.lower.specs.TypeTrees.{TypeTree, plain}
-use Rattle.lower.specs.Physical.{physical, integer}
+use Rattle.lower.specs.TypeTrees.{TypeTree}
+use Rattle.lower.specs.Physical.{physical}
 use Rattle.lower.specs.declared.datatypes.IntegerType.{IntegerType}
 use Rattle.lower.specs.declared.datatypes.physical_type.PhysicalType.TheVariants.{Dictionary}
 use Rattle.lower.specs.declared.error.Error.{Error}
-use Rattle.lower.specs.declared.error.Error.TheVariants.{OutOfSpec}
-use Rattle.lower.specs.declared.error.Rule.TheVariants.{DictionaryKey, DictionaryValues, PhysicalType as WrongType}
 use Rattle.lower_flat.specs.TypeCodes.{coded_type}
 use Rattle.lower_flat.specs.Validities.{Validity}
+use Rattle.lower_keys.specs.Rules.{BreaksDictionaryRules}
 use Rattle.lower_arrays.specs.Layouts.{Parts, keys, Layout, layout, no_layouts, more_layouts, len_of, type_of}
 use Rattle.lower_arrays.specs.LayoutCodes.{coded_integer, coded_validity, coded_layout}
 use Rattle.lower_keys.specs.Keys.{values_type, KeysFit, KeysSeen, IsKeys, cut_keys}
@@ -60,10 +59,7 @@ pub record IsDictionary (a : DictionarySeen) : Type 0 where
 
 -- the rule that the error names is broken
 abbrev pub BreaksDictionary : DictionarySeen → Error → Type 0
-BreaksDictionary a (OutOfSpec WrongType) = ¬ ((physical a.type ≡ Dictionary a.keys.key) × (a.keys.type ≡ plain (integer a.keys.key)))
-BreaksDictionary a (OutOfSpec DictionaryValues) = ¬ (type_of a.values ≡ values_type a.type)
-BreaksDictionary a (OutOfSpec DictionaryKey) = ¬ (KeysFit a.keys.validity a.keys.integers (len_of a.values))
-BreaksDictionary a (OutOfSpec _) = ⊥
+BreaksDictionary a = BreaksDictionaryRules a.type a.keys (type_of a.values) (len_of a.values)
 
 -- the n slots from place o on: their keys, over the same values
 abbrev pub cut_dictionary : ℕ → ℕ → DictionarySeen → DictionarySeen

@@ -1,19 +1,15 @@
 -- What contracts see of an array of lists of one size.
 -- (Arrow columnar format, "Fixed-Size List Layout".)
-use Rattle.std.specs.Prelude.{◌≡◌, ℕ, ◌*◌, ◌/◌, refl}
+use Rattle.std.specs.Prelude.{ℕ, ◌*◌, ◌/◌, refl}
 use Rattle.std.specs.Coded.{Coded, code_by, coded_ℕ, coded×}
 use Rattle.lower.specs.TypeTrees.{TypeTree}
-use Rattle.lower.specs.Physical.{physical}
-use Rattle.lower.specs.declared.datatypes.physical_type.PhysicalType.TheVariants.{FixedSizeList}
 use Rattle.lower.specs.declared.error.Error.{Error}
-use Rattle.lower.specs.declared.error.Error.TheVariants.{OutOfSpec}
-use Rattle.lower.specs.declared.error.Rule.TheVariants.{ValidityLength, ZeroSize, ChildType, ChildLength, PhysicalType as WrongType}
 use Rattle.lower_flat.specs.TypeCodes.{coded_type}
-use Rattle.lower_flat.specs.Validities.{Validity, ValidityFits, cut_validity}
-use Rattle.lower_arrays.specs.Layouts.{fixed_lists, Layout, layout, no_layouts, more_layouts, len_of}
+use Rattle.lower_flat.specs.Validities.{Validity, cut_validity}
+use Rattle.lower_keys.specs.Rules.{BreaksFixedListRules}
+use Rattle.lower_arrays.specs.Layouts.{fixed_lists, Layout, layout, no_layouts, more_layouts, len_of, type_of}
 use Rattle.lower_arrays.specs.LayoutCodes.{coded_validity, coded_layout}
-use Rattle.lower_arrays.specs.Children.{child_fields, ChildTypes}
-use Rattle.lower_arrays.specs.ListTypes.{list_size}
+use Rattle.lower_keys.specs.ListTypes.{list_size}
 use Rattle.lower_arrays.specs.Cuts.{cut}
 
 pub record FixedListSeen : Type 0 where
@@ -42,12 +38,7 @@ fixed_list_layout a =
 
 -- the rule that the error names is broken
 abbrev pub BreaksFixedList : FixedListSeen → Error → Type 0
-BreaksFixedList a (OutOfSpec WrongType) = ¬ (physical a.type ≡ FixedSizeList)
-BreaksFixedList a (OutOfSpec ZeroSize) = list_size a.type ≡ 0
-BreaksFixedList a (OutOfSpec ChildLength) = ¬ (len_of a.child ≡ a.len * a.size)
-BreaksFixedList a (OutOfSpec ChildType) = ¬ (ChildTypes (child_fields a.type) (more_layouts a.child no_layouts))
-BreaksFixedList a (OutOfSpec ValidityLength) = ¬ (ValidityFits a.validity a.len)
-BreaksFixedList a (OutOfSpec _) = ⊥
+BreaksFixedList a = BreaksFixedListRules a.type (type_of a.child) (len_of a.child) a.validity
 
 -- the n slots from place o on: their slots of the child
 abbrev pub cut_fixed_list : ℕ → ℕ → FixedListSeen → FixedListSeen

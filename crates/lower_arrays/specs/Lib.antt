@@ -1,7 +1,6 @@
 pub mod Layouts
 pub mod LayoutCodes
 pub mod Children
-pub mod ListTypes
 pub mod Choices
 pub mod Slots
 pub mod Cuts

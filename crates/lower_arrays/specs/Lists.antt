@@ -1,32 +1,17 @@
 -- What contracts see of an array of lists.
 -- (Arrow columnar format, "Variable-size List Layout".)
-use Rattle.std.specs.Prelude.{◌≡◌, ℕ, ◌+◌, ◌≤◌, List, refl}
+use Rattle.std.specs.Prelude.{ℕ, ◌+◌, List, refl}
 use Rattle.std.specs.Coded.{Coded, code_by, coded_list, coded_ℕ, coded×}
 use Rattle.lower.specs.TypeTrees.{TypeTree}
-use Rattle.lower.specs.Physical.{physical}
 use Rattle.lower_types.specs.declared.PrimitiveType.{PrimitiveType}
-use Rattle.lower_types.specs.declared.PrimitiveType.TheVariants as Named
 use Rattle.lower.specs.declared.error.Error.{Error}
-use Rattle.lower.specs.declared.error.Error.TheVariants.{OutOfSpec}
-use Rattle.lower.specs.declared.error.Rule.TheVariants.{ValidityLength, OffsetsPastValues, ChildType, PhysicalType as WrongType}
 use Rattle.lower_flat.specs.TypeCodes.{coded_type}
-use Rattle.lower_flat.specs.Validities.{Validity, ValidityFits, part, cut_validity}
+use Rattle.lower_flat.specs.Validities.{Validity, part, cut_validity}
 use Rattle.lower_flat.specs.Spans.{span_count}
-use Rattle.lower_arrays.specs.Layouts.{lists, Layout, layout, no_layouts, more_layouts, len_of}
+use Rattle.lower_keys.specs.Rules.{BreaksListRules}
+use Rattle.lower_arrays.specs.Layouts.{lists, Layout, layout, no_layouts, more_layouts, len_of, type_of}
 use Rattle.lower_arrays.specs.LayoutCodes.{coded_primitive, coded_validity, coded_layout}
-use Rattle.lower_arrays.specs.Children.{child_fields, ChildTypes}
-use Rattle.lower_arrays.specs.ListTypes.{list_with, last_offset}
-use Rattle.lower_arrays.specs.declared.array.list.ListOffsets.{ListOffsets}
-use Rattle.lower_arrays.specs.declared.array.list.ListOffsets.TheVariants.{Small, Large}
-
--- offsets of 32 or of 64 bits: the places that they name, and their type
-abbrev pub list_places : ListOffsets → List ℕ
-list_places (Small os) = os
-list_places (Large os) = os
-
-abbrev pub list_width : ListOffsets → PrimitiveType
-list_width (Small _) = Named.Int32
-list_width (Large _) = Named.Int64
+pub use Rattle.lower_keys.specs.AnyOffsets.{list_places, list_width}
 
 pub record ListSeen : Type 0 where
   pub type : TypeTree
@@ -54,11 +39,7 @@ list_layout a =
 
 -- the rule that the error names is broken
 abbrev pub BreaksList : ListSeen → Error → Type 0
-BreaksList a (OutOfSpec WrongType) = ¬ (physical a.type ≡ list_with a.width)
-BreaksList a (OutOfSpec ChildType) = ¬ (ChildTypes (child_fields a.type) (more_layouts a.child no_layouts))
-BreaksList a (OutOfSpec OffsetsPastValues) = ¬ (last_offset a.offsets ≤ len_of a.child)
-BreaksList a (OutOfSpec ValidityLength) = ¬ (ValidityFits a.validity (span_count a.offsets))
-BreaksList a (OutOfSpec _) = ⊥
+BreaksList a = BreaksListRules a.type a.width a.offsets (type_of a.child) (len_of a.child) a.validity
 
 -- the n slots from place o on: their offsets, over the same child
 abbrev pub cut_list : ℕ → ℕ → ListSeen → ListSeen

@@ -1,20 +1,15 @@
 -- What contracts see of an array of maps: lists of pairs.
 -- (Arrow columnar format, "Map Layout".)
-use Rattle.std.specs.Prelude.{◌≡◌, ℕ, ◌+◌, ◌≤◌, List, refl}
+use Rattle.std.specs.Prelude.{ℕ, ◌+◌, List, refl}
 use Rattle.std.specs.Coded.{Coded, code_by, coded_list, coded_ℕ, coded×}
 use Rattle.lower.specs.TypeTrees.{TypeTree}
-use Rattle.lower.specs.Physical.{physical}
-use Rattle.lower.specs.declared.datatypes.physical_type.PhysicalType.TheVariants.{Map}
 use Rattle.lower.specs.declared.error.Error.{Error}
-use Rattle.lower.specs.declared.error.Error.TheVariants.{OutOfSpec}
-use Rattle.lower.specs.declared.error.Rule.TheVariants.{ValidityLength, OffsetsPastValues, ChildType, MapChild, PhysicalType as WrongType}
 use Rattle.lower_flat.specs.TypeCodes.{coded_type}
-use Rattle.lower_flat.specs.Validities.{Validity, ValidityFits, part, cut_validity}
+use Rattle.lower_flat.specs.Validities.{Validity, part, cut_validity}
 use Rattle.lower_flat.specs.Spans.{span_count}
+use Rattle.lower_keys.specs.Rules.{BreaksMapRules}
 use Rattle.lower_arrays.specs.Layouts.{maps, Layout, layout, no_layouts, more_layouts, len_of, type_of}
 use Rattle.lower_arrays.specs.LayoutCodes.{coded_validity, coded_layout}
-use Rattle.lower_arrays.specs.Children.{child_fields, ChildTypes, IsPair}
-use Rattle.lower_arrays.specs.ListTypes.{last_offset}
 
 pub record MapSeen : Type 0 where
   pub type : TypeTree
@@ -41,12 +36,7 @@ map_layout a =
 
 -- the rule that the error names is broken
 abbrev pub BreaksMap : MapSeen → Error → Type 0
-BreaksMap a (OutOfSpec WrongType) = ¬ (physical a.type ≡ Map)
-BreaksMap a (OutOfSpec MapChild) = ¬ (IsPair (type_of a.child))
-BreaksMap a (OutOfSpec ChildType) = ¬ (ChildTypes (child_fields a.type) (more_layouts a.child no_layouts))
-BreaksMap a (OutOfSpec OffsetsPastValues) = ¬ (last_offset a.offsets ≤ len_of a.child)
-BreaksMap a (OutOfSpec ValidityLength) = ¬ (ValidityFits a.validity (span_count a.offsets))
-BreaksMap a (OutOfSpec _) = ⊥
+BreaksMap a = BreaksMapRules a.type a.offsets (type_of a.child) (len_of a.child) a.validity
 
 -- the n slots from place o on: their offsets, over the same child
 abbrev pub cut_map : ℕ → ℕ → MapSeen → MapSeen

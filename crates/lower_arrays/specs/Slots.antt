@@ -15,7 +15,7 @@ use Rattle.lower_keys.specs.Keys.{place_of, values_type, KeysFit}
 use Rattle.lower_keys.specs.Ids.{child_number}
 use Rattle.lower_arrays.specs.Choices.{place_in, ChoicesFit}
 use Rattle.lower_arrays.specs.Children.{child_fields, ChildTypes, HasChild, AllHave, AllReach, ArePairs}
-use Rattle.lower_arrays.specs.ListTypes.{list_with, list_size, last_offset}
+use Rattle.lower_keys.specs.ListTypes.{list_with, list_size, last_offset}
 pub use Rattle.lower_flat.specs.Validities.{Validity, is_valid, ValidityFits, part}
 
 mutual

@@ -1,6 +1,6 @@
 -- What contracts see of an array whose slots are of several types.
 -- (Arrow columnar format, "Union Layout".)
-use Rattle.std.specs.Prelude.{◌≡◌, ℕ, ℤ, ◌<◌, ◌≤◌, List, Option, Some, None, option_map, map, length, refl}
+use Rattle.std.specs.Prelude.{◌≡◌, ℕ, ℤ, List, Option, Some, None, option_map, map, length, refl}
 use Rattle.std.specs.Coded.{Coded, code_by, coded_list, coded_ℤ, coded_option, coded×}
 use Rattle.lower.specs.TypeTrees.{TypeTree}
 use Rattle.lower.specs.Physical.{physical}
@@ -14,6 +14,7 @@ use Rattle.lower_arrays.specs.Layouts.{choices, Layout, layout, layouts}
 use Rattle.lower_arrays.specs.LayoutCodes.{coded_layout}
 use Rattle.lower_arrays.specs.Children.{child_fields, field_count, child_count, ChildTypes}
 use Rattle.lower_keys.specs.Ids.{union_ids, union_mode, IdsFit, AreNamed, OffsetsGiven}
+use Rattle.lower_keys.specs.Rules.{IsCount}
 use Rattle.lower_arrays.specs.Choices.{PlacesFit, ChoicesFit}
 use Rattle.lower_arrays.specs.Slots.{AreArrays}
 use Rattle.lower_arrays.specs.Cuts.{cut}
@@ -46,10 +47,6 @@ union_layout a =
 pub record IsUnion (a : UnionSeen) : Type 0 where
   pub fits : ChoicesFit a.type (union_ids a.type) a.types a.offsets (layouts a.children)
   pub arrays : AreArrays (layouts a.children)
-
--- there are 1 to 127 children
-abbrev pub IsCount : ℕ → Type 0
-IsCount n = (0 < n) × (n ≤ 127)
 
 -- the rule that the error names is broken
 abbrev pub BreaksUnion : UnionSeen → Error → Type 0

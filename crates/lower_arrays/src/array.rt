@@ -17,7 +17,7 @@ mod union;
 
 pub use dictionary::{DictionaryArray, is_dictionary};
 pub use fixed_size_list::FixedSizeListArray;
-pub use list::{ListArray, ListOffsets};
+pub use list::ListArray;
 use lower::bitmap::Bitmap;
 use lower::datatypes::DataType;
 pub use lower_flat::{
@@ -25,6 +25,7 @@ pub use lower_flat::{
 };
 pub use lower_keys::keys::{DictionaryKey, DictionaryKeys};
 pub use lower_keys::numbers::AnyPrimitive;
+pub use lower_keys::offsets::ListOffsets;
 pub use map::MapArray;
 use std::alloc::AllocError;
 use std::mem;

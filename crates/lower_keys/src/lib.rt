@@ -1,7 +1,10 @@
-//! What arrays hold that needs no child: numbers of any type, the keys of dictionaries, and the ids
-//! of unions.
+//! What arrays have that needs no child: numbers of any type, the keys of dictionaries, the ids of
+//! unions, the offsets of lists, and the rules that tell of a child only its type and its length.
 #![tactic(auto)]
 
+pub mod fields;
 pub mod ids;
 pub mod keys;
 pub mod numbers;
+pub mod offsets;
+pub mod rules;

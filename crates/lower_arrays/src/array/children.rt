@@ -8,58 +8,9 @@ ghost use Rattle.lower_arrays.specs.Cuts.{cut};
 ghost use Rattle.lower_arrays.specs.AnyLayouts.{layout_of};
 
 use super::AnyArray;
-use lower::datatypes::{DataType, Field, is_same_type};
+use lower::datatypes::Field;
+use lower_keys::fields::has_type;
 use std::alloc::{AllocError, Global};
-use std::slice;
-
-/// The fields of a type's children, of its extensions those of the type that they are stored as.
-pub fn child_fields(data_type: &DataType) -> &[Field]
-    ensures { fields_view result.now ≡ child_fields (type_view data_type.now) }
-{
-    match data_type {
-        DataType::List(field)
-        | DataType::LargeList(field)
-        | DataType::FixedSizeList(field, _)
-        | DataType::Map(field, _) => slice::from_ref(&**field),
-        DataType::Struct(fields) | DataType::Union(fields, _, _) => fields,
-        DataType::Extension(_, inner, _) => child_fields(inner),
-        _ => &[],
-    }
-}
-
-/// Whether the type is a struct of two fields: a key and a value.
-pub fn is_pair(data_type: &DataType) -> bool
-    ensures { IsTrue result ↔ IsPair (type_view data_type.now) }
-{
-    match data_type {
-        DataType::Struct(fields) => are_two(fields),
-        _ => false,
-    }
-}
-
-// Whether there are two fields.
-#[tactic(auto, using(crate::proofs::Children::counts))]
-fn are_two(fields: &[Field]) -> bool
-    ensures { IsTrue result ↔ (field_count (fields_view fields.now) ≡ 2) }
-{
-    fields.len() == 2
-}
-
-/// Whether there are as many children as fields.
-#[tactic(auto, using(crate::proofs::Children::counts))]
-pub fn are_as_many(fields: &[Field], children: &[AnyArray]) -> bool
-    ensures { IsTrue result ↔ (child_count (layouts (map layout_of children.now)) ≡ field_count (fields_view fields.now)) }
-{
-    children.len() == fields.len()
-}
-
-// Whether the child has the field's type.
-fn has_type(field: &Field, child: &AnyArray) -> bool
-    ensures same { IsTrue result ↔ (type_of (layout_of child.now) ≡ field_type (field_view field.now)) }
-    ensures valid { IsArray (layout_of child.now) }
-{
-    is_same_type(child.data_type(), &field.data_type)
-}
 
 /// Whether there is a child for each field, of its type.
 pub fn have_types(fields: &[Field], children: &[AnyArray]) -> bool
@@ -70,7 +21,7 @@ pub fn have_types(fields: &[Field], children: &[AnyArray]) -> bool
         return false;
     }
     for i in 0..fields.len() {
-        if !has_type(&fields[i], &children[i]) {
+        if !has_type(&fields[i], children[i].data_type()) {
             return false;
         }
     }

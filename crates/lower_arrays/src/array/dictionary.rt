@@ -12,10 +12,10 @@ ghost use Rattle.lower_arrays.specs.AnyLayouts.{layout_of};
 
 use super::AnyArray;
 use lower::bitmap::Bitmap;
-use lower::datatypes::equal::is_same_type;
-use lower::datatypes::{DataType, PhysicalType};
-use lower::error::{Error, Rule};
+use lower::datatypes::DataType;
+use lower::error::Error;
 use lower_keys::keys::DictionaryKeys;
+use lower_keys::rules::check_dictionary;
 use std::alloc::AllocError;
 use std::marker::Model;
 use std::rc::Rc;
@@ -64,16 +64,6 @@ pub fn is_dictionary(array: &AnyArray) -> bool
     matches!(array, AnyArray::Dictionary(_))
 }
 
-// Whether the type is one of a dictionary whose values have this type.
-fn is_dictionary_of(data_type: &DataType, values: &DataType) -> bool
-    ensures { IsTrue result ↔ type_view values.now ≡ values_type (type_view data_type.now) }
-{
-    match data_type.to_logical_type() {
-        DataType::Dictionary(_, inner, _) => is_same_type(values, inner),
-        _ => is_same_type(values, &DataType::Null),
-    }
-}
-
 impl DictionaryArray {
     /// An array of the values that the keys name, null where the key or the value is.
     ///
@@ -81,6 +71,7 @@ impl DictionaryArray {
     /// another data type than their integers; `DictionaryValues` where the values haven't the type
     /// that the dictionary's type names; `DictionaryKey` where a key that isn't null is negative, or
     /// not less than there are values.
+    #[tactic(auto, using(crate::proofs::Checked::dictionaries))]
     pub fn try_new(
         data_type: DataType,
         keys: DictionaryKeys,
@@ -89,20 +80,7 @@ impl DictionaryArray {
         ensures { let seen = dictionary_seen (type_view data_type) (keys_seen keys) (layout_of values.value) in
             MatchResult result (λ a. (a ≡ seen) × IsDictionary seen) (BreaksDictionary seen) }
     {
-        let key = keys.key_type();
-        if data_type.to_physical_type() != PhysicalType::Dictionary(key) {
-            return Err(Error::OutOfSpec(Rule::PhysicalType));
-        }
-        if !is_same_type(keys.data_type(), &DataType::from(key)) {
-            return Err(Error::OutOfSpec(Rule::PhysicalType));
-        }
-        if !is_dictionary_of(&data_type, values.data_type()) {
-            return Err(Error::OutOfSpec(Rule::DictionaryValues));
-        }
-        if !keys.fit(values.len()) {
-            return Err(Error::OutOfSpec(Rule::DictionaryKey));
-        }
-        let _ = keys.len();
+        check_dictionary(&data_type, &keys, values.data_type(), values.len())?;
         Ok(DictionaryArray {
             data_type,
             keys,

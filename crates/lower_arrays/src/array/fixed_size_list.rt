@@ -4,19 +4,19 @@ ghost use Rattle.std.specs.Option.{option_copied};
 ghost use Rattle.lower.specs.TypeViews.{type_view};
 ghost use Rattle.lower_flat.specs.Validities.{null_count_of, is_valid};
 ghost use Rattle.lower_arrays.specs.Slots.{IsArray};
-ghost use Rattle.lower_arrays.specs.ListTypes.{list_size};
+ghost use Rattle.lower_keys.specs.ListTypes.{list_size};
 ghost use Rattle.lower_arrays.specs.FixedLists.{fixed_list_seen, fixed_list_layout, cut_fixed_list, BreaksFixedList};
 ghost use Rattle.lower_arrays.specs.AnyLayouts.{layout_of};
 
 use super::AnyArray;
-use super::children::{child_fields, have_types};
 use lower::bitmap::Bitmap;
-use lower::datatypes::{DataType, PhysicalType};
-use lower::error::{Error, Rule};
-use lower_flat::validity::{clone_validity, fits, is_valid_at, sliced_validity, unset_bits};
+use lower::datatypes::DataType;
+use lower::error::Error;
+use lower_flat::validity::{clone_validity, is_valid_at, sliced_validity, unset_bits};
+use lower_keys::fields::list_size;
+use lower_keys::rules::check_fixed_list;
 use std::alloc::AllocError;
 use std::marker::Model;
-use std::slice;
 
 /// A list of as many of the child's slots for each slot (Arrow columnar format, "Fixed-Size List
 /// Layout").
@@ -54,16 +54,6 @@ impl Model for FixedSizeListArray {
     ghost size_decreases = { λ a h. one_child a.values.value };
 }
 
-// How many slots the type gives each list, 0 where it isn't one of lists of a fixed size.
-fn list_size(data_type: &DataType) -> usize
-    ensures { result ≡ list_size (type_view data_type.now) }
-{
-    match data_type.to_logical_type() {
-        DataType::FixedSizeList(_, size) => *size,
-        _ => 0,
-    }
-}
-
 impl FixedSizeListArray {
     /// An array of lists of the size that the data type names, of which those are null whose bit isn't
     /// set.
@@ -72,6 +62,7 @@ impl FixedSizeListArray {
     /// size is 0, `ChildLength` where the child's slots aren't a whole number of lists, `ChildType`
     /// where the child hasn't the type of its field, `ValidityLength` where the validity hasn't a bit
     /// for each slot.
+    #[tactic(auto, using(crate::proofs::Checked::fixed_lists))]
     pub fn try_new(
         data_type: DataType,
         values: Box<AnyArray>,
@@ -80,23 +71,9 @@ impl FixedSizeListArray {
         ensures { let seen = fixed_list_seen (type_view data_type) (layout_of values.value) validity in
             MatchResult result (λ a. (a ≡ seen) × IsArray (fixed_list_layout seen)) (BreaksFixedList seen) }
     {
-        if data_type.to_physical_type() != PhysicalType::FixedSizeList {
-            return Err(Error::OutOfSpec(Rule::PhysicalType));
-        }
+        check_fixed_list(&data_type, values.data_type(), values.len(), &validity)?;
         let size = list_size(&data_type);
-        if size == 0 {
-            return Err(Error::OutOfSpec(Rule::ZeroSize));
-        }
-        if values.len() % size != 0 {
-            return Err(Error::OutOfSpec(Rule::ChildLength));
-        }
-        if !have_types(child_fields(&data_type), slice::from_ref(&*values)) {
-            return Err(Error::OutOfSpec(Rule::ChildType));
-        }
         let len = values.len() / size;
-        if !fits(&validity, len) {
-            return Err(Error::OutOfSpec(Rule::ValidityLength));
-        }
         Ok(FixedSizeListArray {
             data_type,
             size,

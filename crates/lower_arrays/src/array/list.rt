@@ -6,98 +6,19 @@ ghost use Rattle.lower.specs.Offsets.{IsOffsets};
 ghost use Rattle.lower_flat.specs.Validities.{null_count_of, is_valid, part};
 ghost use Rattle.lower_flat.specs.Spans.{span_count};
 ghost use Rattle.lower_arrays.specs.Slots.{IsArray};
-ghost use Rattle.lower_arrays.specs.ListTypes.{list_with, last_offset};
+ghost use Rattle.lower_keys.specs.ListTypes.{list_with, last_offset};
 ghost use Rattle.lower_arrays.specs.Lists.{list_places, list_width, list_seen, list_layout, cut_list, BreaksList};
 ghost use Rattle.lower_arrays.specs.AnyLayouts.{layout_of};
 
 use super::AnyArray;
-use super::children::{child_fields, have_types};
 use lower::bitmap::Bitmap;
-use lower::datatypes::{DataType, PhysicalType};
-use lower::error::{Error, Rule};
-use lower::offset::OffsetsBuffer;
-use lower_flat::validity::{clone_validity, fits, is_valid_at, sliced_validity, unset_bits};
+use lower::datatypes::DataType;
+use lower::error::Error;
+use lower_flat::validity::{clone_validity, is_valid_at, sliced_validity, unset_bits};
+use lower_keys::offsets::ListOffsets;
+use lower_keys::rules::check_list;
 use std::alloc::AllocError;
 use std::marker::Model;
-use std::slice;
-
-/// The offsets of lists, of either type.
-#[derive(Drop)]
-pub enum ListOffsets {
-    /// Those of a list.
-    Small(OffsetsBuffer<i32>),
-    /// Those of a large list.
-    Large(OffsetsBuffer<i64>),
-}
-
-impl ListOffsets {
-    /// How many offsets there are, which is one more than there are slots.
-    pub fn len(&self) -> usize
-        ensures len { result ≡ length (list_places self.now) }
-        ensures offsets { IsOffsets (list_places self.now) }
-    {
-        match self {
-            ListOffsets::Small(offsets) => offsets.len(),
-            ListOffsets::Large(offsets) => offsets.len(),
-        }
-    }
-
-    /// Offset `i`.
-    pub fn get(&self, i: usize) -> usize
-        requires { i < length (list_places self.now) }
-        ensures { result ≡ slice_index (list_places self.now) i }
-    {
-        match self {
-            ListOffsets::Small(offsets) => offsets.get(i),
-            ListOffsets::Large(offsets) => offsets.get(i),
-        }
-    }
-
-    /// The last offset: where the last slot ends.
-    pub fn last(&self) -> usize
-        ensures value { result ≡ last_offset (list_places self.now) }
-        ensures offsets { IsOffsets (list_places self.now) }
-    {
-        match self {
-            ListOffsets::Small(offsets) => offsets.last(),
-            ListOffsets::Large(offsets) => offsets.last(),
-        }
-    }
-
-    /// The offsets of the `len` slots from slot `offset` on, in the same memory.
-    pub fn sliced(self, offset: usize, len: usize) -> Self
-        requires { offset + len < length (list_places self) }
-        ensures width { list_width result ≡ list_width self }
-        ensures places { list_places result ≡ part offset (len + 1) (list_places self) }
-    {
-        match self {
-            ListOffsets::Small(offsets) => ListOffsets::Small(offsets.sliced(offset, len)),
-            ListOffsets::Large(offsets) => ListOffsets::Large(offsets.sliced(offset, len)),
-        }
-    }
-
-    // How lists with these offsets lie in memory.
-    fn physical_type(&self) -> PhysicalType
-        ensures { result ≡ list_with (list_width self.now) }
-    {
-        match self {
-            ListOffsets::Small(_) => PhysicalType::List,
-            ListOffsets::Large(_) => PhysicalType::LargeList,
-        }
-    }
-}
-
-impl Clone for ListOffsets {
-    ghost is_clone = { λ a b. b ≡ a };
-
-    /// The same offsets once more, in the same memory.
-    fn clone(&self) -> Result<Self, AllocError> {
-        match self {
-            ListOffsets::Small(offsets) => Ok(ListOffsets::Small(offsets.clone()?)),
-            ListOffsets::Large(offsets) => Ok(ListOffsets::Large(offsets.clone()?)),
-        }
-    }
-}
 
 /// A list of a child's slots for each slot (Arrow columnar format, "Variable-size List Layout").
 ///
@@ -142,6 +63,7 @@ impl ListArray {
     /// `ValidityLength` where the validity hasn't a bit for each slot, `OffsetsPastValues` where the
     /// last offset is past the end of the child, `PhysicalType` where the data type isn't one of
     /// lists with such offsets, `ChildType` where the child hasn't the type of its field.
+    #[tactic(auto, using(crate::proofs::Checked::lists))]
     pub fn try_new(
         data_type: DataType,
         offsets: ListOffsets,
@@ -151,18 +73,13 @@ impl ListArray {
         ensures { let seen = list_seen (type_view data_type) (list_width offsets) (list_places offsets) (layout_of values.value) validity in
             MatchResult result (λ a. (a ≡ seen) × IsArray (list_layout seen)) (BreaksList seen) }
     {
-        if !fits(&validity, offsets.len() - 1) {
-            return Err(Error::OutOfSpec(Rule::ValidityLength));
-        }
-        if offsets.last() > values.len() {
-            return Err(Error::OutOfSpec(Rule::OffsetsPastValues));
-        }
-        if data_type.to_physical_type() != offsets.physical_type() {
-            return Err(Error::OutOfSpec(Rule::PhysicalType));
-        }
-        if !have_types(child_fields(&data_type), slice::from_ref(&*values)) {
-            return Err(Error::OutOfSpec(Rule::ChildType));
-        }
+        check_list(
+            &data_type,
+            &offsets,
+            values.data_type(),
+            values.len(),
+            &validity,
+        )?;
         Ok(ListArray {
             data_type,
             offsets,

@@ -9,15 +9,14 @@ ghost use Rattle.lower_arrays.specs.Maps.{map_seen, map_layout, cut_map, BreaksM
 ghost use Rattle.lower_arrays.specs.AnyLayouts.{layout_of};
 
 use super::AnyArray;
-use super::children::{child_fields, have_types, is_pair};
 use lower::bitmap::Bitmap;
-use lower::datatypes::{DataType, PhysicalType};
-use lower::error::{Error, Rule};
+use lower::datatypes::DataType;
+use lower::error::Error;
 use lower::offset::OffsetsBuffer;
-use lower_flat::validity::{clone_validity, fits, is_valid_at, sliced_validity, unset_bits};
+use lower_flat::validity::{clone_validity, is_valid_at, sliced_validity, unset_bits};
+use lower_keys::rules::check_map;
 use std::alloc::AllocError;
 use std::marker::Model;
-use std::slice;
 
 /// A list of pairs for each slot, each a key and a value (Arrow columnar format, "Map Layout").
 #[cycle(arrays)]
@@ -61,6 +60,7 @@ impl MapArray {
     /// last offset is past the end of the child, `PhysicalType` where the data type isn't one of
     /// maps, `MapChild` where the child's type isn't a struct of two fields, `ChildType` where the
     /// child hasn't the type of its field.
+    #[tactic(auto, using(crate::proofs::Checked::maps))]
     pub fn try_new(
         data_type: DataType,
         offsets: OffsetsBuffer<i32>,
@@ -70,21 +70,13 @@ impl MapArray {
         ensures { let seen = map_seen (type_view data_type) offsets (layout_of field.value) validity in
             MatchResult result (λ a. (a ≡ seen) × IsArray (map_layout seen)) (BreaksMap seen) }
     {
-        if !fits(&validity, offsets.len() - 1) {
-            return Err(Error::OutOfSpec(Rule::ValidityLength));
-        }
-        if offsets.last() > field.len() {
-            return Err(Error::OutOfSpec(Rule::OffsetsPastValues));
-        }
-        if data_type.to_physical_type() != PhysicalType::Map {
-            return Err(Error::OutOfSpec(Rule::PhysicalType));
-        }
-        if !is_pair(field.data_type()) {
-            return Err(Error::OutOfSpec(Rule::MapChild));
-        }
-        if !have_types(child_fields(&data_type), slice::from_ref(&*field)) {
-            return Err(Error::OutOfSpec(Rule::ChildType));
-        }
+        check_map(
+            &data_type,
+            &offsets,
+            field.data_type(),
+            field.len(),
+            &validity,
+        )?;
         Ok(MapArray {
             data_type,
             offsets,

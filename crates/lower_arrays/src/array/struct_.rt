@@ -8,11 +8,13 @@ ghost use Rattle.lower_arrays.specs.Structs.{struct_seen, struct_layout, cut_str
 ghost use Rattle.lower_arrays.specs.AnyLayouts.{layout_of};
 
 use super::AnyArray;
-use super::children::{are_as_many, child_fields, copy_each, have_len, have_types, sliced_each};
+use super::children::{copy_each, have_len, have_types, sliced_each};
 use lower::bitmap::Bitmap;
-use lower::datatypes::{DataType, PhysicalType};
+use lower::datatypes::DataType;
 use lower::error::{Error, Rule};
-use lower_flat::validity::{clone_validity, fits, is_valid_at, sliced_validity, unset_bits};
+use lower_flat::validity::{clone_validity, is_valid_at, sliced_validity, unset_bits};
+use lower_keys::fields::child_fields;
+use lower_keys::rules::check_struct;
 use std::alloc::AllocError;
 use std::marker::Model;
 
@@ -58,6 +60,7 @@ impl StructArray {
     /// `ChildCount` where there are not as many children as fields, `ChildType` where a child hasn't
     /// the type of its field, `ChildLength` where a child hasn't as many slots as the first one,
     /// `ValidityLength` where the validity hasn't a bit for each slot.
+    #[tactic(auto, using(crate::proofs::Children::children_counted, crate::proofs::Checked::structs))]
     pub fn try_new(
         data_type: DataType,
         values: Vec<AnyArray>,
@@ -66,25 +69,16 @@ impl StructArray {
         ensures { let seen = struct_seen (type_view data_type) (map layout_of values.items) validity in
             MatchResult result (λ a. (a ≡ seen) × IsArray (struct_layout seen)) (BreaksStruct seen) }
     {
-        if data_type.to_physical_type() != PhysicalType::Struct {
-            return Err(Error::OutOfSpec(Rule::PhysicalType));
-        }
         let len = match values.first() {
             None => return Err(Error::OutOfSpec(Rule::NoChild)),
             Some(first) => first.len(),
         };
-        let fields = child_fields(&data_type);
-        if !are_as_many(fields, &values) {
-            return Err(Error::OutOfSpec(Rule::ChildCount));
-        }
-        if !have_types(fields, &values) {
+        check_struct(&data_type, values.len(), len, &validity)?;
+        if !have_types(child_fields(&data_type), &values) {
             return Err(Error::OutOfSpec(Rule::ChildType));
         }
         if !have_len(&values, len) {
             return Err(Error::OutOfSpec(Rule::ChildLength));
-        }
-        if !fits(&validity, len) {
-            return Err(Error::OutOfSpec(Rule::ValidityLength));
         }
         Ok(StructArray {
             data_type,

@@ -11,14 +11,14 @@ ghost use Rattle.lower_arrays.specs.Unions.{union_seen, union_layout, IsUnion, B
 ghost use Rattle.lower_arrays.specs.AnyLayouts.{layout_of};
 
 use super::AnyArray;
-use super::children::{are_as_many, child_fields, copy_each, have_len, have_types, sliced_each};
+use super::children::{copy_each, have_len, have_types, sliced_each};
 use lower::bitmap::Bitmap;
 use lower::buffer::Buffer;
-use lower::datatypes::{DataType, PhysicalType};
+use lower::datatypes::DataType;
 use lower::error::{Error, Rule};
-use lower_keys::ids::{
-    are_given, are_named, child_number, ids_fit, is_place, union_ids, union_mode,
-};
+use lower_keys::fields::child_fields;
+use lower_keys::ids::{child_number, is_place, union_ids};
+use lower_keys::rules::check_union;
 use std::alloc::AllocError;
 use std::marker::Model;
 
@@ -127,7 +127,7 @@ impl UnionArray {
     /// slot, or sparse and there are offsets, `ChildLength` where a child of a sparse union has
     /// another length, `UnionOffset` where an offset of a dense union is negative, or not less than
     /// its child's length.
-    #[tactic(auto, using(crate::proofs::Children::children_counted))]
+    #[tactic(auto, using(crate::proofs::Children::children_counted, crate::proofs::Checked::unions))]
     pub fn try_new(
         data_type: DataType,
         types: Buffer<i8>,
@@ -137,26 +137,9 @@ impl UnionArray {
         ensures { let seen = union_seen (type_view data_type) types (map layout_of fields.items) offsets in
             MatchResult result (λ a. (a ≡ seen) × IsUnion seen) (BreaksUnion seen) }
     {
-        if data_type.to_physical_type() != PhysicalType::Union {
-            return Err(Error::OutOfSpec(Rule::PhysicalType));
-        }
-        if fields.is_empty() || fields.len() > 127 {
-            return Err(Error::OutOfSpec(Rule::UnionChildren));
-        }
-        if !are_as_many(child_fields(&data_type), &fields) {
-            return Err(Error::OutOfSpec(Rule::ChildCount));
-        }
+        check_union(&data_type, types.as_slice(), &offsets, fields.len())?;
         if !have_types(child_fields(&data_type), &fields) {
             return Err(Error::OutOfSpec(Rule::ChildType));
-        }
-        if !ids_fit(union_ids(&data_type), fields.len()) {
-            return Err(Error::OutOfSpec(Rule::UnionIds));
-        }
-        if !are_named(union_ids(&data_type), types.as_slice(), fields.len()) {
-            return Err(Error::OutOfSpec(Rule::UnionType));
-        }
-        if !are_given(union_mode(&data_type), &offsets, types.len()) {
-            return Err(Error::OutOfSpec(Rule::UnionOffsets));
         }
         if !places_fit(union_ids(&data_type), types.as_slice(), &offsets, &fields) {
             return Err(Error::OutOfSpec(match offsets {

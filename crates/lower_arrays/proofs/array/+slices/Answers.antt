@@ -1,10 +1,10 @@
-use Rattle.std.proofs.Common.{arith, ◌≡◌, refl, ℕ, ◌≤◌, ◌<◌, ◌+◌, ◌*◌, ◌^◌, length, map, get_or, subst, sym, ap, ap₂, ◌∙◌, None}
+use Rattle.std.proofs.Common.{arith, ◌≡◌, ℕ, ◌≤◌, ◌<◌, ◌+◌, ◌*◌, ◌^◌, length, map, get_or, subst, sym, ap, ◌∙◌, None}
 use Rattle.lower.specs.TypeViews.{type_view}
 use Rattle.lower_arrays.specs.Layouts.{len_of, layouts, height, heights}
 use Rattle.lower_arrays.specs.AnyLayouts.{layout_of}
-use Rattle.lower_arrays.specs.Children.{AllReach, AllHave}
-use Rattle.lower_arrays.specs.FixedLists.{FixedListSeen, fixed_list_layout, cut_fixed_list}
-use Rattle.lower_arrays.specs.Structs.{StructSeen, struct_layout, cut_struct}
+use Rattle.lower_arrays.specs.Children.{AllHave}
+use Rattle.lower_arrays.specs.FixedLists.{FixedListSeen, fixed_list_layout}
+use Rattle.lower_arrays.specs.Structs.{StructSeen}
 use Rattle.lower_arrays.specs.Slots.{IsArray}
 use Rattle.lower_arrays.specs.Cuts.{cut}
 use Rattle.lower_arrays.proofs.Children.{CutUpTo, reach_at, height_at, all_cut}
@@ -13,7 +13,7 @@ use Rattle.lower_arrays.proofs.NestedParts.{cut_struct_is, cut_fixed_list_is}
 use Rattle.lower_arrays.proofs.array.+slices.Goals as goal
 use Rattle.lower_keys.specs.Ids.{union_ids}
 use Rattle.lower_arrays.specs.Choices.{PlacesFit}
-use Rattle.lower_arrays.specs.Unions.{UnionSeen, union_seen, IsUnion}
+use Rattle.lower_arrays.specs.Unions.{union_seen, IsUnion}
 use Rattle.lower_arrays.proofs.Unions.{cut_union_is}
 
 pub children::sliced_each-slice-requires : goal.children::sliced_each-slice-requires

@@ -26,7 +26,7 @@ loop-i-preserved c =
     let ly : c.loop-i.i < length ys = omega arith in
     record {
       types = type_more xs ys c.loop-i.i _ _ lx ly c.index-fields-i.is c.index-children-i.is (search rules) c.loop-i.invariant.types;
-      arrays = arrays_more ys c.loop-i.i _ ly c.index-children-i.is c.has_type.ensures.valid c.loop-i.invariant.arrays;
+      arrays = arrays_more ys c.loop-i.i _ ly c.index-children-i.is c.data_type.ensures.valid c.loop-i.invariant.arrays;
     }
 
 pub returns-clause-same : goal.returns-clause-same
