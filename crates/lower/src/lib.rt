@@ -7,6 +7,4 @@ pub mod buffer;
 pub mod datatypes;
 pub mod error;
 pub mod offset;
-#[cfg(test)]
-mod tests;
 pub mod types;

@@ -4,8 +4,6 @@
 #![tactic(auto)]
 
 mod equality;
-#[cfg(test)]
-mod tests;
 pub mod value;
 
 pub use equality::{equal, has_same_range, has_same_slot};

@@ -9,8 +9,6 @@ mod boolean;
 mod fixed_size_binary;
 mod null;
 mod primitive;
-#[cfg(test)]
-mod tests;
 mod texts;
 mod utf8;
 pub mod validity;

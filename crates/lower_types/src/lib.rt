@@ -39,6 +39,3 @@ pub enum Endianness {
     /// The highest byte first.
     Big,
 }
-
-#[cfg(test)]
-mod tests;

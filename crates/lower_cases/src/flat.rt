@@ -2,12 +2,12 @@
 mod numbers;
 mod spans;
 
-use crate::{BooleanArray, NullArray};
 use lower::bitmap::Bitmap;
 use lower::buffer::Buffer;
 use lower::datatypes::DataType;
 use lower::datatypes::equal::is_same_type;
 use lower::error::{Error, Rule};
+use lower_flat::{BooleanArray, NullArray};
 use std::alloc::{AllocError, Global};
 use std::test::Fail;
 

@@ -1,14 +1,14 @@
 //! Values from the Arrow columnar format, and what no contract says: that memory is shared.
-use crate::bitmap::Bitmap;
-use crate::buffer::Buffer;
-use crate::datatypes::{
+use lower::bitmap::Bitmap;
+use lower::buffer::Buffer;
+use lower::datatypes::{
     DataType, Field, IntegerType, IntervalUnit, Metadata, PhysicalType, Schema, TimeUnit,
     UnionMode, count_buffers, count_nodes, is_dictionary_type, is_same_field, is_same_schema,
     is_same_type, is_within_levels,
 };
-use crate::error::{Error, Rule};
-use crate::offset::{Offset, OffsetsBuffer};
-use crate::types::PrimitiveType;
+use lower::error::{Error, Rule};
+use lower::offset::{Offset, OffsetsBuffer};
+use lower::types::PrimitiveType;
 use std::alloc::{AllocError, Global};
 use std::test::Fail;
 

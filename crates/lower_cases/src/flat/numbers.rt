@@ -1,11 +1,11 @@
 //! Numbers, and bytes of one size.
 use super::{bits, bytes};
-use crate::{FixedSizeBinaryArray, PrimitiveArray};
 use lower::bitmap::Bitmap;
 use lower::buffer::Buffer;
 use lower::datatypes::DataType;
 use lower::datatypes::equal::is_same_type;
 use lower::error::{Error, Rule};
+use lower_flat::{FixedSizeBinaryArray, PrimitiveArray};
 use std::alloc::Global;
 use std::test::Fail;
 

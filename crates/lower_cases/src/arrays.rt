@@ -3,12 +3,12 @@ mod dictionaries;
 mod nested;
 mod unions;
 
-use crate::equal;
 use lower::bitmap::Bitmap;
 use lower::buffer::Buffer;
 use lower::datatypes::DataType;
 use lower::datatypes::equal::is_same_type;
 use lower_arrays::array::{AnyArray, AnyPrimitive, BooleanArray, NullArray, PrimitiveArray};
+use lower_equal::equal;
 use std::alloc::{AllocError, Global};
 use std::test::Fail;
 

@@ -1,11 +1,11 @@
 //! Bytes and texts by offsets.
 use super::{bits, bytes};
-use crate::{BinaryArray, Utf8Array};
 use lower::bitmap::Bitmap;
 use lower::buffer::Buffer;
 use lower::datatypes::DataType;
 use lower::error::{Error, Rule};
 use lower::offset::OffsetsBuffer;
+use lower_flat::{BinaryArray, Utf8Array};
 use std::alloc::Global;
 use std::test::Fail;
 

@@ -1,5 +1,4 @@
 //! Arrays with children at work.
-use crate::equal;
 use lower::bitmap::Bitmap;
 use lower::buffer::Buffer;
 use lower::datatypes::{DataType, Field, Metadata};
@@ -9,6 +8,7 @@ use lower_arrays::array::{
     AnyArray, AnyPrimitive, BooleanArray, FixedSizeListArray, ListArray, ListOffsets, MapArray,
     PrimitiveArray, StructArray, Utf8Array,
 };
+use lower_equal::equal;
 use std::alloc::{AllocError, Global};
 use std::test::Fail;
 
@@ -225,6 +225,26 @@ fn lists_of_five_numbers(rt: HostRuntime) -> Result<(), Fail> {
 }
 
 #[test]
+fn a_slice_of_lists_keeps_all_numbers(rt: HostRuntime) -> Result<(), Fail> {
+    let alloc = rt.alloc();
+    let values = Box::new(alloc, int32s(alloc, &[1, 2, 3, 4, 5], None)?)?;
+    let data_type = list_of(alloc, DataType::Int32)?;
+    let places = small(alloc, &[0, 2, 2, 3, 5])?;
+    let array = ListArray::try_new(data_type, places, values, None)?;
+    assert_eq!(rt; array.len(), 4);
+    let part = array.sliced(1, 2);
+    assert_eq!(rt; part.len(), 2);
+    assert_eq!(rt; part.null_count(), 0);
+    assert_eq!(rt; part.values().len(), 5);
+    let places = part.offsets();
+    assert_eq!(rt; places.len(), 3);
+    assert_eq!(rt; places.get(0), 2);
+    assert_eq!(rt; places.get(1), 2);
+    assert_eq!(rt; places.get(2), 3);
+    Ok(())
+}
+
+#[test]
 fn lists_refused(rt: HostRuntime) -> Result<(), Fail> {
     let alloc = rt.alloc();
     let long = list_fault(alloc, DataType::Int32, &[0, 1, 2], bits(alloc, 0, 3)?)?;
@@ -247,6 +267,20 @@ fn a_pair_of_six_numbers(rt: HostRuntime) -> Result<(), Fail> {
     assert_eq!(rt; part.len(), 1);
     assert!(rt; equal(&part, &pairs(alloc, &[3, 4], None)?));
     assert!(rt; !equal(&part, &pairs(alloc, &[3, 4], bits(alloc, 0, 1)?)?));
+    Ok(())
+}
+
+#[test]
+fn a_slice_of_pairs_cuts_its_numbers(rt: HostRuntime) -> Result<(), Fail> {
+    let alloc = rt.alloc();
+    let values = Box::new(alloc, int32s(alloc, &[1, 2, 3, 4, 5, 6], None)?)?;
+    let data_type = fixed_list_of(alloc, DataType::Int32, 2)?;
+    let array = FixedSizeListArray::try_new(data_type, values, None)?;
+    assert_eq!(rt; array.len(), 3);
+    let part = array.sliced(1, 1);
+    assert_eq!(rt; part.len(), 1);
+    assert_eq!(rt; part.null_count(), 0);
+    assert!(rt; equal(part.values(), &int32s(alloc, &[3, 4], None)?));
     Ok(())
 }
 
@@ -292,6 +326,28 @@ fn records_of_bits_and_numbers(rt: HostRuntime) -> Result<(), Fail> {
     Ok(())
 }
 
+// A child keeps what it has where the record is null.
+#[test]
+fn the_children_of_records(rt: HostRuntime) -> Result<(), Fail> {
+    let alloc = rt.alloc();
+    let values = vec![in alloc;
+        booleans(alloc, 0x0c, 4)?,
+        int32s(alloc, &[42, 28, 19, 31], None)?,
+    ]?;
+    let data_type = struct_of(alloc, DataType::Boolean, DataType::Int32)?;
+    let array = StructArray::try_new(data_type, values, bits(alloc, 0x0b, 4)?)?;
+    assert_eq!(rt; array.len(), 4);
+    assert_eq!(rt; array.null_count(), 1);
+    assert!(rt; !array.is_valid(2));
+    let children = array.values();
+    assert_eq!(rt; children.len(), 2);
+    assert_eq!(rt; children[0].null_count(), 0);
+    assert_eq!(rt; children[1].null_count(), 0);
+    assert!(rt; equal(&children[0], &booleans(alloc, 0x0c, 4)?));
+    assert!(rt; equal(&children[1], &int32s(alloc, &[42, 28, 19, 31], None)?));
+    Ok(())
+}
+
 #[test]
 fn records_refused(rt: HostRuntime) -> Result<(), Fail> {
     let alloc = rt.alloc();
@@ -325,6 +381,23 @@ fn maps_from_texts_to_numbers(rt: HostRuntime) -> Result<(), Fail> {
     let first = entries(alloc)?;
     assert_eq!(rt; first.len(), 3);
     assert!(rt; !equal(&part, &map(alloc, &[0, 2], first.sliced(0, 2))?));
+    Ok(())
+}
+
+#[test]
+fn a_map_of_one_pair(rt: HostRuntime) -> Result<(), Fail> {
+    let alloc = rt.alloc();
+    let array = map(alloc, &[0, 1, 3], entries(alloc)?)?;
+    assert_eq!(rt; array.len(), 2);
+    let first = entries(alloc)?;
+    assert_eq!(rt; first.len(), 3);
+    assert_eq!(rt; first.null_count(), 0);
+    assert!(rt;
+        equal(
+            &array.sliced(0, 1),
+            &map(alloc, &[0, 1], first.sliced(0, 1))?
+        )
+    );
     Ok(())
 }
 

@@ -1,11 +1,11 @@
 //! Unions at work.
-use crate::equal;
 use lower::bitmap::Bitmap;
 use lower::buffer::Buffer;
 use lower::datatypes::{DataType, Field, Metadata, UnionMode};
 use lower::error::{Error, Rule};
 use lower::types::NativeType;
 use lower_arrays::array::{AnyArray, AnyPrimitive, BooleanArray, PrimitiveArray, UnionArray};
+use lower_equal::equal;
 use std::alloc::{AllocError, Global};
 use std::test::Fail;
 
@@ -95,6 +95,44 @@ fn a_slice_of_a_dense_union(rt: HostRuntime) -> Result<(), Fail> {
     let part = array.sliced(1, 2);
     assert!(rt; equal(&part, &dense(alloc, &[1, 0], &[0, 0], &[20], 1)?));
     assert!(rt; !equal(&part, &dense(alloc, &[1, 0], &[0, 0], &[20], 0)?));
+    Ok(())
+}
+
+#[test]
+fn a_slice_of_a_sparse_union_cuts_its_children(rt: HostRuntime) -> Result<(), Fail> {
+    let alloc = rt.alloc();
+    let data_type = type_of(alloc, None, UnionMode::Sparse)?;
+    let fields = vec![in alloc; numbers(alloc, &[1, 2, 3])?, truths(alloc, 0b101, 3)?]?;
+    let array = UnionArray::try_new(data_type, buffer(alloc, &[0i8, 1, 0])?, fields, None)?;
+    assert_eq!(rt; array.len(), 3);
+    let part = array.sliced(1, 2);
+    assert_eq!(rt; part.types().as_slice(), [1, 0].as_slice());
+    let children = part.fields();
+    assert_eq!(rt; children.len(), 2);
+    assert!(rt; equal(&children[0], &numbers(alloc, &[2, 3])?));
+    assert!(rt; equal(&children[1], &truths(alloc, 0b10, 2)?));
+    Ok(())
+}
+
+#[test]
+fn a_slice_of_a_dense_union_keeps_its_children(rt: HostRuntime) -> Result<(), Fail> {
+    let alloc = rt.alloc();
+    let data_type = type_of(alloc, None, UnionMode::Dense)?;
+    let fields = vec![in alloc; numbers(alloc, &[10, 20])?, truths(alloc, 1, 1)?]?;
+    let offsets = Some(buffer(alloc, &[0i32, 0, 1])?);
+    let array = UnionArray::try_new(data_type, buffer(alloc, &[0i8, 1, 0])?, fields, offsets)?;
+    assert_eq!(rt; array.len(), 3);
+    assert!(rt; array.index(0) == (0, 0));
+    assert!(rt; array.index(1) == (1, 0));
+    assert!(rt; array.index(2) == (0, 1));
+    let part = array.sliced(1, 2);
+    assert_eq!(rt; part.len(), 2);
+    assert!(rt; part.index(0) == (1, 0));
+    assert!(rt; part.index(1) == (0, 1));
+    let children = part.fields();
+    assert_eq!(rt; children.len(), 2);
+    assert!(rt; equal(&children[0], &numbers(alloc, &[10, 20])?));
+    assert!(rt; equal(&children[1], &truths(alloc, 1, 1)?));
     Ok(())
 }
 

@@ -1,5 +1,5 @@
 //! Numbers beside their bytes, as the Arrow columnar format lays them out.
-use crate::{
+use lower_types::{
     Endianness, NativeType, PrimitiveType, append_bytes, days_ms, i256, months_days_ns,
     numbers_from_bytes,
 };

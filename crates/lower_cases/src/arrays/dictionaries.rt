@@ -1,5 +1,4 @@
 //! Dictionaries at work.
-use crate::equal;
 use lower::bitmap::Bitmap;
 use lower::buffer::Buffer;
 use lower::datatypes::{DataType, Field, IntegerType, Metadata};
@@ -10,6 +9,7 @@ use lower_arrays::array::{
     AnyArray, AnyPrimitive, DictionaryArray, DictionaryKeys, ListArray, ListOffsets,
     PrimitiveArray, Utf8Array, is_dictionary,
 };
+use lower_equal::equal;
 use std::alloc::{AllocError, Global};
 use std::rc::Rc;
 use std::test::Fail;
