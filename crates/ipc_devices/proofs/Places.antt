@@ -1,9 +1,7 @@
 -- What stands before and behind a place, after reads and writes.
-use Rattle.std.proofs.Common.{◌≡◌, ℕ, ◌+◌, ◌-◌, ◌<◌, ◌≤◌, List, [], ◌∷◌, ◌++◌, length, take, drop, min, replicate, zero, suc, refl, sym, ap, ◌∙◌, append_assoc, append-nil, length-drop, length-take, length-append, take-append-drop, arith, rules, add-zero}
-use Rattle.std.proofs.lemmas.Grind.{common_steps}
-use Rattle.std.proofs.lemmas.List.{take-append-le, drop-append-le, nil_from_length, drop_all, drop_at, take_at, drop-drop, length-take-le, length-replicate, take_all, take-replicate, drop-replicate}
-use Rattle.std.proofs.Math.Seq.{take-add}
-use Rattle.ipc_devices.specs.Device.{Memory, after, before, ReadsFront, WritesOver}
+use Rattle.std.proofs.Common.{◌≡◌, ℕ, ◌+◌, ◌-◌, ◌≤◌, List, [], ◌∷◌, ◌++◌, length, take, drop, min, replicate, zero, suc, refl, sym, ap, append-nil, length-drop, length-take, length-append, take-append-drop, arith}
+use Rattle.std.proofs.lemmas.List.{nil_from_length, drop_all, drop_at, take_at, drop-drop, length-take-le, length-replicate, take_all, take-replicate, drop-replicate}
+use Rattle.ipc_devices.specs.Device.{before, ReadsFront, WritesOver}
 
 -- what a read took
 taken_is : (bytes buf old : List ℕ) (place n : ℕ) → n ≡ min (length (drop place bytes)) (length old) → buf ≡ take n (drop place bytes) ++ drop n old → take n buf ≡ take n (drop place bytes)

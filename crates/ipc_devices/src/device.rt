@@ -3,9 +3,9 @@
 //! The standard devices don't say when a call of theirs may fail. These do: a call answers an error
 //! only where the device counted a failure in it, or where the growth of a writer over memory was
 //! refused. A call that failed isn't tried again.
-ghost use Rattle.std.specs.Prelude.{◌≡◌, ℕ, ◌+◌, ◌<◌, ◌≤◌, Bool, length, take, IsTrue, ◌⊎◌, IfOk, OnOk, OnErr, MatchResult};
+ghost use Rattle.std.specs.Prelude.{◌≡◌, ℕ, ◌+◌, ◌<◌, ◌≤◌, Bool, length, take, drop, IsTrue, ◌⊎◌, IfOk, IfSome, OnOk, OnErr, MatchResult};
 ghost use Rattle.std.specs.Io.{ReadsAtMost, WritesAtMost};
-ghost use Rattle.ipc_devices.specs.Device.{Rises, counted, Memory, ReadsFront, WritesOver, GoesTo};
+ghost use Rattle.ipc_devices.specs.Device.{Rises, after, counted, Memory, ReadsFront, WritesOver, GoesTo};
 
 use std::io;
 
@@ -50,6 +50,41 @@ pub trait Reads: Failures {
             ReadsFront (Self.memory self.old) (Self.memory self.new) n buf.new) }
         ensures whole { IsTrue Self.still
             → (Self.memory self.new).whole ≡ (Self.memory self.old).whole };
+
+    /// The next bytes, this many, where the device holds them in memory: to be looked at without a copy. None where it
+    /// doesn't, or where it holds fewer. They are still to be read.
+    fn ahead(&self, count: usize) -> Option<&[u8]>
+        ensures count { IfSome result (λ bytes. length bytes.now ≡ count) }
+        ensures memory { IsTrue Self.known → IfSome result (λ bytes.
+            (count ≤ length (after (Self.memory self.now)))
+            × (bytes.now ≡ take count (after (Self.memory self.now)))) }
+    {
+        let _ = count;
+        None
+    }
+
+    /// Goes past the next bytes, this many, or past all where there are fewer.
+    fn skip(&mut self, count: usize) -> io::Result<()>
+        ensures monotone { Self.failures self.old ≤ Self.failures self.new }
+        ensures failed { OnErr result (Rises (Self.failures self.old) (Self.failures self.new)) }
+        ensures given { Self.given self.new ≤ Self.given self.old + count }
+        ensures memory { IsTrue Self.known → count ≤ length (after (Self.memory self.old))
+            → OnOk result (after (Self.memory self.new) ≡ drop count (after (Self.memory self.old))) }
+        ensures whole { IsTrue Self.still
+            → (Self.memory self.new).whole ≡ (Self.memory self.old).whole }
+    {
+        let mut piece = [0; 512];
+        let mut left = count;
+        while left > 0 {
+            let most = left.min(piece.len());
+            let n = self.read(&mut piece[..most])?;
+            if n == 0 {
+                break;
+            }
+            left -= n;
+        }
+        Ok(())
+    }
 }
 
 /// A device that takes bytes.
@@ -145,6 +180,14 @@ impl<R: Reads> Reads for &mut R {
 
     fn read(&mut self, buf: &mut [u8]) -> io::Result<usize> {
         Reads::read(&mut **self, buf)
+    }
+
+    fn ahead(&self, count: usize) -> Option<&[u8]> {
+        Reads::ahead(&**self, count)
+    }
+
+    fn skip(&mut self, count: usize) -> io::Result<()> {
+        Reads::skip(&mut **self, count)
     }
 }
 

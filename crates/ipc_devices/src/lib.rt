@@ -13,6 +13,3 @@ pub use fault::{ArgFault, Fault, Nyi, OutOfSpecKind, Result, SchemaFault, StateF
 pub use memory::{Bytes, MemFile};
 pub use reading::{fill, read_bytes, read_into};
 pub use watched::Watched;
-
-#[cfg(test)]
-mod tests;

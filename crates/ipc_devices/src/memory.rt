@@ -140,6 +140,17 @@ impl<B: Bytes> Reads for MemFile<B> {
         self.given = self.given.saturating_add(n as u64);
         Ok(n)
     }
+
+    fn ahead(&self, count: usize) -> Option<&[u8]> {
+        rest_of(self.inner.bytes(), self.position).get(..count)
+    }
+
+    fn skip(&mut self, count: usize) -> io::Result<()> {
+        let passed = rest_of(self.inner.bytes(), self.position).len().min(count) as u64;
+        self.position += passed;
+        self.given = self.given.saturating_add(passed);
+        Ok(())
+    }
 }
 
 impl<B: Bytes> Seeks for MemFile<B> {
