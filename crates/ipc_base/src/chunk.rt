@@ -65,7 +65,7 @@ impl<A: Rows> Chunk<A> {
         requires { AreEqualRows A.rows arrays.items }
         ensures { result ≡ arrays.items }
     {
-        Chunk { arrays }
+        Self { arrays }
     }
 
     /// A chunk of these columns, or `Argument(UnequalRows)` exactly where they have not the same

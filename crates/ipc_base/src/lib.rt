@@ -6,6 +6,3 @@ pub mod chunk;
 pub mod ipc;
 
 pub use ipc_devices::fault;
-
-#[cfg(test)]
-mod tests;
