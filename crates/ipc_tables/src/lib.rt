@@ -9,6 +9,4 @@ pub mod file;
 pub mod message;
 pub mod schema;
 mod slots;
-#[cfg(test)]
-mod tests;
 pub mod types;

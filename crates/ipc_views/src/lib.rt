@@ -10,8 +10,6 @@ mod number;
 mod schema;
 mod structs;
 mod table;
-#[cfg(test)]
-mod tests;
 mod types;
 mod view;
 
