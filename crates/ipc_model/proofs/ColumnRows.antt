@@ -36,6 +36,7 @@ pub list_rows : ListRows
 list_rows = record {
   all = refl;
   first_two = refl;
+  few_offsets = refl;
   sliced = refl;
   few = refl;
   fixed = refl;
@@ -71,6 +72,7 @@ union_rows = record {
   no_such_id = refl;
   equal_ids = refl;
   under_a_list = refl;
+  few_under_a_list = refl;
 }
 
 pub count_rows : CountRows

@@ -153,7 +153,7 @@ offsets_longer s ns ps w b d k l o = record {
 }
 
 -- an offset is at most the last one
-offset_below : (s : Entries) (b w k i : ℕ) → Offsets s b w k → 0 < k → i ≤ k → offset s b w i ≤ last_offset s b w k
+pub offset_below : (s : Entries) (b w k i : ℕ) → Offsets s b w k → 0 < k → i ≤ k → offset s b w i ≤ last_offset s b w k
 offset_below s b w k i o some h =
     let e : i + (k - i) ≡ k = omega arith in
     let up : offset s b w i ≤ offset s b w k = subst (λ (j : ℕ). offset s b w i ≤ offset s b w j) e (offset_up s b w k (k - i) i o (omega arith)) in

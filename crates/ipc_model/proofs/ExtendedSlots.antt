@@ -14,7 +14,7 @@ use Rattle.ipc_model.specs.Columns.{last_offset, child_rows, type_at, child_at, 
 use Rattle.ipc_model.specs.Extending.{changed, Extends, ExtendLaw}
 
 -- slots of a fixed number behind one another
-fixed_room : (n i k : ℕ) → i < k → n * (i + 1) ≤ k * n
+pub fixed_room : (n i k : ℕ) → i < k → n * (i + 1) ≤ k * n
 fixed_room n i k h = let next : i + 1 ≤ k = omega arith in omega (arith, mul-le-mul_left n next)
 
 mutual

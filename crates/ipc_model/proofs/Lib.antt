@@ -37,3 +37,7 @@ pub mod FieldLists
 pub mod PairLists
 pub mod Places
 pub mod OfferCounts
+pub mod CutRows
+pub mod HeldColumns
+pub mod HeldRows
+pub mod ReadSlots

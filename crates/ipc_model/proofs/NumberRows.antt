@@ -14,7 +14,14 @@ number_rows = record {
 }
 
 pub part_rows : PartRows
-part_rows = record { days_little = refl; days_big = refl; months_big = refl }
+part_rows = record {
+  days_little = refl;
+  days_big = refl;
+  days_other_order = refl;
+  months_big = refl;
+  months_other_order = refl;
+  months_cut = refl;
+}
 
 pub wide_rows : WideRows
 wide_rows = record { minus_two = refl; lowest_first = refl }

@@ -9,7 +9,7 @@ use Rattle.ipc_model.specs.Batches.{lists_of, entries_of, batch, record_meaning,
 use Rattle.ipc_model.specs.Streams.{header_of, body_item, item, meant_within, meaning}
 use Rattle.ipc_model.specs.Schemas.{integer_at, decimal_at, plain_at, single_at, group_at, pairs_at, encoding_at, field_from, field_at, schema_at, schema_of, head_of}
 use Rattle.ipc_model.specs.WholeStreams.{stream_of}
-use Rattle.ipc_model.specs.StreamRows.{SmallestRows, MetadataRows, DemoRows, ChosenRows}
+use Rattle.ipc_model.specs.StreamRows.{SmallestRows, MetadataRows, DemoRows, AloneRows, ChosenRows}
 
 pub smallest_rows : SmallestRows
 unfolding number_at table_at slot_at spot_at target_at text_at vector_at table_in structs_at signed32 signed64 is_utf8 chars encode integer_at decimal_at plain_at single_at group_at pairs_at encoding_at field_from field_at schema_at schema_of head_of
@@ -26,27 +26,50 @@ smallest_rows = record {
 }
 
 pub metadata_rows : MetadataRows
+unfolding number_at table_at slot_at spot_at target_at text_at vector_at table_in structs_at signed32 signed64 is_utf8 chars encode integer_at decimal_at plain_at single_at group_at pairs_at encoding_at field_from field_at schema_at schema_of head_of
 metadata_rows = record {
   later_wins = refl;
+  earlier_loses = refl;
+  three_pairs = refl;
+  another_order = refl;
+  no_text = refl;
   extended_values = refl;
   normal_form = refl;
+  other_keys = refl;
 }
 
 pub demo_rows : DemoRows
 unfolding number_at table_at slot_at spot_at target_at text_at vector_at table_in structs_at signed32 signed64 is_utf8 chars encode integer_at decimal_at plain_at single_at group_at pairs_at encoding_at field_from field_at schema_at schema_of head_of frame sized marked lists_of entries_of batch record_meaning dictionary_meaning header_of body_item item meant_within meaning stream_of
 demo_rows = record {
   schema = refl;
+  unknown_type = refl;
+  no_such_width = refl;
+  no_name = refl;
   marked_end = refl;
   behind_the_mark = refl;
   older_prefix = refl;
   no_more = refl;
   begun_prefix = refl;
+  begun_alone = refl;
+  gone_on = refl;
+  longer_column = refl;
   cut_marker = refl;
   cut_metadata = refl;
   cut_body = refl;
   whole = refl;
+  five_chunks = refl;
   no_schema = refl;
   another_schema = refl;
+}
+
+pub alone_rows : AloneRows
+unfolding number_at table_at slot_at spot_at target_at text_at vector_at table_in structs_at signed32 signed64 is_utf8 chars encode integer_at decimal_at plain_at single_at group_at pairs_at encoding_at field_from field_at schema_at schema_of head_of frame sized marked lists_of entries_of batch record_meaning dictionary_meaning header_of body_item item meant_within meaning stream_of
+alone_rows = record {
+  newer_prefix = refl;
+  older_prefix = refl;
+  marked_end = refl;
+  longer_prefix = refl;
+  no_prefix = refl;
 }
 
 pub chosen_rows : ChosenRows

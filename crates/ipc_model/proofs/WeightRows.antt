@@ -3,7 +3,16 @@ use Rattle.std.proofs.Common.{refl}
 use Rattle.ipc_model.specs.WeightRows.{WeightRows, PlaceRows}
 
 pub weight_rows : WeightRows
-weight_rows = record { two_integers = refl; an_extension = refl; a_timezone = refl; union_ids = refl }
+weight_rows = record {
+  two_integers = refl;
+  a_longer_name = refl;
+  an_extension = refl;
+  with_metadata = refl;
+  a_timezone = refl;
+  no_timezone = refl;
+  union_ids = refl;
+  no_union_ids = refl;
+}
 
 pub place_rows : PlaceRows
 place_rows = record { in_order = refl }

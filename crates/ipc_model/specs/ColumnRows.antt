@@ -130,6 +130,9 @@ pub record ListRows : Type 0 where
       ≡ Some (numbers_of (1 ∷ 2 ∷ []) ∷ numbers_of [] ∷ numbers_of (3 ∷ []) ∷ numbers_of (4 ∷ 5 ∷ []) ∷ [])
   pub first_two : read (list_kind offsets_32 int32) (Some 2) five_numbers
       ≡ Some (numbers_of (1 ∷ 2 ∷ []) ∷ numbers_of [] ∷ [])
+  pub few_offsets : read (list_kind offsets_32 int32) (Some 2)
+      (entries Little 0 (node_is 4 0 ∷ node_is 5 0 ∷ [])
+      (buffer_is 0 0 ∷ buffer_is 0 8 ∷ buffer_is 20 0 ∷ buffer_is 20 20 ∷ []) (word 0 ++ word 2 ++ word 2)) ≡ None
   pub sliced : read (list_kind offsets_32 int32) None
       (entries Little 0 (node_is 2 0 ∷ node_is 1 0 ∷ [])
       (buffer_is 0 0 ∷ buffer_is 0 12 ∷ buffer_is 64 0 ∷ buffer_is 64 4 ∷ []) (padded (word 0 ++ word 0 ++ word 1)
@@ -251,6 +254,10 @@ pub record UnionRows : Type 0 where
       (buffer_is 0 0 ∷ buffer_is 0 8 ∷ buffer_is 8 3 ∷ buffer_is 11 0 ∷ buffer_is 11 12 ∷ [])
       (word 0 ++ word 2 ++ 0 ∷ 0 ∷ 0 ∷ word 1 ++ word 2 ++ word 3))
       ≡ Some (list_slot (slots_of (variant 0 (number 1) ∷ variant 0 (number 2) ∷ [])) ∷ [])
+  pub few_under_a_list : read (list_kind offsets_32 (union_kind Sparse None (more_kinds int32 no_kinds))) None
+      (entries Little 0 (node_is 1 0 ∷ node_is 3 0 ∷ node_is 1 0 ∷ [])
+      (buffer_is 0 0 ∷ buffer_is 0 8 ∷ buffer_is 8 3 ∷ buffer_is 11 0 ∷ buffer_is 11 12 ∷ [])
+      (word 0 ++ word 2 ++ 0 ∷ 0 ∷ 0 ∷ word 1 ++ word 2 ++ word 3)) ≡ None
 
 -- the nodes and buffers of a union of two flat columns, from version 5 on and before
 pub record CountRows : Type 0 where

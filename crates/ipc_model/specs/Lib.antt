@@ -40,3 +40,7 @@ pub mod FileFollowLaws
 pub mod Offers
 pub mod OfferRows
 pub mod FieldLists
+pub mod CutRows
+pub mod ReadArrays
+pub mod HeldColumns
+pub mod HeldRows

@@ -21,9 +21,16 @@ pub record PartRows : Type 0 where
       ≡ Some (day_time (pos 5) (negsuc 0))
   pub days_big : number_at DaysMs Big (0 ∷ 0 ∷ 0 ∷ 5 ∷ 0xFF ∷ 0xFF ∷ 0xFF ∷ 0xFF ∷ []) 0
       ≡ Some (day_time (pos 5) (negsuc 0))
+  pub days_other_order : number_at DaysMs Big (5 ∷ 0 ∷ 0 ∷ 0 ∷ 0xFF ∷ 0xFF ∷ 0xFF ∷ 0xFF ∷ []) 0
+      ≡ Some (day_time (pos 83886080) (negsuc 0))
   pub months_big : number_at MonthDayNano Big
       (0 ∷ 0 ∷ 0 ∷ 1 ∷ 0 ∷ 0 ∷ 0 ∷ 2 ∷ 0 ∷ 0 ∷ 0 ∷ 0 ∷ 0 ∷ 0 ∷ 0 ∷ 3 ∷ []) 0
       ≡ Some (month_day_nano (pos 1) (pos 2) (pos 3))
+  pub months_other_order : number_at MonthDayNano Little
+      (0 ∷ 0 ∷ 0 ∷ 1 ∷ 0 ∷ 0 ∷ 0 ∷ 2 ∷ 0 ∷ 0 ∷ 0 ∷ 0 ∷ 0 ∷ 0 ∷ 0 ∷ 3 ∷ []) 0
+      ≡ Some (month_day_nano (pos 16777216) (pos 33554432) (pos 216172782113783808))
+  pub months_cut : number_at MonthDayNano Big
+      (0 ∷ 0 ∷ 0 ∷ 1 ∷ 0 ∷ 0 ∷ 0 ∷ 2 ∷ 0 ∷ 0 ∷ 0 ∷ 0 ∷ 0 ∷ 0 ∷ 0 ∷ []) 0 ≡ None
 
 -- 16 and 32 bytes
 pub record WideRows : Type 0 where

@@ -54,6 +54,23 @@ two_text = codes "2"
 abbrev pub later_pair : Pairs
 later_pair = (key, two_text) ∷ []
 
+-- a schema message whose schema has three pairs: "k" and "1", "k" and "2", and "j" without a value
+abbrev pub metadata_message : List ℕ
+metadata_message =
+    0x10 ∷ 0 ∷ 0 ∷ 0 ∷ 0x0A ∷ 0 ∷ 0x0C ∷ 0 ∷ 8 ∷ 0 ∷ 0x0A ∷ 0 ∷ 4 ∷ 0 ∷ 0 ∷ 0 ∷
+    0x0C ∷ 0 ∷ 0 ∷ 0 ∷ 0x14 ∷ 0 ∷ 0 ∷ 0 ∷ 4 ∷ 0 ∷ 1 ∷ 0 ∷ 0x0A ∷ 0 ∷ 0x0C ∷ 0 ∷
+    0 ∷ 0 ∷ 4 ∷ 0 ∷ 8 ∷ 0 ∷ 0 ∷ 0 ∷ 0x0C ∷ 0 ∷ 0 ∷ 0 ∷ 8 ∷ 0 ∷ 0 ∷ 0 ∷
+    8 ∷ 0 ∷ 0 ∷ 0 ∷ 0 ∷ 0 ∷ 0 ∷ 0 ∷ 3 ∷ 0 ∷ 0 ∷ 0 ∷ 0x14 ∷ 0 ∷ 0 ∷ 0 ∷
+    0x1C ∷ 0 ∷ 0 ∷ 0 ∷ 0x2C ∷ 0 ∷ 0 ∷ 0 ∷ 8 ∷ 0 ∷ 0x0C ∷ 0 ∷ 4 ∷ 0 ∷ 8 ∷ 0 ∷
+    8 ∷ 0 ∷ 0 ∷ 0 ∷ 0x24 ∷ 0 ∷ 0 ∷ 0 ∷ 0x28 ∷ 0 ∷ 0 ∷ 0 ∷ 0x14 ∷ 0 ∷ 0 ∷ 0 ∷
+    0x18 ∷ 0 ∷ 0 ∷ 0 ∷ 0x24 ∷ 0 ∷ 0 ∷ 0 ∷ 6 ∷ 0 ∷ 8 ∷ 0 ∷ 4 ∷ 0 ∷ 0 ∷ 0 ∷
+    8 ∷ 0 ∷ 0 ∷ 0 ∷ 0x1C ∷ 0 ∷ 0 ∷ 0 ∷ 1 ∷ 0 ∷ 0 ∷ 0 ∷ 0x6B ∷ 0 ∷ 0 ∷ 0 ∷
+    1 ∷ 0 ∷ 0 ∷ 0 ∷ 0x31 ∷ 0 ∷ 0 ∷ 0 ∷ 1 ∷ 0 ∷ 0 ∷ 0 ∷ 0x32 ∷ 0 ∷ 0 ∷ 0 ∷
+    1 ∷ 0 ∷ 0 ∷ 0 ∷ 0x6A ∷ 0 ∷ 0 ∷ 0 ∷ []
+
+abbrev pub with_metadata : Pairs → Schema
+with_metadata pairs = record { fields = no_fields; metadata = pairs; ids = no_ids; order = Little }
+
 abbrev pub extended_field : Read
 extended_field = (
   field (codes "f") (dictionary Int8 (extension (codes "e") (plain utf8) None) false) true
@@ -61,18 +78,24 @@ extended_field = (
   ids (Some (pos 0)) no_ids,
 )
 
--- The later of equal keys wins, and a pair without a value is passed over. The extension of a
+-- The later of equal keys wins, and a pair without a value is passed over; a key that is no text has no meaning. The extension of a
 -- dictionary field is that of its values, and the key stays in what is read. The normal form of a field
--- without an extension has none of the extension keys.
+-- without an extension has none of the extension keys, and keeps others.
 pub record MetadataRows : Type 0 where
   pub later_wins : with_read (Some (codes "j")) None
       (with_read (Some key) (Some two_text) (with_read (Some key) (Some one) [])) ≡ later_pair
+  pub earlier_loses : with_read (Some key) (Some one) (with_read (Some key) (Some two_text) []) ≡ (key, one) ∷ []
+  pub three_pairs : schema_of metadata_message ≡ Some (with_metadata later_pair)
+  pub another_order : schema_of (slice_set (slice_set metadata_message 140 0x31) 132 0x32) ≡ Some (with_metadata ((key, one) ∷ []))
+  pub no_text : schema_of (slice_set metadata_message 124 0xFF) ≡ None
   pub extended_values :
       field_with (codes "f") true ((name_key, codes "e") ∷ [])
       (Some (record { keys = Int8; id = pos 0; ordered = false })) (plain utf8, no_ids)
       ≡ extended_field
   pub normal_form : norm_field (field (codes "f") (plain int32) true ((data_key, codes "m") ∷ (key, codes "v") ∷ []))
       ≡ field (codes "f") (plain int32) true ((key, codes "v") ∷ [])
+  pub other_keys : norm_field (field (codes "f") (plain int32) true ((codes "j", codes "m") ∷ (key, codes "v") ∷ []))
+      ≡ field (codes "f") (plain int32) true ((codes "j", codes "m") ∷ (key, codes "v") ∷ [])
 
 -- ---- a stream of two columns of numbers
 
@@ -148,22 +171,45 @@ abbrev pub ends_waiting : List Chunk → List ℕ → Meant
 ends_waiting cs begun = record { chunks = cs; end = waits nothing_known begun }
 
 -- A schema, a stream of it with both prefixes, and one that is cut: in a prefix it waits, anywhere else
--- it is faulty.
+-- it is faulty. What was begun is read with what comes later. A type that isn't known, a width that no integer has, a field without a
+-- name, and a column longer than its buffer have no meaning.
 pub record DemoRows : Type 0 where
   pub schema : head_of schema_metadata ≡ Some demo_head
+  pub unknown_type : head_of (slice_set schema_metadata 89 22) ≡ None
+  pub no_such_width : head_of (slice_set schema_metadata 112 33) ≡ None
+  pub no_name : head_of (slice_set schema_metadata 60 0) ≡ None
   pub marked_end : meant (demo_record ++ demo_record ++ mark)
       ≡ record { chunks = demo_chunk ∷ demo_chunk ∷ []; end = marked }
   pub behind_the_mark : meant (mark ++ demo_record) ≡ record { chunks = []; end = marked }
   pub older_prefix : meant (drop 4 demo_record ++ word 0) ≡ record { chunks = demo_chunk ∷ []; end = marked }
   pub no_more : meant demo_record ≡ ends_waiting (demo_chunk ∷ []) []
   pub begun_prefix : meant (demo_record ++ 0xFF ∷ 0xFF ∷ []) ≡ ends_waiting (demo_chunk ∷ []) (0xFF ∷ 0xFF ∷ [])
+  pub begun_alone : meant (0xFF ∷ 0xFF ∷ []) ≡ ends_waiting [] (0xFF ∷ 0xFF ∷ [])
+  pub gone_on : meant ((0xFF ∷ 0xFF ∷ []) ++ drop 2 demo_record) ≡ ends_waiting (demo_chunk ∷ []) []
+  pub longer_column : meant (slice_set demo_record 88 3) ≡ record { chunks = []; end = faulty }
   pub cut_marker : meant (demo_record ++ marker) ≡ record { chunks = demo_chunk ∷ []; end = faulty }
   pub cut_metadata : meant (take 100 demo_record) ≡ record { chunks = []; end = faulty }
   pub cut_body : meant (take 319 demo_record) ≡ record { chunks = []; end = faulty }
   pub whole : stream_of (marker ++ word 192 ++ schema_metadata ++ demo_record ++ mark)
       ≡ Some (record { head = demo_head; meant = record { chunks = demo_chunk ∷ []; end = marked } })
+  pub five_chunks : stream_of (marker ++ word 192 ++ schema_metadata ++ demo_record ++ demo_record ++ demo_record ++ demo_record ++ demo_record ++ mark)
+      ≡ Some (record { head = demo_head; meant = record { chunks = replicate 5 demo_chunk; end = marked } })
   pub no_schema : stream_of (demo_record ++ mark) ≡ None
   pub another_schema : meant (marker ++ word 192 ++ schema_metadata) ≡ record { chunks = []; end = faulty }
+
+-- ---- a stream of the smallest schema
+
+abbrev pub smallest_head : Head
+smallest_head = record { schema = no_schema_fields; extra = 0 }
+
+-- Behind either prefix it waits. Behind one that says a byte more, or with none, it is no stream.
+pub record AloneRows : Type 0 where
+  pub newer_prefix : stream_of (marker ++ word 48 ++ smallest) ≡ Some (record { head = smallest_head; meant = ends_waiting [] [] })
+  pub older_prefix : stream_of (word 48 ++ smallest) ≡ Some (record { head = smallest_head; meant = ends_waiting [] [] })
+  pub marked_end : stream_of (marker ++ word 48 ++ smallest ++ mark)
+      ≡ Some (record { head = smallest_head; meant = record { chunks = []; end = marked } })
+  pub longer_prefix : stream_of (marker ++ word 49 ++ smallest) ≡ None
+  pub no_prefix : stream_of smallest ≡ None
 
 -- ---- too few nodes
 

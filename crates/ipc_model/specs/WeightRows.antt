@@ -17,13 +17,22 @@ alone f = more_fields f no_fields
 pub record WeightRows : Type 0 where
   pub two_integers : weight
       (more_fields (named (plain int32) (codes "x")) (alone (named (plain int32) (codes "y")))) [] ≡ 2050
+  pub a_longer_name : weight
+      (more_fields (named (plain int32) (codes "xx")) (alone (named (plain int32) (codes "y")))) [] ≡ 2051
   pub an_extension : weight (alone (named (extension (codes "uuid") (plain (fixed_binary 16)) None) (codes "e"))) []
       ≡ 1625
+  pub with_metadata : weight (alone (named (extension (codes "uuid") (plain (fixed_binary 16)) (Some (codes "m"))) (codes "e"))) []
+      ≡ 1714
   pub a_timezone : weight (alone (named (plain (timestamp Second (Some (codes "UTC")))) (codes "t"))) [] ≡ 1540
+  pub no_timezone : weight (alone (named (plain (timestamp Second None)) (codes "t"))) [] ≡ 1537
   pub union_ids :
       weight (alone (named (group (choice (Some (pos 5 ∷ pos 9 ∷ [])) Sparse)
       (more_fields (named (plain int32) (codes "a")) (alone (named (plain boolean) (codes "b")))))
       (codes "u"))) [] ≡ 2579
+  pub no_union_ids :
+      weight (alone (named (group (choice None Sparse)
+      (more_fields (named (plain int32) (codes "a")) (alone (named (plain boolean) (codes "b")))))
+      (codes "u"))) [] ≡ 2563
 
 -- a dictionary of texts, and one of lists whose items are a dictionary of bytes: their ids in pre-order
 abbrev pub two_dictionaries : FieldTrees

@@ -2,6 +2,7 @@
 
 ghost use Rattle.ipc_model.specs.AddressLaws.{AddressLaw, DictionaryFollowLaw, OrderLaw, RecordFollowLaw};
 ghost use Rattle.ipc_model.specs.WrittenBatches.{WrittenBatchLaw};
+ghost use Rattle.ipc_model.specs.HeldColumns.{ChosenHeldLaw};
 ghost use Rattle.ipc_model.specs.Needed.{BatchNeededLaw, ChosenNeededLaw};
 ghost use Rattle.ipc_model.specs.Offers.{EntryCountLaw};
 ghost use Rattle.ipc_model.specs.BatchLaws.{AgreeLaw, BatchTestLaw, PruneLaw};
@@ -59,6 +60,12 @@ pub fn bytes_of_batches()
 /// buffers may list: under each projection that names a column once, and each limit.
 pub fn bytes_of_chosen_columns()
     ensures { ChosenNeededLaw }
+{}
+
+/// Arrays that hold what the chosen columns of a batch need hold together no more bytes than these columns'
+/// own buffers list, and so no more than all buffers may list, beside the offsets that are omitted.
+pub fn bytes_of_chosen_arrays()
+    ensures { ChosenHeldLaw }
 {}
 
 /// What is written of an array has as many nodes and buffers as a column of its type takes.

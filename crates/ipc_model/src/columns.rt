@@ -1,9 +1,11 @@
 //! Laws of columns.
 
 ghost use Rattle.ipc_model.specs.Extending.{ExtendLaw};
+ghost use Rattle.ipc_model.specs.HeldColumns.{ReadHeldLaw};
 ghost use Rattle.ipc_model.specs.KindLaws.{BufferCountLaw, NodeCountLaw};
 ghost use Rattle.ipc_model.specs.Laws.{LimitLaw, NeedLaw, NodeLaw};
 ghost use Rattle.ipc_model.specs.Needed.{NeededLaw};
+ghost use Rattle.ipc_model.specs.ReadArrays.{ReadSlotsLaw};
 ghost use Rattle.ipc_model.specs.TestLaws.{WellTestLaw};
 
 /// Each column has at least one node.
@@ -47,4 +49,17 @@ pub fn extended_columns()
 /// A column that is well formed needs no more bytes than its buffers list.
 pub fn bytes_of_columns()
     ensures { NeededLaw }
+{}
+
+/// The array that a column is read to holds no more bytes than the column needs, and one offset for each
+/// buffer of offsets that is omitted. The values of dictionaries aren't counted.
+#[tactic(auto, using(crate::proofs::HeldColumns::read_held_law))]
+pub fn bytes_of_arrays()
+    ensures { ReadHeldLaw }
+{}
+
+/// The array that a well formed column is read to has the column's slots, as arrays have slots.
+#[tactic(auto, using(crate::proofs::ReadSlots::read_slots_law))]
+pub fn slots_of_arrays()
+    ensures { ReadSlotsLaw }
 {}

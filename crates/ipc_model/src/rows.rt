@@ -2,12 +2,14 @@
 
 ghost use Rattle.ipc_model.specs.AcceptedRows.{AcceptedRows};
 ghost use Rattle.ipc_model.specs.ColumnRows.{CountRows, FlatRows, ListRows, MapRows, StructRows, TextRows, UnionRows};
+ghost use Rattle.ipc_model.specs.CutRows.{BitRows, ChildCutRows, LengthCutRows, ListCutRows};
 ghost use Rattle.ipc_model.specs.DictionaryRows.{DictionaryRows, NestedRows, SharedRows};
 ghost use Rattle.ipc_model.specs.FileRows.{FileRows};
+ghost use Rattle.ipc_model.specs.HeldRows.{HeldRows};
 ghost use Rattle.ipc_model.specs.NeededRows.{NeededRows};
 ghost use Rattle.ipc_model.specs.OfferRows.{ChunkRows, LengthRows, FilledRows};
 ghost use Rattle.ipc_model.specs.SlicedRows.{SlicedRows};
-ghost use Rattle.ipc_model.specs.StreamRows.{ChosenRows, DemoRows, MetadataRows, SmallestRows};
+ghost use Rattle.ipc_model.specs.StreamRows.{AloneRows, ChosenRows, DemoRows, MetadataRows, SmallestRows};
 ghost use Rattle.ipc_model.specs.WeightRows.{PlaceRows, WeightRows};
 
 /// Numbers, bits and nulls.
@@ -65,6 +67,12 @@ pub fn demo_stream()
     ensures { DemoRows }
 {}
 
+/// A stream of the smallest schema, which has no messages.
+#[tactic(auto, using(crate::proofs::StreamRows::alone_rows))]
+pub fn schema_alone()
+    ensures { AloneRows }
+{}
+
 /// Batches under a projection.
 #[tactic(auto, using(crate::proofs::StreamRows::chosen_rows))]
 pub fn chosen_columns()
@@ -102,6 +110,21 @@ pub fn sliced_union()
 #[tactic(auto, using(crate::proofs::NeededRows::needed_rows))]
 pub fn bytes_needed()
     ensures { NeededRows }
+{}
+
+/// How many bytes arrays hold.
+#[tactic(auto, using(crate::proofs::HeldRows::held_rows))]
+pub fn bytes_held()
+    ensures { HeldRows }
+{}
+
+/// Some slots of arrays, as bytes, and how many bytes these are.
+#[tactic(auto, using(crate::proofs::CutRows::bit_rows, crate::proofs::CutRows::list_cut_rows, crate::proofs::CutRows::child_cut_rows, crate::proofs::CutRows::length_cut_rows))]
+pub fn slices_as_bytes()
+    ensures bits { BitRows }
+    ensures lists { ListCutRows }
+    ensures children { ChildCutRows }
+    ensures lengths { LengthCutRows }
 {}
 
 /// Chunks that a writer takes, and that it refuses.
