@@ -1,4 +1,5 @@
 pub mod DefaultIds
+pub mod DefaultRows
 pub mod Ids
 pub mod Meanings
 pub mod Refusals

@@ -5,6 +5,7 @@ ghost use Rattle.lower.specs.TypeViews.{type_view, field_view, fields_view};
 ghost use Rattle.ipc_base.specs.IdTrees.{ids_view, all_ids_view};
 ghost use Rattle.ipc_base.specs.Fitting.{AllFit};
 ghost use Rattle.ipc_schema_write.specs.DefaultIds.{count_below, count_field, count_all, default_children, default_ids, default_all};
+ghost use Rattle.ipc_schema_write.specs.DefaultRows.{DefaultRows};
 ghost use Rattle.ipc_schema_write.specs.Refusals.{RefusesCount};
 
 use ipc_base::fault::{ArgFault, Fault};
@@ -98,3 +99,9 @@ fn ids_below(alloc: Global, data_type: &DataType, next: &mut u64) -> Result<Vec<
         _ => Ok(Vec::new(alloc)),
     }
 }
+
+/// The ids of two fields that are written out, and of a dictionary in a dictionary.
+#[tactic(auto, using(crate::proofs::DefaultRows::default_rows))]
+pub fn ids_of_written_out_fields()
+    ensures { DefaultRows }
+{}

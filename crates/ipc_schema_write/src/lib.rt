@@ -6,8 +6,6 @@ mod dictionaries;
 mod fields;
 mod metadata;
 pub mod schema;
-#[cfg(test)]
-mod tests;
 mod types;
-mod weights;
+pub mod weights;
 mod writable;

@@ -6,8 +6,8 @@ ghost use Rattle.ipc_schema_write.specs.WriterAnswers.{max_weight};
 use ipc_tables::schema::{Field, KeyValue, Schema};
 use ipc_tables::types::FieldType;
 
-/// The greatest weight of a schema that is written.
-const MAX_WEIGHT: u64 = 1 << 30;
+/// The greatest weight of a schema that is written: `2^30`.
+pub const MAX_WEIGHT: u64 = 1 << 30;
 
 // Each of these is None where a `u64` is too small for it.
 fn weigh_pairs(pairs: &[KeyValue]) -> Option<u64>
@@ -71,8 +71,11 @@ fn weigh_fields(fields: &[Field]) -> Option<u64>
     Some(sum)
 }
 
-/// The weight of a schema, or None where a `u64` is too small for it.
-pub(crate) fn weigh_schema(schema: &Schema) -> Option<u64>
+/// The weight of a schema, or None where a `u64` is too small for it. The message of the schema has no more bytes.
+///
+/// It is 1,024, and for each field at any level 512, the bytes of its name and of its timezone, and 8 for each id of a
+/// union; and 64 for each pair of metadata, of the schema's and of the fields', with the bytes of its key and its value.
+pub fn weigh_schema(schema: &Schema) -> Option<u64>
     ensures { MatchOption result (2 ^ 64 ≤ schema_weight schema.now) (λ weight. weight ≡ schema_weight schema.now) }
 {
     let own = weigh_pairs(&schema.custom_metadata)?.checked_add(1024)?;
