@@ -1,6 +1,7 @@
 -- What was read of a message's body is what the message means.
-use Rattle.std.proofs.Common.{arith, cond, ◌≡◌, ◌==◌, ℕ, ◌<◌, ◌≤◌, nat_lt, true, false, Bool, List, [], length, take, drop, Option, None, Some, IsSome, IsNone, Result, Ok, Err, refl, sym, ap, inl, inr, ◌∙◌, length-take}
+use Rattle.std.proofs.Common.{arith, cond, ◌≡◌, ◌==◌, ℕ, ◌<◌, ◌≤◌, nat_lt, true, false, Bool, List, [], length, take, drop, ◌++◌, subst, Option, None, Some, IsSome, IsNone, Result, Ok, Err, refl, sym, ap, inl, inr, ◌∙◌, length-append, length-take, take-append-drop}
 use Rattle.std.proofs.lemmas.Bool.{cases_lt, le-ltb, lt-ltb}
+use Rattle.std.proofs.lemmas.List.{drop_at, length-take-le, take_at}
 use Rattle.lower.specs.TypeTrees.{Pairs, FieldTrees}
 use Rattle.lower_types.specs.declared.Endianness.{Endianness}
 use Rattle.lower_arrays.specs.declared.array.AnyArray.{AnyArray}
@@ -15,7 +16,7 @@ use Rattle.ipc_views.specs.declared.message.MessageHeaderRef.TheVariants as head
 use Rattle.ipc_model.specs.Batches.{Schema, Body, Lists, lists_of, Chunk, batch, record_meaning}
 use Rattle.ipc_model.specs.Streams.{Head, Header, done, faulty, whole, with_chunk, body_item, nothing_known}
 use Rattle.ipc_read.specs.Chunks.{chunk_seen, IsCarriedLists, HasMeaning, GivesBatch}
-use Rattle.ipc_readers.specs.Streams.{IsCarriedMessage, GivesBody}
+use Rattle.ipc_readers.specs.Streams.{IsCarriedMessage, GivesBody, GivesColumns}
 
 -- a claim of a fault by which another one holds
 pub claims_through : (e : Fault) (P Q : Type 0) → (P → Q) → OwnFault e P → OwnFault e Q
@@ -101,6 +102,28 @@ record_gives fs ms is o extra t n xs bytes projection limit (Err e') long e all 
     ∙ sym (ap (λ (b : Body). record_meaning plain_schema extra [] b t None None) (body_is n xs bytes long e))
     ∙ none))
     (g.each [])
+
+-- of these bytes, whatever is ahead of them then
+pub columns_give :
+    {A B : Type 0} (fs : FieldTrees) (ms : Pairs) (is : IdTrees) (o : Endianness) (extra : ℕ) (t : Spot) (body : List ℕ)
+    (projection : Option A) (limit : Option B) (r : Result (List AnyArray) Fault) → IsNone projection → IsNone limit
+    → GivesBatch (record { fields = fs; metadata = []; ids = is; order = o }) extra (record { source = body; base = 0; size = length body }) t projection limit r
+    → GivesColumns (record { schema = record { fields = fs; metadata = ms; ids = is; order = o }; extra = extra }) t body r
+columns_give fs ms is o extra t body projection limit r all some g = λ ys.
+    let h : Head = record { schema = record { fields = fs; metadata = ms; ids = is; order = o }; extra = extra } in
+    let long : length body ≤ length (body ++ ys) = omega (arith, length-append body ys) in
+    subst (λ (zs : List ℕ). GivesBody h (record { tag = 3; table = t; body = length body }) (body ++ ys) r zs) (drop_at body ys (length body) refl)
+    (record_gives fs ms is o extra t (length body) (body ++ ys) body projection limit r long (sym (take_at body ys (length body) refl)) all some g)
+
+-- the bytes are the front of xs
+pub front_gives :
+    (h : Head) (t : Spot) (n : ℕ) (xs body : List ℕ) (r : Result (List AnyArray) Fault) → n ≤ length xs → body ≡ take n xs → GivesColumns h t body r
+    → GivesBody h (record { tag = 3; table = t; body = n }) xs r (drop n xs)
+front_gives h t n xs body r long e given =
+    let size : length body ≡ n = rw e (length-take-le n xs long) in
+    let all : body ++ drop n xs ≡ xs = rw e (take-append-drop n xs) in
+    subst (λ (zs : List ℕ). GivesBody h (record { tag = 3; table = t; body = n }) zs r (drop n xs)) all
+    (subst (λ (k : ℕ). GivesBody h (record { tag = 3; table = t; body = k }) (body ++ drop n xs) r (drop n xs)) size (given (drop n xs)))
 
 -- ---- bodies that aren't there, and other messages
 

@@ -1,12 +1,13 @@
 -- What the calls of a stream's reader do.
 -- (Arrow columnar format, "IPC Streaming Format".)
-use Rattle.std.specs.Prelude.{◌≡◌, ℕ, ◌≤◌, List, [], ◌∷◌, ◌++◌, Option, None, Some, Result, Ok, Err, IfErr, Bool, true, false, IsTrue}
+use Rattle.std.specs.Prelude.{◌≡◌, ℕ, ◌≤◌, List, [], ◌∷◌, ◌++◌, length, Option, None, Some, Result, Ok, Err, IfErr, Bool, true, false, IsTrue}
 use Rattle.lower.specs.TypeViews.{fields_view, pairs_of}
 use Rattle.lower_arrays.specs.declared.array.AnyArray.{AnyArray}
 use Rattle.ipc_base.specs.IdTrees.{all_ids_view}
 use Rattle.ipc_devices.specs.Device.{Memory, after, Rises}
 use Rattle.ipc_devices.specs.Faults.{OnIo, OwnFault}
 use Rattle.ipc_devices.specs.declared.fault.Fault.{Fault}
+use Rattle.ipc_views.specs.Spot.{Spot}
 use Rattle.ipc_model.specs.Batches.{extra_of}
 use Rattle.ipc_model.specs.Streams.{Head, Header, more, done, faulty, body_item, item, marked, with_chunks, meaning, nothing_known, waits}
 pub use Rattle.ipc_model.specs.CarriedStreams.{IsCarriedMessage, IsCarriedHeader, IsCarriedFrame, IsCarriedFront}
@@ -72,6 +73,11 @@ GivesBody h m xs (Ok chunk) ys = (body_item h nothing_known m xs ≡ more (Some 
     × IsCarriedMessage h.schema m
 GivesBody h m xs (Err e) ys = OwnFault e (IsCarriedMessage h.schema m
     → body_item h nothing_known m xs ≡ done faulty)
+
+-- Of these bytes the columns of a record batch were read, as the message gives them whose body they are, whatever is ahead
+-- of it then.
+abbrev pub GivesColumns : Head → Spot → List ℕ → Result (List AnyArray) Fault → Type 0
+GivesColumns h t body r = (ys : List ℕ) → GivesBody h (record { tag = 3; table = t; body = length body }) (body ++ ys) r ys
 
 -- What was read is what stands at the front of xs, for a schema h. begun is what is kept then, and ys what is ahead.
 abbrev pub GivesItem : Head → List ℕ → Result (Option StreamState) Fault → (begun ys : List ℕ) → Type 0

@@ -10,7 +10,7 @@ ghost use Rattle.ipc_base.specs.IdTrees.{all_ids_view};
 ghost use Rattle.lower.specs.TypeViews.{fields_view};
 ghost use Rattle.ipc_readers.specs.Messages.{header_seen};
 ghost use Rattle.ipc_readers.specs.Refusals.{IsStreamFault};
-ghost use Rattle.ipc_readers.specs.Streams.{NextStep, IsWaiting, HasChunk, Begins, GivesBody, GivesItem, ahead, begun_of, device_of, head_of, is_over, metadata_of};
+ghost use Rattle.ipc_readers.specs.Streams.{NextStep, IsWaiting, HasChunk, Begins, GivesBody, GivesColumns, GivesItem, ahead, begun_of, device_of, head_of, is_over, metadata_of};
 
 use crate::read::begun::{Begun, Frame};
 use crate::read::frame::read_frame;
@@ -51,12 +51,37 @@ impl StreamState {
 }
 
 impl Batches {
-    // The columns of a record batch, whose body comes next.
+    // The columns of a record batch of this body.
+    fn columns(&mut self, batch: RecordBatchRef<'_>, body: &[u8]) -> Result<Chunk<AnyArray>, Fault>
+        ensures described { self.new.metadata ≡ self.old.metadata }
+        ensures only { IfErr result (λ e. OwnFault e (IsStreamFault e)) }
+        ensures own { OnIo result ⊥ }
+        ensures memory { GivesColumns (head_of self.old.metadata) batch.entry body.now result }
+    {
+        let mut bytes = MemFile::new(body);
+        read_record_batch(
+            self.alloc,
+            batch,
+            &self.metadata.schema.fields,
+            &self.metadata.ipc_schema,
+            None,
+            None,
+            &self.dictionaries,
+            self.metadata.version,
+            &mut bytes,
+            0,
+            body.len() as u64,
+            &mut self.scratch,
+        )
+    }
+
+    // The columns of a record batch, whose body comes next. They are read of the device's own memory where it shows it.
     fn read_record<R: Reads>(
         &mut self,
         batch: RecordBatchRef<'_>,
         body_length: usize,
         reader: &mut R,
+        body: &mut Vec<u8>,
     ) -> Result<Chunk<AnyArray>, Fault>
         requires { body_length < 2 ^ 63 }
         ensures described { self.new.metadata ≡ self.old.metadata }
@@ -69,22 +94,13 @@ impl Batches {
         ensures whole { IsTrue R.still
             → (R.memory reader.new).whole ≡ (R.memory reader.old).whole }
     {
-        read_into(reader, &mut self.body, body_length)?;
-        let mut bytes = MemFile::new(self.body.as_slice());
-        read_record_batch(
-            self.alloc,
-            batch,
-            &self.metadata.schema.fields,
-            &self.metadata.ipc_schema,
-            None,
-            None,
-            &self.dictionaries,
-            self.metadata.version,
-            &mut bytes,
-            0,
-            body_length as u64,
-            &mut self.scratch,
-        )
+        if let Some(shown) = reader.ahead(body_length) {
+            let chunk = self.columns(batch, shown)?;
+            reader.skip(body_length)?;
+            return Ok(chunk);
+        }
+        read_into(reader, body, body_length)?;
+        self.columns(batch, body.as_slice())
     }
 
     // What stands behind the metadata of a message.
@@ -92,6 +108,7 @@ impl Batches {
         &mut self,
         message: Message<'_>,
         reader: &mut R,
+        body: &mut Vec<u8>,
     ) -> Result<Chunk<AnyArray>, Fault>
         requires { message.body_length < 2 ^ 63 }
         ensures described { self.new.metadata ≡ self.old.metadata }
@@ -109,7 +126,9 @@ impl Batches {
             body_length,
         } = message;
         match header {
-            MessageHeaderRef::RecordBatch(batch) => self.read_record(batch, body_length, reader),
+            MessageHeaderRef::RecordBatch(batch) => {
+                self.read_record(batch, body_length, reader, body)
+            }
             MessageHeaderRef::DictionaryBatch(_) => Err(Fault::NotYetImplemented(Nyi::Pending)),
             _ => Err(Fault::OutOfSpec(OutOfSpecKind::UnexpectedMessageType)),
         }
@@ -141,13 +160,13 @@ impl<R: Reads + Drop> StreamReader<R> {
             alloc,
             metadata,
             dictionaries: HashMap::new(alloc),
-            body: Vec::new(alloc),
             scratch: Vec::new(alloc),
         };
         Ok(StreamReader {
             reader,
             begun: Begun::new(),
             message: Vec::new(alloc),
+            body: Vec::new(alloc),
             batches,
             finished: false,
         })
@@ -193,7 +212,9 @@ impl<R: Reads + Drop> StreamReader<R> {
             Frame::Mark => Ok(None),
             Frame::Message => {
                 let message = open_message(&self.message)?;
-                let chunk = self.batches.read_body(message, &mut self.reader)?;
+                let chunk = self
+                    .batches
+                    .read_body(message, &mut self.reader, &mut self.body)?;
                 Ok(Some(StreamState::Some(chunk)))
             }
         }

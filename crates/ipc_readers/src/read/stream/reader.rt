@@ -32,8 +32,9 @@ use std::alloc::Global;
 pub struct StreamReader<R> {
     pub(crate) reader: R,
     pub(crate) begun: Begun,
-    // the metadata of the last message
+    // the metadata of the last message, and its body where the device doesn't show it
     pub(crate) message: Vec<u8>,
+    pub(crate) body: Vec<u8>,
     pub(crate) batches: Batches,
     pub(crate) finished: bool,
 }
@@ -44,8 +45,7 @@ pub(crate) struct Batches {
     pub(crate) alloc: Global,
     pub(crate) metadata: StreamMetadata,
     pub(crate) dictionaries: Dictionaries,
-    // the body of the last message, and room for parts of it
-    pub(crate) body: Vec<u8>,
+    // room for parts of a body
     pub(crate) scratch: Vec<u8>,
     ghost fits: { IsTrue (all_fit (fields_view metadata.schema.fields.items)
         (all_ids_view metadata.ipc_schema.fields.items)) },
