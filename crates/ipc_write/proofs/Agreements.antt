@@ -19,7 +19,7 @@ use Rattle.ipc_model.specs.WrittenLaws.{prefix}
 use Rattle.ipc_model.specs.Writers.{IsStarted}
 use Rattle.ipc_views.specs.Tables.{number_at}
 use Rattle.ipc_write.specs.Agreement.{Agrees, Appends, Begins, BreaksOff, IsClosed, IsFresh, IsOpen, Remains, StreamIs}
-use Rattle.ipc_write.specs.Framing.{message_bytes, padded, prefix_bytes}
+use Rattle.ipc_write.specs.Framing.{head_bytes, message_bytes, padded, prefix_bytes}
 use Rattle.ipc_write.specs.Meaning.{HeadHas, MeansColumns, chunk_written, field_types, normal_type}
 use Rattle.ipc_write.specs.Sending.{WritesSome}
 use Rattle.ipc_write.specs.Writers.{HaveTypes, WriterSeen, normal_types}
@@ -31,13 +31,14 @@ use Rattle.ipc_write.proofs.RecordMeanings.{padded_whole}
 
 -- a message whose parts end at their multiples has no padding
 message_whole : (metadata body : List ℕ) → length metadata % 8 ≡ 0 → length body % 64 ≡ 0 → message_bytes metadata body ≡ prefix (length metadata) ++ (metadata ++ body)
-unfolding message_bytes prefix_bytes
+unfolding message_bytes head_bytes prefix_bytes
 message_whole metadata body whole whole_body =
     let same : next_multiple_of (length metadata) 8 ≡ length metadata = omega (arith, whole) in
     let same_body : next_multiple_of (length body) 64 ≡ length body = omega (arith, whole_body) in
-    ap (λ n. prefix n ++ (padded metadata 8 ++ padded body 64)) same
-    ∙ ap (λ bs. prefix (length metadata) ++ (bs ++ padded body 64)) (padded_whole metadata 8 (omega arith) whole same)
-    ∙ ap (λ bs. prefix (length metadata) ++ (metadata ++ bs)) (padded_whole body 64 (omega arith) whole_body same_body)
+    ap (λ n. (prefix n ++ padded metadata 8) ++ padded body 64) same
+    ∙ ap (λ bs. (prefix (length metadata) ++ bs) ++ padded body 64) (padded_whole metadata 8 (omega arith) whole same)
+    ∙ ap (λ bs. (prefix (length metadata) ++ metadata) ++ bs) (padded_whole body 64 (omega arith) whole_body same_body)
+    ∙ append_assoc (prefix (length metadata)) metadata body
 
 mark_is : prefix_bytes (pos 0) ≡ prefix 0
 unfolding prefix_bytes

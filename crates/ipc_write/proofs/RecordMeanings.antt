@@ -44,7 +44,7 @@ no_nulls_in (a ∷ columns) = All-cons HasNoNulls (node_of a) (map node_of colum
 
 -- ---- lengths
 
-length_padded : (xs : List ℕ) → length (written.padded xs) ≡ next_multiple_of (length xs) 64
+pub length_padded : (xs : List ℕ) → length (written.padded xs) ≡ next_multiple_of (length xs) 64
 length_padded xs =
     let zero_byte : ℕ = 0 in
     let n = next_multiple_of (length xs) 64 - length xs in
@@ -151,9 +151,6 @@ few_rows z n fits e =
 
 pub fits_kept : (z : ℤ) → SFits w64 z → SFits w64 (to_z w64 (of_z w64 z))
 fits_kept z fits = subst (λ y. SFits w64 y) (sym (to_z-of_z w64 z fits)) fits
-
-pub means_body : (metadata body : List ℕ) (columns : List AnyArray) → body ≡ body_of columns → MeansColumns metadata (body_of columns) columns → MeansColumns metadata body columns
-means_body metadata body columns e h = subst (λ bs. MeansColumns metadata bs columns) (sym e) h
 
 -- the metadata and the body mean the columns
 pub means_columns : (metadata : List ℕ) (columns : List AnyArray) → 0 < length metadata → length metadata < 2 ^ 31 → IsRecord metadata columns → All IsSound columns → All IsCarried columns

@@ -1,9 +1,15 @@
 -- Sends that follow one another.
-use Rattle.std.proofs.Common.{◌≡◌, ℕ, ◌+◌, ◌≤◌, inl, inr, Bool, List, [], ◌++◌, length, take, drop, refl, sym, ap, ◌∙◌, append_assoc, append-nil, length-append, arith, add-zero}
+use Rattle.std.proofs.Common.{◌≡◌, ℕ, ◌+◌, ◌≤◌, inl, inr, Bool, IsTrue, List, [], ◌++◌, length, take, drop, refl, sym, ap, ◌∙◌, append_assoc, append-nil, length-append, arith, add-zero, Result, Ok, Err}
+use Rattle.std.specs.Prelude.{OnOk}
 use Rattle.std.proofs.lemmas.List.{drop-drop, take-append-le}
 use Rattle.std.proofs.Math.Seq.{take-add, take-append-add}
 use Rattle.ipc_devices.specs.Device.{Memory, WritesOver, before, after}
 use Rattle.ipc_write.specs.Sending.{WritesSome, FailsOrIsFull}
+
+-- what follows where a call is Ok
+pub on_ok : {X E : Type 0} (r : Result X E) {P Q : Type 0} → (P → Q) → OnOk r P → OnOk r Q
+on_ok (Ok x) f p = f p
+on_ok (Err e) f p = tt
 
 pub writes_none : (m : Memory) → WritesOver m m []
 writes_none m = record {
@@ -50,3 +56,33 @@ some_after m m' m'' a b f g = record {
   most = omega (arith, length-append a b, g.most);
   over = rw (take-append-add a b g.count) (writes_both m m' m'' a (take g.count b) f g.over);
 }
+
+-- A device took what stands before `left` in these bytes.
+abbrev pub SentBefore : (known : Bool) (old new room room' : ℕ) (m m' : Memory) (left bytes : List ℕ) → Type 0
+SentBefore known old new room room' m m' left bytes =
+    (front : List ℕ) × (front ++ left ≡ bytes) × (old ≤ new) × (room ≤ room' + length front) × (IsTrue known → WritesOver m m' front)
+
+pub sent_none : (known : Bool) (failures room : ℕ) (m : Memory) (left bytes : List ℕ) → left ≡ bytes → SentBefore known failures failures room room m m left bytes
+sent_none known failures room m left bytes e = ([], e, omega arith, omega arith, λ k. writes_none m)
+
+-- One piece more was sent.
+pub sent_more : (known : Bool) (old mid new room room' room'' : ℕ) (m m' m'' : Memory) (piece left bytes : List ℕ) → SentBefore known old mid room room' m m' (piece ++ left) bytes
+    → mid ≤ new → room' ≤ room'' + length piece → (IsTrue known → WritesOver m' m'' piece) → SentBefore known old new room room'' m m'' left bytes
+sent_more known old mid new room room' room'' m m' m'' piece left bytes h rises less over = (
+  h.0 ++ piece,
+  append_assoc h.0 piece left ∙ h.1,
+  omega (arith, h.2, rises),
+  omega (arith, h.3, less, length-append h.0 piece),
+  λ k. writes_both m m' m'' h.0 piece (h.4 k) (over k),
+)
+
+-- A piece was begun.
+pub sent_some : (known : Bool) (old mid room room' : ℕ) (m m' m'' : Memory) (piece left bytes : List ℕ) → SentBefore known old mid room room' m m' (piece ++ left) bytes
+    → (IsTrue known → WritesSome m' m'' piece) → IsTrue known → WritesSome m m'' bytes
+sent_some known old mid room room' m m' m'' piece left bytes h some k =
+    rw (← h.1) (some_after m m' m'' h.0 (piece ++ left) (h.4 k) (some_front m' m'' piece left (some k)))
+
+-- All were sent.
+pub sent_all : (known : Bool) (old new room room' : ℕ) (m m' : Memory) (left bytes : List ℕ) → SentBefore known old new room room' m m' left bytes → left ≡ [] → IsTrue known → WritesSome m m' bytes
+sent_all known old new room room' m m' left bytes h none k =
+    rw (← h.1, none) (some_after m m' m' h.0 [] (h.4 k) (some_none m' []))

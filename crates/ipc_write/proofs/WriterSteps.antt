@@ -6,6 +6,8 @@ use Rattle.ipc_devices.specs.Faults.{OnIo, OnRefused}
 use Rattle.ipc_devices.specs.declared.fault.Fault.{Fault}
 use Rattle.ipc_devices.specs.declared.fault.Fault.TheVariants.{Argument, Io}
 use Rattle.ipc_devices.specs.declared.fault.ArgFault.TheVariants.{FieldsDiffer}
+use Rattle.lower.specs.TypeTrees.{FieldTrees, Pairs}
+use Rattle.ipc_schema_write.specs.WriterAnswers.{RefusesSchema}
 use Rattle.lower_arrays.specs.declared.array.AnyArray.{AnyArray}
 use Rattle.ipc_write.specs.Batches.{RefusesChunk}
 use Rattle.ipc_write.specs.Writers.{Kept, RefusesWrite, SendStep, WriterSeen}
@@ -16,20 +18,25 @@ pub refuses_ids : {W : Type 0} (w : WriterSeen W) (columns : List AnyArray) (ids
 refuses_ids w columns None e h = absurd h.1
 refuses_ids w columns (Some ids) e h = rw h.0 h.1
 
-chunk_not_io : (T : Type 0) (columns : List AnyArray) (e : Fault) (P : Type 0) → RefusesChunk columns e → OnIo {X = T} (Err e) P
-chunk_not_io T columns (Io x) P h = absurd h
-chunk_not_io T columns _ P h = tt
+-- What refuses a chunk or a schema is no device.
+pub chunk_not_io : (columns : List AnyArray) (e : Fault) → RefusesChunk columns e → (P : Type 0) → OnIo {X = Unit {0}} (Err e) P
+chunk_not_io columns (Io x) h P = absurd h
+chunk_not_io columns _ h P = tt
+
+pub schema_not_io : (e : Fault) (fs : FieldTrees) (es : Pairs) (is : IdTrees) → RefusesSchema e fs es is → (P : Type 0) → OnIo {X = Unit {0}} (Err e) P
+schema_not_io (Io x) fs es is h P = absurd h
+schema_not_io _ fs es is h P = tt
 
 on_refused : (T : Type 0) (e : Fault) (P : Type 0) → P → OnRefused {X = T} (Err e) P
 on_refused T (Io x) P p = tt
 on_refused T _ P p = p
 
--- A chunk was refused before it was sent.
-pub refused_step : {W : Type 0} (known grows : Bool) (failures room : W → ℕ) (memory : W → Memory) (a b : WriterSeen W) (bytes : List ℕ) (count : ℕ) (columns : List AnyArray) (e : Fault)
-    → Kept a b → RefusesChunk columns e → SendStep known grows failures room memory a (Err e) b bytes count
-refused_step known grows failures room memory a b bytes count columns e kept h = record {
+-- A message was refused before it was sent.
+pub refused_step : {W : Type 0} (known grows : Bool) (failures room : W → ℕ) (memory : W → Memory) (a b : WriterSeen W) (bytes : List ℕ) (count : ℕ) (e : Fault)
+    → Kept a b → ((P : Type 0) → OnIo {X = Unit {0}} (Err e) P) → SendStep known grows failures room memory a (Err e) b bytes count
+refused_step known grows failures room memory a b bytes count e kept not_io = record {
   monotone = rw kept.device (omega arith);
-  io = chunk_not_io (Unit {0}) columns e _ h;
+  io = not_io _;
   refused = on_refused (Unit {0}) e _ kept;
   all_sent = λ k. tt;
   some_sent = λ k. rw kept.device (some_none (memory a.device) bytes);

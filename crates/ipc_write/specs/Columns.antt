@@ -11,7 +11,7 @@ use Rattle.ipc_views.specs.declared.message.FieldNode.{FieldNode}
 use Rattle.ipc_views.specs.declared.schema.Buffer.{Buffer}
 use Rattle.lower_types.specs.Numbers.{signed_byte_of, signed_bytes, byte_of, unsigned_bytes}
 use Rattle.lower_types.specs.declared.Endianness.{Endianness}
-use Rattle.lower_types.specs.declared.Endianness.TheVariants.{Little, Big}
+use Rattle.lower_types.specs.declared.Endianness.TheVariants.{Little}
 use Rattle.lower.specs.TypeTrees.{TypeTree, plain, single, group, dictionary, extension}
 use Rattle.lower_types.specs.declared.PrimitiveType.{PrimitiveType}
 use Rattle.lower_types.specs.declared.PrimitiveType.TheVariants as Form
@@ -24,10 +24,6 @@ use Rattle.lower_arrays.specs.declared.array.AnyArray.{AnyArray}
 use Rattle.lower_arrays.specs.declared.array.AnyArray.TheVariants.{Primitive}
 use Rattle.ipc_model.specs.WrittenBatches.{Numbers, buffers_from, entry}
 use Rattle.ipc_model.specs.WrittenBatches as written
-
-abbrev pub order_of : Bool → Endianness
-order_of true = Little
-order_of false = Big
 
 -- the numbers of an array in bytes, of a type that is written
 abbrev pub number_bytes : Endianness → AnyPrimitive → List ℕ

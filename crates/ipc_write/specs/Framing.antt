@@ -11,12 +11,19 @@ padded bytes multiple = bytes ++ replicate (next_multiple_of (length bytes) mult
 unfoldable pub prefix_bytes : ℤ → List ℕ
 prefix_bytes n = prefix (cast_unsigned w32 n)
 
--- A message: the prefix with the length of the padded metadata, the metadata padded to a multiple of 8,
--- and the body padded to a multiple of 64.
+-- What stands before a body: the prefix with the length of the padded metadata, and the metadata padded to
+-- a multiple of 8.
+unfoldable pub head_bytes : List ℕ → List ℕ
+head_bytes metadata = prefix_bytes (pos (next_multiple_of (length metadata) 8)) ++ padded metadata 8
+
+-- how many bytes these are
+abbrev pub head_len : List ℕ → ℕ
+head_len metadata = 8 + next_multiple_of (length metadata) 8
+
+-- A message: what stands before its body, and the body padded to a multiple of 64.
 unfoldable pub message_bytes : List ℕ → List ℕ → List ℕ
-message_bytes metadata body =
-    prefix_bytes (pos (next_multiple_of (length metadata) 8)) ++ (padded metadata 8 ++ padded body 64)
+message_bytes metadata body = head_bytes metadata ++ padded body 64
 
 -- how many bytes these are
 abbrev pub message_len : List ℕ → List ℕ → ℕ
-message_len metadata body = 8 + next_multiple_of (length metadata) 8 + next_multiple_of (length body) 64
+message_len metadata body = head_len metadata + next_multiple_of (length body) 64

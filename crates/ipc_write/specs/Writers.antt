@@ -24,7 +24,7 @@ use Rattle.ipc_schema_write.specs.WriterAnswers.{RefusesSchema, written_head}
 use Rattle.lower_arrays.specs.declared.array.AnyArray.{AnyArray}
 use Rattle.ipc_parts.specs.Encodes.{IsEncoding}
 use Rattle.ipc_write.specs.Batches.{RefusesChunk, chunk_slots}
-use Rattle.ipc_write.specs.Columns.{IsCarried, body_of}
+use Rattle.ipc_write.specs.Columns.{IsCarried}
 use Rattle.ipc_write.specs.Meaning.{normal_type}
 use Rattle.ipc_write.specs.Sending.{FailsOrIsFull, WritesSome}
 use Rattle.ipc_write.specs.declared.stream.StreamWriter.{StreamWriter}
@@ -34,14 +34,13 @@ use Rattle.ipc_write.specs.declared.stream.WriterState.TheVariants.{New, Started
 -- ---- what is seen of a writer
 
 -- What a writer writes to, how far it is, the types of the columns that it takes, in their normal form,
--- the ids that it was started with, and the message that it made last.
+-- the ids that it was started with, and the metadata of the message that it made last.
 pub record WriterSeen (W : Type 0) : Type 0 where
   pub device : W
   pub state : WriterState
   pub types : List TypeTree
   pub ids : IdTrees
   pub metadata : List ℕ
-  pub body : List ℕ
 
 abbrev pub seen : {W : Type 0} → StreamWriter W → WriterSeen W
 seen w = record {
@@ -49,8 +48,7 @@ seen w = record {
   state = w.state;
   types = map type_view w.types.items;
   ids = all_ids_view w.ipc_fields.items;
-  metadata = w.encoded.ipc_message.items;
-  body = w.encoded.arrow_data.items;
+  metadata = w.metadata.items;
 }
 
 -- ---- types
@@ -108,7 +106,7 @@ RefusesWrite w columns ids NoMemory = Unit {0}
 RefusesWrite w columns ids (Io e) = Unit {0}
 RefusesWrite w columns ids _ = ⊥
 
--- A chunk was taken: the message that was sent is that of the chunk.
+-- A chunk was taken: the metadata that was sent is that of the chunk.
 pub record TakesChunk {W : Type 0} (a b : WriterSeen W) (columns : List AnyArray) (ids : Option IdTrees) : Type 0 where
   pub was : a.state ≡ Started
   pub is : b.state ≡ Started
@@ -118,7 +116,6 @@ pub record TakesChunk {W : Type 0} (a b : WriterSeen W) (columns : List AnyArray
   pub fits : HaveTypes columns a.types
   pub carried : All IsCarried columns
   pub metadata : IsEncoding b.metadata (chunk_slots columns)
-  pub body : b.body ≡ body_of columns
 
 -- the ids that are handed in, where any are
 abbrev pub seen_ids : Option (Bor (List IpcField)) → Option IdTrees
@@ -164,7 +161,6 @@ pub record StartsWith {W : Type 0} (a b : WriterSeen W) (fields : FieldTrees) (m
   pub ids_are : b.ids ≡ ids
   pub writable : IsTaken fields metadata ids
   pub means : head_of b.metadata ≡ Some (written_head fields metadata ids)
-  pub body : b.body ≡ []
 
 -- a writer that was started before refuses a start
 abbrev pub RefusesNew : WriterState → Fault → Type 0

@@ -5,7 +5,7 @@ ghost use Rattle.ipc_devices.specs.Device.{WritesOver};
 ghost use Rattle.ipc_devices.specs.Faults.{IsIo, OnRefused, OnIo};
 ghost use Rattle.ipc_devices.specs.declared.fault.Fault.TheVariants.{Argument};
 ghost use Rattle.ipc_devices.specs.declared.fault.ArgFault.TheVariants.{TooLarge};
-ghost use Rattle.ipc_write.specs.Framing.{message_bytes, message_len, padded, prefix_bytes};
+ghost use Rattle.ipc_write.specs.Framing.{head_bytes, head_len, message_bytes, message_len, padded, prefix_bytes};
 ghost use Rattle.ipc_write.specs.Sending.{FailsOrIsFull, IsIoOr, WritesSome};
 
 use crate::common::EncodedData;
@@ -92,6 +92,35 @@ pub fn write_continuation<W: Writes>(writer: &mut W, total_len: i32) -> Result<u
     Ok(8)
 }
 
+// Sends what stands before a body: the marker, the length of the padded metadata, and the metadata
+// padded with zeros so that it ends at a multiple of 8. It answers how many bytes these are.
+//
+// `Argument(TooLarge)` comes where the padded metadata has more than `2^31 - 1` bytes; nothing was
+// sent then.
+pub(crate) fn write_metadata<W: Writes>(writer: &mut W, metadata: &[u8]) -> Result<usize, Fault>
+    ensures len { IfOk result (λ len. len ≡ head_len metadata.now) }
+    ensures ok { OnOk result (next_multiple_of (length metadata.now) 8 < 2 ^ 31) }
+    ensures only { IfErr result (λ e. IsIoOr (Argument TooLarge) e) }
+    ensures refused { OnRefused result ((writer.new ≡ writer.old)
+        × (2 ^ 31 ≤ next_multiple_of (length metadata.now) 8)) }
+    ensures monotone { W.failures writer.old ≤ W.failures writer.new }
+    ensures failed { OnIo result (FailsOrIsFull W.grows (W.failures writer.old) (W.failures writer.new)
+        (W.room writer.old) (head_len metadata.now)) }
+    ensures memory { IsTrue W.known → OnOk result
+        (WritesOver (W.memory writer.old) (W.memory writer.new) (head_bytes metadata.now)) }
+    ensures part { IsTrue W.known
+        → WritesSome (W.memory writer.old) (W.memory writer.new) (head_bytes metadata.now) }
+    ensures room { OnOk result (W.room writer.old ≤ W.room writer.new + head_len metadata.now) }
+{
+    let padded_len = metadata.len().next_multiple_of(8);
+    let Ok(total_len) = i32::try_from(padded_len) else {
+        return Err(Fault::Argument(ArgFault::TooLarge));
+    };
+    write_continuation(writer, total_len)?;
+    write_padded(writer, metadata, 8)?;
+    Ok(8 + padded_len)
+}
+
 /// Sends a message: the marker, the length of the padded metadata, the metadata padded with zeros so
 /// that it ends at a multiple of 8, the body padded with zeros to a multiple of 64. It answers the
 /// length of the first three together, and that of the padded body.
@@ -121,15 +150,7 @@ pub fn write_message<W: Writes>(
     ensures room { OnOk result (W.room writer.old ≤ W.room writer.new
         + message_len encoded.now.ipc_message.items encoded.now.arrow_data.items) }
 {
-    let padded_len = encoded.ipc_message.len().next_multiple_of(8);
-    let Ok(total_len) = i32::try_from(padded_len) else {
-        return Err(Fault::Argument(ArgFault::TooLarge));
-    };
-    write_continuation(writer, total_len)?;
-    write_padded(writer, &encoded.ipc_message, 8)?;
+    let head_len = write_metadata(writer, &encoded.ipc_message)?;
     write_padded(writer, &encoded.arrow_data, 64)?;
-    Ok((
-        8 + padded_len,
-        encoded.arrow_data.len().next_multiple_of(64),
-    ))
+    Ok((head_len, encoded.arrow_data.len().next_multiple_of(64)))
 }

@@ -8,6 +8,7 @@ ghost use Rattle.ipc_devices.specs.Faults.{OnIo, OnRefused};
 ghost use Rattle.ipc_devices.specs.declared.fault.Fault.TheVariants.{Argument, NotYetImplemented};
 ghost use Rattle.ipc_devices.specs.declared.fault.Nyi.TheVariants.{Pending};
 ghost use Rattle.ipc_devices.specs.declared.fault.ArgFault.TheVariants.{FieldsDiffer, TooLarge};
+ghost use Rattle.ipc_write.specs.Columns.{body_of};
 ghost use Rattle.ipc_write.specs.Framing.{message_bytes, message_len, prefix_bytes};
 ghost use Rattle.ipc_write.specs.Sending.{FailsOrIsFull, IsIoOr, WritesSome};
 ghost use Rattle.ipc_write.specs.declared.stream.WriterState.TheVariants.{Failed, Finished, New, Started};
@@ -17,8 +18,9 @@ ghost use Rattle.ipc_write.specs.Writers.{HasType, HaveTypes, IsCarriedSchema, R
 ghost use Rattle.ipc_model.specs.Carried.{is_whole_type};
 ghost use Rattle.ipc_schema_write.specs.WriterAnswers.{written_head};
 
-use crate::common::{EncodedData, WriteOptions, chunk_to_bytes_amortized};
-use crate::common_sync::{write_continuation, write_message};
+use crate::bodies::write_batch;
+use crate::common::{WriteOptions, chunk_to_metadata};
+use crate::common_sync::write_continuation;
 use ipc_base::chunk::Chunk;
 use ipc_base::ipc::IpcField;
 use ipc_devices::{ArgFault, Fault, Nyi, StateFault, Writes};
@@ -55,8 +57,8 @@ pub struct StreamWriter<W> {
     // the types of the columns, in their normal form
     pub(crate) types: Vec<DataType>,
     pub(crate) ipc_fields: Vec<IpcField>,
-    // the message that was made last, whose memory the next one takes
-    pub(crate) encoded: EncodedData,
+    // the metadata of the message that was made last
+    pub(crate) metadata: Vec<u8>,
 }
 
 // Whether a column has this type, in its normal form.
@@ -83,28 +85,29 @@ fn check_types(columns: &[AnyArray], types: &[DataType]) -> Result<(), Fault>
     Ok(())
 }
 
-// Sends a message. After a failure nothing more is sent.
+// Sends the message of these columns. After a failure nothing more is sent.
 fn send<W: Writes>(
     writer: &mut W,
     state: &mut WriterState,
-    encoded: &EncodedData,
+    metadata: &[u8],
+    columns: &[AnyArray],
 ) -> Result<(), Fault>
     ensures monotone { W.failures writer.old ≤ W.failures writer.new }
     ensures ok { OnOk result (state.new ≡ state.old) }
     ensures only { IfErr result (IsIoOr (Argument TooLarge)) }
     ensures refused { OnRefused result ((writer.new ≡ writer.old) × (state.new ≡ state.old)
-        × (2 ^ 31 ≤ next_multiple_of (length encoded.now.ipc_message.items) 8)) }
+        × (2 ^ 31 ≤ next_multiple_of (length metadata.now) 8)) }
     ensures io { OnIo result ((state.new ≡ Failed) × FailsOrIsFull W.grows (W.failures writer.old)
         (W.failures writer.new) (W.room writer.old)
-        (message_len encoded.now.ipc_message.items encoded.now.arrow_data.items)) }
+        (message_len metadata.now (body_of columns.now))) }
     ensures memory { IsTrue W.known → OnOk result
         (WritesOver (W.memory writer.old) (W.memory writer.new)
-        (message_bytes encoded.now.ipc_message.items encoded.now.arrow_data.items)) }
+        (message_bytes metadata.now (body_of columns.now))) }
     ensures part { IsTrue W.known → WritesSome (W.memory writer.old) (W.memory writer.new)
-        (message_bytes encoded.now.ipc_message.items encoded.now.arrow_data.items) }
+        (message_bytes metadata.now (body_of columns.now)) }
 {
-    match write_message(writer, encoded) {
-        Ok(_) => Ok(()),
+    match write_batch(writer, metadata, columns) {
+        Ok(()) => Ok(()),
         Err(Fault::Io(error)) => {
             *state = WriterState::Failed;
             Err(Fault::Io(error))
@@ -248,7 +251,7 @@ impl<W: Writes + Drop> StreamWriter<W> {
             state: WriterState::New,
             types: Vec::new(alloc),
             ipc_fields: Vec::new(alloc),
-            encoded: EncodedData::empty(alloc),
+            metadata: Vec::new(alloc),
         }
     }
 
@@ -271,8 +274,8 @@ impl<W: Writes + Drop> StreamWriter<W> {
     /// sent, and each later call answers `State(Failed)`.
     pub fn start(&mut self, schema: &Schema, ipc_fields: Option<Vec<IpcField>>) -> Result<(), Fault>
         ensures step { SendStep W.known W.grows W.failures W.room W.memory (seen self.old) result (seen self.new)
-            (message_bytes (seen self.new).metadata (seen self.new).body)
-            (message_len (seen self.new).metadata (seen self.new).body) }
+            (message_bytes (seen self.new).metadata [])
+            (message_len (seen self.new).metadata []) }
         ensures ok { let fields = fields_view schema.now.fields.items in
             OnOk result (StartsWith (seen self.old) (seen self.new) fields (pairs_of schema.now.metadata.entries)
             (chosen_ids ipc_fields fields)) }
@@ -290,9 +293,8 @@ impl<W: Writes + Drop> StreamWriter<W> {
             None => default_ipc_fields(self.alloc, &schema.fields)?,
         };
         let types = types_of_fields(self.alloc, &schema.fields)?;
-        self.encoded.arrow_data.clear();
-        self.encoded.ipc_message = schema_to_bytes(self.alloc, schema, &ipc_fields)?;
-        send(&mut self.writer, &mut self.state, &self.encoded)?;
+        self.metadata = schema_to_bytes(self.alloc, schema, &ipc_fields)?;
+        send(&mut self.writer, &mut self.state, &self.metadata, &[])?;
         self.state = WriterState::Started;
         self.types = types;
         self.ipc_fields = ipc_fields;
@@ -316,8 +318,8 @@ impl<W: Writes + Drop> StreamWriter<W> {
         ipc_fields: Option<&[IpcField]>,
     ) -> Result<(), Fault>
         ensures step { SendStep W.known W.grows W.failures W.room W.memory (seen self.old) result (seen self.new)
-            (message_bytes (seen self.new).metadata (seen self.new).body)
-            (message_len (seen self.new).metadata (seen self.new).body) }
+            (message_bytes (seen self.new).metadata (body_of columns.now))
+            (message_len (seen self.new).metadata (body_of columns.now)) }
         ensures ok { OnOk result (TakesChunk (seen self.old) (seen self.new) columns.now (seen_ids ipc_fields.entry)) }
         ensures only { IfErr result (RefusesWrite (seen self.old) columns.now (seen_ids ipc_fields.entry)) }
         ensures means { Appends W.known W.memory (seen self.old) result (seen self.new) (chunk_written columns.now) }
@@ -325,8 +327,13 @@ impl<W: Writes + Drop> StreamWriter<W> {
         self.check_started()?;
         self.check_ids(ipc_fields)?;
         check_types(columns.arrays(), &self.types)?;
-        chunk_to_bytes_amortized(self.alloc, columns, &mut self.encoded)?;
-        send(&mut self.writer, &mut self.state, &self.encoded)
+        self.metadata = chunk_to_metadata(self.alloc, columns)?;
+        send(
+            &mut self.writer,
+            &mut self.state,
+            &self.metadata,
+            columns.arrays(),
+        )
     }
 
     /// Writes the mark that ends a stream.

@@ -6,6 +6,7 @@ use Rattle.ipc_schema_write.specs.WriterAnswers.{RefusesSchema, written_head}
 use Rattle.ipc_write.specs.Writers.{chosen_ids, normal_types}
 use Rattle.ipc_write.proofs.Agreements.{sent_schema, types_are, unsent_schema}
 use Rattle.ipc_write.proofs.CarriedHeads.{refused_start, written_carried}
+use Rattle.ipc_write.proofs.WriterSteps.{refused_step, schema_not_io}
 use Rattle.ipc_write.proofs.stream.StreamWriter.start.Goals as goal
 
 pub returns-clause-means : goal.returns-clause-means
@@ -20,7 +21,15 @@ returns-clause-means g c =
     let short : length metadata < 2 ^ 31 = omega (arith, long, light) in
     sent_schema _ _ _ _ metadata head c.in_ok-check_new.ensures.ok refl c.in_ok-self.ensures.4 short headed
     (record { order = refl; types_are = types_are fields ∙ sym types; carried = written_carried fields _ _ c.in_ok-check_carried.ensures.ok })
-    (λ k. rw c.clear.ensures.items at (c.in_ok-send.ensures.memory k)) _
+    (λ k. rw c.deref-4.ensures.value at (c.in_ok-send.ensures.memory k)) _
+
+pub returns-in_err-self-clause-step : goal.returns-in_err-self-clause-step
+returns-in_err-self-clause-step g c =
+    let fields = fields_view c.args.schema.now.fields.items in
+    let p = err_from_is_err_and c.from_residual-in_err-self.result c.from_residual-in_err-self.ensures.1 in
+    let refused : RefusesSchema c.in_err-self.field-0.0 fields (pairs_of c.args.schema.now.metadata.entries) (chosen_ids c.args.ipc_fields fields) = search rules in
+    rw (p.1, p.2) (refused_step _ _ _ _ _ _ _ _ _ _ (record { device = refl; state = refl; types = refl; ids = refl })
+    (schema_not_io c.in_err-self.field-0.0 fields _ _ refused))
 
 pub returns-in_err-self-clause-only : goal.returns-in_err-self-clause-only
 returns-in_err-self-clause-only g c =
