@@ -3,7 +3,11 @@
 #![tactic(auto)]
 
 #[cfg(test)]
+mod base;
+#[cfg(test)]
 mod batches;
+#[cfg(test)]
+mod devices;
 #[cfg(test)]
 mod messages;
 #[cfg(test)]
@@ -11,6 +15,12 @@ mod plain_columns;
 #[cfg(test)]
 mod plain_schemas;
 #[cfg(test)]
+mod schema_write;
+#[cfg(test)]
 mod schemas;
 #[cfg(test)]
 mod streams;
+#[cfg(test)]
+mod tables;
+#[cfg(test)]
+mod views;

@@ -1,4 +1,5 @@
 //! Schema messages that are written out, and what they mean.
+use crate::views::SMALLEST;
 use ipc_devices::fault::Fault;
 use ipc_plain_schema::schema::{PlainAnswer, plain_schema};
 use ipc_plain_schema::types::{PlainField, PlainSchema, PlainType};
@@ -18,16 +19,6 @@ use std::collections::BTreeMap;
 use std::test::Fail;
 
 // ---- messages by their bytes
-
-// The smallest schema message: of version 5, with no field.
-const SMALLEST: [u8; 48] = [
-    0x10, 0, 0, 0, // the root stands at 16
-    0x0A, 0, 0x0C, 0, 8, 0, 0x0A, 0, 4, 0, 0, 0, // the vtable of the message
-    0x0C, 0, 0, 0, 0x10, 0, 0, 0, 4, 0, 1, 0, // the message: header at 36, version 5, tag 1
-    8, 0, 8, 0, 0, 0, 4, 0, // the vtable of the schema
-    8, 0, 0, 0, 4, 0, 0, 0, // the schema: fields at 44
-    0, 0, 0, 0, // no fields
-];
 
 // What follows its first 44 bytes where there is a field `x` of signed integers of 32 bits that may be
 // null.

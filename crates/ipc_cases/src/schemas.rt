@@ -1,4 +1,5 @@
 //! Schema messages that are read and written.
+use crate::views::SMALLEST;
 use ipc_base::fault::{Fault, OutOfSpecKind, SchemaFault, TableFault};
 use ipc_schema::read::schema::deserialize_schema;
 use ipc_tables::message::{Message, MessageHeader};
@@ -11,16 +12,6 @@ use lower::datatypes::{DataType, Field, IntegerType, TimeUnit, UnionMode};
 use std::alloc::{AllocError, Global};
 use std::collections::BTreeMap;
 use std::test::Fail;
-
-// The smallest schema message: a message of version 5 whose header is a schema without fields.
-const SMALLEST: [u8; 48] = [
-    0x10, 0, 0, 0, // the root stands at 16
-    0x0A, 0, 0x0C, 0, 8, 0, 0x0A, 0, 4, 0, 0, 0, // the vtable of the message
-    0x0C, 0, 0, 0, 0x10, 0, 0, 0, 4, 0, 1, 0, // the message: header at 36, version 5, tag 1
-    8, 0, 8, 0, 0, 0, 4, 0, // the vtable of the schema
-    8, 0, 0, 0, 4, 0, 0, 0, // the schema: fields at 44
-    0, 0, 0, 0, // no fields
-];
 
 #[test]
 fn the_smallest_schema_is_read(rt: HostRuntime) -> Result<(), Fail> {

@@ -1,4 +1,5 @@
 //! Streams that are cut and damaged.
+use crate::views::SMALLEST;
 use ipc_base::ipc::fits;
 use ipc_devices::fault::{Fault, OutOfSpecKind, SchemaFault};
 use ipc_devices::{MemFile, Reads};
@@ -6,12 +7,6 @@ use ipc_readers::read::stream::{StreamReader, StreamState, read_stream_metadata}
 use ipc_views::MetadataVersion;
 use std::alloc::{AllocError, Global};
 use std::process::Abort;
-
-// The smallest schema message: no fields, little-endian, no metadata.
-const SMALLEST: [u8; 48] = [
-    16, 0, 0, 0, 10, 0, 12, 0, 8, 0, 10, 0, 4, 0, 0, 0, 12, 0, 0, 0, 16, 0, 0, 0, 4, 0, 1, 0, 8, 0,
-    8, 0, 0, 0, 4, 0, 8, 0, 0, 0, 4, 0, 0, 0, 0, 0, 0, 0,
-];
 
 // The smallest schema behind a prefix, and then some bytes.
 fn stream(alloc: Global, prefix: &[u8], rest: &[u8]) -> Result<Vec<u8>, AllocError> {

@@ -11,3 +11,5 @@ mod records;
 mod same;
 #[cfg(test)]
 mod schemas;
+#[cfg(test)]
+mod streams;

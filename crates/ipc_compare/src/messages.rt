@@ -186,3 +186,83 @@ pub(crate) fn body(alloc: Global) -> Result<Vec<u8>, AllocError> {
     body.resize(128, 0)?;
     Ok(body)
 }
+
+// ---- streams
+
+/// A field of each integer type, the schema of the stream below.
+pub(crate) fn eight_integers(alloc: Global) -> Result<Vec<u8>, Fault> {
+    let table = [
+        ("a", 8, true),
+        ("b", 16, true),
+        ("c", 32, true),
+        ("d", 64, true),
+        ("e", 8, false),
+        ("f", 16, false),
+        ("g", 32, false),
+        ("h", 64, false),
+    ];
+    let mut fields = Vec::new(alloc);
+    for (name, bit_width, is_signed) in table {
+        fields.push(integers(alloc, name, bit_width, is_signed)?)?;
+    }
+    schema_message(alloc, Endianness::Little, fields, Vec::new(alloc))
+}
+
+// Where the numbers of each column stand, and how many bytes they have.
+const NUMBERS: [(i64, i64); 8] = [
+    (0, 2),
+    (16, 4),
+    (32, 8),
+    (48, 16),
+    (64, 2),
+    (80, 4),
+    (96, 8),
+    (112, 16),
+];
+
+// A record message of two numbers of each of these types.
+fn two_of_each(alloc: Global) -> Result<Vec<u8>, Fault> {
+    let mut buffers: Vec<(i64, i64)> = Vec::new(alloc);
+    for numbers in NUMBERS {
+        buffers.push((0, 0))?;
+        buffers.push(numbers)?;
+    }
+    record(alloc, &[(2, 0); 8], &buffers)
+}
+
+// A message behind its prefix.
+fn push_message(out: &mut Vec<u8>, metadata: &[u8]) -> Result<(), AllocError> {
+    let length = u32::try_from(metadata.len()).unwrap_or(u32::MAX);
+    out.extend_from_slice(&[255, 255, 255, 255])?;
+    out.extend_from_slice(&length.to_le_bytes())?;
+    out.extend_from_slice(metadata)
+}
+
+/// A stream, and where the messages in it begin.
+#[derive(Drop)]
+pub(crate) struct Stream {
+    /// Its bytes.
+    pub(crate) bytes: Vec<u8>,
+    /// Where the schema, each record and the mark begin.
+    pub(crate) starts: Vec<usize>,
+}
+
+/// The schema of the eight integer types, two records, the numbers of the second with the highest bit of each
+/// byte set, and the mark.
+pub(crate) fn stream_of_integers(alloc: Global) -> Result<Stream, Fault> {
+    let mut bytes = Vec::new(alloc);
+    let mut starts = Vec::new(alloc);
+    starts.push(0)?;
+    push_message(&mut bytes, &eight_integers(alloc)?)?;
+    let metadata = two_of_each(alloc)?;
+    for high in [0u8, 128] {
+        starts.push(bytes.len())?;
+        push_message(&mut bytes, &metadata)?;
+        for byte in 0..128u8 {
+            bytes.push(high | byte)?;
+        }
+    }
+    starts.push(bytes.len())?;
+    bytes.extend_from_slice(&[255, 255, 255, 255, 0, 0, 0, 0])?;
+    Ok(Stream { bytes, starts })
+}

@@ -111,17 +111,20 @@ pub(crate) fn are_same_columns(plain: &[Vec<PlainSlot>], columns: &[AnyArray]) -
     true
 }
 
-// Columns of the two types that are compared, without nulls.
+// Columns of integers, without nulls.
 fn are_same_slots(plain: &[PlainSlot], column: &AnyArray) -> bool {
+    let AnyArray::Primitive(column) = column else {
+        return false;
+    };
     match column {
-        AnyArray::Primitive(AnyPrimitive::Int32(numbers)) => are_numbers(
-            plain,
-            numbers.values().as_slice(),
-        ),
-        AnyArray::Primitive(AnyPrimitive::UInt32(numbers)) => are_numbers(
-            plain,
-            numbers.values().as_slice(),
-        ),
+        AnyPrimitive::Int8(numbers) => are_numbers(plain, numbers.values().as_slice()),
+        AnyPrimitive::Int16(numbers) => are_numbers(plain, numbers.values().as_slice()),
+        AnyPrimitive::Int32(numbers) => are_numbers(plain, numbers.values().as_slice()),
+        AnyPrimitive::Int64(numbers) => are_numbers(plain, numbers.values().as_slice()),
+        AnyPrimitive::UInt8(numbers) => are_numbers(plain, numbers.values().as_slice()),
+        AnyPrimitive::UInt16(numbers) => are_numbers(plain, numbers.values().as_slice()),
+        AnyPrimitive::UInt32(numbers) => are_numbers(plain, numbers.values().as_slice()),
+        AnyPrimitive::UInt64(numbers) => are_numbers(plain, numbers.values().as_slice()),
         _ => false,
     }
 }

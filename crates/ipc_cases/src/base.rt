@@ -1,0 +1,100 @@
+//! Chunks and ids at work.
+use ipc_base::chunk::{Chunk, Rows, equal_rows};
+use ipc_base::fault::{ArgFault, Fault};
+use ipc_base::ipc::{IpcField, IpcSchema, clone_ipc_fields, fits};
+use lower::datatypes::{DataType, Field, IntegerType};
+use std::alloc::{AllocError, Global};
+use std::collections::BTreeMap;
+use std::test::Fail;
+
+/// A column of nothing but a length.
+#[derive(Clone, Copy, Debug, PartialEq, Eq)]
+struct Blank(usize);
+
+impl Rows for Blank {
+    ghost rows = { λ blank. blank.0 };
+
+    fn len(&self) -> usize {
+        self.0
+    }
+}
+
+#[test]
+fn columns_of_one_length_make_a_chunk(rt: HostRuntime) -> Result<(), Fail> {
+    let alloc = rt.alloc();
+    let chunk = Chunk::try_new(vec![in alloc; Blank(2), Blank(2)]?)?;
+    assert_eq!(rt; chunk.len(), 2);
+    assert!(rt; !chunk.is_empty());
+    assert_eq!(rt; chunk.columns().len(), 2);
+    assert_eq!(rt; chunk.arrays().len(), 2);
+    let again = chunk.clone()?;
+    assert!(rt; again == chunk);
+    let arrays: Vec<Blank> = Vec::from(again);
+    assert!(rt; equal_rows(&arrays));
+    assert!(rt; Chunk::new(arrays) == chunk);
+    assert_eq!(rt; chunk.into_arrays().len(), 2);
+    let none: Chunk<Blank> = Chunk::try_new(Vec::new(alloc))?;
+    assert_eq!(rt; none.len(), 0);
+    assert!(rt; none.is_empty());
+    Ok(())
+}
+
+#[test]
+fn columns_of_two_lengths_are_refused(rt: HostRuntime) -> Result<(), Fail> {
+    let alloc = rt.alloc();
+    let arrays = vec![in alloc; Blank(2), Blank(3)]?;
+    assert!(rt; !equal_rows(&arrays));
+    let Err(fault) = Chunk::try_new(arrays) else {
+        assert!(rt; false);
+        return Ok(());
+    };
+    let text = format!(in alloc; "{fault}")?;
+    assert_eq!(rt;
+        text.as_str(),
+        "Chunk require all its arrays to have an equal number of rows"
+    );
+    let unequal = match fault {
+        Fault::Argument(ArgFault::UnequalRows) => true,
+        _ => false,
+    };
+    assert!(rt; unequal);
+    Ok(())
+}
+
+fn named(alloc: Global, name: &str, data_type: DataType) -> Result<Field, AllocError> {
+    Ok(Field {
+        name: String::from_str(alloc, name)?,
+        data_type,
+        is_nullable: false,
+        metadata: BTreeMap::new(alloc),
+    })
+}
+
+#[test]
+fn ids_belong_to_dictionary_fields(rt: HostRuntime) -> Result<(), Fail> {
+    let alloc = rt.alloc();
+    let keys = DataType::Dictionary(IntegerType::Int8, Box::new(alloc, DataType::Utf8)?, false);
+    let inner = named(alloc, "item", keys)?;
+    let list = named(alloc, "list", DataType::List(Box::new(alloc, inner)?))?;
+    let fields = vec![in alloc; list]?;
+    let with_id = IpcField {
+        fields: Vec::new(alloc),
+        dictionary_id: Some(7),
+    };
+    let below = IpcField {
+        fields: vec![in alloc; with_id]?,
+        dictionary_id: None,
+    };
+    let ids = vec![in alloc; below]?;
+    assert!(rt; fits(&fields, &ids));
+    let copy = clone_ipc_fields(&ids)?;
+    assert!(rt; copy == ids);
+    let none = vec![in alloc; IpcField::empty(alloc)]?;
+    assert!(rt; !fits(&fields, &none));
+    let schema = IpcSchema {
+        fields: ids,
+        is_little_endian: true,
+    };
+    assert!(rt; schema.clone()? == schema);
+    Ok(())
+}
