@@ -1,5 +1,5 @@
 //! Chunks: columns of one length, the unit in which data is written and read.
-ghost use Rattle.std.specs.Prelude.{◌≡◌, ◌↔◌, ℕ, IsTrue, IsOk, IfOk, IfErr, OnErr};
+ghost use Rattle.std.specs.Prelude.{◌≡◌, ◌↔◌, ℕ, IsTrue, IsOk, IfOk, IfErr};
 ghost use Rattle.std.specs.Cmp.Lexicographic.{pointwise, lists_per, lists_equiv};
 ghost use Rattle.std.specs.List.{AllZip};
 ghost use Rattle.ipc_base.specs.Chunks.{AreEqualRows, row_count};

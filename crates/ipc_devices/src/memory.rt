@@ -1,6 +1,6 @@
 //! Devices over memory. They count no failures, and give and take their bytes exactly.
-ghost use Rattle.std.specs.Prelude.{◌≡◌, ℕ, ◌+◌, ◌-◌, ◌<◌, ◌≤◌, true, List, [], ◌++◌, length, take, drop, replicate, min, IfOk, OnOk, OnErr, vec_len, vec_capacity};
-ghost use Rattle.ipc_devices.specs.Device.{before, Memory};
+ghost use Rattle.std.specs.Prelude.{◌≡◌, ℕ, ◌+◌, ◌-◌, ◌<◌, ◌≤◌, true, List, [], ◌++◌, length, take, drop, replicate, min, OnOk, OnErr, vec_len, vec_capacity};
+ghost use Rattle.ipc_devices.specs.Device.{before};
 
 use crate::device::{Failures, Reads, Seeks, Writes};
 use std::alloc::AllocError;

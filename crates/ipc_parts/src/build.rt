@@ -1,5 +1,5 @@
 //! Parts of a message as bytes.
-ghost use Rattle.std.specs.Prelude.{◌≡◌, ◌<◌, ◌≤◌, ◌%◌, ◌^◌, ◌++◌, ◌+◌, OnOk, length};
+ghost use Rattle.std.specs.Prelude.{◌≡◌, ◌<◌, ◌%◌, ◌^◌, ◌++◌, ◌+◌, OnOk, length};
 ghost use Rattle.ipc_parts.specs.Pads.{le, padded, short, zeros};
 
 use std::alloc::AllocError;

@@ -1,5 +1,5 @@
 //! Texts and vectors as bytes.
-ghost use Rattle.std.specs.Prelude.{ℕ, ◌≡◌, ◌<◌, ◌≤◌, ◌%◌, ◌^◌, ◌++◌, ◌+◌, ◌*◌, IfOk, OnOk, length};
+ghost use Rattle.std.specs.Prelude.{ℕ, ◌≡◌, ◌<◌, ◌%◌, ◌^◌, ◌+◌, ◌*◌, IfOk, length};
 ghost use Rattle.ipc_parts.specs.Pads.{short};
 ghost use Rattle.ipc_parts.specs.Parts.{AreParts, IsPart, elements_bytes, gap_after, text_bytes, vector_bytes};
 ghost use Rattle.ipc_parts.specs.Tree.{Parts, elements, tables, text};

@@ -1,7 +1,7 @@
 //! The entries of a batch, nodes and buffers, and the bytes that the buffers point to.
 //!
 //! Arrow columnar format, "RecordBatch message" and "Physical Memory Layout".
-ghost use Rattle.std.specs.Prelude.{◌≡◌, ◌+◌, ◌*◌, ◌<◌, ◌≤◌, ◌^◌, nat_le, ◌&&◌};
+ghost use Rattle.std.specs.Prelude.{◌≡◌, ◌+◌, ◌*◌, ◌<◌, ◌^◌, nat_le, ◌&&◌};
 ghost use Rattle.std.specs.Str;
 ghost use Rattle.ipc_model.specs.Columns;
 ghost use Rattle.ipc_model.specs.Entries;

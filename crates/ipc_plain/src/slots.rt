@@ -5,7 +5,7 @@ ghost use Rattle.std.specs.Prelude.{◌≡◌, ◌+◌, ◌<◌, ◌^◌, IfOk};
 ghost use Rattle.std.specs.Option.{option_map};
 ghost use Rattle.ipc_model.specs.Columns;
 ghost use Rattle.ipc_plain.specs.PlainColumns.{read};
-ghost use Rattle.ipc_model.specs.Kinds.{list_kind, number_kind, offsets_32, struct_kind, utf8_kind};
+ghost use Rattle.ipc_model.specs.Kinds.{number_kind, offsets_32, utf8_kind};
 ghost use Rattle.ipc_model.specs.TypeKinds.{key_form};
 ghost use Rattle.lower_arrays.specs.Slots.{slots_of};
 ghost use Rattle.ipc_plain.specs.PlainEntries.{entries_view};

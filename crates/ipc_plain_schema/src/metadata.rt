@@ -1,7 +1,7 @@
 //! Pairs of texts beside schemas and fields.
 //!
 //! Arrow columnar format, "Custom Application Metadata"; `custom_metadata` of `Schema.fbs`.
-ghost use Rattle.std.specs.Prelude.{◌≡◌, [], IfOk, option_map, string_bytes};
+ghost use Rattle.std.specs.Prelude.{◌≡◌, [], IfOk, option_map};
 ghost use Rattle.lower.specs.Normal.{with_pair};
 ghost use Rattle.lower.specs.TypeViews.{pairs_of};
 ghost use Rattle.ipc_views.specs.SchemaSlots.{field_custom_metadata, schema_custom_metadata};

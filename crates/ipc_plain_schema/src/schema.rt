@@ -1,7 +1,7 @@
 //! Schema messages.
 //!
 //! Arrow columnar format, "Schema message".
-ghost use Rattle.std.specs.Prelude.{◌≡◌, IfOk, length};
+ghost use Rattle.std.specs.Prelude.{◌≡◌, IfOk};
 ghost use Rattle.ipc_model.specs.Schemas;
 ghost use Rattle.ipc_plain_schema.specs.PlainSchemas.{Answers};
 

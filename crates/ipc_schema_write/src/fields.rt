@@ -1,7 +1,7 @@
 //! Fields as the tables of a schema hold them.
 //!
 //! Arrow columnar format, "Schema message"; the table `Field` of `Schema.fbs`.
-ghost use Rattle.std.specs.Prelude.{◌≡◌, IfOk};
+ghost use Rattle.std.specs.Prelude.{IfOk};
 ghost use Rattle.lower.specs.Counts.{children};
 ghost use Rattle.lower.specs.TypeViews.{field_view, fields_view, type_view};
 ghost use Rattle.ipc_base.specs.Fitting.{AllFit, ChildrenFit, Fits, IsOne};

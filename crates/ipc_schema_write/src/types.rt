@@ -1,7 +1,7 @@
 //! The types of columns as the tables of a schema say them.
 //!
 //! Arrow columnar format, "Schema message"; the union `Type` of `Schema.fbs`.
-ghost use Rattle.std.specs.Prelude.{◌≡◌, IfOk, option_map, pos};
+ghost use Rattle.std.specs.Prelude.{◌≡◌, IfOk, pos};
 ghost use Rattle.lower.specs.TypeTrees.{plain, time32, time64, timestamp, interval, duration, fixed_binary, decimal, decimal256, fixed_list, entries, choice};
 ghost use Rattle.lower.specs.TypeViews.{ids_of, text_of, type_view};
 ghost use Rattle.ipc_model.specs.Schemas.{date_of, float_of, integers, interval_of, mode_of, unit_of};

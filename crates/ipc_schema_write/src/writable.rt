@@ -4,7 +4,7 @@
 ghost use Rattle.std.specs.Prelude.{◌≡◌, ◌↔◌, ◌<◌, IsTrue, Some, not};
 ghost use Rattle.std.specs.List.{list_all};
 ghost use Rattle.std.specs.Ordering.{int_eq};
-ghost use Rattle.lower.specs.TypeTrees.{plain, time32, time64};
+ghost use Rattle.lower.specs.TypeTrees.{time32, time64};
 ghost use Rattle.lower.specs.TypeViews.{fields_view, ids_of, type_view};
 ghost use Rattle.ipc_model.specs.Columns.{IsUnion};
 ghost use Rattle.ipc_model.specs.Tests.{are_distinct, are_ids, is_index};

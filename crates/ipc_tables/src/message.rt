@@ -1,5 +1,5 @@
 //! The tables of Arrow's `Message.fbs`, as values and as bytes.
-ghost use Rattle.std.specs.Prelude.{ℕ, ◌≡◌, ◌<◌, ◌≤◌, ◌^◌, IfOk, length};
+ghost use Rattle.std.specs.Prelude.{ℕ, ◌≡◌, ◌<◌, ◌≤◌, IfOk, length};
 ghost use Rattle.ipc_parts.specs.Encodes.{Encodes};
 ghost use Rattle.ipc_parts.specs.Parts.{IsPart};
 ghost use Rattle.ipc_parts.specs.Tree.{table};

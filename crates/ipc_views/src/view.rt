@@ -1,5 +1,5 @@
 //! Views of tables in a message. No view takes memory.
-ghost use Rattle.std.specs.Prelude.{◌≡◌, ◌<◌, ◌^◌, IsTrue, ◌↔◌, OnOk};
+ghost use Rattle.std.specs.Prelude.{◌≡◌, ◌<◌, ◌^◌, IsTrue, ◌↔◌};
 ghost use Rattle.std.specs.Int.{w32, w64, cast_signed};
 ghost use Rattle.ipc_views.specs.Tables.{and_then, flag, map_ok, number_slot, of_slot, present, slot_at, spot_at, table_in, table_slot, target_at, text_slot, vector_at, vector_slot, texts};
 

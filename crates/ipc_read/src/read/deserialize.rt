@@ -1,5 +1,5 @@
 //! Reads a column of each type.
-ghost use Rattle.std.specs.Prelude.{◌≡◌, ◌+◌, ◌≤◌, IsTrue, IfErr};
+ghost use Rattle.std.specs.Prelude.{◌+◌, IsTrue, IfErr};
 ghost use Rattle.ipc_devices.specs.Faults.{Answers, OwnFault};
 ghost use Rattle.lower.specs.TypeViews.{type_view};
 ghost use Rattle.ipc_model.specs.Entries.{listed};

@@ -1,9 +1,9 @@
 //! What an array does with its children.
-ghost use Rattle.std.specs.Prelude.{◌≡◌, ◌↔◌, ◌+◌, ◌≤◌, IsTrue, IfOk, map};
-ghost use Rattle.lower.specs.TypeViews.{type_view, field_view, fields_view};
-ghost use Rattle.lower_arrays.specs.Layouts.{layouts, type_of, len_of};
-ghost use Rattle.lower_arrays.specs.Children.{child_fields, field_type, field_count, child_count, ChildTypes, AllHave, AllReach, IsPair};
-ghost use Rattle.lower_arrays.specs.Slots.{IsArray, AreArrays};
+ghost use Rattle.std.specs.Prelude.{◌≡◌, ◌↔◌, ◌+◌, IsTrue, IfOk, map};
+ghost use Rattle.lower.specs.TypeViews.{fields_view};
+ghost use Rattle.lower_arrays.specs.Layouts.{layouts};
+ghost use Rattle.lower_arrays.specs.Children.{ChildTypes, AllHave, AllReach};
+ghost use Rattle.lower_arrays.specs.Slots.{AreArrays};
 ghost use Rattle.lower_arrays.specs.Cuts.{cut};
 ghost use Rattle.lower_arrays.specs.AnyLayouts.{layout_of};
 

@@ -6,7 +6,7 @@ ghost use Rattle.lower_flat.specs.Validities.{null_count_of, is_valid};
 ghost use Rattle.lower_arrays.specs.Layouts.{level, len_of};
 ghost use Rattle.lower_arrays.specs.Slots.{IsArray};
 ghost use Rattle.lower_arrays.specs.Dictionaries.{HasKeys, dictionary_seen, IsDictionary, BreaksDictionary, cut_dictionary};
-ghost use Rattle.lower_keys.specs.Keys.{values_type, is_ordered, place_of};
+ghost use Rattle.lower_keys.specs.Keys.{is_ordered, place_of};
 ghost use Rattle.lower_keys.specs.AnyKeys.{keys_seen};
 ghost use Rattle.lower_arrays.specs.AnyLayouts.{layout_of};
 

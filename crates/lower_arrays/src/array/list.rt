@@ -1,12 +1,10 @@
 //! Arrays of lists.
-ghost use Rattle.std.specs.Prelude.{◌≡◌, ◌+◌, ◌-◌, ◌<◌, ◌≤◌, ◌↔◌, length, slice_index, take, drop, MatchResult, IsTrue, IfOk};
+ghost use Rattle.std.specs.Prelude.{◌≡◌, ◌+◌, ◌-◌, ◌<◌, ◌≤◌, ◌↔◌, MatchResult, IsTrue, IfOk};
 ghost use Rattle.std.specs.Option.{option_copied};
 ghost use Rattle.lower.specs.TypeViews.{type_view};
-ghost use Rattle.lower.specs.Offsets.{IsOffsets};
-ghost use Rattle.lower_flat.specs.Validities.{null_count_of, is_valid, part};
+ghost use Rattle.lower_flat.specs.Validities.{null_count_of, is_valid};
 ghost use Rattle.lower_flat.specs.Spans.{span_count};
 ghost use Rattle.lower_arrays.specs.Slots.{IsArray};
-ghost use Rattle.lower_keys.specs.ListTypes.{list_with, last_offset};
 ghost use Rattle.lower_arrays.specs.Lists.{list_places, list_width, list_seen, list_layout, cut_list, BreaksList};
 ghost use Rattle.lower_arrays.specs.AnyLayouts.{layout_of};
 

@@ -1,5 +1,5 @@
 //! Arrays whose slots are of several types.
-ghost use Rattle.std.specs.Prelude.{◌≡◌, ◌↔◌, ℕ, pos, None, ◌+◌, ◌<◌, ◌≤◌, length, map, option_map, get_or, IsTrue, IfOk, MatchResult};
+ghost use Rattle.std.specs.Prelude.{◌≡◌, ◌↔◌, pos, None, ◌+◌, ◌<◌, ◌≤◌, length, map, get_or, IsTrue, IfOk, MatchResult};
 ghost use Rattle.std.specs.Option.{option_copied};
 ghost use Rattle.lower.specs.TypeViews.{type_view};
 ghost use Rattle.lower_arrays.specs.Layouts.{layouts, len_of};
@@ -7,7 +7,7 @@ ghost use Rattle.lower_keys.specs.Keys.{KeyFits};
 ghost use Rattle.lower_keys.specs.Ids.{union_ids, child_number, NamesChild, AreNamed};
 ghost use Rattle.lower_arrays.specs.Children.{child_count};
 ghost use Rattle.lower_arrays.specs.Choices.{OffsetsFit, PlacesGiven, PlacesFit, child, place_in};
-ghost use Rattle.lower_arrays.specs.Unions.{union_seen, union_layout, IsUnion, BreaksUnion, cut_fields, cut_union};
+ghost use Rattle.lower_arrays.specs.Unions.{union_seen, IsUnion, BreaksUnion, cut_union};
 ghost use Rattle.lower_arrays.specs.AnyLayouts.{layout_of};
 
 use super::AnyArray;
