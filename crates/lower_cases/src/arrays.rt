@@ -22,6 +22,19 @@ fn bits(alloc: Global, byte: u8, count: usize) -> Result<Bitmap, Fail> {
     Ok(Bitmap::try_new(bytes, count)?)
 }
 
+fn is_same(array: &AnyArray, other: AnyArray) -> bool {
+    equal(array, &other)
+}
+
+// The `len` slots from `offset` on.
+fn cut(array: AnyArray, offset: usize, len: usize) -> Result<AnyArray, Fail> {
+    let count = array.len();
+    if offset > count || len > count - offset {
+        return Err(Fail::from("fewer slots"));
+    }
+    Ok(array.sliced(offset, len))
+}
+
 // 1, null, 3 and 4, as dates.
 fn dates(alloc: Global, hidden: i32) -> Result<AnyArray, Fail> {
     let values = numbers(alloc, &[1, hidden, 3, 4])?;
@@ -29,43 +42,60 @@ fn dates(alloc: Global, hidden: i32) -> Result<AnyArray, Fail> {
     Ok(AnyArray::Primitive(AnyPrimitive::Int32(array)))
 }
 
+// 1 to 4, as dates.
+fn whole_dates(alloc: Global) -> Result<AnyArray, Fail> {
+    let values = numbers(alloc, &[1, 2, 3, 4])?;
+    let array = PrimitiveArray::try_new(DataType::Date32, values, None)?;
+    Ok(AnyArray::Primitive(AnyPrimitive::Int32(array)))
+}
+
+fn are_four_dates(array: &AnyArray) -> bool {
+    is_same_type(array.data_type(), &DataType::Date32)
+        && array.len() == 4
+        && array.null_count() == 1
+        && array.validity().is_some()
+}
+
 #[test]
 fn same_numbers(rt: HostRuntime) -> Result<(), Fail> {
     let alloc = rt.alloc();
-    let a = dates(alloc, 2)?;
-    let b = dates(alloc, -2)?;
-    assert!(rt; equal(&a, &b));
-    assert!(rt; equal(&a, &a.clone()?));
-    assert_eq!(rt; a.len(), 4);
-    assert_eq!(rt; a.null_count(), 1);
-    assert!(rt; a.validity().is_some());
-    assert!(rt; is_same_type(a.data_type(), &DataType::Date32));
-    let whole = PrimitiveArray::try_new(DataType::Date32, numbers(alloc, &[1, 2, 3, 4])?, None)?;
-    let whole = AnyArray::Primitive(AnyPrimitive::Int32(whole));
-    assert!(rt; !equal(&a, &whole));
-    assert_eq!(rt; whole.len(), 4);
-    assert!(rt; equal(&a.sliced(2, 2), &whole.sliced(2, 2)));
+    let array = dates(alloc, 2)?;
+    assert!(rt; are_four_dates(&array));
+    assert!(rt; is_same(&array, array.clone()?));
+    assert!(rt; is_same(&array, dates(alloc, -2)?));
+    assert!(rt; !is_same(&array, whole_dates(alloc)?));
+    assert!(rt; is_same(&cut(array, 2, 2)?, cut(whole_dates(alloc)?, 2, 2)?));
+    Ok(())
+}
+
+// As many truth values as are asked, of a byte.
+fn truths(alloc: Global, byte: u8, count: usize) -> Result<AnyArray, Fail> {
+    let values = bits(alloc, byte, count)?;
+    Ok(AnyArray::Boolean(BooleanArray::try_new(DataType::Boolean, values, None)?))
+}
+
+fn are_nulls(array: &AnyArray, count: usize) -> bool {
+    array.len() == count && array.null_count() == count && array.validity().is_none()
+}
+
+#[test]
+fn any_nulls(rt: HostRuntime) -> Result<(), Fail> {
+    let alloc = rt.alloc();
+    let nulls = AnyArray::Null(NullArray::try_new(DataType::Null, 3)?);
+    assert!(rt; are_nulls(&nulls, 3));
+    let part = cut(nulls.clone()?, 1, 2)?;
+    assert!(rt; are_nulls(&part, 2));
+    assert!(rt; !is_same(&nulls, part));
+    assert!(rt; !is_same(&nulls, truths(alloc, 0b101, 3)?));
     Ok(())
 }
 
 #[test]
-fn nulls_and_bits(rt: HostRuntime) -> Result<(), Fail> {
+fn any_bits(rt: HostRuntime) -> Result<(), Fail> {
     let alloc = rt.alloc();
-    let nulls = AnyArray::Null(NullArray::try_new(DataType::Null, 3)?);
-    assert_eq!(rt; nulls.null_count(), 3);
-    assert!(rt; nulls.validity().is_none());
-    assert_eq!(rt; nulls.len(), 3);
-    let part = nulls.clone()?.sliced(1, 2);
-    assert_eq!(rt; part.null_count(), 2);
-    assert!(rt; !equal(&nulls, &part));
-    let bytes = bits(alloc, 0b101, 3)?;
-    let all = AnyArray::Boolean(BooleanArray::try_new(DataType::Boolean, bytes, None)?);
-    assert!(rt; !equal(&nulls, &all));
-    assert!(rt; equal(&all, &all.clone()?));
-    let bytes = bits(alloc, 0b10, 2)?;
-    let later = AnyArray::Boolean(BooleanArray::try_new(DataType::Boolean, bytes, None)?);
-    assert!(rt; !equal(&all, &later));
-    assert_eq!(rt; all.len(), 3);
-    assert!(rt; equal(&all.sliced(1, 2), &later));
+    let all = truths(alloc, 0b101, 3)?;
+    assert!(rt; is_same(&all, all.clone()?));
+    assert!(rt; !is_same(&all, truths(alloc, 0b10, 2)?));
+    assert!(rt; is_same(&cut(all, 1, 2)?, truths(alloc, 0b10, 2)?));
     Ok(())
 }

@@ -20,22 +20,48 @@ fn bits(alloc: Global, values: &[u8], count: usize) -> Result<Bitmap, Fail> {
     Ok(Bitmap::try_new(bytes(alloc, values)?, count)?)
 }
 
+fn are_three_nulls(array: &NullArray) -> bool {
+    is_same_type(array.data_type(), &DataType::Null)
+        && array.len() == 3
+        && !array.is_empty()
+        && array.null_count() == 3
+        && array.validity().is_none()
+        && !array.is_valid(2)
+}
+
 #[test]
 fn nulls(rt: HostRuntime) -> Result<(), Fail> {
     let array = NullArray::try_new(DataType::Null, 3)?;
-    assert!(rt; is_same_type(array.data_type(), &DataType::Null));
+    assert!(rt; are_three_nulls(&array));
+    assert!(rt; are_three_nulls(&array.clone()?));
     assert_eq!(rt; array.len(), 3);
-    assert_eq!(rt; array.null_count(), 3);
-    assert!(rt; array.validity().is_none());
-    assert!(rt; !array.is_valid(2));
-    assert_eq!(rt; array.clone()?.len(), 3);
     let part = array.sliced(2, 1);
     assert_eq!(rt; part.len(), 1);
-    assert!(rt; !part.is_empty());
     assert!(rt; part.sliced(1, 0).is_empty());
+    Ok(())
+}
+
+#[test]
+fn nulls_refused(rt: HostRuntime) -> Result<(), Fail> {
     let other = NullArray::try_new(DataType::Boolean, 3);
     assert_eq!(rt; other.err(), Some(Error::OutOfSpec(Rule::PhysicalType)));
     Ok(())
+}
+
+// Whether the slots are null, null, false, null and true.
+fn are_five_slots(part: &BooleanArray) -> bool {
+    is_same_type(part.data_type(), &DataType::Boolean)
+        && part.len() == 5
+        && !part.is_empty()
+        && part.null_count() == 3
+        && part.validity().is_some()
+        && !part.is_valid(0)
+        && !part.is_valid(1)
+        && part.is_valid(2)
+        && !part.is_valid(3)
+        && part.is_valid(4)
+        && !part.value(2)
+        && part.value(4)
 }
 
 // The last five of 27 bits are 0, 0, 1, 0 and 1.
@@ -49,18 +75,8 @@ fn a_part_of_bits(rt: HostRuntime) -> Result<(), Fail> {
     assert_eq!(rt; array.null_count(), 25);
     assert!(rt; array.values().get_bit(0));
     let part = array.sliced(22, 5);
-    assert!(rt; is_same_type(part.data_type(), &DataType::Boolean));
-    assert_eq!(rt; part.len(), 5);
-    assert!(rt; !part.is_empty());
-    assert_eq!(rt; part.null_count(), 3);
-    assert!(rt; !part.is_valid(0));
-    assert!(rt; !part.is_valid(1));
-    assert!(rt; part.is_valid(2));
-    assert!(rt; !part.is_valid(3));
-    assert!(rt; part.is_valid(4));
-    assert!(rt; !part.value(2));
-    assert!(rt; part.value(4));
-    assert!(rt; part.clone()?.validity().is_some());
+    assert!(rt; are_five_slots(&part));
+    assert!(rt; are_five_slots(&part.clone()?));
     Ok(())
 }
 

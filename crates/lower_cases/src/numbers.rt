@@ -44,7 +44,7 @@ fn whole_numbers(rt: HostRuntime) -> Result<(), Fail> {
 }
 
 #[test]
-fn numbers_of_parts(rt: HostRuntime) -> Result<(), Fail> {
+fn spans_of_time(rt: HostRuntime) -> Result<(), Fail> {
     let alloc = rt.alloc();
     let span = days_ms {
         days: 1,
@@ -63,15 +63,19 @@ fn numbers_of_parts(rt: HostRuntime) -> Result<(), Fail> {
     assert!(rt; both_ways(alloc, &bytes, Endianness::Little, &[span])?);
     let bytes = [0, 0, 0, 1, 0, 0, 0, 2, 0, 0, 0, 0, 0, 0, 0, 3];
     assert!(rt; both_ways(alloc, &bytes, Endianness::Big, &[span])?);
+    Ok(())
+}
+
+#[test]
+fn numbers_of_256_bits(rt: HostRuntime) -> Result<(), Fail> {
+    let alloc = rt.alloc();
     let number = i256 { high: -1, low: 1 };
-    let mut bytes = [0u8; 32];
-    bytes[0] = 1;
-    for byte in &mut bytes[16..] {
-        *byte = 0xFF;
-    }
-    assert!(rt; both_ways(alloc, &bytes, Endianness::Little, &[number])?);
-    bytes.reverse();
-    assert!(rt; both_ways(alloc, &bytes, Endianness::Big, &[number])?);
+    let bytes = b"\x01\0\0\0\0\0\0\0\0\0\0\0\0\0\0\0\
+        \xFF\xFF\xFF\xFF\xFF\xFF\xFF\xFF\xFF\xFF\xFF\xFF\xFF\xFF\xFF\xFF";
+    assert!(rt; both_ways(alloc, bytes, Endianness::Little, &[number])?);
+    let bytes = b"\xFF\xFF\xFF\xFF\xFF\xFF\xFF\xFF\xFF\xFF\xFF\xFF\xFF\xFF\xFF\xFF\
+        \0\0\0\0\0\0\0\0\0\0\0\0\0\0\0\x01";
+    assert!(rt; both_ways(alloc, bytes, Endianness::Big, &[number])?);
     Ok(())
 }
 

@@ -1,4 +1,5 @@
 //! Dictionaries at work.
+use super::{cut, is_same};
 use lower::bitmap::Bitmap;
 use lower::buffer::Buffer;
 use lower::datatypes::{DataType, Field, IntegerType, Metadata};
@@ -23,13 +24,18 @@ fn bits(alloc: Global, byte: u8, count: usize) -> Result<Bitmap, Fail> {
     Ok(Bitmap::try_new(buffer(alloc, &[byte])?, count)?)
 }
 
-// Texts of one character each, of which those are null whose bit isn't set.
-fn texts(alloc: Global, characters: &str, valid: u8) -> Result<AnyArray, Fail> {
-    let mut offsets = vec![in alloc; 0]?;
-    for end in 1..=characters.len() {
+// The offsets of so many characters.
+fn ends(alloc: Global, count: usize) -> Result<Vec<i32>, Fail> {
+    let mut offsets = Vec::new(alloc);
+    for end in 0..=count {
         offsets.push(i32::try_from(end)?)?;
     }
-    let offsets = OffsetsBuffer::try_new(Buffer::new(offsets)?)?;
+    Ok(offsets)
+}
+
+// Texts of one character each, of which those are null whose bit isn't set.
+fn texts(alloc: Global, characters: &str, valid: u8) -> Result<AnyArray, Fail> {
+    let offsets = OffsetsBuffer::try_new(Buffer::new(ends(alloc, characters.len())?)?)?;
     let bytes = buffer(alloc, characters.as_bytes())?;
     let validity = Some(bits(alloc, valid, characters.len())?);
     Ok(AnyArray::Utf8(Utf8Array::try_new(DataType::Utf8, offsets, bytes, validity)?))
@@ -53,30 +59,24 @@ fn dictionary(
     valid: u8,
     values: AnyArray,
 ) -> Result<AnyArray, Fail> {
-    let data_type = type_of(alloc, IntegerType::Int32, values.data_type().clone()?)?;
     let keys = keys(alloc, places, valid)?;
-    let array = DictionaryArray::try_new(data_type, keys, Rc::new(alloc, values)?)?;
-    Ok(AnyArray::Dictionary(array))
+    let data_type = type_of(alloc, IntegerType::Int32, values.data_type().clone()?)?;
+    let values = Rc::new(alloc, values)?;
+    Ok(AnyArray::Dictionary(DictionaryArray::try_new(data_type, keys, values)?))
 }
 
 #[test]
 fn keys_stand_for_values(rt: HostRuntime) -> Result<(), Fail> {
     let alloc = rt.alloc();
     let array = dictionary(alloc, &[1, 0], 0b11, texts(alloc, "ab", 0b11)?)?;
-    assert_eq!(rt; array.len(), 2);
-    assert_eq!(rt; array.null_count(), 0);
-    assert!(rt; array.validity().is_some());
+    assert!(rt; array.len() == 2 && array.null_count() == 0 && array.validity().is_some());
     let turned = dictionary(alloc, &[0, 1], 0b11, texts(alloc, "ba", 0b11)?)?;
-    assert!(rt; equal(&array, &turned));
+    assert!(rt; is_same(&array, turned));
     let other = dictionary(alloc, &[0, 1], 0b11, texts(alloc, "ab", 0b11)?)?;
-    assert!(rt; !equal(&array, &other));
-    assert!(rt; !equal(&array, &texts(alloc, "ba", 0b11)?));
-    assert!(rt;
-        equal(
-            &array.sliced(1, 1),
-            &dictionary(alloc, &[0], 1, texts(alloc, "a", 1)?)?
-        )
-    );
+    assert!(rt; !is_same(&array, other));
+    assert!(rt; !is_same(&array, texts(alloc, "ba", 0b11)?));
+    let last = dictionary(alloc, &[0], 1, texts(alloc, "a", 1)?)?;
+    assert!(rt; is_same(&last, cut(array, 1, 1)?));
     Ok(())
 }
 
@@ -87,22 +87,29 @@ fn nulls_by_key_and_by_value(rt: HostRuntime) -> Result<(), Fail> {
     assert_eq!(rt; by_key.null_count(), 1);
     let by_value = dictionary(alloc, &[1, 0], 0b11, texts(alloc, "ab", 0b10)?)?;
     assert_eq!(rt; by_value.null_count(), 0);
-    assert!(rt; equal(&by_key, &by_value));
+    assert!(rt; is_same(&by_key, by_value));
     let nulls = dictionary(alloc, &[0, 0], 0b00, texts(alloc, "", 0)?)?;
-    assert!(rt; !equal(&by_key, &nulls));
+    assert!(rt; !is_same(&by_key, nulls));
     Ok(())
+}
+
+// Three keys of two keys of two texts.
+fn keys_of_keys(
+    alloc: Global,
+    outer: &[i32],
+    inner: &[i32],
+    characters: &str,
+) -> Result<AnyArray, Fail> {
+    let values = dictionary(alloc, inner, 0b11, texts(alloc, characters, 0b11)?)?;
+    dictionary(alloc, outer, 0b111, values)
 }
 
 #[test]
 fn values_that_are_keys(rt: HostRuntime) -> Result<(), Fail> {
     let alloc = rt.alloc();
-    let inner = dictionary(alloc, &[1, 0], 0b11, texts(alloc, "pq", 0b11)?)?;
-    let outer = dictionary(alloc, &[1, 0, 1], 0b111, inner)?;
-    let turned = dictionary(alloc, &[0, 1], 0b11, texts(alloc, "pq", 0b11)?)?;
-    let same = dictionary(alloc, &[0, 1, 0], 0b111, turned)?;
-    assert!(rt; equal(&outer, &same));
-    let inner = dictionary(alloc, &[0, 1], 0b11, texts(alloc, "qp", 0b11)?)?;
-    assert!(rt; !equal(&outer, &dictionary(alloc, &[0, 1, 1], 0b111, inner)?));
+    let array = keys_of_keys(alloc, &[1, 0, 1], &[1, 0], "pq")?;
+    assert!(rt; is_same(&array, keys_of_keys(alloc, &[0, 1, 0], &[0, 1], "pq")?));
+    assert!(rt; !is_same(&array, keys_of_keys(alloc, &[0, 1, 1], &[0, 1], "qp")?));
     Ok(())
 }
 
@@ -126,9 +133,8 @@ fn values_that_are_lists_of_keys(rt: HostRuntime) -> Result<(), Fail> {
     let alloc = rt.alloc();
     let first = dictionary(alloc, &[0, 1], 0b11, lists(alloc, "pq", &[0, 1])?)?;
     let then = dictionary(alloc, &[1], 0b1, lists(alloc, "qp", &[1, 0])?)?;
-    assert_eq!(rt; first.len(), 2);
     assert!(rt; !equal(&first, &then));
-    assert!(rt; equal(&first.sliced(1, 1), &then));
+    assert!(rt; is_same(&cut(first, 1, 1)?, then));
     Ok(())
 }
 
@@ -146,29 +152,44 @@ fn what_is_a_dictionary_and_what_is_ordered(rt: HostRuntime) -> Result<(), Fail>
     let alloc = rt.alloc();
     assert!(rt; has_order(alloc, true)?);
     assert!(rt; !has_order(alloc, false)?);
-    assert!(rt; is_dictionary(&dictionary(alloc, &[0], 0b1, texts(alloc, "a", 0b1)?)?));
-    assert!(rt; !is_dictionary(&texts(alloc, "a", 0b1)?));
+    let texts = texts(alloc, "a", 0b1)?;
+    assert!(rt; !is_dictionary(&texts));
+    let array = dictionary(alloc, &[0], 0b1, texts)?;
+    assert!(rt; is_dictionary(&array));
     Ok(())
+}
+
+// Three keys of these values.
+fn three_keys(alloc: Global, values: Rc<AnyArray>) -> Result<DictionaryArray, Fail> {
+    let data_type = type_of(alloc, IntegerType::Int32, DataType::Utf8)?;
+    let keys = keys(alloc, &[1, 0, 1], 0b111)?;
+    Ok(DictionaryArray::try_new(data_type, keys, values)?)
+}
+
+fn shares(array: &DictionaryArray, values: &Rc<AnyArray>) -> Result<bool, AllocError> {
+    Ok(Rc::ptr_eq(&array.shared_values()?, values))
+}
+
+// Whether it has the last two keys, and both values.
+fn has_two_keys(part: &DictionaryArray) -> bool {
+    part.len() == 2
+        && !part.is_empty()
+        && part.is_valid(0)
+        && part.key_value(0) == 0
+        && part.keys().len() == 2
+        && part.values().len() == 2
 }
 
 #[test]
 fn clones_and_slices_share_the_values(rt: HostRuntime) -> Result<(), Fail> {
     let alloc = rt.alloc();
     let values = Rc::new(alloc, texts(alloc, "ab", 0b11)?)?;
-    let data_type = type_of(alloc, IntegerType::Int32, DataType::Utf8)?;
-    let keys = keys(alloc, &[1, 0, 1], 0b111)?;
-    let array = DictionaryArray::try_new(data_type, keys, values.clone()?)?;
-    let copy = array.clone()?;
-    assert!(rt; Rc::ptr_eq(&copy.shared_values()?, &values));
+    let array = three_keys(alloc, values.clone()?)?;
+    assert!(rt; shares(&array.clone()?, &values)?);
     assert_eq!(rt; array.len(), 3);
     let part = array.sliced(1, 2);
-    assert!(rt; Rc::ptr_eq(&part.shared_values()?, &values));
-    assert_eq!(rt; part.len(), 2);
-    assert!(rt; !part.is_empty());
-    assert!(rt; part.is_valid(0));
-    assert_eq!(rt; part.key_value(0), 0);
-    assert_eq!(rt; part.keys().len(), 2);
-    assert_eq!(rt; part.values().len(), 2);
+    assert!(rt; shares(&part, &values)?);
+    assert!(rt; has_two_keys(&part));
     Ok(())
 }
 
@@ -182,97 +203,108 @@ fn refusal(
     Ok(DictionaryArray::try_new(data_type, keys, values).err())
 }
 
+// The same, of a type with such keys and values.
+fn type_refusal(
+    alloc: Global,
+    key: IntegerType,
+    values: DataType,
+    keys: DictionaryKeys,
+) -> Result<Option<Error>, Fail> {
+    refusal(alloc, type_of(alloc, key, values)?, keys)
+}
+
+// What refuses a dictionary with 0 and this key, of which those are null whose bit isn't set.
+fn key_refusal(alloc: Global, place: i32, valid: u8) -> Result<Option<Error>, Fail> {
+    let keys = keys(alloc, &[0, place], valid)?;
+    type_refusal(alloc, IntegerType::Int32, DataType::Utf8, keys)
+}
+
+// Numbers of 32 bits that aren't integers.
+fn dates(alloc: Global) -> Result<DictionaryKeys, Fail> {
+    let dates = PrimitiveArray::try_new(DataType::Date32, buffer(alloc, &[0i32])?, None)?;
+    Ok(DictionaryKeys::Int32(dates))
+}
+
 #[test]
 fn each_rule_refuses(rt: HostRuntime) -> Result<(), Fail> {
     let alloc = rt.alloc();
-    let fault = refusal(alloc, DataType::Utf8, keys(alloc, &[0], 1)?)?;
-    assert_eq!(rt; fault, Some(Error::OutOfSpec(Rule::PhysicalType)));
-    let narrow = type_of(alloc, IntegerType::Int16, DataType::Utf8)?;
-    let fault = refusal(alloc, narrow, keys(alloc, &[0], 1)?)?;
-    assert_eq!(rt; fault, Some(Error::OutOfSpec(Rule::PhysicalType)));
-    let dates = PrimitiveArray::try_new(DataType::Date32, buffer(alloc, &[0i32])?, None)?;
-    let wide = type_of(alloc, IntegerType::Int32, DataType::Utf8)?;
-    let fault = refusal(alloc, wide, DictionaryKeys::Int32(dates))?;
-    assert_eq!(rt; fault, Some(Error::OutOfSpec(Rule::PhysicalType)));
-    let other = type_of(alloc, IntegerType::Int32, DataType::LargeUtf8)?;
-    let fault = refusal(alloc, other, keys(alloc, &[0], 1)?)?;
-    assert_eq!(rt; fault, Some(Error::OutOfSpec(Rule::DictionaryValues)));
-    for place in [-1, 2] {
-        let wide = type_of(alloc, IntegerType::Int32, DataType::Utf8)?;
-        let fault = refusal(alloc, wide, keys(alloc, &[0, place], 0b11)?)?;
-        assert_eq!(rt;
-            fault,
-            Some(Error::OutOfSpec(Rule::DictionaryKey)),
-            "at {place}"
-        );
-        let wide = type_of(alloc, IntegerType::Int32, DataType::Utf8)?;
-        assert!(rt; refusal(alloc, wide, keys(alloc, &[0, place], 0b01)?)?.is_none());
-    }
+    let wrong = Some(Error::OutOfSpec(Rule::PhysicalType));
+    let texts = refusal(alloc, DataType::Utf8, keys(alloc, &[0], 1)?)?;
+    assert_eq!(rt; texts, wrong);
+    let keys = keys(alloc, &[0], 1)?;
+    let narrow = type_refusal(alloc, IntegerType::Int16, DataType::Utf8, keys)?;
+    assert_eq!(rt; narrow, wrong);
+    let keys = dates(alloc)?;
+    let of_dates = type_refusal(alloc, IntegerType::Int32, DataType::Utf8, keys)?;
+    assert_eq!(rt; of_dates, wrong);
     Ok(())
 }
 
-// The keys 1 and 0 of each type.
-fn keys_of_each_type(alloc: Global) -> Result<Vec<DictionaryKeys>, Fail> {
-    Ok(vec![in alloc;
-        DictionaryKeys::Int8(PrimitiveArray::try_new(
-            DataType::Int8,
-            buffer(alloc, &[1i8, 0])?,
-            None
-        )?),
-        DictionaryKeys::Int16(PrimitiveArray::try_new(
-            DataType::Int16,
-            buffer(alloc, &[1i16, 0])?,
-            None
-        )?),
-        DictionaryKeys::Int32(PrimitiveArray::try_new(
-            DataType::Int32,
-            buffer(alloc, &[1i32, 0])?,
-            None
-        )?),
-        DictionaryKeys::Int64(PrimitiveArray::try_new(
-            DataType::Int64,
-            buffer(alloc, &[1i64, 0])?,
-            None
-        )?),
-        DictionaryKeys::UInt8(PrimitiveArray::try_new(
-            DataType::UInt8,
-            buffer(alloc, &[1u8, 0])?,
-            None
-        )?),
-        DictionaryKeys::UInt16(PrimitiveArray::try_new(
-            DataType::UInt16,
-            buffer(alloc, &[1u16, 0])?,
-            None
-        )?),
-        DictionaryKeys::UInt32(PrimitiveArray::try_new(
-            DataType::UInt32,
-            buffer(alloc, &[1u32, 0])?,
-            None
-        )?),
-        DictionaryKeys::UInt64(PrimitiveArray::try_new(
-            DataType::UInt64,
-            buffer(alloc, &[1u64, 0])?,
-            None
-        )?),
-    ]?)
+#[test]
+fn values_of_another_type(rt: HostRuntime) -> Result<(), Fail> {
+    let alloc = rt.alloc();
+    let keys = keys(alloc, &[0], 1)?;
+    let other = type_refusal(alloc, IntegerType::Int32, DataType::LargeUtf8, keys)?;
+    assert_eq!(rt; other, Some(Error::OutOfSpec(Rule::DictionaryValues)));
+    Ok(())
 }
 
 #[test]
-fn keys_of_all_types(rt: HostRuntime) -> Result<(), Fail> {
+fn keys_that_name_no_value(rt: HostRuntime) -> Result<(), Fail> {
     let alloc = rt.alloc();
-    for keys in keys_of_each_type(alloc)? {
-        let data_type = type_of(alloc, keys.key_type(), DataType::Utf8)?;
-        let values = Rc::new(alloc, texts(alloc, "ab", 0b11)?)?;
-        let array = DictionaryArray::try_new(data_type, keys, values)?;
-        assert_eq!(rt; array.null_count(), 0);
-        assert_eq!(rt; array.len(), 2);
-        let part = array.clone()?.sliced(1, 1);
-        assert!(rt;
-            equal(
-                &AnyArray::Dictionary(part),
-                &AnyArray::Dictionary(array).sliced(1, 1)
-            )
-        );
+    let outside = Some(Error::OutOfSpec(Rule::DictionaryKey));
+    assert_eq!(rt; key_refusal(alloc, -1, 0b11)?, outside);
+    assert_eq!(rt; key_refusal(alloc, 2, 0b11)?, outside);
+    assert_eq!(rt; key_refusal(alloc, -1, 0b01)?, None);
+    assert_eq!(rt; key_refusal(alloc, 2, 0b01)?, None);
+    Ok(())
+}
+
+// The keys 1 and 0 of an integer type.
+fn two_keys<T: NativeType>(
+    alloc: Global,
+    data_type: DataType,
+    keys: &[T],
+) -> Result<PrimitiveArray<T>, Fail> {
+    Ok(PrimitiveArray::try_new(data_type, buffer(alloc, keys)?, None)?)
+}
+
+// Whether a dictionary with these two keys is cut as any array is.
+fn is_cut(alloc: Global, keys: DictionaryKeys) -> Result<bool, Fail> {
+    let data_type = type_of(alloc, keys.key_type(), DataType::Utf8)?;
+    let values = Rc::new(alloc, texts(alloc, "ab", 0b11)?)?;
+    let array = DictionaryArray::try_new(data_type, keys, values)?;
+    if array.null_count() != 0 || array.len() != 2 {
+        return Ok(false);
     }
+    let part = AnyArray::Dictionary(array.clone()?.sliced(1, 1));
+    Ok(is_same(&part, cut(AnyArray::Dictionary(array), 1, 1)?))
+}
+
+#[test]
+fn signed_keys(rt: HostRuntime) -> Result<(), Fail> {
+    let alloc = rt.alloc();
+    let keys = DictionaryKeys::Int8(two_keys(alloc, DataType::Int8, &[1i8, 0])?);
+    assert!(rt; is_cut(alloc, keys)?);
+    let keys = DictionaryKeys::Int16(two_keys(alloc, DataType::Int16, &[1i16, 0])?);
+    assert!(rt; is_cut(alloc, keys)?);
+    let keys = DictionaryKeys::Int32(two_keys(alloc, DataType::Int32, &[1i32, 0])?);
+    assert!(rt; is_cut(alloc, keys)?);
+    let keys = DictionaryKeys::Int64(two_keys(alloc, DataType::Int64, &[1i64, 0])?);
+    assert!(rt; is_cut(alloc, keys)?);
+    Ok(())
+}
+
+#[test]
+fn unsigned_keys(rt: HostRuntime) -> Result<(), Fail> {
+    let alloc = rt.alloc();
+    let keys = DictionaryKeys::UInt8(two_keys(alloc, DataType::UInt8, &[1u8, 0])?);
+    assert!(rt; is_cut(alloc, keys)?);
+    let keys = DictionaryKeys::UInt16(two_keys(alloc, DataType::UInt16, &[1u16, 0])?);
+    assert!(rt; is_cut(alloc, keys)?);
+    let keys = DictionaryKeys::UInt32(two_keys(alloc, DataType::UInt32, &[1u32, 0])?);
+    assert!(rt; is_cut(alloc, keys)?);
+    let keys = DictionaryKeys::UInt64(two_keys(alloc, DataType::UInt64, &[1u64, 0])?);
+    assert!(rt; is_cut(alloc, keys)?);
     Ok(())
 }

@@ -1,4 +1,5 @@
 //! Arrays with children at work.
+use super::{cut, is_same};
 use lower::bitmap::Bitmap;
 use lower::buffer::Buffer;
 use lower::datatypes::{DataType, Field, Metadata};
@@ -8,7 +9,6 @@ use lower_arrays::array::{
     AnyArray, AnyPrimitive, BooleanArray, FixedSizeListArray, ListArray, ListOffsets, MapArray,
     PrimitiveArray, StructArray, Utf8Array,
 };
-use lower_equal::equal;
 use std::alloc::{AllocError, Global};
 use std::test::Fail;
 
@@ -130,18 +130,18 @@ fn sized_fault(
     fixed_list_fault(alloc, fixed_list_of(alloc, item, size)?, validity)
 }
 
-// Records of bits and numbers, as many of each.
-fn records(
-    alloc: Global,
-    byte: u8,
-    numbers: &[i32],
-    validity: Option<Bitmap>,
-) -> Result<AnyArray, Fail> {
+// Records of bits and numbers, as many of each, of which those are null whose bit isn't set.
+fn records(alloc: Global, byte: u8, numbers: &[i32], valid: u8) -> Result<StructArray, Fail> {
     let mut values = Vec::new(alloc);
     values.push(booleans(alloc, byte, numbers.len())?)?;
     values.push(int32s(alloc, numbers, None)?)?;
     let data_type = struct_of(alloc, DataType::Boolean, DataType::Int32)?;
-    Ok(AnyArray::Struct(StructArray::try_new(data_type, values, validity)?))
+    let validity = bits(alloc, valid, numbers.len())?;
+    Ok(StructArray::try_new(data_type, values, validity)?)
+}
+
+fn any_records(alloc: Global, byte: u8, numbers: &[i32], valid: u8) -> Result<AnyArray, Fail> {
+    Ok(AnyArray::Struct(records(alloc, byte, numbers, valid)?))
 }
 
 // What refuses records of `count` bits and the numbers 1 and 2.
@@ -188,6 +188,17 @@ fn map(alloc: Global, places: &[i32], pairs: AnyArray) -> Result<AnyArray, Fail>
     Ok(AnyArray::Map(MapArray::try_new(data_type, places, pairs, None)?))
 }
 
+// A map of the first entry and one of the others.
+fn two_maps(alloc: Global) -> Result<AnyArray, Fail> {
+    map(alloc, &[0, 1, 3], entries(alloc)?)
+}
+
+// A map of some of the entries.
+fn one_map(alloc: Global, offset: usize, len: i32) -> Result<AnyArray, Fail> {
+    let pairs = cut(entries(alloc)?, offset, usize::try_from(len)?)?;
+    map(alloc, &[0, len], pairs)
+}
+
 // What refuses maps of the entries, from texts to `numbers`.
 fn map_fault(
     alloc: Global,
@@ -214,33 +225,42 @@ fn is_refused(fault: Option<Error>, rule: Rule) -> bool {
 fn lists_of_five_numbers(rt: HostRuntime) -> Result<(), Fail> {
     let alloc = rt.alloc();
     let array = list(alloc, &[0, 2, 2, 3, 5], &[1, 2, 3, 4, 5])?;
-    assert_eq!(rt; array.len(), 4);
-    assert_eq!(rt; array.null_count(), 0);
-    assert!(rt; equal(&array, &array.clone()?));
-    let part = array.sliced(1, 2);
+    assert!(rt; array.len() == 4 && array.null_count() == 0);
+    assert!(rt; is_same(&array, array.clone()?));
+    let part = cut(array, 1, 2)?;
     assert_eq!(rt; part.len(), 2);
-    assert!(rt; equal(&part, &list(alloc, &[0, 0, 1], &[3])?));
-    assert!(rt; !equal(&part, &list(alloc, &[0, 1, 1], &[3])?));
+    assert!(rt; is_same(&part, list(alloc, &[0, 0, 1], &[3])?));
+    assert!(rt; !is_same(&part, list(alloc, &[0, 1, 1], &[3])?));
     Ok(())
 }
 
-#[test]
-fn a_slice_of_lists_keeps_all_numbers(rt: HostRuntime) -> Result<(), Fail> {
-    let alloc = rt.alloc();
+// The second and the third of four lists of five numbers.
+fn middle_lists(alloc: Global) -> Result<ListArray, Fail> {
     let values = Box::new(alloc, int32s(alloc, &[1, 2, 3, 4, 5], None)?)?;
     let data_type = list_of(alloc, DataType::Int32)?;
     let places = small(alloc, &[0, 2, 2, 3, 5])?;
     let array = ListArray::try_new(data_type, places, values, None)?;
-    assert_eq!(rt; array.len(), 4);
-    let part = array.sliced(1, 2);
-    assert_eq!(rt; part.len(), 2);
-    assert_eq!(rt; part.null_count(), 0);
-    assert_eq!(rt; part.values().len(), 5);
-    let places = part.offsets();
-    assert_eq!(rt; places.len(), 3);
-    assert_eq!(rt; places.get(0), 2);
-    assert_eq!(rt; places.get(1), 2);
-    assert_eq!(rt; places.get(2), 3);
+    if array.len() != 4 {
+        return Err(Fail::from("not four lists"));
+    }
+    Ok(array.sliced(1, 2))
+}
+
+fn are_middle_places(places: &ListOffsets) -> bool {
+    places.len() == 3 && places.get(0) == 2 && places.get(1) == 2 && places.get(2) == 3
+}
+
+fn has_all_numbers(part: &ListArray) -> bool {
+    part.len() == 2
+        && part.null_count() == 0
+        && part.values().len() == 5
+        && are_middle_places(part.offsets())
+}
+
+#[test]
+fn a_slice_of_lists_keeps_all_numbers(rt: HostRuntime) -> Result<(), Fail> {
+    let part = middle_lists(rt.alloc())?;
+    assert!(rt; has_all_numbers(&part));
     Ok(())
 }
 
@@ -262,25 +282,31 @@ fn a_pair_of_six_numbers(rt: HostRuntime) -> Result<(), Fail> {
     let alloc = rt.alloc();
     let array = pairs(alloc, &[1, 2, 3, 4, 5, 6], None)?;
     assert_eq!(rt; array.len(), 3);
-    assert!(rt; equal(&array, &array.clone()?));
-    let part = array.sliced(1, 1);
+    assert!(rt; is_same(&array, array.clone()?));
+    let part = cut(array, 1, 1)?;
     assert_eq!(rt; part.len(), 1);
-    assert!(rt; equal(&part, &pairs(alloc, &[3, 4], None)?));
-    assert!(rt; !equal(&part, &pairs(alloc, &[3, 4], bits(alloc, 0, 1)?)?));
+    assert!(rt; is_same(&part, pairs(alloc, &[3, 4], None)?));
+    assert!(rt; !is_same(&part, pairs(alloc, &[3, 4], bits(alloc, 0, 1)?)?));
     Ok(())
+}
+
+// The second of three pairs.
+fn middle_pair(alloc: Global) -> Result<FixedSizeListArray, Fail> {
+    let values = Box::new(alloc, int32s(alloc, &[1, 2, 3, 4, 5, 6], None)?)?;
+    let data_type = fixed_list_of(alloc, DataType::Int32, 2)?;
+    let array = FixedSizeListArray::try_new(data_type, values, None)?;
+    if array.len() != 3 {
+        return Err(Fail::from("not three pairs"));
+    }
+    Ok(array.sliced(1, 1))
 }
 
 #[test]
 fn a_slice_of_pairs_cuts_its_numbers(rt: HostRuntime) -> Result<(), Fail> {
     let alloc = rt.alloc();
-    let values = Box::new(alloc, int32s(alloc, &[1, 2, 3, 4, 5, 6], None)?)?;
-    let data_type = fixed_list_of(alloc, DataType::Int32, 2)?;
-    let array = FixedSizeListArray::try_new(data_type, values, None)?;
-    assert_eq!(rt; array.len(), 3);
-    let part = array.sliced(1, 1);
-    assert_eq!(rt; part.len(), 1);
-    assert_eq!(rt; part.null_count(), 0);
-    assert!(rt; equal(part.values(), &int32s(alloc, &[3, 4], None)?));
+    let part = middle_pair(alloc)?;
+    assert!(rt; part.len() == 1 && part.null_count() == 0);
+    assert!(rt; is_same(part.values(), int32s(alloc, &[3, 4], None)?));
     Ok(())
 }
 
@@ -303,48 +329,37 @@ fn lists_of_one_size_refused(rt: HostRuntime) -> Result<(), Fail> {
 #[test]
 fn records_of_bits_and_numbers(rt: HostRuntime) -> Result<(), Fail> {
     let alloc = rt.alloc();
-    let array = records(alloc, 0x0c, &[42, 28, 19, 31], bits(alloc, 0x0b, 4)?)?;
-    assert_eq!(rt; array.len(), 4);
-    assert_eq!(rt; array.null_count(), 1);
-    assert!(rt; equal(&array, &array.clone()?));
-    let hidden = records(alloc, 0x08, &[42, 28, 7, 31], bits(alloc, 0x0b, 4)?)?;
-    assert!(rt; equal(&array, &hidden));
-    let part = array.sliced(2, 2);
+    let array = any_records(alloc, 0x0c, &[42, 28, 19, 31], 0x0b)?;
+    assert!(rt; array.len() == 4 && array.null_count() == 1);
+    assert!(rt; is_same(&array, array.clone()?));
+    assert!(rt; is_same(&array, any_records(alloc, 0x08, &[42, 28, 7, 31], 0x0b)?));
+    let part = cut(array, 2, 2)?;
     assert_eq!(rt; part.null_count(), 1);
-    assert!(rt;
-        equal(
-            &part,
-            &records(alloc, 0b10, &[0, 31], bits(alloc, 0b10, 2)?)?
-        )
-    );
-    assert!(rt;
-        !equal(
-            &part,
-            &records(alloc, 0b00, &[0, 31], bits(alloc, 0b10, 2)?)?
-        )
-    );
+    assert!(rt; is_same(&part, any_records(alloc, 0b10, &[0, 31], 0b10)?));
+    assert!(rt; !is_same(&part, any_records(alloc, 0b00, &[0, 31], 0b10)?));
     Ok(())
 }
 
-// A child keeps what it has where the record is null.
+// Whether they have what they had, where the record is null too.
+fn are_whole(alloc: Global, children: &[AnyArray]) -> Result<bool, Fail> {
+    let [truths, numbers] = children else {
+        return Ok(false);
+    };
+    Ok(
+        truths.null_count() == 0
+            && is_same(truths, booleans(alloc, 0x0c, 4)?)
+            && numbers.null_count() == 0
+            && is_same(numbers, int32s(alloc, &[42, 28, 19, 31], None)?),
+    )
+}
+
 #[test]
 fn the_children_of_records(rt: HostRuntime) -> Result<(), Fail> {
     let alloc = rt.alloc();
-    let values = vec![in alloc;
-        booleans(alloc, 0x0c, 4)?,
-        int32s(alloc, &[42, 28, 19, 31], None)?,
-    ]?;
-    let data_type = struct_of(alloc, DataType::Boolean, DataType::Int32)?;
-    let array = StructArray::try_new(data_type, values, bits(alloc, 0x0b, 4)?)?;
+    let array = records(alloc, 0x0c, &[42, 28, 19, 31], 0x0b)?;
     assert_eq!(rt; array.len(), 4);
-    assert_eq!(rt; array.null_count(), 1);
-    assert!(rt; !array.is_valid(2));
-    let children = array.values();
-    assert_eq!(rt; children.len(), 2);
-    assert_eq!(rt; children[0].null_count(), 0);
-    assert_eq!(rt; children[1].null_count(), 0);
-    assert!(rt; equal(&children[0], &booleans(alloc, 0x0c, 4)?));
-    assert!(rt; equal(&children[1], &int32s(alloc, &[42, 28, 19, 31], None)?));
+    assert!(rt; array.null_count() == 1 && !array.is_valid(2));
+    assert!(rt; are_whole(alloc, array.values())?);
     Ok(())
 }
 
@@ -369,35 +384,21 @@ fn records_refused(rt: HostRuntime) -> Result<(), Fail> {
 #[test]
 fn maps_from_texts_to_numbers(rt: HostRuntime) -> Result<(), Fail> {
     let alloc = rt.alloc();
-    let array = map(alloc, &[0, 1, 3], entries(alloc)?)?;
-    assert_eq!(rt; array.len(), 2);
-    assert_eq!(rt; array.null_count(), 0);
-    assert!(rt; equal(&array, &array.clone()?));
-    let part = array.sliced(1, 1);
+    let array = two_maps(alloc)?;
+    assert!(rt; array.len() == 2 && array.null_count() == 0);
+    assert!(rt; is_same(&array, array.clone()?));
+    let part = cut(array, 1, 1)?;
     assert_eq!(rt; part.len(), 1);
-    let last = entries(alloc)?;
-    assert_eq!(rt; last.len(), 3);
-    assert!(rt; equal(&part, &map(alloc, &[0, 2], last.sliced(1, 2))?));
-    let first = entries(alloc)?;
-    assert_eq!(rt; first.len(), 3);
-    assert!(rt; !equal(&part, &map(alloc, &[0, 2], first.sliced(0, 2))?));
+    assert!(rt; is_same(&part, one_map(alloc, 1, 2)?));
+    assert!(rt; !is_same(&part, one_map(alloc, 0, 2)?));
     Ok(())
 }
 
 #[test]
 fn a_map_of_one_pair(rt: HostRuntime) -> Result<(), Fail> {
     let alloc = rt.alloc();
-    let array = map(alloc, &[0, 1, 3], entries(alloc)?)?;
-    assert_eq!(rt; array.len(), 2);
-    let first = entries(alloc)?;
-    assert_eq!(rt; first.len(), 3);
-    assert_eq!(rt; first.null_count(), 0);
-    assert!(rt;
-        equal(
-            &array.sliced(0, 1),
-            &map(alloc, &[0, 1], first.sliced(0, 1))?
-        )
-    );
+    let part = cut(two_maps(alloc)?, 0, 1)?;
+    assert!(rt; is_same(&part, one_map(alloc, 0, 1)?));
     Ok(())
 }
 

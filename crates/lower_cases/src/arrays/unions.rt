@@ -1,11 +1,11 @@
 //! Unions at work.
+use super::{cut, is_same};
 use lower::bitmap::Bitmap;
 use lower::buffer::Buffer;
 use lower::datatypes::{DataType, Field, Metadata, UnionMode};
 use lower::error::{Error, Rule};
 use lower::types::NativeType;
 use lower_arrays::array::{AnyArray, AnyPrimitive, BooleanArray, PrimitiveArray, UnionArray};
-use lower_equal::equal;
 use std::alloc::{AllocError, Global};
 use std::test::Fail;
 
@@ -47,11 +47,20 @@ fn type_of(alloc: Global, ids: Option<&[i32]>, mode: UnionMode) -> Result<DataTy
 }
 
 // A sparse union of numbers and of truth values.
-fn sparse(alloc: Global, types: &[i8], values: &[i32], byte: u8) -> Result<AnyArray, Fail> {
-    let data_type = type_of(alloc, None, UnionMode::Sparse)?;
+fn sparse(
+    alloc: Global,
+    ids: Option<&[i32]>,
+    types: &[i8],
+    values: &[i32],
+    byte: u8,
+) -> Result<UnionArray, Fail> {
+    let data_type = type_of(alloc, ids, UnionMode::Sparse)?;
     let fields = vec![in alloc; numbers(alloc, values)?, truths(alloc, byte, values.len())?]?;
-    let array = UnionArray::try_new(data_type, buffer(alloc, types)?, fields, None)?;
-    Ok(AnyArray::Union(array))
+    Ok(UnionArray::try_new(data_type, buffer(alloc, types)?, fields, None)?)
+}
+
+fn any_sparse(alloc: Global, types: &[i8], values: &[i32], byte: u8) -> Result<AnyArray, Fail> {
+    Ok(AnyArray::Union(sparse(alloc, None, types, values, byte)?))
 }
 
 // A dense union of numbers and of one truth value.
@@ -61,95 +70,125 @@ fn dense(
     offsets: &[i32],
     values: &[i32],
     byte: u8,
-) -> Result<AnyArray, Fail> {
+) -> Result<UnionArray, Fail> {
     let data_type = type_of(alloc, None, UnionMode::Dense)?;
     let fields = vec![in alloc; numbers(alloc, values)?, truths(alloc, byte, 1)?]?;
     let offsets = Some(buffer(alloc, offsets)?);
-    let array = UnionArray::try_new(data_type, buffer(alloc, types)?, fields, offsets)?;
-    Ok(AnyArray::Union(array))
+    Ok(UnionArray::try_new(data_type, buffer(alloc, types)?, fields, offsets)?)
+}
+
+fn any_dense(
+    alloc: Global,
+    types: &[i8],
+    offsets: &[i32],
+    values: &[i32],
+    byte: u8,
+) -> Result<AnyArray, Fail> {
+    Ok(AnyArray::Union(dense(alloc, types, offsets, values, byte)?))
 }
 
 #[test]
 fn a_slice_of_a_sparse_union(rt: HostRuntime) -> Result<(), Fail> {
     let alloc = rt.alloc();
-    let array = sparse(alloc, &[0, 1, 0], &[1, 2, 3], 0b101)?;
-    assert!(rt; equal(&array, &array.clone()?));
-    assert_eq!(rt; array.null_count(), 0);
-    assert!(rt; array.validity().is_none());
-    assert_eq!(rt; array.len(), 3);
-    let part = array.sliced(1, 2);
+    let array = any_sparse(alloc, &[0, 1, 0], &[1, 2, 3], 0b101)?;
+    assert!(rt; is_same(&array, array.clone()?));
+    assert!(rt; array.null_count() == 0 && array.validity().is_none());
+    let part = cut(array, 1, 2)?;
     assert_eq!(rt; part.len(), 2);
-    assert!(rt; equal(&part, &sparse(alloc, &[1, 0], &[7, 3], 0b10)?));
-    assert!(rt; !equal(&part, &sparse(alloc, &[1, 0], &[7, 3], 0b11)?));
-    assert!(rt; !equal(&part, &sparse(alloc, &[1, 1], &[7, 3], 0b10)?));
+    assert!(rt; is_same(&part, any_sparse(alloc, &[1, 0], &[7, 3], 0b10)?));
+    assert!(rt; !is_same(&part, any_sparse(alloc, &[1, 0], &[7, 3], 0b11)?));
+    assert!(rt; !is_same(&part, any_sparse(alloc, &[1, 1], &[7, 3], 0b10)?));
     Ok(())
 }
 
 #[test]
 fn a_slice_of_a_dense_union(rt: HostRuntime) -> Result<(), Fail> {
     let alloc = rt.alloc();
-    let array = dense(alloc, &[0, 1, 0], &[0, 0, 1], &[10, 20], 1)?;
-    assert!(rt; equal(&array, &dense(alloc, &[0, 1, 0], &[1, 0, 0], &[20, 10], 1)?));
-    assert!(rt; !equal(&array, &dense(alloc, &[0, 1, 0], &[0, 0, 1], &[20, 10], 1)?));
-    assert_eq!(rt; array.len(), 3);
-    let part = array.sliced(1, 2);
-    assert!(rt; equal(&part, &dense(alloc, &[1, 0], &[0, 0], &[20], 1)?));
-    assert!(rt; !equal(&part, &dense(alloc, &[1, 0], &[0, 0], &[20], 0)?));
+    let array = any_dense(alloc, &[0, 1, 0], &[0, 0, 1], &[10, 20], 1)?;
+    assert!(rt;
+        is_same(
+            &array,
+            any_dense(alloc, &[0, 1, 0], &[1, 0, 0], &[20, 10], 1)?
+        )
+    );
+    assert!(rt;
+        !is_same(
+            &array,
+            any_dense(alloc, &[0, 1, 0], &[0, 0, 1], &[20, 10], 1)?
+        )
+    );
+    let part = cut(array, 1, 2)?;
+    assert!(rt; is_same(&part, any_dense(alloc, &[1, 0], &[0, 0], &[20], 1)?));
+    assert!(rt; !is_same(&part, any_dense(alloc, &[1, 0], &[0, 0], &[20], 0)?));
     Ok(())
+}
+
+// Whether the children are these numbers, and as many truth values as are asked, of a byte.
+fn has_children(
+    alloc: Global,
+    array: &UnionArray,
+    values: &[i32],
+    byte: u8,
+    count: usize,
+) -> Result<bool, Fail> {
+    let [first, second] = array.fields() else {
+        return Ok(false);
+    };
+    Ok(is_same(first, numbers(alloc, values)?) && is_same(second, truths(alloc, byte, count)?))
 }
 
 #[test]
 fn a_slice_of_a_sparse_union_cuts_its_children(rt: HostRuntime) -> Result<(), Fail> {
     let alloc = rt.alloc();
-    let data_type = type_of(alloc, None, UnionMode::Sparse)?;
-    let fields = vec![in alloc; numbers(alloc, &[1, 2, 3])?, truths(alloc, 0b101, 3)?]?;
-    let array = UnionArray::try_new(data_type, buffer(alloc, &[0i8, 1, 0])?, fields, None)?;
+    let array = sparse(alloc, None, &[0, 1, 0], &[1, 2, 3], 0b101)?;
     assert_eq!(rt; array.len(), 3);
     let part = array.sliced(1, 2);
     assert_eq!(rt; part.types().as_slice(), [1, 0].as_slice());
-    let children = part.fields();
-    assert_eq!(rt; children.len(), 2);
-    assert!(rt; equal(&children[0], &numbers(alloc, &[2, 3])?));
-    assert!(rt; equal(&children[1], &truths(alloc, 0b10, 2)?));
+    assert!(rt; has_children(alloc, &part, &[2, 3], 0b10, 2)?);
     Ok(())
+}
+
+// Whether its three slots are the first number, the truth value and the second number.
+fn is_dense(array: &UnionArray) -> bool {
+    array.len() == 3
+        && array.index(0) == (0, 0)
+        && array.index(1) == (1, 0)
+        && array.index(2) == (0, 1)
+}
+
+// Whether its slots are the last two of them.
+fn is_dense_part(part: &UnionArray) -> bool {
+    part.len() == 2 && part.index(0) == (1, 0) && part.index(1) == (0, 1)
 }
 
 #[test]
 fn a_slice_of_a_dense_union_keeps_its_children(rt: HostRuntime) -> Result<(), Fail> {
     let alloc = rt.alloc();
-    let data_type = type_of(alloc, None, UnionMode::Dense)?;
-    let fields = vec![in alloc; numbers(alloc, &[10, 20])?, truths(alloc, 1, 1)?]?;
-    let offsets = Some(buffer(alloc, &[0i32, 0, 1])?);
-    let array = UnionArray::try_new(data_type, buffer(alloc, &[0i8, 1, 0])?, fields, offsets)?;
+    let array = dense(alloc, &[0, 1, 0], &[0, 0, 1], &[10, 20], 1)?;
+    assert!(rt; is_dense(&array));
     assert_eq!(rt; array.len(), 3);
-    assert!(rt; array.index(0) == (0, 0));
-    assert!(rt; array.index(1) == (1, 0));
-    assert!(rt; array.index(2) == (0, 1));
     let part = array.sliced(1, 2);
-    assert_eq!(rt; part.len(), 2);
-    assert!(rt; part.index(0) == (1, 0));
-    assert!(rt; part.index(1) == (0, 1));
-    let children = part.fields();
-    assert_eq!(rt; children.len(), 2);
-    assert!(rt; equal(&children[0], &numbers(alloc, &[10, 20])?));
-    assert!(rt; equal(&children[1], &truths(alloc, 1, 1)?));
+    assert!(rt; is_dense_part(&part));
+    assert!(rt; has_children(alloc, &part, &[10, 20], 1, 1)?);
     Ok(())
+}
+
+// Whether its slots are the first of the second child and the second of the first one.
+fn is_by_ids(array: &UnionArray) -> bool {
+    array.fields().len() == 2
+        && array.offsets().is_none()
+        && array.types().len() == 2
+        && !array.is_empty()
+        && array.len() == 2
+        && array.type_at(0) == 2
+        && array.index(0) == (1, 0)
+        && array.index(1) == (0, 1)
 }
 
 #[test]
 fn ids_name_children(rt: HostRuntime) -> Result<(), Fail> {
-    let alloc = rt.alloc();
-    let data_type = type_of(alloc, Some(&[5, 2]), UnionMode::Sparse)?;
-    let fields = vec![in alloc; numbers(alloc, &[4, 5])?, truths(alloc, 0b11, 2)?]?;
-    let array = UnionArray::try_new(data_type, buffer(alloc, &[2i8, 5])?, fields, None)?;
-    assert_eq!(rt; array.fields().len(), 2);
-    assert!(rt; array.offsets().is_none());
-    assert_eq!(rt; array.types().len(), 2);
-    assert!(rt; !array.is_empty());
-    assert_eq!(rt; array.len(), 2);
-    assert_eq!(rt; array.type_at(0), 2);
-    assert!(rt; array.index(0) == (1, 0));
-    assert!(rt; array.index(1) == (0, 1));
+    let array = sparse(rt.alloc(), Some(&[5, 2]), &[2, 5], &[4, 5], 0b11)?;
+    assert!(rt; is_by_ids(&array));
     Ok(())
 }
 
@@ -181,6 +220,15 @@ fn dense_refusal(alloc: Global, offsets: Option<&[i32]>) -> Result<Option<Error>
     )
 }
 
+// A union of truth values and of numbers.
+fn turned(alloc: Global) -> Result<DataType, AllocError> {
+    let fields = vec![in alloc;
+        field(alloc, DataType::Boolean)?,
+        field(alloc, DataType::Int32)?,
+    ]?;
+    Ok(DataType::Union(fields, None, UnionMode::Sparse))
+}
+
 #[test]
 fn types_refuse(rt: HostRuntime) -> Result<(), Fail> {
     let alloc = rt.alloc();
@@ -189,16 +237,7 @@ fn types_refuse(rt: HostRuntime) -> Result<(), Fail> {
     let none = DataType::Union(Vec::new(alloc), None, UnionMode::Sparse);
     let fault = refusal(alloc, none, &[0, 1], None)?;
     assert_eq!(rt; fault, Some(Error::OutOfSpec(Rule::ChildCount)));
-    let turned = vec![in alloc;
-        field(alloc, DataType::Boolean)?,
-        field(alloc, DataType::Int32)?,
-    ]?;
-    let fault = refusal(
-        alloc,
-        DataType::Union(turned, None, UnionMode::Sparse),
-        &[0, 1],
-        None,
-    )?;
+    let fault = refusal(alloc, turned(alloc)?, &[0, 1], None)?;
     assert_eq!(rt; fault, Some(Error::OutOfSpec(Rule::ChildType)));
     let none = DataType::Union(Vec::new(alloc), None, UnionMode::Sparse);
     let empty = UnionArray::try_new(none, buffer(alloc, &[])?, Vec::new(alloc), None);
@@ -209,47 +248,32 @@ fn types_refuse(rt: HostRuntime) -> Result<(), Fail> {
 #[test]
 fn ids_refuse(rt: HostRuntime) -> Result<(), Fail> {
     let alloc = rt.alloc();
-    assert!(rt; sparse_refusal(alloc, Some(&[126, 0]), &[0, 126])?.is_none());
-    for ids in [[3, 3], [127, 0], [-1, 0]] {
-        let fault = sparse_refusal(alloc, Some(&ids), &[0, 0])?;
-        assert_eq!(rt; fault, Some(Error::OutOfSpec(Rule::UnionIds)));
-    }
-    let fault = sparse_refusal(alloc, Some(&[0]), &[0, 0])?;
-    assert_eq!(rt; fault, Some(Error::OutOfSpec(Rule::UnionIds)));
-    let fault = sparse_refusal(alloc, Some(&[1, 2]), &[0, 1])?;
-    assert_eq!(rt; fault, Some(Error::OutOfSpec(Rule::UnionType)));
-    for id in [-1, 2] {
-        let fault = sparse_refusal(alloc, None, &[0, id])?;
-        assert_eq!(rt; fault, Some(Error::OutOfSpec(Rule::UnionType)));
-    }
+    assert_eq!(rt; sparse_refusal(alloc, Some(&[126, 0]), &[0, 126])?, None);
+    let wrong = Some(Error::OutOfSpec(Rule::UnionIds));
+    assert_eq!(rt; sparse_refusal(alloc, Some(&[3, 3]), &[0, 0])?, wrong);
+    assert_eq!(rt; sparse_refusal(alloc, Some(&[127, 0]), &[0, 0])?, wrong);
+    assert_eq!(rt; sparse_refusal(alloc, Some(&[-1, 0]), &[0, 0])?, wrong);
+    assert_eq!(rt; sparse_refusal(alloc, Some(&[0]), &[0, 0])?, wrong);
+    let unnamed = Some(Error::OutOfSpec(Rule::UnionType));
+    assert_eq!(rt; sparse_refusal(alloc, Some(&[1, 2]), &[0, 1])?, unnamed);
+    assert_eq!(rt; sparse_refusal(alloc, None, &[0, -1])?, unnamed);
+    assert_eq!(rt; sparse_refusal(alloc, None, &[0, 2])?, unnamed);
     Ok(())
 }
 
 #[test]
 fn offsets_and_lengths_refuse(rt: HostRuntime) -> Result<(), Fail> {
     let alloc = rt.alloc();
-    let offsets: Option<&[i32]> = Some(&[0, 1]);
-    assert!(rt; dense_refusal(alloc, offsets)?.is_none());
-    let fault = dense_refusal(alloc, None)?;
-    assert_eq!(rt; fault, Some(Error::OutOfSpec(Rule::UnionOffsets)));
-    let fault = dense_refusal(alloc, Some(&[0]))?;
-    assert_eq!(rt; fault, Some(Error::OutOfSpec(Rule::UnionOffsets)));
-    let fault = refusal(
-        alloc,
-        type_of(alloc, None, UnionMode::Sparse)?,
-        &[0, 1],
-        offsets,
-    )?;
-    assert_eq!(rt; fault, Some(Error::OutOfSpec(Rule::UnionOffsets)));
-    let fault = sparse_refusal(alloc, None, &[0])?;
-    assert_eq!(rt; fault, Some(Error::OutOfSpec(Rule::ChildLength)));
-    for offset in [-1, 2] {
-        let fault = dense_refusal(alloc, Some(&[0, offset]))?;
-        assert_eq!(rt;
-            fault,
-            Some(Error::OutOfSpec(Rule::UnionOffset)),
-            "at {offset}"
-        );
-    }
+    assert_eq!(rt; dense_refusal(alloc, Some(&[0, 1]))?, None);
+    let given = Some(Error::OutOfSpec(Rule::UnionOffsets));
+    assert_eq!(rt; dense_refusal(alloc, None)?, given);
+    assert_eq!(rt; dense_refusal(alloc, Some(&[0]))?, given);
+    let sparse = type_of(alloc, None, UnionMode::Sparse)?;
+    assert_eq!(rt; refusal(alloc, sparse, &[0, 1], Some(&[0, 1]))?, given);
+    let short = sparse_refusal(alloc, None, &[0])?;
+    assert_eq!(rt; short, Some(Error::OutOfSpec(Rule::ChildLength)));
+    let outside = Some(Error::OutOfSpec(Rule::UnionOffset));
+    assert_eq!(rt; dense_refusal(alloc, Some(&[0, -1]))?, outside);
+    assert_eq!(rt; dense_refusal(alloc, Some(&[0, 2]))?, outside);
     Ok(())
 }

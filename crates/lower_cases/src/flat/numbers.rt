@@ -19,28 +19,41 @@ fn numbers(
     Ok(PrimitiveArray::try_new(data_type, values, validity))
 }
 
+// Whether they are null and 3.
+fn are_two_dates(part: &PrimitiveArray<i32>) -> bool {
+    is_same_type(part.data_type(), &DataType::Date32)
+        && part.len() == 2
+        && part.values().as_slice() == [2, 3].as_slice()
+        && part.null_count() == 1
+        && !part.is_valid(0)
+        && part.is_valid(1)
+}
+
 #[test]
 fn a_part_of_dates(rt: HostRuntime) -> Result<(), Fail> {
     let alloc = rt.alloc();
     let dates = numbers(alloc, DataType::Date32, Some(bits(alloc, &[0b1101], 4)?))??;
-    assert!(rt; is_same_type(dates.data_type(), &DataType::Date32));
     assert_eq!(rt; dates.len(), 4);
     assert_eq!(rt; dates.null_count(), 1);
     let part = dates.sliced(1, 2);
-    assert_eq!(rt; part.values().as_slice(), [2, 3].as_slice());
-    assert!(rt; !part.is_valid(0) && part.is_valid(1));
-    assert_eq!(rt; part.null_count(), 1);
+    assert!(rt; are_two_dates(&part));
     assert!(rt; part.sliced(2, 0).is_empty());
     Ok(())
 }
 
+// The last two of three numbers, by way of a clone.
+fn last_two(values: Buffer<i32>) -> Result<PrimitiveArray<i32>, Fail> {
+    let array = PrimitiveArray::try_new(DataType::Int32, values, None)?.clone()?;
+    if array.len() != 3 {
+        return Err(Fail::from("not three numbers"));
+    }
+    Ok(array.sliced(1, 2))
+}
+
 #[test]
 fn clones_and_slices_share_the_numbers(rt: HostRuntime) -> Result<(), Fail> {
-    let alloc = rt.alloc();
-    let values = Buffer::new(Vec::from_slice(alloc, &[1, 2, 3])?)?;
-    let array = PrimitiveArray::try_new(DataType::Int32, values.clone()?, None)?;
-    let part = array.clone()?.sliced(1, 2);
-    drop(array);
+    let values = Buffer::new(Vec::from_slice(rt.alloc(), &[1, 2, 3])?)?;
+    let part = last_two(values.clone()?)?;
     assert!(rt;
         values.into_vec().is_err(),
         "the part has numbers of its own"
@@ -69,19 +82,29 @@ fn sized(
     Ok(FixedSizeBinaryArray::try_new(DataType::FixedSizeBinary(size), values, validity))
 }
 
+fn are_three_pairs(array: &FixedSizeBinaryArray) -> bool {
+    array.size() == 2
+        && array.len() == 3
+        && array.null_count() == 1
+        && array.value(0) == b"\x01\x02".as_slice()
+}
+
+// Whether they are null and the bytes 5 and 6.
+fn are_last_two_pairs(part: &FixedSizeBinaryArray) -> bool {
+    is_same_type(part.data_type(), &DataType::FixedSizeBinary(2))
+        && part.len() == 2
+        && !part.is_valid(0)
+        && part.is_valid(1)
+        && part.value(1) == b"\x05\x06".as_slice()
+}
+
 #[test]
 fn a_part_of_bytes_of_one_size(rt: HostRuntime) -> Result<(), Fail> {
     let alloc = rt.alloc();
     let array = sized(alloc, 2, Some(bits(alloc, &[0b101], 3)?))??;
-    assert_eq!(rt; array.size(), 2);
+    assert!(rt; are_three_pairs(&array));
     assert_eq!(rt; array.len(), 3);
-    assert_eq!(rt; array.null_count(), 1);
-    assert_eq!(rt; array.value(0), b"\x01\x02".as_slice());
-    let part = array.sliced(1, 2);
-    assert_eq!(rt; part.len(), 2);
-    assert!(rt; !part.is_valid(0) && part.is_valid(1));
-    assert_eq!(rt; part.value(1), b"\x05\x06".as_slice());
-    assert!(rt; is_same_type(part.data_type(), &DataType::FixedSizeBinary(2)));
+    assert!(rt; are_last_two_pairs(&array.sliced(1, 2)));
     Ok(())
 }
 
@@ -99,15 +122,20 @@ fn bytes_of_one_size_refused(rt: HostRuntime) -> Result<(), Fail> {
     Ok(())
 }
 
+// The second of two slots, by way of a clone.
+fn second_pair(values: Buffer<u8>) -> Result<FixedSizeBinaryArray, Fail> {
+    let data_type = DataType::FixedSizeBinary(2);
+    let array = FixedSizeBinaryArray::try_new(data_type, values, None)?.clone()?;
+    if array.len() != 2 {
+        return Err(Fail::from("not two slots"));
+    }
+    Ok(array.sliced(1, 1))
+}
+
 #[test]
 fn clones_and_slices_share_bytes_of_one_size(rt: HostRuntime) -> Result<(), Fail> {
-    let alloc = rt.alloc();
-    let values = bytes(alloc, &[1, 2, 3, 4])?;
-    let data_type = DataType::FixedSizeBinary(2);
-    let array = FixedSizeBinaryArray::try_new(data_type, values.clone()?, None)?;
-    assert_eq!(rt; array.len(), 2);
-    let part = array.clone()?.sliced(1, 1);
-    drop(array);
+    let values = bytes(rt.alloc(), &[1, 2, 3, 4])?;
+    let part = second_pair(values.clone()?)?;
     assert!(rt; values.into_vec().is_err(), "the part has bytes of its own");
     assert_eq!(rt; part.len(), 1);
     Ok(())
