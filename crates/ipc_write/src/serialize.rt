@@ -1,11 +1,9 @@
 //! Plans columns: the nodes and the buffers of a record batch, and where its body ends: Arrow columnar
 //! format, "RecordBatch message". No byte of the columns is moved.
-ghost use Rattle.std.specs.Prelude.{◌≡◌, ◌↔◌, IsTrue, ◌*◌, ◌^◌, ◌≤◌, ◌<◌, ◌++◌, ◌∷◌, [], pos, ◌+ℤ◌, ◌≤ℤ◌, length, map, All, IfErr, IfOk, OnOk};
+ghost use Rattle.std.specs.Prelude.{◌≡◌, ◌↔◌, IsTrue, ◌*◌, ◌≤◌, ◌<◌, ◌++◌, ◌∷◌, [], pos, ◌+ℤ◌, ◌≤ℤ◌, length, map, All, IfErr, IfOk, OnOk};
 ghost use Rattle.std.specs.Int.{next_multiple_of};
 ghost use Rattle.std.specs.List.{flat_map};
 ghost use Rattle.lower.specs.TypeViews.{type_view};
-ghost use Rattle.lower_arrays.specs.Layouts.{len_of};
-ghost use Rattle.lower_arrays.specs.AnyLayouts.{layout_of};
 ghost use Rattle.ipc_model.specs.WrittenBatches.{entry};
 ghost use Rattle.lower_types.specs.declared.Endianness.TheVariants.{Little};
 ghost use Rattle.ipc_write.specs.Columns.{buffers_of, node_of, number_bytes, array_bytes, end_of, is_extension, AreIntegers, HasIntegers, IsCarried, IsSound, NumbersFit, RefusesBuffer, RefusesColumn, RefusesColumns, all_buffers_of, end_of_all};

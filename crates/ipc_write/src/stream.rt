@@ -1,5 +1,5 @@
 //! Writes streams: Arrow columnar format, "IPC Streaming Format".
-ghost use Rattle.std.specs.Prelude.{◌≡◌, ◌↔◌, ◌≤◌, ◌^◌, ◌∷◌, [], pos, length, map, IfErr, IfOk, IfSome, IsSomeAnd, IsTrue, OnOk};
+ghost use Rattle.std.specs.Prelude.{◌≡◌, ◌↔◌, ◌≤◌, ◌^◌, [], pos, length, map, IfErr, IfOk, IfSome, IsSomeAnd, IsTrue, OnOk};
 ghost use Rattle.std.specs.Int.{next_multiple_of};
 ghost use Rattle.lower.specs.TypeViews.{fields_view, pairs_of, type_view};
 ghost use Rattle.ipc_base.specs.IdTrees.{all_ids_view, ids_view};
