@@ -1,6 +1,6 @@
 -- Slots one by one and as a list.
 use Rattle.std.proofs.Common.{arith, ◌≡◌, ◌↔◌, refl, IsTrue, Bool, ℕ, pos, zero, suc, ◌+◌, ◌<◌, List, [], ◌∷◌, ◌++◌, map, take, length, get_or, sym, ap, ◌∙◌}
-use Rattle.std.proofs.lemmas.List.{get_or-map, length-map, map_more}
+use Rattle.std.proofs.lemmas.List.{get_or-map, map_more}
 use Rattle.lower_types.specs.NumberTypes.{Number, whole}
 use Rattle.lower_types.specs.declared.PrimitiveType.{PrimitiveType}
 use Rattle.lower_flat.specs.Validities.{is_valid}
@@ -103,10 +103,6 @@ record_slots-of (x ∷ xs) i = ap (λ s. slot_at (layout_of x) i ∷ s) (record_
 
 pub record_slots-children : (xs : List AnyArray) (cs : List Layout) (i : ℕ) → map layout_of xs ≡ cs → record_slots xs i ≡ each_at (children_at (layouts cs)) i
 record_slots-children xs cs i e = record_slots-of xs i ∙ ap (λ c. each_at (children_at (layouts c)) i) e
-
-pub record_count : (xs ys : List AnyArray) (i j : ℕ) → record_slots xs i ≡ record_slots ys j → length xs ≡ length ys
-record_count xs ys i j e =
-    sym (length-map xs (λ c. slot_at (layout_of c) i)) ∙ ap length e ∙ length-map ys (λ c. slot_at (layout_of c) j)
 
 pub record_item :
     (xs ys : List AnyArray) (k : ℕ) (x y : AnyArray) (i j : ℕ) → k < length xs → k < length ys → x ≡ get_or xs k x → y ≡ get_or ys k y

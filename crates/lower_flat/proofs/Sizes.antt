@@ -1,6 +1,6 @@
 -- Slots of as many bytes each.
-use Rattle.std.proofs.Common.{arith, ◌≡◌, ℕ, ◌+◌, ◌*◌, ◌/◌, ◌%◌, ◌<◌, ◌≤◌, length}
-use Rattle.std.proofs.Math.Nat.{div-add-mod, add-mul, mul_comm}
+use Rattle.std.proofs.Common.{arith, ◌≡◌, ℕ, ◌+◌, ◌*◌, ◌≤◌, length}
+use Rattle.std.proofs.Math.Nat.{add-mul}
 use Rattle.std.proofs.lemmas.Nat.{mul-le}
 use Rattle.lower_flat.specs.FixedBinaries.{FixedBinarySeen, IsFixedBinary, cut_fixed}
 use Rattle.lower_flat.proofs.Cuts.{length-part, fits-cut}
@@ -11,20 +11,6 @@ within o n m size h =
     let both : (o + n) * size ≡ o * size + n * size = add-mul o n size in
     let le : (o + n) * size ≤ m * size = mul-le (o + n) size m size h (omega arith) in
     omega (arith, both, le)
-
--- bytes that leave no rest are those of whole slots
-pub whole_slots : (n size : ℕ) → n % size ≡ 0 → n ≡ n / size * size
-whole_slots n size h =
-    let parts : size * (n / size) + n % size ≡ n = div-add-mod n size in
-    let turned : size * (n / size) ≡ n / size * size = mul_comm size (n / size) in
-    omega (arith, parts, turned, h)
-
--- the bytes of one slot
-pub slot_within : (a : FixedBinarySeen) (i : ℕ) → IsFixedBinary a → i < a.len → i * a.size + a.size ≤ length a.values
-slot_within a i is h =
-    let all : i * a.size + 1 * a.size ≤ a.len * a.size = within i 1 a.len a.size (omega (arith, h)) in
-    let whole = is.whole in
-    omega (arith, all, whole)
 
 -- the bytes of some slots
 pub slots_within : (a : FixedBinarySeen) (o n : ℕ) → IsFixedBinary a → o + n ≤ a.len → o * a.size + n * a.size ≤ length a.values
