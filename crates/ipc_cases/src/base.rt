@@ -19,23 +19,29 @@ impl Rows for Blank {
     }
 }
 
+// Whether it has two columns of two rows.
+fn is_two_by_two(chunk: &Chunk<Blank>) -> bool {
+    chunk.len() == 2 && !chunk.is_empty() && chunk.columns().len() == 2 && chunk.arrays().len() == 2
+}
+
 #[test]
 fn columns_of_one_length_make_a_chunk(rt: HostRuntime) -> Result<(), Fail> {
     let alloc = rt.alloc();
     let chunk = Chunk::try_new(vec![in alloc; Blank(2), Blank(2)]?)?;
-    assert_eq!(rt; chunk.len(), 2);
-    assert!(rt; !chunk.is_empty());
-    assert_eq!(rt; chunk.columns().len(), 2);
-    assert_eq!(rt; chunk.arrays().len(), 2);
+    assert!(rt; is_two_by_two(&chunk));
     let again = chunk.clone()?;
     assert!(rt; again == chunk);
     let arrays: Vec<Blank> = Vec::from(again);
     assert!(rt; equal_rows(&arrays));
     assert!(rt; Chunk::new(arrays) == chunk);
     assert_eq!(rt; chunk.into_arrays().len(), 2);
-    let none: Chunk<Blank> = Chunk::try_new(Vec::new(alloc))?;
-    assert_eq!(rt; none.len(), 0);
-    assert!(rt; none.is_empty());
+    Ok(())
+}
+
+#[test]
+fn no_columns_make_a_chunk_without_rows(rt: HostRuntime) -> Result<(), Fail> {
+    let none: Chunk<Blank> = Chunk::try_new(Vec::new(rt.alloc()))?;
+    assert!(rt; none.len() == 0 && none.is_empty());
     Ok(())
 }
 
@@ -70,13 +76,16 @@ fn named(alloc: Global, name: &str, data_type: DataType) -> Result<Field, AllocE
     })
 }
 
-#[test]
-fn ids_belong_to_dictionary_fields(rt: HostRuntime) -> Result<(), Fail> {
-    let alloc = rt.alloc();
-    let keys = DataType::Dictionary(IntegerType::Int8, Box::new(alloc, DataType::Utf8)?, false);
+// A list of texts under a dictionary.
+fn keyed_list(alloc: Global) -> Result<Field, AllocError> {
+    let texts = Box::new(alloc, DataType::Utf8)?;
+    let keys = DataType::Dictionary(IntegerType::Int8, texts, false);
     let inner = named(alloc, "item", keys)?;
-    let list = named(alloc, "list", DataType::List(Box::new(alloc, inner)?))?;
-    let fields = vec![in alloc; list]?;
+    named(alloc, "list", DataType::List(Box::new(alloc, inner)?))
+}
+
+// The id 7 of its item.
+fn list_id(alloc: Global) -> Result<Vec<IpcField>, AllocError> {
     let with_id = IpcField {
         fields: Vec::new(alloc),
         dictionary_id: Some(7),
@@ -85,14 +94,25 @@ fn ids_belong_to_dictionary_fields(rt: HostRuntime) -> Result<(), Fail> {
         fields: vec![in alloc; with_id]?,
         dictionary_id: None,
     };
-    let ids = vec![in alloc; below]?;
+    Ok(vec![in alloc; below]?)
+}
+
+#[test]
+fn ids_belong_to_dictionary_fields(rt: HostRuntime) -> Result<(), Fail> {
+    let alloc = rt.alloc();
+    let fields = [keyed_list(alloc)?];
+    let ids = list_id(alloc)?;
     assert!(rt; fits(&fields, &ids));
-    let copy = clone_ipc_fields(&ids)?;
-    assert!(rt; copy == ids);
-    let none = vec![in alloc; IpcField::empty(alloc)]?;
-    assert!(rt; !fits(&fields, &none));
+    assert!(rt; !fits(&fields, &[IpcField::empty(alloc)]));
+    Ok(())
+}
+
+#[test]
+fn clones_of_ids_are_the_same(rt: HostRuntime) -> Result<(), Fail> {
+    let fields = list_id(rt.alloc())?;
+    assert!(rt; clone_ipc_fields(&fields)? == fields);
     let schema = IpcSchema {
-        fields: ids,
+        fields,
         is_little_endian: true,
     };
     assert!(rt; schema.clone()? == schema);

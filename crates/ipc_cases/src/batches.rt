@@ -121,23 +121,28 @@ fn body(alloc: Global) -> Result<Vec<u8>, AllocError> {
     Ok(body)
 }
 
-#[test]
-fn two_columns_of_two_numbers(rt: HostRuntime) -> Result<(), Fail> {
-    let alloc = rt.alloc();
-    let chunk = two_columns(alloc, &NODES, &BUFFERS, &body(alloc)?)??;
-    assert_eq!(rt; chunk.arrays().len(), 2);
-    assert_eq!(rt; chunk.len(), 2);
-    assert!(rt; is_numbers(&chunk.arrays()[0], &[-1, 1]));
-    assert!(rt; is_numbers(&chunk.arrays()[1], &[1, -1]));
-    Ok(())
-}
-
 // Whether a column is of these numbers of 32 bits.
 fn is_numbers(column: &AnyArray, numbers: &[i32]) -> bool {
     match column {
         AnyArray::Primitive(AnyPrimitive::Int32(array)) => array.values().as_slice() == numbers,
         _ => false,
     }
+}
+
+// Whether it is the two columns of the body.
+fn is_body(chunk: &Chunk<AnyArray>) -> bool {
+    let [x, y] = chunk.arrays() else {
+        return false;
+    };
+    chunk.len() == 2 && is_numbers(x, &[-1, 1]) && is_numbers(y, &[1, -1])
+}
+
+#[test]
+fn two_columns_of_two_numbers(rt: HostRuntime) -> Result<(), Fail> {
+    let alloc = rt.alloc();
+    let chunk = two_columns(alloc, &NODES, &BUFFERS, &body(alloc)?)??;
+    assert!(rt; is_body(&chunk));
+    Ok(())
 }
 
 #[test]
@@ -152,83 +157,69 @@ fn only_needed_bytes_have_to_be_there(rt: HostRuntime) -> Result<(), Fail> {
     Ok(())
 }
 
+// What refuses columns that are listed so of the whole body.
+fn fault(alloc: Global, nodes: &[i64], buffers: &[i64]) -> Result<Option<Fault>, Fail>
+    requires nodes { length nodes.now < 100 }
+    requires buffers { length buffers.now < 100 }
+{
+    Ok(two_columns(alloc, nodes, buffers, &body(alloc)?)?.err())
+}
+
+// The same, where the bytes break a rule.
+fn kind(alloc: Global, nodes: &[i64], buffers: &[i64]) -> Result<Option<OutOfSpecKind>, Fail>
+    requires nodes { length nodes.now < 100 }
+    requires buffers { length buffers.now < 100 }
+{
+    match fault(alloc, nodes, buffers)? {
+        Some(Fault::OutOfSpec(kind)) => Ok(Some(kind)),
+        _ => Ok(None),
+    }
+}
+
 #[test]
 fn faults_of_entries(rt: HostRuntime) -> Result<(), Fail> {
     let alloc = rt.alloc();
-    let body = body(alloc)?;
-    let nodes = two_columns(alloc, &NODES[..2], &BUFFERS, &body)?;
-    assert!(rt;
-        matches!(
-            nodes,
-            Err(Fault::OutOfSpec(OutOfSpecKind::MissingMessageNodes))
-        )
-    );
-    let buffers = two_columns(alloc, &NODES, &BUFFERS[..6], &body)?;
-    assert!(rt;
-        matches!(
-            buffers,
-            Err(Fault::OutOfSpec(OutOfSpecKind::ExpectedBuffer))
-        )
-    );
-    let short = two_columns(alloc, &NODES, &[0, 0, 0, 7, 64, 0, 64, 8], &body)?;
-    assert!(rt;
-        matches!(
-            short,
-            Err(Fault::OutOfSpec(OutOfSpecKind::InvalidBuffer { .. }))
-        )
-    );
-    let negative = two_columns(alloc, &NODES, &[0, -1, 0, 8, 64, 0, 64, 8], &body)?;
-    assert!(rt;
-        matches!(
-            negative,
-            Err(Fault::OutOfSpec(OutOfSpecKind::NegativeFooterLength))
-        )
-    );
-    let place = two_columns(alloc, &NODES, &[0, 0, -1, 8, 64, 0, 64, 8], &body)?;
-    assert!(rt;
-        matches!(
-            place,
-            Err(Fault::OutOfSpec(OutOfSpecKind::NegativeFooterLength))
-        )
-    );
-    let length = two_columns(alloc, &[-1, 0, 2, 0], &BUFFERS, &body)?;
-    assert!(rt;
-        matches!(
-            length,
-            Err(Fault::OutOfSpec(OutOfSpecKind::NegativeFooterLength))
-        )
-    );
-    let unequal = two_columns(alloc, &[1, 0, 2, 0], &BUFFERS, &body)?;
-    assert!(rt; matches!(unequal, Err(Fault::Argument(ArgFault::UnequalRows))));
-    let nulls = two_columns(alloc, &[2, 1, 2, 0], &BUFFERS, &body)?;
-    assert!(rt; matches!(nulls, Err(Fault::NotYetImplemented(Nyi::Pending))));
+    let nodes = kind(alloc, &NODES[..2], &BUFFERS)?;
+    assert!(rt; nodes == Some(OutOfSpecKind::MissingMessageNodes));
+    let buffers = kind(alloc, &NODES, &BUFFERS[..6])?;
+    assert!(rt; buffers == Some(OutOfSpecKind::ExpectedBuffer));
+    let short = kind(alloc, &NODES, &[0, 0, 0, 7, 64, 0, 64, 8])?;
+    assert!(rt; matches!(short, Some(OutOfSpecKind::InvalidBuffer { .. })));
+    Ok(())
+}
+
+#[test]
+fn numbers_below_zero(rt: HostRuntime) -> Result<(), Fail> {
+    let alloc = rt.alloc();
+    let negative = Some(OutOfSpecKind::NegativeFooterLength);
+    assert!(rt; kind(alloc, &NODES, &[0, -1, 0, 8, 64, 0, 64, 8])? == negative);
+    assert!(rt; kind(alloc, &NODES, &[0, 0, -1, 8, 64, 0, 64, 8])? == negative);
+    assert!(rt; kind(alloc, &[-1, 0, 2, 0], &BUFFERS)? == negative);
+    Ok(())
+}
+
+#[test]
+fn unequal_rows_and_nulls(rt: HostRuntime) -> Result<(), Fail> {
+    let alloc = rt.alloc();
+    let unequal = fault(alloc, &[1, 0, 2, 0], &BUFFERS)?;
+    assert!(rt; matches!(unequal, Some(Fault::Argument(ArgFault::UnequalRows))));
+    let nulls = fault(alloc, &[2, 1, 2, 0], &BUFFERS)?;
+    assert!(rt; matches!(nulls, Some(Fault::NotYetImplemented(Nyi::Pending))));
     Ok(())
 }
 
 #[test]
 fn buffers_longer_than_the_body(rt: HostRuntime) -> Result<(), Fail> {
-    let alloc = rt.alloc();
-    let body = body(alloc)?;
-    let long = two_columns(
-        alloc,
+    let long = kind(
+        rt.alloc(),
         &NODES,
         &[0, i64::MAX, 0, i64::MAX, 64, 0, 64, 8],
-        &body,
     )?;
-    let Err(
-        Fault::OutOfSpec(
-            OutOfSpecKind::InvalidBuffersLength {
-                buffers_size,
-                file_size,
-            },
-        ),
-    ) = long
-    else {
-        assert!(rt; false);
-        return Ok(());
+    let wanted = OutOfSpecKind::InvalidBuffersLength {
+        buffers_size: u64::MAX,
+        file_size: 128,
     };
-    assert_eq!(rt; buffers_size, u64::MAX);
-    assert_eq!(rt; file_size, 128);
+    assert!(rt; long == Some(wanted));
     Ok(())
 }
 

@@ -101,12 +101,16 @@ fn is_broken_pipe(answer: &Result<Vec<u8>, Fault>) -> bool {
 
 #[test]
 fn watched_devices_count(rt: HostRuntime) -> Result<(), Fail> {
-    let bytes = b"abc";
-    let mut slice = Watched::new(bytes.as_slice());
+    let mut slice = Watched::new(b"abc".as_slice());
     let front = read_bytes(rt.alloc(), &mut slice, 2)?;
     assert_eq!(rt; front.as_slice(), b"ab".as_slice());
     assert_eq!(rt; slice.given(), 2);
     assert_eq!(rt; slice.failures(), 0);
+    Ok(())
+}
+
+#[test]
+fn watched_devices_count_failures(rt: HostRuntime) -> Result<(), Fail> {
     let mut broken = Watched::new(Broken);
     assert!(rt; is_broken_pipe(&read_bytes(rt.alloc(), &mut broken, 1)));
     assert_eq!(rt; broken.failures(), 1);

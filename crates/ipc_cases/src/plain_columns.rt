@@ -1,5 +1,5 @@
 //! Batches that are written out, and what they mean.
-ghost use Rattle.std.specs.Prelude.{◌<◌, ◌^◌, length};
+ghost use Rattle.std.specs.Prelude.{◌<◌, ◌≤◌, ◌^◌, length};
 
 use ipc_plain::batch::{is_projection, plain_batch};
 use ipc_plain::entries::{PlainEntries, PlainPart};
@@ -49,11 +49,6 @@ fn slots(
     plain_batch(alloc, &entries, 64, kinds, chosen, limit)
 }
 
-// A list of numbers.
-fn list(alloc: Global, numbers: &[i128]) -> Result<PlainSlot, AllocError> {
-    Ok(PlainSlot::List(all(alloc, numbers)?))
-}
-
 fn all(alloc: Global, numbers: &[i128]) -> Result<Vec<PlainSlot>, AllocError> {
     let mut slots = Vec::new(alloc);
     for number in numbers {
@@ -64,72 +59,90 @@ fn all(alloc: Global, numbers: &[i128]) -> Result<Vec<PlainSlot>, AllocError> {
 
 const INT32: PlainKind = PlainKind::Int(IntegerType::Int32);
 
+// Four lists of five numbers, over a child that is listed with so many slots.
+fn four_lists(
+    alloc: Global,
+    child: i64,
+    limit: Option<usize>,
+) -> Result<Option<Vec<Vec<PlainSlot>>>, AllocError> {
+    let parts = [
+        part(&NO_VALIDITY),
+        part(&[0, 0, 0, 0, 2, 0, 0, 0, 2, 0, 0, 0, 3, 0, 0, 0, 5, 0, 0, 0]),
+        part(&NO_VALIDITY),
+        part(&[1, 0, 0, 0, 2, 0, 0, 0, 3, 0, 0, 0, 4, 0, 0, 0, 5, 0, 0, 0]),
+    ];
+    let kinds = [PlainKind::List(Box::new(alloc, INT32)?)];
+    slots(
+        alloc,
+        &[node(4, 0), node(child, 0)],
+        &parts,
+        &kinds,
+        &[0],
+        limit,
+    )
+}
+
+// A column of these lists.
+fn lists(alloc: Global, lists: &[&[i128]]) -> Result<Option<Vec<Vec<PlainSlot>>>, AllocError> {
+    let mut column = Vec::new(alloc);
+    for numbers in lists {
+        column.push(PlainSlot::List(all(alloc, numbers)?))?;
+    }
+    one_column(alloc, column)
+}
+
+fn one_column(
+    alloc: Global,
+    column: Vec<PlainSlot>,
+) -> Result<Option<Vec<Vec<PlainSlot>>>, AllocError> {
+    Ok(Some(vec![in alloc; column]?))
+}
+
 #[test]
 fn lists_by_their_offsets(rt: HostRuntime) -> Result<(), Fail> {
     let alloc = rt.alloc();
-    let offsets = [0, 0, 0, 0, 2, 0, 0, 0, 2, 0, 0, 0, 3, 0, 0, 0, 5, 0, 0, 0];
-    let numbers = [1, 0, 0, 0, 2, 0, 0, 0, 3, 0, 0, 0, 4, 0, 0, 0, 5, 0, 0, 0];
-    let nodes = [node(4, 0), node(5, 0)];
-    let parts = [
-        part(&NO_VALIDITY),
-        part(&offsets),
-        part(&NO_VALIDITY),
-        part(&numbers),
-    ];
-    let kinds = [PlainKind::List(Box::new(alloc, INT32)?)];
-    let whole = slots(alloc, &nodes, &parts, &kinds, &[0], None)?;
-    let lists = vec![in alloc;
-        list(alloc, &[1, 2])?,
-        list(alloc, &[])?,
-        list(alloc, &[3])?,
-        list(alloc, &[4, 5])?,
-    ]?;
-    assert!(rt; whole == Some(vec![in alloc; lists]?));
-    let two = slots(alloc, &nodes, &parts, &kinds, &[0], Some(2))?;
-    let lists = vec![in alloc; list(alloc, &[1, 2])?, list(alloc, &[])?]?;
-    assert!(rt; two == Some(vec![in alloc; lists]?));
+    let whole = lists(alloc, &[&[1, 2], &[], &[3], &[4, 5]])?;
+    assert!(rt; four_lists(alloc, 5, None)? == whole);
+    let two = lists(alloc, &[&[1, 2], &[]])?;
+    assert!(rt; four_lists(alloc, 5, Some(2))? == two);
     // A child with too few slots.
-    let few = slots(alloc, &[node(4, 0), node(4, 0)], &parts, &kinds, &[0], None)?;
-    assert!(rt; few.is_none());
+    assert!(rt; four_lists(alloc, 4, None)?.is_none());
     Ok(())
+}
+
+// Texts by these parts, so many of them, and of which so many are null.
+fn texts(
+    alloc: Global,
+    node: FieldNode,
+    validity: &[u8],
+    offsets: &[u8],
+    bytes: &[u8],
+) -> Result<Option<Vec<Vec<PlainSlot>>>, AllocError>
+    requires validity { length validity.now < 2 ^ 63 }
+    requires offsets { length offsets.now < 2 ^ 63 }
+    requires bytes { length bytes.now < 2 ^ 63 }
+{
+    let parts = [part(validity), part(offsets), part(bytes)];
+    slots(alloc, &[node], &parts, &[PlainKind::Utf8], &[0], None)
 }
 
 #[test]
 fn texts_are_cut_at_characters(rt: HostRuntime) -> Result<(), Fail> {
     let alloc = rt.alloc();
     let bytes = [0xc3, 0xa9];
-    let whole = [
-        part(&NO_VALIDITY),
-        part(&[0, 0, 0, 0, 2, 0, 0, 0]),
-        part(&bytes),
-    ];
-    let text = slots(alloc, &[node(1, 0)], &whole, &[PlainKind::Utf8], &[0], None)?;
-    let expected = PlainSlot::Text(Vec::from_slice(alloc, &bytes)?);
-    assert!(rt; text == Some(vec![in alloc; vec![in alloc; expected]?]?));
-    let cut = [
-        part(&NO_VALIDITY),
-        part(&[0, 0, 0, 0, 1, 0, 0, 0, 2, 0, 0, 0]),
-        part(&bytes),
-    ];
-    let halves = slots(alloc, &[node(2, 0)], &cut, &[PlainKind::Utf8], &[0], None)?;
-    assert!(rt; halves.is_none());
+    let text = PlainSlot::Text(Vec::from_slice(alloc, &bytes)?);
+    let wanted = one_column(alloc, vec![in alloc; text]?)?;
+    let offsets = [0, 0, 0, 0, 2, 0, 0, 0];
+    assert!(rt; texts(alloc, node(1, 0), &NO_VALIDITY, &offsets, &bytes)? == wanted);
+    let halves = [0, 0, 0, 0, 1, 0, 0, 0, 2, 0, 0, 0];
+    assert!(rt; texts(alloc, node(2, 0), &NO_VALIDITY, &halves, &bytes)?.is_none());
     // The bytes of a null are a text too.
-    let nothing = [part(&[0]), part(&[0, 0, 0, 0, 1, 0, 0, 0]), part(&[0xff])];
-    let null = slots(
-        alloc,
-        &[node(1, 1)],
-        &nothing,
-        &[PlainKind::Utf8],
-        &[0],
-        None,
-    )?;
-    assert!(rt; null.is_none());
+    assert!(rt; texts(alloc, node(1, 1), &[0], &[0, 0, 0, 0, 1, 0, 0, 0], &[0xff])?.is_none());
     Ok(())
 }
 
-#[test]
-fn children_of_structs_have_their_rows(rt: HostRuntime) -> Result<(), Fail> {
-    let alloc = rt.alloc();
+// Structs of two and of three numbers.
+fn structs(alloc: Global, limit: Option<usize>) -> Result<Option<Vec<Vec<PlainSlot>>>, AllocError> {
     let nodes = [node(2, 0), node(2, 0), node(3, 0)];
     let parts = [
         part(&NO_VALIDITY),
@@ -139,20 +152,29 @@ fn children_of_structs_have_their_rows(rt: HostRuntime) -> Result<(), Fail> {
         part(&[3, 0, 0, 0, 4, 0, 0, 0, 5, 0, 0, 0]),
     ];
     let kinds = [PlainKind::Struct(vec![in alloc; INT32, INT32]?)];
-    let unequal = slots(alloc, &nodes, &parts, &kinds, &[0], None)?;
-    assert!(rt; unequal.is_none());
-    let two = slots(alloc, &nodes, &parts, &kinds, &[0], Some(2))?;
+    slots(alloc, &nodes, &parts, &kinds, &[0], limit)
+}
+
+#[test]
+fn children_of_structs_have_their_rows(rt: HostRuntime) -> Result<(), Fail> {
+    let alloc = rt.alloc();
+    assert!(rt; structs(alloc, None)?.is_none());
     let records = vec![in alloc;
         PlainSlot::Record(all(alloc, &[1, 3])?),
         PlainSlot::Record(all(alloc, &[2, 4])?),
     ]?;
-    assert!(rt; two == Some(vec![in alloc; records]?));
+    assert!(rt; structs(alloc, Some(2))? == one_column(alloc, records)?);
     Ok(())
 }
 
-#[test]
-fn chosen_columns_in_their_order(rt: HostRuntime) -> Result<(), Fail> {
-    let alloc = rt.alloc();
+// The columns at these positions, of three of one, two and one numbers, where so many nodes are listed.
+fn chosen(
+    alloc: Global,
+    count: usize,
+    columns: &[usize],
+) -> Result<Option<Vec<Vec<PlainSlot>>>, AllocError>
+    requires { count ≤ 3 }
+{
     let nodes = [node(1, 0), node(2, 0), node(1, 0)];
     let parts = [
         part(&NO_VALIDITY),
@@ -163,10 +185,16 @@ fn chosen_columns_in_their_order(rt: HostRuntime) -> Result<(), Fail> {
         part(&[0xff, 0xff, 0xff, 0xff]),
     ];
     let kinds = [INT32, INT32, INT32];
-    let chosen = slots(alloc, &nodes, &parts, &kinds, &[2, 0], None)?;
-    assert!(rt; chosen == Some(vec![in alloc; all(alloc, &[-1])?, all(alloc, &[1])?]?));
+    slots(alloc, &nodes[..count], &parts, &kinds, columns, None)
+}
+
+#[test]
+fn chosen_columns_in_their_order(rt: HostRuntime) -> Result<(), Fail> {
+    let alloc = rt.alloc();
+    let wanted = vec![in alloc; all(alloc, &[-1])?, all(alloc, &[1])?]?;
+    assert!(rt; chosen(alloc, 3, &[2, 0])? == Some(wanted));
     // With the second column they have not the same number of rows, and with two nodes not enough entries.
-    assert!(rt; slots(alloc, &nodes, &parts, &kinds, &[0, 1, 2], None)?.is_none());
-    assert!(rt; slots(alloc, &nodes[..2], &parts, &kinds, &[0], None)?.is_none());
+    assert!(rt; chosen(alloc, 3, &[0, 1, 2])?.is_none());
+    assert!(rt; chosen(alloc, 2, &[0])?.is_none());
     Ok(())
 }

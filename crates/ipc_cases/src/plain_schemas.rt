@@ -178,20 +178,40 @@ fn answer_of(alloc: Global, field: tables::Field) -> Result<PlainAnswer, Fault> 
     answer(alloc, Order::Little, fields, Vec::new(alloc))
 }
 
-#[test]
-fn two_fields_of_integers(rt: HostRuntime) -> Result<(), Fail> {
-    let alloc = rt.alloc();
+fn two_tables(alloc: Global) -> Result<Vec<tables::Field>, AllocError> {
     let x = integers(alloc, "x", 32, true)?;
     let mut y = integers(alloc, "y", 64, false)?;
     y.nullable = false;
-    let fields = vec![in alloc; x, y]?;
-    let read = answer(alloc, Order::Big, fields, Vec::new(alloc))?;
+    Ok(vec![in alloc; x, y]?)
+}
+
+fn two_integers(alloc: Global) -> Result<Vec<PlainField>, AllocError> {
     let x = field(alloc, "x", PlainType::Int(IntegerType::Int32))?;
     let mut y = field(alloc, "y", PlainType::Int(IntegerType::UInt64))?;
     y.is_nullable = false;
-    let expected = schema(alloc, vec![in alloc; x, y]?, Endianness::Big);
+    Ok(vec![in alloc; x, y]?)
+}
+
+#[test]
+fn two_fields_of_integers(rt: HostRuntime) -> Result<(), Fail> {
+    let alloc = rt.alloc();
+    let read = answer(alloc, Order::Big, two_tables(alloc)?, Vec::new(alloc))?;
+    let expected = schema(alloc, two_integers(alloc)?, Endianness::Big);
     assert!(rt; read == PlainAnswer::Plain(expected));
     Ok(())
+}
+
+// Whether integers of so many bits are of this type.
+fn is_read_as(
+    alloc: Global,
+    bit_width: i32,
+    is_signed: bool,
+    form: IntegerType,
+) -> Result<bool, Fault> {
+    let read = answer_of(alloc, integers(alloc, "x", bit_width, is_signed)?)?;
+    let x = field(alloc, "x", PlainType::Int(form))?;
+    let expected = schema(alloc, vec![in alloc; x]?, Endianness::Little);
+    Ok(read == PlainAnswer::Plain(expected))
 }
 
 #[test]
@@ -208,49 +228,68 @@ fn integers_have_one_of_eight_types(rt: HostRuntime) -> Result<(), Fail> {
         (64, false, IntegerType::UInt64),
     ];
     for (bit_width, is_signed, form) in types {
-        let read = answer_of(alloc, integers(alloc, "x", bit_width, is_signed)?)?;
-        let x = field(alloc, "x", PlainType::Int(form))?;
-        let expected = schema(alloc, vec![in alloc; x]?, Endianness::Little);
-        assert!(rt; read == PlainAnswer::Plain(expected));
+        assert!(rt; is_read_as(alloc, bit_width, is_signed, form)?);
     }
     let read = answer_of(alloc, integers(alloc, "x", 24, true)?)?;
     assert!(rt; read == PlainAnswer::NoSchema);
     Ok(())
 }
 
+// A list of structs of a text and a list of integers.
+fn outer_table(alloc: Global) -> Result<tables::Field, AllocError> {
+    let item = integers(alloc, "item", 16, true)?;
+    let b = table(alloc, "b", FieldType::List, vec![in alloc; item]?)?;
+    let children = vec![in alloc; leaf(alloc, "a", FieldType::Utf8)?, b]?;
+    let inner = table(alloc, "s", FieldType::Struct, children)?;
+    table(alloc, "l", FieldType::List, vec![in alloc; inner]?)
+}
+
+fn outer_field(alloc: Global) -> Result<PlainField, AllocError> {
+    let item = field(alloc, "item", PlainType::Int(IntegerType::Int16))?;
+    let b = field(alloc, "b", list(alloc, item)?)?;
+    let children = vec![in alloc; field(alloc, "a", PlainType::Utf8)?, b]?;
+    let inner = field(alloc, "s", PlainType::Struct(children))?;
+    field(alloc, "l", list(alloc, inner)?)
+}
+
 #[test]
 fn texts_lists_and_structs_at_two_depths(rt: HostRuntime) -> Result<(), Fail> {
     let alloc = rt.alloc();
-    let a = leaf(alloc, "a", FieldType::Utf8)?;
-    let item = integers(alloc, "item", 16, true)?;
-    let b = table(alloc, "b", FieldType::List, vec![in alloc; item]?)?;
-    let inner = table(alloc, "s", FieldType::Struct, vec![in alloc; a, b]?)?;
-    let outer = table(alloc, "l", FieldType::List, vec![in alloc; inner]?)?;
-    let text = leaf(alloc, "t", FieldType::Utf8)?;
-    let fields = vec![in alloc; outer, text]?;
+    let outer = outer_table(alloc)?;
+    let fields = vec![in alloc; outer, leaf(alloc, "t", FieldType::Utf8)?]?;
     let read = answer(alloc, Order::Little, fields, Vec::new(alloc))?;
-    let a = field(alloc, "a", PlainType::Utf8)?;
-    let item = field(alloc, "item", PlainType::Int(IntegerType::Int16))?;
-    let b = field(alloc, "b", list(alloc, item)?)?;
-    let inner = field(alloc, "s", PlainType::Struct(vec![in alloc; a, b]?))?;
-    let outer = field(alloc, "l", list(alloc, inner)?)?;
-    let text = field(alloc, "t", PlainType::Utf8)?;
-    let expected = schema(alloc, vec![in alloc; outer, text]?, Endianness::Little);
+    let outer = outer_field(alloc)?;
+    let fields = vec![in alloc; outer, field(alloc, "t", PlainType::Utf8)?]?;
+    let expected = schema(alloc, fields, Endianness::Little);
     assert!(rt; read == PlainAnswer::Plain(expected));
     Ok(())
+}
+
+const PAIRS: [(&str, &str); 2] = [("ARROW:extension:name", "uuid"), ("a", "1")];
+
+fn table_with_pairs(alloc: Global) -> Result<tables::Field, AllocError> {
+    let mut x = leaf(alloc, "x", FieldType::Utf8)?;
+    x.custom_metadata = pairs(alloc, &PAIRS)?;
+    Ok(x)
+}
+
+fn field_with_pairs(alloc: Global) -> Result<PlainField, AllocError> {
+    let mut x = field(alloc, "x", PlainType::Utf8)?;
+    x.metadata = metadata(alloc, &PAIRS)?;
+    Ok(x)
 }
 
 #[test]
 fn the_later_of_two_values_of_a_key_is_kept(rt: HostRuntime) -> Result<(), Fail> {
     let alloc = rt.alloc();
-    let mut x = leaf(alloc, "x", FieldType::Utf8)?;
-    x.custom_metadata = pairs(alloc, &[("ARROW:extension:name", "uuid"), ("a", "1")])?;
-    let fields = vec![in alloc; x]?;
     let of_schema = pairs(alloc, &[("b", "1"), ("a", "2"), ("b", "3")])?;
+    let fields = vec![in alloc; table_with_pairs(alloc)?]?;
     let read = answer(alloc, Order::Little, fields, of_schema)?;
-    let mut x = field(alloc, "x", PlainType::Utf8)?;
-    x.metadata = metadata(alloc, &[("ARROW:extension:name", "uuid"), ("a", "1")])?;
-    let mut expected = schema(alloc, vec![in alloc; x]?, Endianness::Little);
+    let mut expected = schema(
+        alloc,
+        vec![in alloc; field_with_pairs(alloc)?]?,
+        Endianness::Little,
+    );
     expected.metadata = metadata(alloc, &[("a", "2"), ("b", "3")])?;
     assert!(rt; read == PlainAnswer::Plain(expected));
     Ok(())
@@ -345,52 +384,49 @@ fn other_types_are_judged(rt: HostRuntime) -> Result<(), Fail> {
     Ok(())
 }
 
+fn is_other(alloc: Global, type_: FieldType) -> Result<bool, Fault> {
+    Ok(answer_of(alloc, leaf(alloc, "f", type_)?)? == PlainAnswer::Other)
+}
+
 #[test]
 fn times_and_floats_are_other_types(rt: HostRuntime) -> Result<(), Fail> {
     let alloc = rt.alloc();
-    let zone = String::from_str(alloc, "Europe/Zurich")?;
-    let stamp = Timestamp {
+    let stamp = FieldType::Timestamp(Timestamp {
         unit: TimeUnit::Microsecond,
-        timezone: Some(zone),
-    };
-    let types = vec![in alloc;
-        FieldType::Timestamp(stamp),
-        FieldType::FloatingPoint(FloatingPoint {
-            precision: Precision::Half
-        }),
-        FieldType::Date(Date {
-            unit: DateUnit::Day
-        }),
-        FieldType::Interval(Interval {
-            unit: IntervalUnit::DayTime
-        }),
-        FieldType::Duration(Duration {
-            unit: TimeUnit::Second
-        }),
-    ]?;
-    for type_ in types {
-        let read = answer_of(alloc, leaf(alloc, "f", type_)?)?;
-        assert!(rt; read == PlainAnswer::Other);
-    }
+        timezone: Some(String::from_str(alloc, "Europe/Zurich")?),
+    });
+    assert!(rt; is_other(alloc, stamp)?);
+    let precision = Precision::Half;
+    assert!(rt; is_other(alloc, FieldType::FloatingPoint(FloatingPoint { precision }))?);
+    let unit = DateUnit::Day;
+    assert!(rt; is_other(alloc, FieldType::Date(Date { unit }))?);
+    let unit = IntervalUnit::DayTime;
+    assert!(rt; is_other(alloc, FieldType::Interval(Interval { unit }))?);
+    let unit = TimeUnit::Second;
+    assert!(rt; is_other(alloc, FieldType::Duration(Duration { unit }))?);
     Ok(())
+}
+
+// What a field means whose dictionary has keys of so many bits.
+fn keyed(alloc: Global, bit_width: i32) -> Result<PlainAnswer, Fault> {
+    let mut field = leaf(alloc, "d", FieldType::Utf8)?;
+    let index_type = Int {
+        bit_width,
+        is_signed: false,
+    };
+    field.dictionary = Some(tables::DictionaryEncoding {
+        id: 7,
+        index_type,
+        is_ordered: true,
+    });
+    answer_of(alloc, field)
 }
 
 #[test]
 fn a_dictionary_is_another_type(rt: HostRuntime) -> Result<(), Fail> {
     let alloc = rt.alloc();
-    for (bit_width, expected) in [(16, PlainAnswer::Other), (24, PlainAnswer::NoSchema)] {
-        let mut field = leaf(alloc, "d", FieldType::Utf8)?;
-        let index_type = Int {
-            bit_width,
-            is_signed: false,
-        };
-        field.dictionary = Some(tables::DictionaryEncoding {
-            id: 7,
-            index_type,
-            is_ordered: true,
-        });
-        assert!(rt; answer_of(alloc, field)? == expected);
-    }
+    assert!(rt; keyed(alloc, 16)? == PlainAnswer::Other);
+    assert!(rt; keyed(alloc, 24)? == PlainAnswer::NoSchema);
     Ok(())
 }
 

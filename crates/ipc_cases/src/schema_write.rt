@@ -37,44 +37,66 @@ fn ids_of_another_shape_are_refused(rt: HostRuntime) -> Result<(), Fail> {
     Ok(())
 }
 
+// A dictionary of these values, as a field.
+fn keyed(alloc: Global, name: &str, values: DataType) -> Result<Field, AllocError> {
+    let values = Box::new(alloc, values)?;
+    named(
+        alloc,
+        name,
+        DataType::Dictionary(IntegerType::Int8, values, false),
+    )
+}
+
+// A dictionary of lists over another one.
+fn keyed_lists(alloc: Global, name: &str) -> Result<Field, AllocError> {
+    let item = keyed(alloc, "item", DataType::Binary)?;
+    keyed(alloc, name, DataType::List(Box::new(alloc, item)?))
+}
+
+// Whether they are 0, and 1 over 2.
+fn are_in_pre_order(ids: &[IpcField]) -> bool {
+    let [a, b] = ids else {
+        return false;
+    };
+    let [below] = b.fields.as_slice() else {
+        return false;
+    };
+    a.dictionary_id == Some(0)
+        && a.fields.is_empty()
+        && b.dictionary_id == Some(1)
+        && below.dictionary_id == Some(2)
+}
+
 #[test]
 fn dictionaries_get_ids_in_pre_order(rt: HostRuntime) -> Result<(), Fail> {
     let alloc = rt.alloc();
-    let binary = DataType::Dictionary(IntegerType::Int8, Box::new(alloc, DataType::Binary)?, false);
-    let item = named(alloc, "item", binary)?;
-    let list = DataType::List(Box::new(alloc, item)?);
-    let a = DataType::Dictionary(IntegerType::Int8, Box::new(alloc, DataType::Utf8)?, false);
-    let b = DataType::Dictionary(IntegerType::Int8, Box::new(alloc, list)?, false);
-    let fields = vec![in alloc; named(alloc, "a", a)?, named(alloc, "b", b)?]?;
+    let fields = vec![in alloc;
+        keyed(alloc, "a", DataType::Utf8)?,
+        keyed_lists(alloc, "b")?,
+    ]?;
     let schema = schema_of(alloc, fields);
     let ids = default_ipc_fields(alloc, &schema.fields)?;
-    assert_eq!(rt; ids.len(), 2);
-    assert_eq!(rt; ids[0].dictionary_id, Some(0));
-    assert!(rt; ids[0].fields.is_empty());
-    assert_eq!(rt; ids[1].dictionary_id, Some(1));
-    assert_eq!(rt; ids[1].fields.len(), 1);
-    assert_eq!(rt; ids[1].fields[0].dictionary_id, Some(2));
+    assert!(rt; are_in_pre_order(&ids));
     assert!(rt; !schema_to_bytes(alloc, &schema, &ids)?.is_empty());
     Ok(())
 }
 
-// A dictionary of texts, as a field, and the id 7 of it.
-fn keyed(alloc: Global, name: &str) -> Result<(Field, IpcField), AllocError> {
-    let texts = DataType::Dictionary(IntegerType::Int8, Box::new(alloc, DataType::Utf8)?, false);
-    let ipc_field = IpcField {
+fn seven(alloc: Global) -> IpcField {
+    IpcField {
         fields: Vec::new(alloc),
         dictionary_id: Some(7),
-    };
-    Ok((named(alloc, name, texts)?, ipc_field))
+    }
 }
 
 #[test]
 fn dictionaries_of_one_id_are_not_written_yet(rt: HostRuntime) -> Result<(), Fail> {
     let alloc = rt.alloc();
-    let (a, seven) = keyed(alloc, "a")?;
-    let (b, again) = keyed(alloc, "b")?;
-    let schema = schema_of(alloc, vec![in alloc; a, b]?);
-    let ids = vec![in alloc; seven, again]?;
+    let fields = vec![in alloc;
+        keyed(alloc, "a", DataType::Utf8)?,
+        keyed(alloc, "b", DataType::Utf8)?,
+    ]?;
+    let schema = schema_of(alloc, fields);
+    let ids = vec![in alloc; seven(alloc), seven(alloc)]?;
     let pending = match schema_to_bytes(alloc, &schema, &ids).err() {
         Some(Fault::NotYetImplemented(Nyi::Pending)) => true,
         _ => false,
@@ -187,6 +209,13 @@ fn a_timezone_and_the_ids_of_a_union_weigh(rt: HostRuntime) -> Result<(), Fail> 
     Ok(())
 }
 
+// A field of an extension.
+fn uuid(alloc: Global) -> Result<Field, AllocError> {
+    let storage = Box::new(alloc, DataType::FixedSizeBinary(16))?;
+    let name = String::from_str(alloc, "uuid")?;
+    named(alloc, "e", DataType::Extension(name, storage, None))
+}
+
 #[test]
 fn names_and_metadata_weigh(rt: HostRuntime) -> Result<(), Fail> {
     let alloc = rt.alloc();
@@ -194,9 +223,6 @@ fn names_and_metadata_weigh(rt: HostRuntime) -> Result<(), Fail> {
     let y = named(alloc, "y", DataType::Int32)?;
     let integers = schema_of(alloc, vec![in alloc; x, y]?);
     assert_eq!(rt; weight(alloc, &integers)?, Some(2050));
-    let storage = Box::new(alloc, DataType::FixedSizeBinary(16))?;
-    let uuid = DataType::Extension(String::from_str(alloc, "uuid")?, storage, None);
-    let extension = schema_of(alloc, vec![in alloc; named(alloc, "e", uuid)?]?);
-    assert_eq!(rt; weight(alloc, &extension)?, Some(1625));
+    assert_eq!(rt; weight_of(alloc, uuid(alloc)?)?, Some(1625));
     Ok(())
 }

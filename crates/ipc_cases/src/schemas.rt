@@ -1,6 +1,7 @@
 //! Schema messages that are read and written.
 use crate::views::SMALLEST;
 use ipc_base::fault::{Fault, OutOfSpecKind, SchemaFault, TableFault};
+use ipc_base::ipc::IpcField;
 use ipc_schema::read::schema::deserialize_schema;
 use ipc_tables::message::{Message, MessageHeader};
 use ipc_tables::schema as tables;
@@ -238,24 +239,44 @@ fn of_two_pairs_with_one_key_the_last_one_stands(rt: HostRuntime) -> Result<(), 
     Ok(())
 }
 
-#[test]
-fn a_second_child_of_a_list_is_not_used(rt: HostRuntime) -> Result<(), Fail> {
-    let alloc = rt.alloc();
+// A list with a second child, which is ill made.
+fn list_of_two(alloc: Global) -> Result<tables::Field, AllocError> {
     let item = leaf(alloc, "item", FieldType::Utf8)?;
     let bad = FieldType::Int(Int {
         bit_width: 24,
         is_signed: true,
     });
     let other = leaf(alloc, "other", bad)?;
-    let list = table(alloc, "l", FieldType::List, vec![in alloc; item, other]?)?;
-    let bytes = message(alloc, vec![in alloc; list]?)?;
+    table(alloc, "l", FieldType::List, vec![in alloc; item, other]?)
+}
+
+// Whether the fields have these types.
+fn are_types(fields: &[Field], types: &[DataType]) -> bool {
+    fields.len() == types.len()
+        && fields
+            .iter()
+            .zip(types)
+            .all(|(field, data_type)| field.data_type == *data_type)
+}
+
+// Whether the trees of ids have so many children.
+fn are_so_wide(ids: &[IpcField], counts: &[usize]) -> bool {
+    ids.len() == counts.len()
+        && ids
+            .iter()
+            .zip(counts)
+            .all(|(id, count)| id.fields.len() == *count)
+}
+
+#[test]
+fn a_second_child_of_a_list_is_not_used(rt: HostRuntime) -> Result<(), Fail> {
+    let alloc = rt.alloc();
+    let bytes = message(alloc, vec![in alloc; list_of_two(alloc)?]?)?;
     let (schema, ipc_schema) = deserialize_schema(alloc, &bytes)?;
-    assert_eq!(rt; schema.fields.len(), 1);
-    assert_eq!(rt; ipc_schema.fields.len(), 1);
-    assert_eq!(rt; ipc_schema.fields[0].fields.len(), 1);
     let item = named(alloc, "item", DataType::Utf8)?;
     let list = DataType::List(Box::new(alloc, item)?);
-    assert!(rt; schema.fields[0].data_type == list);
+    assert!(rt; are_types(&schema.fields, &[list]));
+    assert!(rt; are_so_wide(&ipc_schema.fields, &[1]));
     Ok(())
 }
 
@@ -369,38 +390,45 @@ fn a_dictionary_without_keys_is_refused(rt: HostRuntime) -> Result<(), Fail> {
     Ok(())
 }
 
+fn stamp_table(alloc: Global) -> Result<tables::Field, AllocError> {
+    let stamp = Timestamp {
+        unit: TimeUnitTag::Microsecond,
+        timezone: Some(String::from_str(alloc, "Europe/Zurich")?),
+    };
+    leaf(alloc, "t", FieldType::Timestamp(stamp))
+}
+
+fn stamp(alloc: Global) -> Result<DataType, AllocError> {
+    let zone = String::from_str(alloc, "Europe/Zurich")?;
+    Ok(DataType::Timestamp(TimeUnit::Microsecond, Some(zone)))
+}
+
+fn union_table(alloc: Global) -> Result<tables::Field, AllocError> {
+    let union = Union {
+        mode: UnionModeTag::Dense,
+        type_ids: Some(vec![in alloc; 5, 7]?),
+    };
+    let children = vec![in alloc; leaf(alloc, "a", FieldType::Utf8)?, nested(alloc, 1)?]?;
+    table(alloc, "u", FieldType::Union(union), children)
+}
+
+fn union(alloc: Global) -> Result<DataType, AllocError> {
+    let item = named(alloc, "f", DataType::Boolean)?;
+    let f = named(alloc, "f", DataType::List(Box::new(alloc, item)?))?;
+    let children = vec![in alloc; named(alloc, "a", DataType::Utf8)?, f]?;
+    Ok(DataType::Union(children, Some(vec![in alloc; 5, 7]?), UnionMode::Dense))
+}
+
 #[test]
 fn types_of_all_shapes_are_read(rt: HostRuntime) -> Result<(), Fail> {
     let alloc = rt.alloc();
-    let zone = String::from_str(alloc, "Europe/Zurich")?;
-    let stamp = Timestamp {
-        unit: TimeUnitTag::Microsecond,
-        timezone: Some(zone),
-    };
-    let stamp = leaf(alloc, "t", FieldType::Timestamp(stamp))?;
-    let ids = vec![in alloc; 5, 7]?;
-    let union = Union {
-        mode: UnionModeTag::Dense,
-        type_ids: Some(ids),
-    };
-    let children = vec![in alloc; leaf(alloc, "a", FieldType::Utf8)?, nested(alloc, 1)?]?;
-    let union = table(alloc, "u", FieldType::Union(union), children)?;
-    let bytes = message(alloc, vec![in alloc; stamp, union]?)?;
+    let tables = vec![in alloc; stamp_table(alloc)?, union_table(alloc)?]?;
+    let bytes = message(alloc, tables)?;
     let (schema, ipc_schema) = deserialize_schema(alloc, &bytes)?;
     assert!(rt; !ipc_schema.is_little_endian);
-    assert_eq!(rt; schema.fields.len(), 2);
-    assert_eq!(rt; ipc_schema.fields.len(), 2);
-    let zone = String::from_str(alloc, "Europe/Zurich")?;
-    assert!(rt;
-        schema.fields[0].data_type == DataType::Timestamp(TimeUnit::Microsecond, Some(zone))
-    );
-    let item = named(alloc, "f", DataType::Boolean)?;
-    let a = named(alloc, "a", DataType::Utf8)?;
-    let f = named(alloc, "f", DataType::List(Box::new(alloc, item)?))?;
-    let ids = vec![in alloc; 5, 7]?;
-    let union = DataType::Union(vec![in alloc; a, f]?, Some(ids), UnionMode::Dense);
-    assert!(rt; schema.fields[1].data_type == union);
-    assert_eq!(rt; ipc_schema.fields[1].fields.len(), 2);
+    let stamp = stamp(alloc)?;
+    assert!(rt; are_types(&schema.fields, &[stamp, union(alloc)?]));
+    assert!(rt; are_so_wide(&ipc_schema.fields, &[0, 2]));
     Ok(())
 }
 
@@ -411,9 +439,8 @@ fn pair(alloc: Global, key: &str, value: &str) -> Result<tables::KeyValue, Alloc
     })
 }
 
-#[test]
-fn an_extension_of_dictionary_values_is_read(rt: HostRuntime) -> Result<(), Fail> {
-    let alloc = rt.alloc();
+// Texts of an extension, under the dictionary 7.
+fn keyed_table(alloc: Global) -> Result<tables::Field, AllocError> {
     let mut field = leaf(alloc, "d", FieldType::Utf8)?;
     let index_type = Int {
         bit_width: 16,
@@ -424,19 +451,29 @@ fn an_extension_of_dictionary_values_is_read(rt: HostRuntime) -> Result<(), Fail
         index_type,
         is_ordered: true,
     });
-    field.custom_metadata = vec![in alloc;
-        pair(alloc, "ARROW:extension:name", "uuid")?,
-        pair(alloc, "k", "v")?,
-    ]?;
-    let bytes = message(alloc, vec![in alloc; field]?)?;
-    let (schema, ipc_schema) = deserialize_schema(alloc, &bytes)?;
+    let name = pair(alloc, "ARROW:extension:name", "uuid")?;
+    field.custom_metadata = vec![in alloc; name, pair(alloc, "k", "v")?]?;
+    Ok(field)
+}
+
+fn keyed_extension(alloc: Global) -> Result<DataType, AllocError> {
     let name = String::from_str(alloc, "uuid")?;
     let values = DataType::Extension(name, Box::new(alloc, DataType::Utf8)?, None);
-    let dictionary = DataType::Dictionary(IntegerType::UInt16, Box::new(alloc, values)?, true);
+    Ok(DataType::Dictionary(IntegerType::UInt16, Box::new(alloc, values)?, true))
+}
+
+fn is_only_id(ids: &[IpcField], id: i64) -> bool {
+    ids.len() == 1 && ids[0].dictionary_id == Some(id)
+}
+
+#[test]
+fn an_extension_of_dictionary_values_is_read(rt: HostRuntime) -> Result<(), Fail> {
+    let alloc = rt.alloc();
+    let bytes = message(alloc, vec![in alloc; keyed_table(alloc)?]?)?;
+    let (schema, ipc_schema) = deserialize_schema(alloc, &bytes)?;
+    assert!(rt; are_types(&schema.fields, &[keyed_extension(alloc)?]));
+    assert!(rt; is_only_id(&ipc_schema.fields, 7));
     assert_eq!(rt; schema.fields.len(), 1);
-    assert_eq!(rt; ipc_schema.fields.len(), 1);
-    assert!(rt; schema.fields[0].data_type == dictionary);
     assert_eq!(rt; schema.fields[0].metadata.len(), 2);
-    assert_eq!(rt; ipc_schema.fields[0].dictionary_id, Some(7));
     Ok(())
 }
