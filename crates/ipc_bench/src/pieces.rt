@@ -1,6 +1,5 @@
 //! A device with breaks between its pieces.
 ghost use Rattle.std.specs.Prelude.{◌≡◌, true, false, IfOk};
-ghost use Rattle.ipc_devices.specs.Device.{Memory};
 
 use ipc_devices::{Failures, MemFile, Reads};
 use std::alloc::{AllocError, Global};

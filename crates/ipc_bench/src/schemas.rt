@@ -68,30 +68,26 @@ fn a_schema_without_its_fields_vector_is_out_of_spec(rt: HostRuntime) {
     );
 }
 
+// A field of each integer type.
+fn integers(alloc: Global) -> Result<Vec<Field>, Fault> {
+    let mut fields = Vec::new(alloc);
+    fields.push(field(alloc, "a", DataType::Int8)?)?;
+    fields.push(field(alloc, "b", DataType::Int16)?)?;
+    fields.push(field(alloc, "c", DataType::Int32)?)?;
+    fields.push(field(alloc, "d", DataType::Int64)?)?;
+    fields.push(field(alloc, "e", DataType::UInt8)?)?;
+    fields.push(field(alloc, "f", DataType::UInt16)?)?;
+    fields.push(field(alloc, "g", DataType::UInt32)?)?;
+    fields.push(field(alloc, "", DataType::UInt64)?)?;
+    Ok(fields)
+}
+
 #[test]
 fn each_integer_type_comes_back(rt: HostRuntime) -> Result<(), Fail> {
     let alloc = rt.alloc();
-    let fields = vec![in alloc;
-        field(alloc, "a", DataType::Int8)?,
-        field(alloc, "b", DataType::Int16)?,
-        field(alloc, "c", DataType::Int32)?,
-        field(alloc, "d", DataType::Int64)?,
-        field(alloc, "e", DataType::UInt8)?,
-        field(alloc, "f", DataType::UInt16)?,
-        field(alloc, "g", DataType::UInt32)?,
-        field(alloc, "", DataType::UInt64)?,
-    ]?;
-    let schema = Schema {
-        fields,
-        metadata: Metadata::new(alloc),
-    };
-    let ids = default_ipc_fields(alloc, &schema.fields)?;
-    assert_eq!(rt; ids.len(), 8);
-    let bytes = schema_to_bytes(alloc, &schema, &ids)?;
-    let (again, ids) = deserialize_schema(alloc, &bytes)?;
-    assert!(rt; schema == again);
-    assert_eq!(rt; ids.fields.len(), 8);
-    assert!(rt; ids.is_little_endian);
+    let fields = integers(alloc)?;
+    assert_eq!(rt; default_ipc_fields(alloc, &fields)?.len(), 8);
+    assert!(rt; come_back(alloc, fields)?);
     Ok(())
 }
 
@@ -208,31 +204,50 @@ fn structs_and_unions_come_back(rt: HostRuntime) -> Result<(), Fail> {
     Ok(())
 }
 
-#[test]
-fn an_extension_comes_back_in_the_metadata_of_its_field(rt: HostRuntime) -> Result<(), Fail> {
-    let alloc = rt.alloc();
+fn extension(alloc: Global) -> Result<Field, Fault> {
     let name = String::from_str(alloc, "uuid")?;
     let text = String::from_str(alloc, "of four")?;
     let storage = Box::new(alloc, DataType::FixedSizeBinary(16))?;
     let mut with = field(alloc, "e", DataType::Extension(name, storage, Some(text)))?;
     put(&mut with.metadata, alloc, "own", "pair")?;
-    // what an earlier extension left is not written
+    Ok(with)
+}
+
+// A field with what an earlier extension left, which isn't written.
+fn former_extension(alloc: Global) -> Result<Field, Fault> {
     let mut without = field(alloc, "p", DataType::Int8)?;
     put(&mut without.metadata, alloc, "ARROW:extension:name", "old")?;
     put(&mut without.metadata, alloc, "own", "pair")?;
+    Ok(without)
+}
+
+#[test]
+fn an_extension_comes_back_in_the_metadata_of_its_field(rt: HostRuntime) -> Result<(), Fail> {
+    let alloc = rt.alloc();
+    let with = extension(alloc)?;
+    let without = former_extension(alloc)?;
     assert!(rt; come_back(alloc, vec![in alloc; with, without]?)?);
     Ok(())
+}
+
+fn dictionary(alloc: Global, key: IntegerType, values: DataType) -> Result<DataType, Fault> {
+    Ok(DataType::Dictionary(key, Box::new(alloc, values)?, true))
+}
+
+// A dictionary of lists over another one.
+fn nested_dictionary(alloc: Global) -> Result<DataType, Fault> {
+    let bytes = dictionary(alloc, IntegerType::Int8, DataType::Binary)?;
+    let lists = DataType::List(child(alloc, "item", bytes)?);
+    dictionary(alloc, IntegerType::Int64, lists)
 }
 
 #[test]
 fn dictionaries_come_back_with_their_ids(rt: HostRuntime) -> Result<(), Fail> {
     let alloc = rt.alloc();
-    let texts = DataType::Dictionary(IntegerType::UInt16, Box::new(alloc, DataType::Utf8)?, true);
-    let bytes = DataType::Dictionary(IntegerType::Int8, Box::new(alloc, DataType::Binary)?, false);
-    let lists = Box::new(alloc, DataType::List(child(alloc, "item", bytes)?))?;
-    let nested = DataType::Dictionary(IntegerType::Int64, lists, false);
-    let a = field(alloc, "a", texts)?;
-    let b = field(alloc, "b", nested)?;
+    let texts = Box::new(alloc, DataType::Utf8)?;
+    let unordered = DataType::Dictionary(IntegerType::UInt16, texts, false);
+    let a = field(alloc, "a", unordered)?;
+    let b = field(alloc, "b", nested_dictionary(alloc)?)?;
     assert!(rt; come_back(alloc, vec![in alloc; a, b]?)?);
     Ok(())
 }

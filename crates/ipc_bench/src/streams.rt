@@ -7,14 +7,14 @@ use arrow2_ipc::array::{AnyArray, AnyPrimitive, PrimitiveArray};
 use arrow2_ipc::buffer::Buffer;
 use arrow2_ipc::chunk::Chunk;
 use arrow2_ipc::datatypes::{DataType, Field, Metadata, Schema};
-use arrow2_ipc::io::ipc::fault::{Fault, MemFile};
+use arrow2_ipc::io::ipc::fault::{Fault, MemFile, Reads};
 use arrow2_ipc::io::ipc::read::{StreamReader, StreamState, read_stream_metadata};
 use arrow2_ipc::io::ipc::write::{StreamWriter, WriteOptions};
 use std::alloc::Global;
 use std::test::Fail;
 
 // The next chunk, None at the end, and a fault where the stream waits.
-fn next_chunk<R: arrow2_ipc::io::ipc::fault::Reads + Drop>(
+fn next_chunk<R: Reads + Drop>(
     reader: &mut StreamReader<R>,
 ) -> Result<Option<Chunk<AnyArray>>, Fault> {
     match reader.next() {
@@ -25,29 +25,54 @@ fn next_chunk<R: arrow2_ipc::io::ipc::fault::Reads + Drop>(
     }
 }
 
+// A reader of a stream, behind its schema.
+fn opened<'a>(alloc: Global, bytes: &'a [u8]) -> Result<StreamReader<MemFile<&'a [u8]>>, Fault> {
+    let mut input = MemFile::new(bytes);
+    let metadata = read_stream_metadata(alloc, &mut input)?;
+    StreamReader::new(alloc, input, metadata, None)
+}
+
+// Whether this chunk is next, and no end.
+fn is_next<R: Reads + Drop>(
+    reader: &mut StreamReader<R>,
+    wanted: &Chunk<AnyArray>,
+) -> Result<bool, Fault> {
+    match next_chunk(reader)? {
+        None => Ok(false),
+        Some(chunk) => Ok(is_same_chunk(&chunk, wanted) && !reader.is_finished()),
+    }
+}
+
+// Whether nothing is next.
+fn is_ended<R: Reads + Drop>(reader: &mut StreamReader<R>) -> Result<bool, Fault> {
+    Ok(next_chunk(reader)?.is_none() && reader.is_finished())
+}
+
 #[test]
 fn five_equal_chunks_come_back_and_then_none(rt: HostRuntime) -> Result<(), Fail> {
     let alloc = rt.alloc();
     let bytes = five_chunks(alloc)?;
-    let mut input = MemFile::new(bytes.as_slice());
-    let metadata = read_stream_metadata(alloc, &mut input)?;
-    assert!(rt; metadata.schema == two_int32(alloc)?);
-    let mut reader = StreamReader::new(alloc, input, metadata, None)?;
     let wanted = two_rows(alloc)?;
+    let mut reader = opened(alloc, &bytes)?;
     for _ in 0..5 {
-        let chunk = next_chunk(&mut reader)?;
-        assert!(rt; chunk.is_some_and(|chunk| is_same_chunk(&chunk, &wanted)));
-        assert!(rt; !reader.is_finished());
+        assert!(rt; is_next(&mut reader, &wanted)?);
     }
-    assert!(rt; next_chunk(&mut reader)?.is_none());
-    assert!(rt; reader.is_finished());
-    assert!(rt; next_chunk(&mut reader)?.is_none());
+    assert!(rt; is_ended(&mut reader)?);
+    assert!(rt; is_ended(&mut reader)?);
     Ok(())
 }
 
 #[test]
-fn a_schema_and_a_chunk_without_columns_come_back(rt: HostRuntime) -> Result<(), Fail> {
+fn the_schema_of_a_stream_comes_back(rt: HostRuntime) -> Result<(), Fail> {
     let alloc = rt.alloc();
+    let bytes = five_chunks(alloc)?;
+    let metadata = read_stream_metadata(alloc, &mut MemFile::new(bytes.as_slice()))?;
+    assert!(rt; metadata.schema == two_int32(alloc)?);
+    Ok(())
+}
+
+// A stream of one chunk without columns, with its end mark.
+fn stream_without_columns(alloc: Global) -> Result<Vec<u8>, Fault> {
     let schema = Schema {
         fields: Vec::new(alloc),
         metadata: Metadata::new(alloc),
@@ -56,13 +81,16 @@ fn a_schema_and_a_chunk_without_columns_come_back(rt: HostRuntime) -> Result<(),
     writer.start(&schema, None)?;
     writer.write(&Chunk::new(Vec::new(alloc)), None)?;
     writer.finish()?;
-    let bytes = writer.into_inner();
-    let mut input = MemFile::new(bytes.as_slice());
-    let metadata = read_stream_metadata(alloc, &mut input)?;
-    let mut reader = StreamReader::new(alloc, input, metadata, None)?;
-    let chunk = next_chunk(&mut reader)?;
-    assert!(rt; chunk.is_some_and(|chunk| chunk.arrays().is_empty()));
-    assert!(rt; next_chunk(&mut reader)?.is_none());
+    Ok(writer.into_inner())
+}
+
+#[test]
+fn a_schema_and_a_chunk_without_columns_come_back(rt: HostRuntime) -> Result<(), Fail> {
+    let alloc = rt.alloc();
+    let bytes = stream_without_columns(alloc)?;
+    let mut reader = opened(alloc, &bytes)?;
+    assert!(rt; is_next(&mut reader, &Chunk::new(Vec::new(alloc)))?);
+    assert!(rt; is_ended(&mut reader)?);
     Ok(())
 }
 
@@ -78,10 +106,8 @@ fn smallest_stream(alloc: Global, behind: &[u8]) -> Result<Vec<u8>, Fault> {
 fn behind_its_schema_a_stream_waits(rt: HostRuntime) -> Result<(), Fail> {
     let alloc = rt.alloc();
     let bytes = smallest_stream(alloc, &[])?;
-    let mut input = MemFile::new(bytes.as_slice());
-    let metadata = read_stream_metadata(alloc, &mut input)?;
-    assert!(rt; metadata.schema.fields.is_empty());
-    let mut reader = StreamReader::new(alloc, input, metadata, None)?;
+    let mut reader = opened(alloc, &bytes)?;
+    assert!(rt; reader.metadata().schema.fields.is_empty());
     assert!(rt; matches!(reader.next(), Some(Ok(StreamState::Waiting))));
     assert!(rt; matches!(reader.next(), Some(Ok(StreamState::Waiting))));
     assert!(rt; !reader.is_finished());
@@ -92,9 +118,7 @@ fn behind_its_schema_a_stream_waits(rt: HostRuntime) -> Result<(), Fail> {
 fn a_mark_behind_the_schema_ends_the_stream(rt: HostRuntime) -> Result<(), Fail> {
     let alloc = rt.alloc();
     let bytes = smallest_stream(alloc, &[0xff, 0xff, 0xff, 0xff, 0, 0, 0, 0])?;
-    let mut input = MemFile::new(bytes.as_slice());
-    let metadata = read_stream_metadata(alloc, &mut input)?;
-    let mut reader = StreamReader::new(alloc, input, metadata, None)?;
+    let mut reader = opened(alloc, &bytes)?;
     assert!(rt; reader.next().is_none());
     assert!(rt; reader.next().is_none());
     Ok(())
@@ -136,15 +160,9 @@ fn stream_of_one(
 
 // Whether a stream has this chunk, and then waits.
 fn has_one(alloc: Global, bytes: &[u8], wanted: &Chunk<AnyArray>) -> Result<bool, Fault> {
-    let mut input = MemFile::new(bytes);
-    let metadata = read_stream_metadata(alloc, &mut input)?;
-    let mut reader = StreamReader::new(alloc, input, metadata, None)?;
-    match next_chunk(&mut reader)? {
-        Some(chunk) if is_same_chunk(&chunk, wanted) => {
-            Ok(matches!(reader.next(), Some(Ok(StreamState::Waiting))))
-        }
-        _ => Ok(false),
-    }
+    let mut reader = opened(alloc, bytes)?;
+    let is_first = is_next(&mut reader, wanted)?;
+    Ok(is_first && matches!(reader.next(), Some(Ok(StreamState::Waiting))))
 }
 
 #[test]
