@@ -1,7 +1,7 @@
 -- What stands before and behind a place, after reads and writes.
 use Rattle.std.proofs.Common.{◌≡◌, ℕ, ◌+◌, ◌-◌, ◌≤◌, List, [], ◌∷◌, ◌++◌, length, take, drop, min, replicate, zero, suc, refl, sym, ap, append-nil, length-drop, length-take, length-append, take-append-drop, arith}
-use Rattle.std.proofs.lemmas.List.{nil_from_length, drop_all, drop_at, take_at, drop-drop, length-take-le, length-replicate, take_all, take-replicate, drop-replicate}
-use Rattle.ipc_devices.specs.Device.{before, ReadsFront, WritesOver}
+use Rattle.std.proofs.lemmas.List.{nil_from_length, drop_all, take_at, drop-drop, length-take-le, length-replicate, take_all, take-replicate, drop-replicate}
+use Rattle.ipc_devices.specs.Device.{before, ReadsFront}
 
 -- what a read took
 taken_is : (bytes buf old : List ℕ) (place n : ℕ) → n ≡ min (length (drop place bytes)) (length old) → buf ≡ take n (drop place bytes) ++ drop n old → take n buf ≡ take n (drop place bytes)
@@ -42,17 +42,3 @@ put_is old filled new buf len place fill size over =
     let back : drop (place + length buf) filled ≡ drop (place + length buf) old =
     rw (fill, drop_append, drop-replicate) (let z : place + length buf - length old - (place + length buf - length old) ≡ 0 = omega arith in rw z (append-nil _)) in
     rw (wrote, drop_all (length filled) filled (omega arith), append-nil, take_all len new (omega arith), over, front, back) refl
-
--- what a write over bytes leaves
-pub writes_over : (bytes buf all : List ℕ) (place : ℕ) → all ≡ before (record { whole = bytes; place = place }) ++ buf ++ drop (place + length buf) bytes
-    → WritesOver (record { whole = bytes; place = place }) (record { whole = all; place = place + length buf }) buf
-writes_over bytes buf all place h =
-    let front = before (record { whole = bytes; place = place }) ++ buf in
-    let count : length front ≡ place + length buf = simp (length-append, length-take, length-replicate) (omega arith) in
-    let fits : place + length buf - length all ≡ 0 = omega (arith, ap length h, length-append front (drop (place + length buf) bytes)) in
-    record {
-      added = rw (fits, append-nil, h) (take_at front (drop (place + length buf) bytes) (place + length buf) count);
-      rest = rw (h, drop_at front (drop (place + length buf) bytes) (place + length buf) count) (sym (drop-drop (length buf) place bytes));
-      place = refl;
-      reaches = λ _. omega (arith, ap length h, length-append front (drop (place + length buf) bytes), count);
-    }

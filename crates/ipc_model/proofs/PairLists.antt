@@ -1,7 +1,6 @@
 -- The pairs of a vector of their tables, one after another.
-use Rattle.std.proofs.Common.{◌≡◌, ℕ, suc, ◌+◌, ◌-◌, ◌<◌, Some, None, Ok, Err, refl, arith}
+use Rattle.std.proofs.Common.{◌≡◌, ℕ, suc, ◌+◌, ◌-◌, ◌<◌, Some, None, Ok, refl, arith}
 use Rattle.lower.specs.TypeTrees.{Pairs}
-use Rattle.ipc_devices.specs.declared.fault.TableFault.{TableFault}
 use Rattle.ipc_views.specs.Spot.{Spot, Vector}
 use Rattle.ipc_views.specs.Tables.{table_in}
 use Rattle.ipc_model.specs.Schemas.{pairs_from, with_key_value}
@@ -17,7 +16,3 @@ pairs-step v k t es after inside led read = rw (one-more k v.count inside) (rw (
 -- a pair that means nothing
 pub pairs-none : (v : Vector) (k : ℕ) (t : Spot) (es : Pairs) → k < v.count → table_in v k ≡ Ok t → with_key_value t es ≡ None → pairs_from v k (v.count - k) es ≡ None
 pairs-none v k t es inside led read = rw (one-more k v.count inside) (rw (led, read) refl)
-
--- a table that is ill-made
-pub pairs-lost : (v : Vector) (k : ℕ) (e : TableFault) (es : Pairs) → k < v.count → table_in v k ≡ Err e → pairs_from v k (v.count - k) es ≡ None
-pairs-lost v k e es inside lost = rw (one-more k v.count inside) (rw lost refl)

@@ -32,10 +32,6 @@ pub spot-read : (m : List ℕ) (t : ℕ) (slots : Slots) → HoldsPart m t (tabl
 unfolding spot_at
 spot-read m t slots (v, size, e, f, h) = ap (map_ok (λ _. spot m t)) e
 
--- the slots of a table
-pub slots-of : (m : List ℕ) (t : ℕ) (slots : Slots) → HoldsPart m t (table slots) → (size : ℕ) × HoldsSlots m t size 0 slots
-slots-of m t slots (v, size, e, f, h) = (size, h)
-
 -- a table that a slot leads to
 pub table-read : (m : List ℕ) (p i q t : ℕ) (slots : Slots) → slot_at m p i ≡ Ok (Some q) → target_at m q ≡ Ok t → HoldsPart m t (table slots) → table_slot m p i ≡ Ok (Some (spot m t))
 table-read m p i q t slots e f h = offset-read m p i q t (spot_at m) (spot m t) e f (spot-read m t slots h)

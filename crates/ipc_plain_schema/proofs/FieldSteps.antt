@@ -11,9 +11,8 @@ use Rattle.ipc_views.specs.SchemaSlots.{field_name, field_nullable, field_type, 
 use Rattle.ipc_views.specs.Tables.{map_ok}
 use Rattle.ipc_model.specs.Schemas.{Encoding, Read, ReadType, given, made, present, pairs_at, optional_encoding, field_at, field_count, field_from, field_with, first_field, group_with, is_group_tag, is_single_tag, plain_at, single_at, group_at, single_with, some_fields, type_of_field}
 use Rattle.ipc_plain_schema.specs.Heads.{Head, IsHead, head_at}
-use Rattle.ipc_plain_schema.specs.Shapes.{Form, leaf, one, several, form_at, leaf_of, single_of, group_of, shape_of}
+use Rattle.ipc_plain_schema.specs.Shapes.{Form, leaf, one, several, form_at, single_of, group_of, shape_of}
 use Rattle.ipc_plain_schema.specs.declared.head.Head.{Head as PlainHead}
-use Rattle.ipc_plain_schema.specs.declared.shape.Leaf.{Leaf}
 use Rattle.ipc_plain_schema.specs.declared.shape.Single.{Single as PlainSingle}
 use Rattle.ipc_plain_schema.specs.declared.shape.Group.{Group as PlainGroup}
 use Rattle.ipc_plain_schema.specs.declared.shape.Shape.TheVariants as shapes
@@ -122,25 +121,6 @@ by_form false false read children s g (Some p) = refl
 type-by-form : (read : Spot → Option Read) (t : Spot) (type_ : ℕ × Spot) → type_of_field read t type_ ≡ given (form_at type_) (with_form read (present (field_children t)))
 type-by-form read t type_ =
     by_form (is_single_tag type_.0) (is_group_tag type_.0) read (present (field_children t)) (single_at type_.0 type_.1) (group_at type_.0 type_.1) (plain_at type_.0 type_.1)
-
-pub no-form : (read : Spot → Option Read) (t : Spot) (type_ : ℕ × Spot) → None ≡ option_map shape_of (form_at type_) → type_of_field read t type_ ≡ None
-no-form read t type_ e = type-by-form read t type_ ∙ at (form_at type_) e
-  where
-    at : (o : Option Form) → None ≡ option_map shape_of o → given o (with_form read (present (field_children t))) ≡ None
-    at None e = refl
-    at (Some f) e = cc
-
--- the type behind a shape
-pub leaf-form : (read : Spot → Option Read) (t : Spot) (type_ : ℕ × Spot) (x : Leaf) → Some (shapes.Leaf x) ≡ option_map shape_of (form_at type_)
-    → (p : Plain) × (leaf_of p ≡ x) × (type_of_field read t type_ ≡ Some (plain p, no_ids))
-leaf-form read t type_ x e =
-    let (p, is, same) = at (form_at type_) e in (p, is, type-by-form read t type_ ∙ ap (λ o. given o (with_form read (present (field_children t)))) same)
-  where
-    at : (o : Option Form) → Some (shapes.Leaf x) ≡ option_map shape_of o → (p : Plain) × (leaf_of p ≡ x) × (o ≡ Some (leaf p))
-    at None e = cc
-    at (Some (leaf p)) e = (p, cc, refl)
-    at (Some (one s)) e = cc
-    at (Some (several g)) e = cc
 
 pub single-form : (read : Spot → Option Read) (t : Spot) (type_ : ℕ × Spot) (x : PlainSingle) → Some (shapes.Single x) ≡ option_map shape_of (form_at type_)
     → (s : Single) × (single_of s ≡ x) × (type_of_field read t type_ ≡ option_map (single_with s) (given (present (field_children t)) (first_field read)))

@@ -133,10 +133,6 @@ same_column :
 unfolding entries_of
 same_column lists b order extra known p i j e = λ k. column (entries_of lists b (e k) 0 []) (number_kind p) i j None
 
-same_extra : (lists : Lists) (b : Body) (order : Endianness) (extra : ℕ) (known : Dictionaries) → (entries_of lists b order extra known).extra ≡ extra
-unfolding entries_of
-same_extra lists b order extra known = refl
-
 -- ---- what is judged of a batch
 
 -- each of the columns from a on

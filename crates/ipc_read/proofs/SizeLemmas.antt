@@ -36,7 +36,3 @@ sizes_more bs i x h e sizes here = record {
             subst (λ (r : Buffer). IsSize r.length) same here
       ];
 }
-
--- a buffer that lists a length below 0
-pub no_sizes : (bs : List Buffer) (i : ℕ) (x : Buffer) → i < length bs → slice_get bs i ≡ Some x → AreSizes bs → IsSize x.length
-no_sizes bs i x h e sizes = subst (λ (r : Buffer). IsSize r.length) (get_or_from_slice_get bs i x x e) (sizes.each i x h)

@@ -1,5 +1,5 @@
 -- The ids of places are those in the tree of ids.
-use Rattle.std.proofs.Common.{◌≡◌, ℕ, ℤ, zero, suc, ◌+◌, ◌<◌, ◌≤◌, drop, List, [], ◌∷◌, ◌++◌, append_assoc, append-nil, length, map, get_or, take, Bool, true, false, true≢false, cond, ◌||◌, pos, rules, Option, Some, None, refl, ap, sym, subst, ◌∙◌, arith}
+use Rattle.std.proofs.Common.{◌≡◌, ℕ, ℤ, zero, suc, ◌+◌, ◌<◌, drop, List, [], ◌∷◌, ◌++◌, append-nil, length, map, get_or, take, Bool, true, false, true≢false, cond, ◌||◌, pos, rules, Option, Some, None, refl, ap, sym, subst, ◌∙◌, arith}
 use Rattle.std.specs.Prelude.{is_some, AllPairs}
 use Rattle.std.specs.List.{AllByRecursion, IsDistinct, list_any}
 use Rattle.std.specs.Ordering.{int_eq}
@@ -26,9 +26,6 @@ own-ids (group g fs) (Some id) is h = cc
 own-ids (dictionary keys t ordered) None is h = cc
 own-ids (dictionary keys t ordered) (Some id) is h = refl
 own-ids (extension name t text) id is h = own-ids t id is h
-
-one-only : (i : IdTree) (is : IdTrees) → all_ids_in is ≡ [] → all_ids_in (more_ids i is) ≡ ids_in i
-one-only i is h = ap (λ xs. ids_in i ++ xs) h ∙ append-nil (ids_in i)
 
 mutual
   pub all-ids : (fs : FieldTrees) (is : IdTrees) → AllFit fs is → map (λ (p : Place). p.id) (places fs is) ≡ map Some (all_ids_in is)

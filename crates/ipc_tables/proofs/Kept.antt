@@ -9,7 +9,7 @@ use Rattle.ipc_views.specs.declared.file.Block.{Block}
 use Rattle.ipc_views.specs.declared.message.FieldNode.{FieldNode}
 use Rattle.ipc_views.specs.declared.schema.Buffer.{Buffer}
 use Rattle.ipc_parts.proofs.Standing.{le-number}
-use Rattle.ipc_tables.specs.Reads.{kept_block, kept_buffer, kept_node}
+use Rattle.ipc_tables.specs.Reads.{kept_buffer, kept_node}
 use Rattle.ipc_tables.specs.Slots.{bits32, bits64, kept32, kept64, kept_bytes32, kept_bytes64}
 use Rattle.ipc_tables.proofs.Numbers.{take-le}
 
@@ -51,12 +51,6 @@ kept_buffer-is b (f, g) =
     ap (λ (z : ℤ). record { offset = z; length = kept_bytes64 b.length }) (kept_bytes64-is b.offset f)
     ∙ ap (λ (z : ℤ). record { offset = b.offset; length = z }) (kept_bytes64-is b.length g)
 
-kept_block-is : (b : Block) → BlockFits b → kept_block b ≡ b
-kept_block-is b (f, g, h) =
-    ap (λ (z : ℤ). record { offset = z; meta_data_length = kept_bytes32 b.meta_data_length; body_length = kept_bytes64 b.body_length }) (kept_bytes64-is b.offset f)
-    ∙ ap (λ (z : ℤ). record { offset = b.offset; meta_data_length = z; body_length = kept_bytes64 b.body_length }) (kept_bytes32-is b.meta_data_length g)
-    ∙ ap (λ (z : ℤ). record { offset = b.offset; meta_data_length = b.meta_data_length; body_length = z }) (kept_bytes64-is b.body_length h)
-
 -- a list each of whose elements is kept
 kept-all : {S : Type 0} (kept : S → S) (fits : S → Type 0) → ((s : S) → fits s → kept s ≡ s) → (ss : List S) → All fits ss → map kept ss ≡ ss
 kept-all kept fits one [] ok = refl
@@ -71,6 +65,3 @@ kept-nodes ns ok = kept-all kept_node NodeFits kept_node-is ns ok
 
 pub kept-buffers : (bs : List Buffer) → All BufferFits bs → map kept_buffer bs ≡ bs
 kept-buffers bs ok = kept-all kept_buffer BufferFits kept_buffer-is bs ok
-
-pub kept-blocks : (bs : List Block) → All BlockFits bs → map kept_block bs ≡ bs
-kept-blocks bs ok = kept-all kept_block BlockFits kept_block-is bs ok

@@ -131,14 +131,6 @@ sent_chunk known memory a b (Err _) metadata body columns P Q was types whole wh
   kept = λ k base head chunks h. same_agrees memory a b base head chunks refused.0 refused.1 types h;
 }
 
--- a chunk was refused before it was sent
-pub refused_chunk : {W : Type 0} (known : Bool) (memory : W → Memory) (a b : WriterSeen W) (e : Fault) (chunk : Chunk) → b.device ≡ a.device → b.state ≡ a.state → b.types ≡ a.types
-    → Appends known memory a (Err e) b chunk
-refused_chunk known memory a b e chunk device state types = record {
-  appended = λ k base head chunks h. tt;
-  kept = λ k base head chunks h. same_agrees memory a b base head chunks device state types h;
-}
-
 -- ---- start
 
 -- a message that begins a stream has bytes
@@ -193,13 +185,6 @@ unsent_schema known memory a b _ bytes head P Q was types refused io some = reco
   kept = λ k base other chunks h. same_agrees memory a b base other chunks refused.0 refused.1 types h;
 }
 
-pub refused_schema : {W : Type 0} (known : Bool) (memory : W → Memory) (a b : WriterSeen W) (e : Fault) (head : Head) → b.device ≡ a.device → b.state ≡ a.state → b.types ≡ a.types
-    → Begins known memory a (Err e) b head
-refused_schema known memory a b e head device state types = record {
-  begun = λ k base chunks h. tt;
-  kept = λ k base other chunks h. same_agrees memory a b base other chunks device state types h;
-}
-
 -- ---- finish
 
 -- the mark was sent
@@ -225,11 +210,6 @@ pub begun_mark : {W : Type 0} (known : Bool) (memory : W → Memory) (a b : Writ
     → Remains known memory a b
 begun_mark known memory a b was is some = record {
   kept = λ k base head chunks h. broken memory a b (prefix_bytes (pos 0)) base head chunks (inr was) is (some k) h;
-}
-
-pub refused_mark : {W : Type 0} (known : Bool) (memory : W → Memory) (a b : WriterSeen W) → b.device ≡ a.device → b.state ≡ a.state → b.types ≡ a.types → Remains known memory a b
-refused_mark known memory a b device state types = record {
-  kept = λ k base head chunks h. same_agrees memory a b base head chunks device state types h;
 }
 
 -- ---- new

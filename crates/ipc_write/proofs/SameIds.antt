@@ -23,18 +23,6 @@ same_length [] (y ∷ ys) h = absurd cc
 same_length (x ∷ xs) [] h = absurd cc
 same_length (x ∷ xs) (y ∷ ys) h = ap suc (same_length xs ys (ap rest_of h))
 
-pub same_first : (i j : IdTree) (is js : IdTrees) → more_ids i is ≡ more_ids j js → i ≡ j
-same_first i j is js h = ap (first_of i) h
-
-pub same_rest : (i j : IdTree) (is js : IdTrees) → more_ids i is ≡ more_ids j js → is ≡ js
-same_rest i j is js h = ap rest_of h
-
-pub same_both : (i j : IdTree) (is js : IdTrees) → i ≡ j → is ≡ js → more_ids i is ≡ more_ids j js
-same_both i j is js e f = cc
-
-pub same_id : (x y : Option ℤ) (is js : IdTrees) → ids x is ≡ ids y js → x ≡ y
-same_id x y is js h = ap id_of h
-
 pub same_children : (x y : Option ℤ) (is js : IdTrees) → ids x is ≡ ids y js → is ≡ js
 same_children x y is js h = ap children_of h
 

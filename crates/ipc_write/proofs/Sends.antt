@@ -1,10 +1,10 @@
 -- Sends that follow one another.
-use Rattle.std.proofs.Common.{◌≡◌, ℕ, ◌+◌, ◌≤◌, inl, inr, Bool, IsTrue, List, [], ◌++◌, length, take, drop, refl, sym, ap, ◌∙◌, append_assoc, append-nil, length-append, arith, add-zero, Result, Ok, Err}
+use Rattle.std.proofs.Common.{◌≡◌, ℕ, ◌+◌, ◌≤◌, Bool, IsTrue, List, [], ◌++◌, length, take, drop, refl, sym, ap, ◌∙◌, append_assoc, append-nil, length-append, arith, add-zero, Result, Ok, Err}
 use Rattle.std.specs.Prelude.{OnOk}
 use Rattle.std.proofs.lemmas.List.{drop-drop, take-append-le}
 use Rattle.std.proofs.Math.Seq.{take-add, take-append-add}
 use Rattle.ipc_devices.specs.Device.{Memory, WritesOver, before, after}
-use Rattle.ipc_write.specs.Sending.{WritesSome, FailsOrIsFull}
+use Rattle.ipc_write.specs.Sending.{WritesSome}
 
 -- what follows where a call is Ok
 pub on_ok : {X E : Type 0} (r : Result X E) {P Q : Type 0} → (P → Q) → OnOk r P → OnOk r Q
@@ -33,10 +33,6 @@ pub writes_more : (m m' m'' : Memory) (bytes part : List ℕ) (at n : ℕ) → p
 writes_more m m' m'' bytes part at n e f g =
     let more : WritesOver m' m'' (take n (drop at bytes)) = rw e at g in
     rw (take-add at n bytes) (writes_both m m' m'' (take at bytes) (take n (drop at bytes)) f more)
-
-pub fails_later : (grows : Bool) (old mid new room room' at left count : ℕ) → old ≤ mid → room ≤ room' + at → at + left ≤ count → FailsOrIsFull grows mid new room' left → FailsOrIsFull grows old new room count
-fails_later grows old mid new room room' at left count h k l (inl r) = inl (omega arith)
-fails_later grows old mid new room room' at left count h k l (inr r) = inr (r.0, omega (arith, r.1))
 
 pub some_none : (m : Memory) (bytes : List ℕ) → WritesSome m m bytes
 some_none m bytes = record { count = 0; most = omega arith; over = writes_none m }
