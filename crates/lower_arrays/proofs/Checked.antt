@@ -1,31 +1,28 @@
 -- Parts that were checked, and children that are arrays, are an array; a rule that the parts break is one of the array.
-use Rattle.std.proofs.Common.{arith, ◌≡◌, refl, ℕ, ℤ, List, [], ◌∷◌, Option, Some, None, subst, sym, ap, ◌∙◌, length, map}
-use Rattle.std.specs.Prelude.{slice_get}
-use Rattle.std.proofs.lemmas.Option.{slice_get_within, get_or_from_slice_get}
+use Rattle.std.proofs.Common.{arith, ◌≡◌, refl, ℕ, ℤ, ◌<◌, List, [], ◌∷◌, Option, get_or, subst, sym, ap, ◌∙◌, length, map}
+use Rattle.std.specs.List.{All}
 use Rattle.lower_types.specs.declared.PrimitiveType.{PrimitiveType}
 use Rattle.lower.specs.TypeTrees.{TypeTree}
-use Rattle.lower.specs.declared.datatypes.UnionMode.{UnionMode}
-use Rattle.lower.specs.declared.datatypes.UnionMode.TheVariants.{Dense, Sparse}
 use Rattle.lower.specs.declared.error.Error.{Error}
 use Rattle.lower.specs.declared.error.Error.TheVariants.{OutOfSpec}
-use Rattle.lower.specs.declared.error.Rule.TheVariants.{ValidityLength, ChildCount, UnionChildren, UnionIds, UnionType, UnionOffsets, PhysicalType as WrongType}
+use Rattle.lower.specs.declared.error.Rule.TheVariants.{ValidityLength, NoChild, ChildCount, ChildType, ChildLength, UnionChildren, UnionIds, UnionType, UnionOffsets, UnionOffset, PhysicalType as WrongType}
 use Rattle.lower_flat.specs.Validities.{Validity, ValidityFits}
 use Rattle.lower_keys.specs.Keys.{KeysSeen}
-use Rattle.lower_keys.specs.Ids.{union_ids, IdsFit, AreNamed, OffsetsGiven}
+use Rattle.lower_keys.specs.Ids.{union_ids, IdsFit, AreNamed}
+use Rattle.lower_keys.specs.Places.{AllAre, PlacesFit}
 use Rattle.lower_keys.specs.Rules.{ListRules, BreaksListRules, FixedListRules, BreaksFixedListRules, MapRules, BreaksMapRules, DictionaryRules, BreaksDictionaryRules, StructRules, BreaksStructRules, IsCount, UnionRules, BreaksUnionRules}
 use Rattle.lower_arrays.specs.Layouts.{Layout, layouts, len_of, type_of}
-use Rattle.lower_arrays.specs.Slots.{IsArray, AreArrays}
-use Rattle.lower_arrays.specs.Children.{child_fields, child_count, ChildTypes, HasChild, AllHave}
-use Rattle.lower_arrays.specs.Choices.{PlacesGiven, PlacesFit}
+use Rattle.lower_arrays.specs.Slots.{IsArray}
+use Rattle.lower_arrays.specs.Children.{child_fields, FieldTypes, HasChild, AllHave}
 use Rattle.lower_arrays.specs.Lists.{list_seen, list_layout, BreaksList}
 use Rattle.lower_arrays.specs.FixedLists.{fixed_list_seen, fixed_list_layout, BreaksFixedList}
 use Rattle.lower_arrays.specs.Maps.{map_seen, map_layout, BreaksMap}
 use Rattle.lower_arrays.specs.Dictionaries.{dictionary_seen, IsDictionary, BreaksDictionary}
-use Rattle.lower_arrays.specs.Structs.{first_len, struct_seen, struct_layout, BreaksStruct}
+use Rattle.lower_arrays.specs.Structs.{struct_seen, struct_layout, BreaksStruct}
 use Rattle.lower_arrays.specs.Unions.{union_seen, IsUnion, BreaksUnion}
 use Rattle.lower_arrays.specs.AnyLayouts.{layout_of}
 use Rattle.lower_arrays.specs.declared.array.AnyArray.{AnyArray}
-use Rattle.lower_arrays.proofs.Children.{children_counted}
+use Rattle.lower_arrays.proofs.Children.{types_are, lens_are, lens_counted, first_is, arrays_are}
 
 -- ---- one child l, whose type is c and whose length is n
 pub list_is :
@@ -76,64 +73,73 @@ pub breaks_dictionary :
     → BreaksDictionary (dictionary_seen t ks l) e
 breaks_dictionary t c ks l n e q r h = subst (λ m. BreaksDictionaryRules t ks (type_of l) m e) r (subst (λ d. BreaksDictionaryRules t ks d n e) q h)
 
--- ---- the children cs, k of them
+-- ---- the children xs
 pub struct_is :
-    (t : TypeTree) (cs : List Layout) (k n : ℕ) (v : Validity) → n ≡ first_len cs → StructRules t k n v → HasChild (layouts cs)
-    → ChildTypes (child_fields t) (layouts cs) → AllHave n (layouts cs) → AreArrays (layouts cs) → IsArray (struct_layout (struct_seen t cs v))
-struct_is t cs k n v e h some types all are =
-    (subst (ValidityFits v) e h.fits, (h.lies, some, types, subst (λ m. AllHave m (layouts cs)) e all), are)
+    (t : TypeTree) (xs : List AnyArray) (n : ℕ) (v : Validity) → n ≡ get_or (map (λ x. len_of (layout_of x)) xs) 0 0
+    → StructRules t (map (λ x. type_of (layout_of x)) xs) (map (λ x. len_of (layout_of x)) xs) v → All (λ x. IsArray (layout_of x)) xs
+    → IsArray (struct_layout (record { type = t; len = n; children = map layout_of xs; validity = v }))
+struct_is t [] n v e h are = let no : ⊥ = omega (arith, h.some) in absurd no
+struct_is t (x ∷ xs) n v e h are =
+    let types = subst (FieldTypes (child_fields t)) (sym (types_are (x ∷ xs))) h.types in
+    let lens = subst (AllAre (len_of (layout_of x))) (sym (lens_are (x ∷ xs))) h.lens in
+    subst (λ m. IsArray (struct_layout (record { type = t; len = m; children = map layout_of (x ∷ xs); validity = v }))) (sym e)
+    (h.fits, (h.lies, tt, types, lens), arrays_are (x ∷ xs) are)
+
+pub struct_seen_is :
+    (t : TypeTree) (xs : List AnyArray) (n : ℕ) (v : Validity) → n ≡ get_or (map (λ x. len_of (layout_of x)) xs) 0 0
+    → record { type = t; len = n; children = map layout_of xs; validity = v } ≡ struct_seen t (map layout_of xs) v
+struct_seen_is t xs n v e = ap (λ m. record { type = t; len = m; children = map layout_of xs; validity = v }) (e ∙ first_is xs)
+
+no_first : (xs : List AnyArray) → ¬ (0 < length (map (λ x. len_of (layout_of x)) xs)) → ¬ (HasChild (layouts (map layout_of xs)))
+no_first [] h = λ k. k
+no_first (x ∷ xs) h = λ k. h (omega arith)
 
 pub breaks_struct :
-    (t : TypeTree) (cs : List Layout) (k n : ℕ) (v : Validity) (e : Error) → k ≡ child_count (layouts cs) → n ≡ first_len cs
-    → BreaksStructRules t k n v e → BreaksStruct (struct_seen t cs v) e
-breaks_struct t cs k n v (OutOfSpec WrongType) p q h = h
-breaks_struct t cs k n v (OutOfSpec ChildCount) p q h = λ x. h (p ∙ x)
-breaks_struct t cs k n v (OutOfSpec ValidityLength) p q h = subst (λ m. ¬ (ValidityFits v m)) q h
-breaks_struct t cs k n v (OutOfSpec _) p q h = absurd h
-
--- as many slots as the first child has
-pub first_is : (xs : List AnyArray) (x : AnyArray) → Some x ≡ slice_get xs 0 → len_of (layout_of x) ≡ first_len (map layout_of xs)
-first_is [] x h = let no = slice_get_within [] 0 x (sym h) in absurd (omega (arith, no))
-first_is (y ∷ ys) x h = ap (λ a. len_of (layout_of a)) (sym (get_or_from_slice_get (y ∷ ys) 0 x y (sym h)))
-
-pub breaks_records :
-    (t : TypeTree) (xs : List AnyArray) (k n : ℕ) (v : Validity) (e : Error) → k ≡ length xs → n ≡ first_len (map layout_of xs)
-    → BreaksStructRules t k n v e → BreaksStruct (struct_seen t (map layout_of xs) v) e
-breaks_records t xs k n v e p q h = breaks_struct t (map layout_of xs) k n v e (p ∙ sym (children_counted xs)) q h
-
-pub places_given : (m : UnionMode) (os : Option (List ℤ)) (n : ℕ) → OffsetsGiven m os n → PlacesGiven os n
-places_given m None n h = tt
-places_given Dense (Some os) n h = h
-places_given Sparse (Some os) n h = absurd h
+    (t : TypeTree) (xs : List AnyArray) (v : Validity) (e : Error)
+    → BreaksStructRules t (map (λ x. type_of (layout_of x)) xs) (map (λ x. len_of (layout_of x)) xs) v e → BreaksStruct (struct_seen t (map layout_of xs) v) e
+breaks_struct t xs v (OutOfSpec WrongType) h = h
+breaks_struct t xs v (OutOfSpec NoChild) h = no_first xs h
+breaks_struct t xs v (OutOfSpec ChildCount) h = λ k. h (lens_counted xs ∙ k)
+breaks_struct t xs v (OutOfSpec ChildType) h = λ k. h (subst (FieldTypes (child_fields t)) (types_are xs) k)
+breaks_struct t xs v (OutOfSpec ChildLength) h = λ k. h (subst (AllAre _) (lens_are xs) (subst (λ n. AllHave n (layouts (map layout_of xs))) (sym (first_is xs)) k))
+breaks_struct t xs v (OutOfSpec ValidityLength) h = subst (λ n. ¬ (ValidityFits v n)) (first_is xs) h
+breaks_struct t xs v (OutOfSpec _) h = absurd h
 
 pub union_is :
-    (t : TypeTree) (ts : List ℤ) (os : Option (List ℤ)) (cs : List Layout) (k : ℕ) → k ≡ child_count (layouts cs) → UnionRules t ts os k
-    → ChildTypes (child_fields t) (layouts cs) → PlacesFit (union_ids t) ts os (layouts cs) → AreArrays (layouts cs) → IsUnion (union_seen t ts cs os)
-union_is t ts os cs k p h types places are = record {
-  fits = record {
-    lies = h.lies;
-    named = refl;
-    some = omega (arith, p, h.some);
-    few = omega (arith, p, h.few);
-    types = types;
-    ids = subst (IdsFit (union_ids t)) p h.ids;
-    names = subst (AreNamed (union_ids t) ts) p h.names;
-    given = h.given;
-    places = places;
-  };
-  arrays = are;
-}
+    (t : TypeTree) (ts : List ℤ) (os : Option (List ℤ)) (xs : List AnyArray)
+    → UnionRules t ts os (map (λ x. type_of (layout_of x)) xs) (map (λ x. len_of (layout_of x)) xs) → All (λ x. IsArray (layout_of x)) xs
+    → IsUnion (union_seen t ts (map layout_of xs) os)
+union_is t ts os xs h are =
+    let count = lens_counted xs in
+    record {
+      fits = record {
+        lies = h.ids.lies;
+        named = refl;
+        some = omega (arith, count, h.ids.some);
+        few = omega (arith, count, h.ids.few);
+        types = subst (FieldTypes (child_fields t)) (sym (types_are xs)) h.types;
+        ids = subst (IdsFit (union_ids t)) count h.ids.ids;
+        names = subst (AreNamed (union_ids t) ts) count h.ids.names;
+        given = h.ids.given;
+        places = subst (PlacesFit (union_ids t) ts os) (sym (lens_are xs)) h.places;
+      };
+      arrays = arrays_are xs are;
+    }
 
 pub breaks_union :
-    (t : TypeTree) (ts : List ℤ) (os : Option (List ℤ)) (cs : List Layout) (k : ℕ) (e : Error) → k ≡ child_count (layouts cs)
-    → BreaksUnionRules t ts os k e → BreaksUnion (union_seen t ts cs os) e
-breaks_union t ts os cs k (OutOfSpec WrongType) p h = h
-breaks_union t ts os cs k (OutOfSpec UnionChildren) p h = subst (λ m. ¬ (IsCount m)) p h
-breaks_union t ts os cs k (OutOfSpec ChildCount) p h = λ x. h (p ∙ x)
-breaks_union t ts os cs k (OutOfSpec UnionIds) p h = subst (λ m. ¬ (IdsFit (union_ids t) m)) p h
-breaks_union t ts os cs k (OutOfSpec UnionType) p h = subst (λ m. ¬ (AreNamed (union_ids t) ts m)) p h
-breaks_union t ts os cs k (OutOfSpec UnionOffsets) p h = h
-breaks_union t ts os cs k (OutOfSpec _) p h = absurd h
+    (t : TypeTree) (ts : List ℤ) (os : Option (List ℤ)) (xs : List AnyArray) (e : Error)
+    → BreaksUnionRules t ts os (map (λ x. type_of (layout_of x)) xs) (map (λ x. len_of (layout_of x)) xs) e
+    → BreaksUnion (union_seen t ts (map layout_of xs) os) e
+breaks_union t ts os xs (OutOfSpec WrongType) h = h
+breaks_union t ts os xs (OutOfSpec UnionChildren) h = subst (λ m. ¬ (IsCount m)) (lens_counted xs) h
+breaks_union t ts os xs (OutOfSpec ChildCount) h = λ k. h (lens_counted xs ∙ k)
+breaks_union t ts os xs (OutOfSpec UnionIds) h = subst (λ m. ¬ (IdsFit (union_ids t) m)) (lens_counted xs) h
+breaks_union t ts os xs (OutOfSpec UnionType) h = subst (λ m. ¬ (AreNamed (union_ids t) ts m)) (lens_counted xs) h
+breaks_union t ts os xs (OutOfSpec UnionOffsets) h = h
+breaks_union t ts os xs (OutOfSpec ChildType) h = λ k. h (subst (FieldTypes (child_fields t)) (types_are xs) k)
+breaks_union t ts os xs (OutOfSpec ChildLength) h = λ k. h (subst (PlacesFit (union_ids t) ts os) (lens_are xs) k)
+breaks_union t ts os xs (OutOfSpec UnionOffset) h = λ k. h (subst (PlacesFit (union_ids t) ts os) (lens_are xs) k)
+breaks_union t ts os xs (OutOfSpec _) h = absurd h
 
 pub ruleset lists = (list_is, breaks_list)
 
@@ -143,6 +149,6 @@ pub ruleset maps = (map_is, breaks_map)
 
 pub ruleset dictionaries = (dictionary_is, breaks_dictionary)
 
-pub ruleset structs = (struct_is, breaks_records)
+pub ruleset structs = (struct_is, struct_seen_is, breaks_struct)
 
-pub ruleset unions = (union_is, breaks_union, places_given)
+pub ruleset unions = (union_is, breaks_union)

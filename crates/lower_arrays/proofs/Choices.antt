@@ -1,10 +1,8 @@
 -- The children of a union, by their numbers.
-use Rattle.std.proofs.Common.{arith, ◌≡◌, refl, ℕ, ℤ, pos, negsuc, zero, suc, ◌+◌, ◌<◌, ◌≤◌, List, [], ◌∷◌, Some, None, length, map, get_or, sym, ap}
+use Rattle.std.proofs.Common.{arith, ◌≡◌, refl, ℕ, zero, suc, ◌+◌, ◌<◌, ◌≤◌, List, [], ◌∷◌, length, map, get_or, sym, ap}
 use Rattle.lower_arrays.specs.Layouts.{Layouts, no_layouts, more_layouts, layouts, len_of, height, heights}
 use Rattle.lower_arrays.specs.Slots.{null_slot, each_at, slot_at, children_at}
-use Rattle.lower_keys.specs.Keys.{place_of, KeyFits}
-use Rattle.lower_arrays.specs.Children.{child_count, AllHave}
-use Rattle.lower_keys.specs.Ids.{TypeIds, child_number, NamesChild}
+use Rattle.lower_arrays.specs.Children.{child_count, lens_of, AllHave}
 use Rattle.lower_arrays.specs.Choices.{child}
 use Rattle.lower_arrays.specs.AnyLayouts.{layout_of}
 use Rattle.lower_arrays.specs.declared.array.AnyArray.{AnyArray}
@@ -26,16 +24,12 @@ child_has no_layouts n k h l = let no : ⊥ = omega (arith, l) in absurd no
 child_has (more_layouts c cs) n zero h l = h.0
 child_has (more_layouts c cs) n (suc k) h l = child_has cs n k h.1 (omega (arith, l))
 
+pub child_len : (cs : Layouts) (k : ℕ) → get_or (lens_of cs) k 0 ≡ len_of (child cs k)
+child_len no_layouts k = refl
+child_len (more_layouts c cs) zero = refl
+child_len (more_layouts c cs) (suc k) = child_len cs k
+
 pub child_low : (cs : Layouts) (k : ℕ) → k < child_count cs → height (child cs k) + 1 ≤ heights cs
 child_low no_layouts k l = let no : ⊥ = omega (arith, l) in absurd no
 child_low (more_layouts c cs) zero l = omega arith
 child_low (more_layouts c cs) (suc k) l = let below = child_low cs k (omega (arith, l)) in omega (arith, below)
-
--- an id that names a child has its number
-pub number_fits : (z : ℤ) (n : ℕ) → KeyFits z n → place_of z < n
-number_fits (pos k) n h = h
-number_fits (negsuc k) n h = absurd h
-
-pub number_below : (ids : TypeIds) (n : ℕ) (z : ℤ) → NamesChild ids n z → child_number ids z < n
-number_below None n z h = number_fits z n h
-number_below (Some ids) n z h = h

@@ -11,10 +11,11 @@ use Rattle.lower_flat.specs.Validities.{Validity, is_valid, part, cut_validity}
 use Rattle.lower_flat.proofs.Cuts.{get_or-part, length-part, fits-cut}
 use Rattle.lower_flat.proofs.SpanPlaces.{offset_last, count-cut, offsets-cut, ends-cut, texts-cut}
 use Rattle.lower_arrays.specs.Layouts.{Parts, nothing, truths, numbers, fixed_bytes, bytes, texts, keys, choices, Level, Layout, layout, Layouts, no_layouts, more_layouts, len_of, lists, fixed_lists, maps, records}
-use Rattle.lower_arrays.specs.Children.{child_count, ChildTypes, AllHave, AllReach, HasChild}
+use Rattle.lower_arrays.specs.Children.{child_count, lens_of, ChildTypes, AllHave, AllReach, HasChild}
 use Rattle.lower_keys.specs.Keys.{KeyFits, KeysFit}
 use Rattle.lower_keys.specs.Ids.{TypeIds, union_mode, child_number, NamesChild, IdsFit, AreNamed, OffsetsGiven}
-use Rattle.lower_arrays.specs.Choices.{OffsetsFit, child, ChoicesFit}
+use Rattle.lower_keys.specs.Places.{OffsetsFit}
+use Rattle.lower_arrays.specs.Choices.{ChoicesFit}
 use Rattle.lower_arrays.specs.Slots.{SpansFit, DictionaryFits, PartsFit, IsArray, AreArrays, ItemsFit}
 use Rattle.lower_keys.specs.ListTypes.{last_offset}
 use Rattle.lower_arrays.specs.Cuts.{cut_parts, cut_level, cut_below, cut, cut_each}
@@ -107,13 +108,13 @@ given-some Dense os ps a b e k = e
 given-some Sparse os ps a b e k = absurd k
 
 places-cut :
-    (zs : TypeIds) (ts os : List ℤ) (cs : Layouts) (o n : ℕ) → o + n ≤ length ts → OffsetsFit zs ts os cs
-    → OffsetsFit zs (part o n ts) (part o n os) cs
-places-cut zs ts os cs o n room k = record {
+    (zs : TypeIds) (ts os : List ℤ) (ns : List ℕ) (o n : ℕ) → o + n ≤ length ts → OffsetsFit zs ts os ns
+    → OffsetsFit zs (part o n ts) (part o n os) ns
+places-cut zs ts os ns o n room k = record {
   each = λ i l.
       let lt : i < n = omega (arith, l, length-part o n ts room) in
-      subst (λ z. KeyFits (get_or (part o n os) i (pos 0)) (len_of (child cs (child_number zs z)))) (sym (get_or-part o n ts i (pos 0) lt))
-      (subst (λ z. KeyFits z (len_of (child cs (child_number zs (get_or ts (o + i) (pos 0)))))) (sym (get_or-part o n os i (pos 0) lt))
+      subst (λ z. KeyFits (get_or (part o n os) i (pos 0)) (get_or ns (child_number zs z) 0)) (sym (get_or-part o n ts i (pos 0) lt))
+      (subst (λ z. KeyFits z (get_or ns (child_number zs (get_or ts (o + i) (pos 0))) 0)) (sym (get_or-part o n os i (pos 0) lt))
       (k.each (o + i) (omega (arith, lt, room))));
 }
 
@@ -148,7 +149,7 @@ choices-cut t zs ts (Some os) cs o n room k =
       ids = k.ids;
       names = names-cut zs ts (child_count cs) o n room k.names;
       given = given-some (union_mode t) os (part o n os) (length ts) (length (part o n ts)) same k.given;
-      places = places-cut zs ts os cs o n room k.places;
+      places = places-cut zs ts os (lens_of cs) o n room k.places;
     }
 
 last-cut : (os : List ℕ) (o n m : ℕ) → o + n ≤ m → (cs : Layouts) → ItemsFit os m cs → last_offset (part o (n + 1) os) ≤ last_offset os

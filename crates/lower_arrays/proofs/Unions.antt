@@ -3,11 +3,14 @@ use Rattle.std.proofs.Common.{arith, ℕ, ℤ, pos, ◌+◌, ◌<◌, ◌≤◌,
 use Rattle.lower.specs.TypeTrees.{TypeTree}
 use Rattle.lower_arrays.specs.Layouts.{Layout, Layouts, layouts, len_of}
 use Rattle.lower_arrays.specs.Slots.{IsArray}
-use Rattle.lower_arrays.specs.Children.{child_count}
+use Rattle.lower_arrays.specs.Children.{child_count, lens_of}
+use Rattle.lower_keys.specs.Keys.{place_of}
 use Rattle.lower_keys.specs.Ids.{TypeIds, union_ids, child_number}
-use Rattle.lower_arrays.specs.Choices.{PlacesFit, child, place_in}
+use Rattle.lower_keys.specs.Places.{PlacesFit}
+use Rattle.lower_keys.proofs.ChildNumbers.{number_below, number_fits}
+use Rattle.lower_arrays.specs.Choices.{child, place_in}
 use Rattle.lower_arrays.specs.Unions.{UnionSeen, union_seen, union_layout, IsUnion, cut_union}
-use Rattle.lower_arrays.proofs.Choices.{number_below, number_fits, child_has}
+use Rattle.lower_arrays.proofs.Choices.{child_has, child_len}
 use Rattle.lower_arrays.proofs.CutRules.{IsArray-cut}
 use Rattle.lower_arrays.proofs.Slices.{layout-cut_union}
 
@@ -32,12 +35,13 @@ pub index_child :
 index_child a i k l = number_below (union_ids a.type) (child_count (layouts a.children)) (get_or a.types i (pos 0)) (k.fits.names.each i l)
 
 place_within :
-    (zs : TypeIds) (ts : List ℤ) (os : Option (List ℤ)) (cs : Layouts) (i : ℕ) → PlacesFit zs ts os cs → i < length ts
+    (zs : TypeIds) (ts : List ℤ) (os : Option (List ℤ)) (cs : Layouts) (i : ℕ) → PlacesFit zs ts os (lens_of cs) → i < length ts
     → child_number zs (get_or ts i (pos 0)) < child_count cs
     → place_in os i < len_of (child cs (child_number zs (get_or ts i (pos 0))))
 place_within zs ts None cs i k l c = let e = child_has cs (length ts) (child_number zs (get_or ts i (pos 0))) k c in omega (arith, e, l)
 place_within zs ts (Some os) cs i k l c =
-    number_fits (get_or os i (pos 0)) (len_of (child cs (child_number zs (get_or ts i (pos 0))))) (k.each i l)
+    let j = child_number zs (get_or ts i (pos 0)) in
+    subst (λ m. place_of (get_or os i (pos 0)) < m) (child_len cs j) (number_fits (get_or os i (pos 0)) (get_or (lens_of cs) j 0) (k.each i l))
 
 pub index_bound :
     (a : UnionSeen) (i : ℕ) → IsUnion a → i < length a.types

@@ -1,8 +1,9 @@
 -- What the children of an array have to be.
 -- (Arrow columnar format, "Variable-size List Layout", "Fixed-Size List Layout", "Struct Layout", "Map Layout".)
-use Rattle.std.specs.Prelude.{◌≡◌, ℕ, ◌+◌, ◌≤◌, List, [], ◌∷◌}
+use Rattle.std.specs.Prelude.{ℕ, ◌+◌, ◌≤◌, List, [], ◌∷◌}
 use Rattle.lower.specs.TypeTrees.{TypeTree, FieldTrees}
 use Rattle.lower_arrays.specs.Layouts.{Layouts, no_layouts, more_layouts, len_of, type_of}
+use Rattle.lower_keys.specs.Places.{AllAre}
 pub use Rattle.lower_keys.specs.Fields.{child_fields, field_type, field_count, FieldTypes, IsPair}
 
 abbrev pub child_count : Layouts → ℕ
@@ -22,10 +23,13 @@ abbrev pub HasChild : Layouts → Type 0
 HasChild no_layouts = ⊥
 HasChild (more_layouts _ _) = Unit {0}
 
+abbrev pub lens_of : Layouts → List ℕ
+lens_of no_layouts = []
+lens_of (more_layouts c cs) = len_of c ∷ lens_of cs
+
 -- each child has n slots
 abbrev pub AllHave : ℕ → Layouts → Type 0
-AllHave n no_layouts = Unit {0}
-AllHave n (more_layouts c cs) = (len_of c ≡ n) × AllHave n cs
+AllHave n cs = AllAre n (lens_of cs)
 
 -- each child has at least n slots
 abbrev pub AllReach : ℕ → Layouts → Type 0

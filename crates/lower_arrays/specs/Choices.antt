@@ -5,15 +5,11 @@ use Rattle.std.proofs.Common.{zero, suc}
 use Rattle.lower.specs.TypeTrees.{TypeTree, plain, null}
 use Rattle.lower.specs.Physical.{physical}
 use Rattle.lower.specs.declared.datatypes.physical_type.PhysicalType.TheVariants.{Union}
-use Rattle.lower_arrays.specs.Layouts.{nothing, Layout, layout, Layouts, no_layouts, more_layouts, len_of}
-use Rattle.lower_arrays.specs.Children.{child_fields, child_count, ChildTypes, AllHave}
-use Rattle.lower_keys.specs.Keys.{place_of, KeyFits}
-use Rattle.lower_keys.specs.Ids.{TypeIds, union_ids, union_mode, child_number, IdsFit, AreNamed, OffsetsGiven}
-
--- where there are offsets, each slot has one
-abbrev pub PlacesGiven : Option (List ℤ) → ℕ → Type 0
-PlacesGiven None n = Unit {0}
-PlacesGiven (Some os) n = length os ≡ n
+use Rattle.lower_arrays.specs.Layouts.{nothing, Layout, layout, Layouts, no_layouts, more_layouts}
+use Rattle.lower_arrays.specs.Children.{child_fields, child_count, lens_of, ChildTypes}
+use Rattle.lower_keys.specs.Keys.{place_of}
+use Rattle.lower_keys.specs.Ids.{TypeIds, union_ids, union_mode, IdsFit, AreNamed, OffsetsGiven}
+use Rattle.lower_keys.specs.Places.{PlacesFit}
 
 -- a tree without slots, for what no child is
 abbrev pub no_child : Layout
@@ -23,15 +19,6 @@ abbrev pub child : Layouts → ℕ → Layout
 child no_layouts k = no_child
 child (more_layouts c cs) zero = c
 child (more_layouts c cs) (suc k) = child cs k
-
--- each offset is from 0 to below the length of the slot's child
-pub record OffsetsFit (ids : TypeIds) (ts os : List ℤ) (cs : Layouts) : Type 0 where
-  pub each : (i : ℕ) → i < length ts → KeyFits (get_or os i (pos 0)) (len_of (child cs (child_number ids (get_or ts i (pos 0)))))
-
--- slot i of a sparse union is slot i of its child, so each child has as many
-abbrev pub PlacesFit : TypeIds → List ℤ → Option (List ℤ) → Layouts → Type 0
-PlacesFit ids ts None cs = AllHave (length ts) cs
-PlacesFit ids ts (Some os) cs = OffsetsFit ids ts os cs
 
 -- the place of slot i in its child
 abbrev pub place_in : Option (List ℤ) → ℕ → ℕ
@@ -48,4 +35,4 @@ pub record ChoicesFit (t : TypeTree) (zs : TypeIds) (ts : List ℤ) (os : Option
   pub ids : IdsFit zs (child_count cs)
   pub names : AreNamed zs ts (child_count cs)
   pub given : OffsetsGiven (union_mode t) os (length ts)
-  pub places : PlacesFit zs ts os cs
+  pub places : PlacesFit zs ts os (lens_of cs)

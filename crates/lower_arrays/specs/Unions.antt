@@ -12,10 +12,11 @@ use Rattle.lower_flat.specs.TypeCodes.{coded_type}
 use Rattle.lower_flat.specs.Validities.{part}
 use Rattle.lower_arrays.specs.Layouts.{choices, Layout, layout, layouts}
 use Rattle.lower_arrays.specs.LayoutCodes.{coded_layout}
-use Rattle.lower_arrays.specs.Children.{child_fields, field_count, child_count, ChildTypes}
+use Rattle.lower_arrays.specs.Children.{child_fields, field_count, child_count, lens_of, ChildTypes}
 use Rattle.lower_keys.specs.Ids.{union_ids, union_mode, IdsFit, AreNamed, OffsetsGiven}
+use Rattle.lower_keys.specs.Places.{PlacesFit}
 use Rattle.lower_keys.specs.Rules.{IsCount}
-use Rattle.lower_arrays.specs.Choices.{PlacesFit, ChoicesFit}
+use Rattle.lower_arrays.specs.Choices.{ChoicesFit}
 use Rattle.lower_arrays.specs.Slots.{AreArrays}
 use Rattle.lower_arrays.specs.Cuts.{cut}
 
@@ -57,8 +58,8 @@ BreaksUnion a (OutOfSpec ChildType) = ¬ (ChildTypes (child_fields a.type) (layo
 BreaksUnion a (OutOfSpec UnionIds) = ¬ (IdsFit (union_ids a.type) (child_count (layouts a.children)))
 BreaksUnion a (OutOfSpec UnionType) = ¬ (AreNamed (union_ids a.type) a.types (child_count (layouts a.children)))
 BreaksUnion a (OutOfSpec UnionOffsets) = ¬ (OffsetsGiven (union_mode a.type) a.offsets (length a.types))
-BreaksUnion a (OutOfSpec ChildLength) = ¬ (PlacesFit (union_ids a.type) a.types a.offsets (layouts a.children))
-BreaksUnion a (OutOfSpec UnionOffset) = ¬ (PlacesFit (union_ids a.type) a.types a.offsets (layouts a.children))
+BreaksUnion a (OutOfSpec ChildLength) = ¬ (PlacesFit (union_ids a.type) a.types a.offsets (lens_of (layouts a.children)))
+BreaksUnion a (OutOfSpec UnionOffset) = ¬ (PlacesFit (union_ids a.type) a.types a.offsets (lens_of (layouts a.children)))
 BreaksUnion a (OutOfSpec _) = ⊥
 
 -- the n slots from place o on: of a sparse union those of each child, of a dense one their offsets, over the same children

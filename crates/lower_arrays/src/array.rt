@@ -161,7 +161,7 @@ impl AnyArray {
         ensures { layout_of self.new ≡ cut offset len (layout_of self.old) }
     {
         let array = self.take().part(offset, len);
-        self.put(array);
+        drop(mem::replace(self, array));
     }
 
     // The array itself, in whose place one without slots is left.
@@ -169,13 +169,6 @@ impl AnyArray {
         ensures { layout_of result ≡ layout_of self.old }
     {
         mem::replace(self, AnyArray::without_slots())
-    }
-
-    // Puts an array in its place.
-    fn put(&mut self, array: Self)
-        ensures { layout_of self.new ≡ layout_of array }
-    {
-        drop(mem::replace(self, array));
     }
 
     // An array without slots, which takes no memory.
@@ -209,9 +202,7 @@ impl AnyArray {
             AnyArray::Dictionary(array) => AnyArray::Dictionary(array.sliced(offset, len)),
         }
     }
-}
 
-impl AnyArray {
     // The same slots once more, by the kind of the array.
     #[cycle(copies)]
     fn copy(&self) -> Result<Self, AllocError>

@@ -3,6 +3,7 @@ pub mod AnyNumbers
 pub mod Keys
 pub mod AnyKeys
 pub mod Ids
+pub mod Places
 pub mod Fields
 pub mod ListTypes
 pub mod AnyOffsets

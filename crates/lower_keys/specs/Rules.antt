@@ -1,6 +1,6 @@
 -- What the parts of an array with children have to be, its children by their types and their lengths.
 -- (Arrow columnar format, "Physical memory layout".)
-use Rattle.std.specs.Prelude.{◌≡◌, ℕ, ℤ, ◌*◌, ◌/◌, ◌<◌, ◌≤◌, List, [], ◌∷◌, Option, length}
+use Rattle.std.specs.Prelude.{◌≡◌, ℕ, ℤ, ◌*◌, ◌/◌, ◌<◌, ◌≤◌, List, [], ◌∷◌, Option, get_or, length}
 use Rattle.lower_types.specs.declared.PrimitiveType.{PrimitiveType}
 use Rattle.lower.specs.TypeTrees.{TypeTree, plain}
 use Rattle.lower.specs.Physical.{physical, integer}
@@ -8,12 +8,13 @@ use Rattle.lower.specs.Offsets.{IsOffsets}
 use Rattle.lower.specs.declared.datatypes.physical_type.PhysicalType.TheVariants as Physicals
 use Rattle.lower.specs.declared.error.Error.{Error}
 use Rattle.lower.specs.declared.error.Error.TheVariants.{OutOfSpec}
-use Rattle.lower.specs.declared.error.Rule.TheVariants.{ValidityLength, ZeroSize, OffsetsPastValues, ChildCount, ChildType, ChildLength, MapChild, UnionChildren, UnionIds, UnionType, UnionOffsets, DictionaryKey, DictionaryValues, PhysicalType as WrongType}
+use Rattle.lower.specs.declared.error.Rule.TheVariants.{ValidityLength, ZeroSize, OffsetsPastValues, ChildCount, ChildType, ChildLength, NoChild, MapChild, UnionChildren, UnionIds, UnionType, UnionOffsets, UnionOffset, DictionaryKey, DictionaryValues, PhysicalType as WrongType}
 use Rattle.lower_flat.specs.Validities.{Validity, ValidityFits}
 use Rattle.lower_flat.specs.Spans.{span_count}
 use Rattle.lower_keys.specs.Fields.{child_fields, field_count, FieldTypes, IsPair}
 use Rattle.lower_keys.specs.ListTypes.{list_with, list_size, last_offset}
 use Rattle.lower_keys.specs.Keys.{values_type, KeysFit, KeysSeen, IsKeys}
+use Rattle.lower_keys.specs.Places.{AllAre, PlacesFit}
 use Rattle.lower_keys.specs.Ids.{union_ids, union_mode, IdsFit, AreNamed, OffsetsGiven}
 
 -- lists of the type t: their offsets os, of the type p, and a child of the type c with n slots
@@ -78,24 +79,29 @@ BreaksDictionaryRules t ks c n (OutOfSpec DictionaryValues) = ¬ (c ≡ values_t
 BreaksDictionaryRules t ks c n (OutOfSpec DictionaryKey) = ¬ (KeysFit ks.validity ks.integers n)
 BreaksDictionaryRules t ks c n (OutOfSpec _) = ⊥
 
--- a struct of k children, the first of which has n slots
-pub record StructRules (t : TypeTree) (k n : ℕ) (v : Validity) : Type 0 where
+-- structs of children of the types cs with so many slots ns: each has as many as the first
+pub record StructRules (t : TypeTree) (cs : List TypeTree) (ns : List ℕ) (v : Validity) : Type 0 where
   pub lies : physical t ≡ Physicals.Struct
-  pub count : k ≡ field_count (child_fields t)
-  pub fits : ValidityFits v n
+  pub some : 0 < length ns
+  pub types : FieldTypes (child_fields t) cs
+  pub lens : AllAre (get_or ns 0 0) ns
+  pub fits : ValidityFits v (get_or ns 0 0)
 
-abbrev pub BreaksStructRules : TypeTree → ℕ → ℕ → Validity → Error → Type 0
-BreaksStructRules t k n v (OutOfSpec WrongType) = ¬ (physical t ≡ Physicals.Struct)
-BreaksStructRules t k n v (OutOfSpec ChildCount) = ¬ (k ≡ field_count (child_fields t))
-BreaksStructRules t k n v (OutOfSpec ValidityLength) = ¬ (ValidityFits v n)
-BreaksStructRules t k n v (OutOfSpec _) = ⊥
+abbrev pub BreaksStructRules : TypeTree → List TypeTree → List ℕ → Validity → Error → Type 0
+BreaksStructRules t cs ns v (OutOfSpec WrongType) = ¬ (physical t ≡ Physicals.Struct)
+BreaksStructRules t cs ns v (OutOfSpec NoChild) = ¬ (0 < length ns)
+BreaksStructRules t cs ns v (OutOfSpec ChildCount) = ¬ (length ns ≡ field_count (child_fields t))
+BreaksStructRules t cs ns v (OutOfSpec ChildType) = ¬ (FieldTypes (child_fields t) cs)
+BreaksStructRules t cs ns v (OutOfSpec ChildLength) = ¬ (AllAre (get_or ns 0 0) ns)
+BreaksStructRules t cs ns v (OutOfSpec ValidityLength) = ¬ (ValidityFits v (get_or ns 0 0))
+BreaksStructRules t cs ns v (OutOfSpec _) = ⊥
 
 -- there are 1 to 127 children
 abbrev pub IsCount : ℕ → Type 0
 IsCount n = (0 < n) × (n ≤ 127)
 
 -- a union of k children: the ids ts of its slots, and their offsets where they are given
-pub record UnionRules (t : TypeTree) (ts : List ℤ) (os : Option (List ℤ)) (k : ℕ) : Type 0 where
+pub record IdRules (t : TypeTree) (ts : List ℤ) (os : Option (List ℤ)) (k : ℕ) : Type 0 where
   pub lies : physical t ≡ Physicals.Union
   pub some : 0 < k
   pub few : k ≤ 127
@@ -104,11 +110,23 @@ pub record UnionRules (t : TypeTree) (ts : List ℤ) (os : Option (List ℤ)) (k
   pub names : AreNamed (union_ids t) ts k
   pub given : OffsetsGiven (union_mode t) os (length ts)
 
-abbrev pub BreaksUnionRules : TypeTree → List ℤ → Option (List ℤ) → ℕ → Error → Type 0
-BreaksUnionRules t ts os k (OutOfSpec WrongType) = ¬ (physical t ≡ Physicals.Union)
-BreaksUnionRules t ts os k (OutOfSpec UnionChildren) = ¬ (IsCount k)
-BreaksUnionRules t ts os k (OutOfSpec ChildCount) = ¬ (k ≡ field_count (child_fields t))
-BreaksUnionRules t ts os k (OutOfSpec UnionIds) = ¬ (IdsFit (union_ids t) k)
-BreaksUnionRules t ts os k (OutOfSpec UnionType) = ¬ (AreNamed (union_ids t) ts k)
-BreaksUnionRules t ts os k (OutOfSpec UnionOffsets) = ¬ (OffsetsGiven (union_mode t) os (length ts))
-BreaksUnionRules t ts os k (OutOfSpec _) = ⊥
+abbrev pub BreaksIdRules : TypeTree → List ℤ → Option (List ℤ) → ℕ → Error → Type 0
+BreaksIdRules t ts os k (OutOfSpec WrongType) = ¬ (physical t ≡ Physicals.Union)
+BreaksIdRules t ts os k (OutOfSpec UnionChildren) = ¬ (IsCount k)
+BreaksIdRules t ts os k (OutOfSpec ChildCount) = ¬ (k ≡ field_count (child_fields t))
+BreaksIdRules t ts os k (OutOfSpec UnionIds) = ¬ (IdsFit (union_ids t) k)
+BreaksIdRules t ts os k (OutOfSpec UnionType) = ¬ (AreNamed (union_ids t) ts k)
+BreaksIdRules t ts os k (OutOfSpec UnionOffsets) = ¬ (OffsetsGiven (union_mode t) os (length ts))
+BreaksIdRules t ts os k (OutOfSpec _) = ⊥
+
+-- a union of children of the types cs with so many slots ns
+pub record UnionRules (t : TypeTree) (ts : List ℤ) (os : Option (List ℤ)) (cs : List TypeTree) (ns : List ℕ) : Type 0 where
+  pub ids : IdRules t ts os (length ns)
+  pub types : FieldTypes (child_fields t) cs
+  pub places : PlacesFit (union_ids t) ts os ns
+
+abbrev pub BreaksUnionRules : TypeTree → List ℤ → Option (List ℤ) → List TypeTree → List ℕ → Error → Type 0
+BreaksUnionRules t ts os cs ns (OutOfSpec ChildType) = ¬ (FieldTypes (child_fields t) cs)
+BreaksUnionRules t ts os cs ns (OutOfSpec ChildLength) = ¬ (PlacesFit (union_ids t) ts os ns)
+BreaksUnionRules t ts os cs ns (OutOfSpec UnionOffset) = ¬ (PlacesFit (union_ids t) ts os ns)
+BreaksUnionRules t ts os cs ns e = BreaksIdRules t ts os (length ns) e

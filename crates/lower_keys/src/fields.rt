@@ -3,6 +3,7 @@ ghost use Rattle.std.specs.Prelude.{◌≡◌, ◌↔◌, [], ◌∷◌, IsTrue}
 ghost use Rattle.lower.specs.TypeViews.{type_view, field_view, fields_view};
 ghost use Rattle.lower_keys.specs.Fields.{child_fields, field_type, field_count, FieldTypes, IsPair};
 ghost use Rattle.lower_keys.specs.ListTypes.{list_size};
+ghost use Rattle.lower_keys.specs.Keys.{is_ordered};
 
 use lower::datatypes::{DataType, Field, is_same_type};
 use std::slice;
@@ -64,5 +65,15 @@ pub fn list_size(data_type: &DataType) -> usize
     match data_type.to_logical_type() {
         DataType::FixedSizeList(_, size) => *size,
         _ => 0,
+    }
+}
+
+/// Whether the type says that the order of a dictionary's values means something.
+pub fn is_ordered(data_type: &DataType) -> bool
+    ensures { result ≡ is_ordered (type_view data_type.now) }
+{
+    match data_type.to_logical_type() {
+        DataType::Dictionary(_, _, is_ordered) => *is_ordered,
+        _ => false,
     }
 }

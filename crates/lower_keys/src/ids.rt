@@ -119,10 +119,3 @@ pub fn are_given(mode: UnionMode, offsets: &Option<Buffer<i32>>, len: usize) -> 
         _ => false,
     }
 }
-
-/// Whether an offset is from 0 to below `len`.
-pub fn is_place(offset: i32, len: usize) -> bool
-    ensures { IsTrue result ↔ KeyFits offset len }
-{
-    offset >= 0 && (offset.cast_unsigned() as usize) < len
-}

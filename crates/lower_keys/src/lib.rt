@@ -1,10 +1,12 @@
 //! What arrays have that needs no child: numbers of any type, the keys of dictionaries, the ids of
-//! unions, the offsets of lists, and the rules that tell of a child only its type and its length.
+//! unions, the offsets of lists, and the rules, which see of a child only its type and its length.
 #![tactic(auto)]
 
+pub mod children;
 pub mod fields;
 pub mod ids;
 pub mod keys;
 pub mod numbers;
 pub mod offsets;
+pub mod places;
 pub mod rules;

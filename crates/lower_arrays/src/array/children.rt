@@ -1,45 +1,33 @@
 //! What an array does with its children.
-ghost use Rattle.std.specs.Prelude.{◌≡◌, ◌↔◌, ◌+◌, IsTrue, IfOk, map};
-ghost use Rattle.lower.specs.TypeViews.{fields_view};
+ghost use Rattle.std.specs.Prelude.{◌≡◌, ◌+◌, IfOk, map};
 ghost use Rattle.lower_arrays.specs.Layouts.{layouts};
-ghost use Rattle.lower_arrays.specs.Children.{ChildTypes, AllHave, AllReach};
-ghost use Rattle.lower_arrays.specs.Slots.{AreArrays};
+ghost use Rattle.lower_arrays.specs.Children.{AllReach};
 ghost use Rattle.lower_arrays.specs.Cuts.{cut};
 ghost use Rattle.lower_arrays.specs.AnyLayouts.{layout_of};
 
 use super::AnyArray;
-use lower::datatypes::Field;
-use lower_keys::fields::has_type;
+use lower::datatypes::DataType;
+use lower_keys::children::Child;
 use std::alloc::{AllocError, Global};
 
-/// Whether there is a child for each field, of its type.
-pub fn have_types(fields: &[Field], children: &[AnyArray]) -> bool
-    ensures same { IsTrue result ↔ ChildTypes (fields_view fields.now) (layouts (map layout_of children.now)) }
-    ensures valid { IsTrue result → AreArrays (layouts (map layout_of children.now)) }
-{
-    if fields.len() != children.len() {
-        return false;
-    }
-    for i in 0..fields.len() {
-        if !has_type(&fields[i], children[i].data_type()) {
-            return false;
-        }
-    }
-    true
-}
+impl Child for AnyArray {
+    ghost use Rattle.lower_arrays.specs.Layouts.{len_of, type_of};
+    ghost use Rattle.lower_arrays.specs.Slots.{IsArray};
+    ghost use Rattle.lower_arrays.specs.AnyLayouts.{layout_of};
 
-/// Whether each child has `len` slots.
-#[tactic(auto, using(crate::proofs::Children::one_more))]
-pub fn have_len(children: &[AnyArray], len: usize) -> bool
-    ensures same { IsTrue result ↔ AllHave len (layouts (map layout_of children.now)) }
-    ensures valid { IsTrue result → AreArrays (layouts (map layout_of children.now)) }
-{
-    for child in children {
-        if child.len() != len {
-            return false;
-        }
+    ghost child_type = { λ a. type_of (layout_of a) };
+
+    ghost child_len = { λ a. len_of (layout_of a) };
+
+    ghost is_child = { λ a. IsArray (layout_of a) };
+
+    fn data_type(&self) -> &DataType {
+        self.data_type()
     }
-    true
+
+    fn len(&self) -> usize {
+        self.len()
+    }
 }
 
 /// The `len` slots from `offset` on of each child. It takes no memory.

@@ -14,6 +14,7 @@ use super::AnyArray;
 use lower::bitmap::Bitmap;
 use lower::datatypes::DataType;
 use lower::error::Error;
+use lower_keys::fields::is_ordered;
 use lower_keys::keys::DictionaryKeys;
 use lower_keys::rules::check_dictionary;
 use std::alloc::AllocError;
@@ -101,10 +102,7 @@ impl DictionaryArray {
         ensures order { result ≡ is_ordered self.now.type }
         ensures valid { IsDictionary self.now }
     {
-        match self.data_type.to_logical_type() {
-            DataType::Dictionary(_, _, is_ordered) => *is_ordered,
-            _ => false,
-        }
+        is_ordered(&self.data_type)
     }
 
     /// The keys, with one for each null too.

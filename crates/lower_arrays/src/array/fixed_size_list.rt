@@ -168,9 +168,7 @@ impl FixedSizeListArray {
             validity: sliced_validity(validity, offset, len),
         }
     }
-}
 
-impl FixedSizeListArray {
     // The same slots once more.
     #[cycle(copies)]
     pub(super) fn copy(&self) -> Result<Self, AllocError>

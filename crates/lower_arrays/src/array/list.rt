@@ -167,9 +167,7 @@ impl ListArray {
             validity: sliced_validity(validity, offset, len),
         }
     }
-}
 
-impl ListArray {
     // The same slots once more.
     #[cycle(copies)]
     pub(super) fn copy(&self) -> Result<Self, AllocError>

@@ -165,9 +165,7 @@ impl MapArray {
             validity: sliced_validity(validity, offset, len),
         }
     }
-}
 
-impl MapArray {
     // The same slots once more.
     #[cycle(copies)]
     pub(super) fn copy(&self) -> Result<Self, AllocError>

@@ -8,12 +8,11 @@ ghost use Rattle.lower_arrays.specs.Structs.{struct_seen, struct_layout, cut_str
 ghost use Rattle.lower_arrays.specs.AnyLayouts.{layout_of};
 
 use super::AnyArray;
-use super::children::{copy_each, have_len, have_types, sliced_each};
+use super::children::{copy_each, sliced_each};
 use lower::bitmap::Bitmap;
 use lower::datatypes::DataType;
-use lower::error::{Error, Rule};
+use lower::error::Error;
 use lower_flat::validity::{clone_validity, is_valid_at, sliced_validity, unset_bits};
-use lower_keys::fields::child_fields;
 use lower_keys::rules::check_struct;
 use std::alloc::AllocError;
 use std::marker::Model;
@@ -56,11 +55,11 @@ impl Model for StructArray {
 impl StructArray {
     /// An array of records of the children's slots, of which those are null whose bit isn't set.
     ///
-    /// `PhysicalType` where the data type isn't one of structs, `NoChild` where there is no child,
-    /// `ChildCount` where there are not as many children as fields, `ChildType` where a child hasn't
-    /// the type of its field, `ChildLength` where a child hasn't as many slots as the first one,
-    /// `ValidityLength` where the validity hasn't a bit for each slot.
-    #[tactic(auto, using(crate::proofs::Children::children_counted, crate::proofs::Checked::structs))]
+    /// `NoChild` where there is no child, `PhysicalType` where the data type isn't one of structs,
+    /// `ChildCount` where there are not as many children as fields, `ValidityLength` where the
+    /// validity hasn't a bit for each slot, `ChildType` where a child hasn't the type of its field,
+    /// `ChildLength` where a child hasn't as many slots as the first one.
+    #[tactic(auto, using(crate::proofs::Checked::structs))]
     pub fn try_new(
         data_type: DataType,
         values: Vec<AnyArray>,
@@ -69,17 +68,7 @@ impl StructArray {
         ensures { let seen = struct_seen (type_view data_type) (map layout_of values.items) validity in
             MatchResult result (λ a. (a ≡ seen) × IsArray (struct_layout seen)) (BreaksStruct seen) }
     {
-        let len = match values.first() {
-            None => return Err(Error::OutOfSpec(Rule::NoChild)),
-            Some(first) => first.len(),
-        };
-        check_struct(&data_type, values.len(), len, &validity)?;
-        if !have_types(child_fields(&data_type), &values) {
-            return Err(Error::OutOfSpec(Rule::ChildType));
-        }
-        if !have_len(&values, len) {
-            return Err(Error::OutOfSpec(Rule::ChildLength));
-        }
+        let len = check_struct(&data_type, &values, &validity)?;
         Ok(StructArray {
             data_type,
             len,
@@ -161,9 +150,7 @@ impl StructArray {
             validity: sliced_validity(validity, offset, len),
         }
     }
-}
 
-impl StructArray {
     // The same slots once more.
     #[cycle(copies)]
     pub(super) fn copy(&self) -> Result<Self, AllocError>

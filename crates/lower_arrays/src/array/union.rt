@@ -3,21 +3,20 @@ ghost use Rattle.std.specs.Prelude.{◌≡◌, ◌↔◌, pos, None, ◌+◌, �
 ghost use Rattle.std.specs.Option.{option_copied};
 ghost use Rattle.lower.specs.TypeViews.{type_view};
 ghost use Rattle.lower_arrays.specs.Layouts.{layouts, len_of};
-ghost use Rattle.lower_keys.specs.Keys.{KeyFits};
-ghost use Rattle.lower_keys.specs.Ids.{union_ids, child_number, NamesChild, AreNamed};
+ghost use Rattle.lower_keys.specs.Ids.{union_ids, child_number};
 ghost use Rattle.lower_arrays.specs.Children.{child_count};
-ghost use Rattle.lower_arrays.specs.Choices.{OffsetsFit, PlacesGiven, PlacesFit, child, place_in};
+ghost use Rattle.lower_arrays.specs.Choices.{child, place_in};
 ghost use Rattle.lower_arrays.specs.Unions.{union_seen, IsUnion, BreaksUnion, cut_union};
 ghost use Rattle.lower_arrays.specs.AnyLayouts.{layout_of};
 
 use super::AnyArray;
-use super::children::{copy_each, have_len, have_types, sliced_each};
+use super::children::{copy_each, sliced_each};
 use lower::bitmap::Bitmap;
 use lower::buffer::Buffer;
 use lower::datatypes::DataType;
-use lower::error::{Error, Rule};
-use lower_keys::fields::child_fields;
-use lower_keys::ids::{child_number, is_place, union_ids};
+use lower::error::Error;
+use lower_keys::ids::{child_number, union_ids};
+use lower_keys::places::clone_offsets;
 use lower_keys::rules::check_union;
 use std::alloc::AllocError;
 use std::marker::Model;
@@ -59,75 +58,19 @@ impl Model for UnionArray {
     ghost size_decreases = { λ a h. omega (arith, most_le-heights a.fields.items) };
 }
 
-// The number of the child that the slot at `index` is of.
-fn child_at(ids: Option<&[i32]>, types: &[i8], index: usize) -> usize
-    requires { index < length types.now }
-    ensures { result ≡ child_number (option_copied ids.entry) (get_or types.now index (pos 0)) }
-{
-    child_number(ids, types[index])
-}
-
-// Whether the offset at `index` is a place of the slot's child.
-fn has_place(
-    ids: Option<&[i32]>,
-    types: &[i8],
-    offsets: &[i32],
-    fields: &[AnyArray],
-    index: usize,
-) -> bool
-    requires here { index < length types.now }
-    requires given { index < length offsets.now }
-    requires named { NamesChild (option_copied ids) (length fields.now) (get_or types.now index (pos 0)) }
-    ensures { IsTrue result ↔ KeyFits (get_or offsets.now index (pos 0)) (len_of (child (layouts (map layout_of fields.now)) (child_number (option_copied ids.entry) (get_or types.now index (pos 0))))) }
-{
-    let child = &fields[child_at(ids, types, index)];
-    is_place(offsets[index], child.len())
-}
-
-// Whether each offset is a place of the slot's child.
-fn offsets_fit(ids: Option<&[i32]>, types: &[i8], offsets: &[i32], fields: &[AnyArray]) -> bool
-    requires given { length offsets.now ≡ length types.now }
-    requires named { AreNamed (option_copied ids) types.now (length fields.now) }
-    ensures { IsTrue result ↔ OffsetsFit (option_copied ids.entry) types.now offsets.now (layouts (map layout_of fields.now)) }
-{
-    for index in 0..types.len() {
-        if !has_place(ids, types, offsets, fields, index) {
-            return false;
-        }
-    }
-    true
-}
-
-// Whether each slot has a place in its child.
-fn places_fit(
-    ids: Option<&[i32]>,
-    types: &[i8],
-    offsets: &Option<Buffer<i32>>,
-    fields: &[AnyArray],
-) -> bool
-    requires given { PlacesGiven offsets.now (length types.now) }
-    requires named { AreNamed (option_copied ids) types.now (length fields.now) }
-    ensures { IsTrue result ↔ PlacesFit (option_copied ids.entry) types.now offsets.now (layouts (map layout_of fields.now)) }
-{
-    match offsets {
-        None => have_len(fields, types.len()),
-        Some(offsets) => offsets_fit(ids, types, offsets.as_slice(), fields),
-    }
-}
-
 impl UnionArray {
     /// An array whose slot i is of the child that the id at i names: its slot i where no offsets are
     /// given, else its slot at offset i.
     ///
     /// `PhysicalType` where the data type isn't a union, `UnionChildren` where there are no children
-    /// or more than 127, `ChildCount` where there are not as many children as fields, `ChildType`
-    /// where a child hasn't the type of its field, `UnionIds` where the ids that the type gives are
-    /// not as many as children, not distinct, or not from 0 to 126, `UnionType` where an id of a slot
-    /// names no child, `UnionOffsets` where the type is dense and there is not an offset for each
-    /// slot, or sparse and there are offsets, `ChildLength` where a child of a sparse union has
-    /// another length, `UnionOffset` where an offset of a dense union is negative, or not less than
-    /// its child's length.
-    #[tactic(auto, using(crate::proofs::Children::children_counted, crate::proofs::Checked::unions))]
+    /// or more than 127, `ChildCount` where there are not as many children as fields, `UnionIds`
+    /// where the ids that the type gives are not as many as children, not distinct, or not from 0 to
+    /// 126, `UnionType` where an id of a slot names no child, `UnionOffsets` where the type is dense
+    /// and there is not an offset for each slot, or sparse and there are offsets, `ChildType` where a
+    /// child hasn't the type of its field, `ChildLength` where a child of a sparse union has another
+    /// length, `UnionOffset` where an offset of a dense union is negative, or not less than its
+    /// child's length.
+    #[tactic(auto, using(crate::proofs::Checked::unions))]
     pub fn try_new(
         data_type: DataType,
         types: Buffer<i8>,
@@ -137,16 +80,7 @@ impl UnionArray {
         ensures { let seen = union_seen (type_view data_type) types (map layout_of fields.items) offsets in
             MatchResult result (λ a. (a ≡ seen) × IsUnion seen) (BreaksUnion seen) }
     {
-        check_union(&data_type, types.as_slice(), &offsets, fields.len())?;
-        if !have_types(child_fields(&data_type), &fields) {
-            return Err(Error::OutOfSpec(Rule::ChildType));
-        }
-        if !places_fit(union_ids(&data_type), types.as_slice(), &offsets, &fields) {
-            return Err(Error::OutOfSpec(match offsets {
-                None => Rule::ChildLength,
-                Some(_) => Rule::UnionOffset,
-            }));
-        }
+        check_union(&data_type, types.as_slice(), &offsets, &fields)?;
         Ok(UnionArray {
             data_type,
             types,
@@ -283,16 +217,6 @@ impl UnionArray {
             fields: copy_each(*self.fields.allocator(), &self.fields)?,
             offsets: clone_offsets(&self.offsets)?,
         })
-    }
-}
-
-// The same offsets once more.
-fn clone_offsets(offsets: &Option<Buffer<i32>>) -> Result<Option<Buffer<i32>>, AllocError>
-    ensures { IfOk result (λ copy. copy ≡ offsets.now) }
-{
-    match offsets {
-        None => Ok(None),
-        Some(offsets) => Ok(Some(offsets.clone()?)),
     }
 }
 

@@ -2,7 +2,7 @@ use Rattle.std.proofs.Common.{arith, ◌≡◌, ℕ, ◌≤◌, ◌<◌, ◌+◌
 use Rattle.lower.specs.TypeViews.{type_view}
 use Rattle.lower_arrays.specs.Layouts.{len_of, layouts, height, heights}
 use Rattle.lower_arrays.specs.AnyLayouts.{layout_of}
-use Rattle.lower_arrays.specs.Children.{AllHave}
+use Rattle.lower_arrays.specs.Children.{lens_of, AllHave}
 use Rattle.lower_arrays.specs.FixedLists.{FixedListSeen, fixed_list_layout}
 use Rattle.lower_arrays.specs.Structs.{StructSeen}
 use Rattle.lower_arrays.specs.Slots.{IsArray}
@@ -12,7 +12,7 @@ use Rattle.lower_arrays.proofs.CutRules.{sizes_within, have-reach}
 use Rattle.lower_arrays.proofs.NestedParts.{cut_struct_is, cut_fixed_list_is}
 use Rattle.lower_arrays.proofs.array.+slices.Goals as goal
 use Rattle.lower_keys.specs.Ids.{union_ids}
-use Rattle.lower_arrays.specs.Choices.{PlacesFit}
+use Rattle.lower_keys.specs.Places.{PlacesFit}
 use Rattle.lower_arrays.specs.Unions.{union_seen, IsUnion}
 use Rattle.lower_arrays.proofs.Unions.{cut_union_is}
 
@@ -110,7 +110,7 @@ union::UnionArray::sliced-sliced_each-requires t c =
     let s = c.self.inside in
     let cs = layouts (map layout_of s.fields.items) in
     let have : AllHave (length s.types) cs =
-    subst (λ os. PlacesFit (union_ids (type_view s.data_type)) s.types os cs) c.in-None.is c.self.invariant.fits.places
+    subst (λ os. PlacesFit (union_ids (type_view s.data_type)) s.types os (lens_of cs)) c.in-None.is c.self.invariant.fits.places
     in
     let room : c.args.offset + c.args.len ≤ length s.types =
     subst (λ a. c.args.offset + c.args.len ≤ length a.types) (sym c.self.view_is) c.requires

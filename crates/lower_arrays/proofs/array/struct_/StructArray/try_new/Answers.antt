@@ -1,20 +1,26 @@
-use Rattle.std.proofs.Common.{rules, ◌≡◌, Some, length, map, ◌∙◌}
-use Rattle.std.specs.Prelude.{slice_get}
+use Rattle.std.proofs.Common.{◌≡◌, map, get_or, subst, sym}
+use Rattle.std.specs.List.{All}
 use Rattle.lower.specs.TypeViews.{type_view}
-use Rattle.lower_keys.specs.Rules.{BreaksStructRules}
-use Rattle.lower_arrays.specs.Structs.{first_len, struct_seen, BreaksStruct}
+use Rattle.lower_keys.specs.Rules.{StructRules}
+use Rattle.lower_arrays.specs.Layouts.{type_of, len_of}
+use Rattle.lower_arrays.specs.Slots.{IsArray}
+use Rattle.lower_arrays.specs.Structs.{first_len}
 use Rattle.lower_arrays.specs.AnyLayouts.{layout_of}
-use Rattle.lower_arrays.proofs.Checked.{first_is, breaks_records}
+use Rattle.lower_arrays.proofs.Children.{first_is}
+use Rattle.lower_arrays.proofs.Checked.{struct_is, struct_seen_is}
 use Rattle.lower_arrays.proofs.array.struct_.StructArray.try_new.Goals as goal
 
-pub returns-in_err-check_struct : goal.returns-in_err-check_struct
-returns-in_err-check_struct c =
-    let xs = c.args.values.items in
+pub returns : goal.returns
+returns c =
     let t = type_view c.args.data_type in
-    let e = c.in_err-check_struct.field-0.0 in
-    let at : Some c.in-Some.first.now ≡ slice_get xs 0 = search rules in
-    let n : c.len-len.result ≡ first_len (map layout_of xs) = c.len-len.ensures.len ∙ first_is xs c.in-Some.first.now at in
-    let k : c.len.result ≡ length xs = search rules in
-    let broken : BreaksStructRules t c.len.result c.len-len.result c.args.validity e = search rules in
-    let told : BreaksStruct (struct_seen t (map layout_of xs) c.args.validity) e = breaks_records t xs _ _ c.args.validity e k n broken in
-    search rules
+    let xs = c.args.values.items in
+    let v = c.args.validity in
+    let same = c.deref.ensures.value in
+    let n : c.in_ok-len.len ≡ get_or (map (λ x. len_of (layout_of x)) xs) 0 0 =
+    subst (λ ys. c.in_ok-len.len ≡ get_or (map (λ x. len_of (layout_of x)) ys) 0 0) same c.in_ok-len.ensures.len
+    in
+    let keeps : StructRules t (map (λ x. type_of (layout_of x)) xs) (map (λ x. len_of (layout_of x)) xs) v =
+    subst (λ ys. StructRules t (map (λ x. type_of (layout_of x)) ys) (map (λ x. len_of (layout_of x)) ys) v) same c.in_ok-len.ensures.rules
+    in
+    let are : All (λ x. IsArray (layout_of x)) xs = subst (All (λ x. IsArray (layout_of x))) same c.in_ok-len.ensures.valid in
+    (struct_seen_is t xs c.in_ok-len.len v n, struct_is t xs (first_len (map layout_of xs)) v (sym (first_is xs)) keeps are)
