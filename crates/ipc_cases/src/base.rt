@@ -1,10 +1,10 @@
 //! Chunks and ids at work.
+use crate::build::named;
 use ipc_base::chunk::{Chunk, Rows, equal_rows};
 use ipc_base::fault::{ArgFault, Fault};
 use ipc_base::ipc::{IpcField, IpcSchema, clone_ipc_fields, fits};
 use lower::datatypes::{DataType, Field, IntegerType};
 use std::alloc::{AllocError, Global};
-use std::collections::BTreeMap;
 use std::test::Fail;
 
 /// A column of nothing but a length.
@@ -65,15 +65,6 @@ fn columns_of_two_lengths_are_refused(rt: HostRuntime) -> Result<(), Fail> {
     };
     assert!(rt; unequal);
     Ok(())
-}
-
-fn named(alloc: Global, name: &str, data_type: DataType) -> Result<Field, AllocError> {
-    Ok(Field {
-        name: String::from_str(alloc, name)?,
-        data_type,
-        is_nullable: false,
-        metadata: BTreeMap::new(alloc),
-    })
 }
 
 // A list of texts under a dictionary.

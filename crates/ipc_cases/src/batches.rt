@@ -1,6 +1,7 @@
 //! Record batches of integer columns, and what is refused.
 ghost use Rattle.std.specs.Prelude.{◌<◌, length};
 
+use crate::build::named;
 use ipc_base::chunk::Chunk;
 use ipc_base::ipc::IpcSchema;
 use ipc_devices::MemFile;
@@ -11,7 +12,7 @@ use ipc_views::{MessageHeaderRef, MessageRef, MetadataVersion};
 use lower::datatypes::{DataType, Field};
 use lower_arrays::array::{AnyArray, AnyPrimitive};
 use std::alloc::{AllocError, Global};
-use std::collections::{BTreeMap, HashMap};
+use std::collections::HashMap;
 use std::test::Fail;
 
 // A vector of structs, each of two numbers.
@@ -52,12 +53,7 @@ fn metadata(alloc: Global, nodes: &[i64], buffers: &[i64]) -> Result<Vec<u8>, Al
 fn fields(alloc: Global) -> Result<Vec<Field>, AllocError> {
     let mut fields = Vec::new(alloc);
     for name in ["x", "y"] {
-        fields.push(Field {
-            name: String::from_str(alloc, name)?,
-            data_type: DataType::Int32,
-            is_nullable: true,
-            metadata: BTreeMap::new(alloc),
-        })?;
+        fields.push(named(alloc, name, DataType::Int32)?)?;
     }
     Ok(fields)
 }

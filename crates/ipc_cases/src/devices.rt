@@ -161,10 +161,16 @@ fn a_watched_file_is_moved(rt: HostRuntime) -> Result<(), Fail> {
     Ok(())
 }
 
+// Whether it shows so many bytes.
+fn shows<R: Reads>(device: &R, count: usize) -> bool {
+    device.ahead(count).is_some()
+}
+
 #[test]
 fn memory_shows_what_is_ahead(rt: HostRuntime) -> Result<(), Fail> {
     let mut file = MemFile::new(b"abcd".as_slice());
     assert!(rt; file.ahead(5).is_none());
+    assert!(rt; shows(&&mut file, 4) && !shows(&&mut file, 5));
     assert_eq!(rt; file.ahead(2).expect(&rt, "two bytes"), b"ab".as_slice());
     file.skip(3)?;
     assert_eq!(rt; file.given(), 3);

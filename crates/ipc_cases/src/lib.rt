@@ -7,6 +7,8 @@ mod base;
 #[cfg(test)]
 mod batches;
 #[cfg(test)]
+mod build;
+#[cfg(test)]
 mod devices;
 #[cfg(test)]
 mod messages;

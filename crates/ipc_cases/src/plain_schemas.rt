@@ -1,4 +1,5 @@
 //! Schema messages that are written out, and what they mean.
+use crate::build::{head, leaf, nested, shared, table};
 use crate::views::SMALLEST;
 use ipc_devices::fault::Fault;
 use ipc_plain_schema::schema::{PlainAnswer, plain_schema};
@@ -32,7 +33,7 @@ const X: [u8; 64] = [
 ];
 
 fn message_of_x(alloc: Global) -> Result<Vec<u8>, AllocError> {
-    let mut bytes = Vec::from_slice(alloc, &SMALLEST[..44])?;
+    let mut bytes = head(alloc)?;
     bytes.extend_from_slice(&X)?;
     Ok(bytes)
 }
@@ -107,26 +108,6 @@ fn list(alloc: Global, item: PlainField) -> Result<PlainType, AllocError> {
 }
 
 // ---- messages by their tables
-
-fn table(
-    alloc: Global,
-    name: &str,
-    type_: FieldType,
-    children: Vec<tables::Field>,
-) -> Result<tables::Field, AllocError> {
-    Ok(tables::Field {
-        name: String::from_str(alloc, name)?,
-        nullable: true,
-        type_,
-        dictionary: None,
-        children,
-        custom_metadata: Vec::new(alloc),
-    })
-}
-
-fn leaf(alloc: Global, name: &str, type_: FieldType) -> Result<tables::Field, AllocError> {
-    table(alloc, name, type_, Vec::new(alloc))
-}
 
 fn integers(
     alloc: Global,
@@ -432,15 +413,6 @@ fn a_dictionary_is_another_type(rt: HostRuntime) -> Result<(), Fail> {
 
 // ---- how deep, and how many
 
-// A field of texts in so many lists.
-fn nested(alloc: Global, lists: usize) -> Result<tables::Field, AllocError> {
-    let mut field = leaf(alloc, "f", FieldType::Utf8)?;
-    for _ in 0..lists {
-        field = table(alloc, "f", FieldType::List, vec![in alloc; field]?)?;
-    }
-    Ok(field)
-}
-
 #[test]
 fn fields_go_to_the_64th_level(rt: HostRuntime) -> Result<(), Fail> {
     let alloc = rt.alloc();
@@ -449,56 +421,24 @@ fn fields_go_to_the_64th_level(rt: HostRuntime) -> Result<(), Fail> {
         deep = field(alloc, "f", list(alloc, deep)?)?;
     }
     let expected = schema(alloc, vec![in alloc; deep]?, Endianness::Little);
-    let read = answer_of(alloc, nested(alloc, 63)?)?;
+    let read = answer_of(alloc, nested(alloc, FieldType::Utf8, 63)?)?;
     assert!(rt; read == PlainAnswer::Plain(expected));
-    assert!(rt; answer_of(alloc, nested(alloc, 64)?)? == PlainAnswer::NoSchema);
+    assert!(rt; answer_of(alloc, nested(alloc, FieldType::Utf8, 64)?)? == PlainAnswer::NoSchema);
     Ok(())
-}
-
-fn put(bytes: &mut Vec<u8>, numbers: &[u16]) -> Result<(), AllocError> {
-    for number in numbers {
-        bytes.push((*number % 256) as u8)?;
-        bytes.push((*number / 256) as u8)?;
-    }
-    Ok(())
-}
-
-// Structs in structs, each of two fields whose offsets lead to one table, so many levels deep.
-fn shared(alloc: Global, levels: u16) -> Result<Vec<u8>, AllocError> {
-    let mut bytes = Vec::from_slice(alloc, &SMALLEST[..44])?;
-    // one field, at 68: the first level stands from 52 on, and each takes 48 bytes
-    put(&mut bytes, &[1, 0, 20, 0])?;
-    for level in 0..levels {
-        let behind = 48 * (levels.saturating_sub(level)).min(100);
-        let tag = if level.saturating_add(1) == levels {
-            5
-        } else {
-            13
-        };
-        // the vtable: name, nullable, tag, type, dictionary, children
-        put(&mut bytes, &[16, 20, 4, 0, 8, 12, 0, 16])?;
-        // the table, 16 bytes behind: the name and the type stand behind all levels
-        put(&mut bytes, &[16, 0, behind.saturating_sub(20), 0, tag, 0])?;
-        put(&mut bytes, &[behind.saturating_sub(16), 0, 4, 0])?;
-        // the children: twice the next level
-        put(&mut bytes, &[2, 0, 24, 0, 20, 0])?;
-    }
-    put(&mut bytes, &[0, 0, 0, 0, 4, 4, 4, 0])?;
-    Ok(bytes)
 }
 
 #[test]
 fn fields_are_no_more_than_bytes(rt: HostRuntime) -> Result<(), Fail> {
     let alloc = rt.alloc();
     // 7 levels are 127 fields in 404 bytes
-    let few = match plain_schema(alloc, &shared(alloc, 7)?)? {
+    let few = match plain_schema(alloc, &shared(alloc, 7, 5)?)? {
         PlainAnswer::Plain(schema) => schema.fields.len() == 1,
         _ => false,
     };
     assert!(rt; few);
     // 10 levels are 1023 fields in 548 bytes
-    assert!(rt; plain_schema(alloc, &shared(alloc, 10)?)? == PlainAnswer::NoSchema);
+    assert!(rt; plain_schema(alloc, &shared(alloc, 10, 5)?)? == PlainAnswer::NoSchema);
     // and 60 levels take no longer
-    assert!(rt; plain_schema(alloc, &shared(alloc, 60)?)? == PlainAnswer::NoSchema);
+    assert!(rt; plain_schema(alloc, &shared(alloc, 60, 5)?)? == PlainAnswer::NoSchema);
     Ok(())
 }

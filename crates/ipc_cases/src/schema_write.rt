@@ -1,4 +1,5 @@
 //! What no clause says: which fault refuses a schema that is written, and weights of worked examples.
+use crate::build::named;
 use ipc_base::fault::{ArgFault, Fault, Nyi};
 use ipc_base::ipc::IpcField;
 use ipc_schema_write::defaults::default_ipc_fields;
@@ -8,15 +9,6 @@ use lower::datatypes::{DataType, Field, IntegerType, Schema, TimeUnit, UnionMode
 use std::alloc::{AllocError, Global};
 use std::collections::BTreeMap;
 use std::test::Fail;
-
-fn named(alloc: Global, name: &str, data_type: DataType) -> Result<Field, AllocError> {
-    Ok(Field {
-        name: String::from_str(alloc, name)?,
-        data_type,
-        is_nullable: true,
-        metadata: BTreeMap::new(alloc),
-    })
-}
 
 fn schema_of(alloc: Global, fields: Vec<Field>) -> Schema {
     Schema {

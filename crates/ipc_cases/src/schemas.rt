@@ -1,4 +1,5 @@
 //! Schema messages that are read and written.
+use crate::build::{head, leaf, named, nested, put, shared, table};
 use crate::views::SMALLEST;
 use ipc_base::fault::{Fault, OutOfSpecKind, SchemaFault, TableFault};
 use ipc_base::ipc::IpcField;
@@ -11,7 +12,6 @@ use ipc_tables::types::{
 use ipc_views::{Endianness, MetadataVersion, TimeUnit as TimeUnitTag, UnionMode as UnionModeTag};
 use lower::datatypes::{DataType, Field, IntegerType, TimeUnit, UnionMode};
 use std::alloc::{AllocError, Global};
-use std::collections::BTreeMap;
 use std::test::Fail;
 
 #[test]
@@ -70,36 +70,7 @@ fn a_schema_without_a_vector_of_fields_is_refused(rt: HostRuntime) {
     assert!(rt; missing);
 }
 
-fn named(alloc: Global, name: &str, data_type: DataType) -> Result<Field, AllocError> {
-    Ok(Field {
-        name: String::from_str(alloc, name)?,
-        data_type,
-        is_nullable: true,
-        metadata: BTreeMap::new(alloc),
-    })
-}
-
 // ---- all types, read
-
-fn table(
-    alloc: Global,
-    name: &str,
-    type_: FieldType,
-    children: Vec<tables::Field>,
-) -> Result<tables::Field, AllocError> {
-    Ok(tables::Field {
-        name: String::from_str(alloc, name)?,
-        nullable: true,
-        type_,
-        dictionary: None,
-        children,
-        custom_metadata: Vec::new(alloc),
-    })
-}
-
-fn leaf(alloc: Global, name: &str, type_: FieldType) -> Result<tables::Field, AllocError> {
-    table(alloc, name, type_, Vec::new(alloc))
-}
 
 // The message of a schema of these tables of fields, whose numbers have their highest byte first.
 fn message(alloc: Global, fields: Vec<tables::Field>) -> Result<Vec<u8>, Fault> {
@@ -280,68 +251,26 @@ fn a_second_child_of_a_list_is_not_used(rt: HostRuntime) -> Result<(), Fail> {
     Ok(())
 }
 
-// A field in so many lists.
-fn nested(alloc: Global, lists: usize) -> Result<tables::Field, AllocError> {
-    let mut field = leaf(alloc, "f", FieldType::Bool)?;
-    for _ in 0..lists {
-        field = table(alloc, "f", FieldType::List, vec![in alloc; field]?)?;
-    }
-    Ok(field)
-}
-
 #[test]
 fn the_65th_level_is_refused(rt: HostRuntime) -> Result<(), Fail> {
     let alloc = rt.alloc();
-    let bytes = message(alloc, vec![in alloc; nested(alloc, 63)?]?)?;
+    let bytes = message(alloc, vec![in alloc; nested(alloc, FieldType::Bool, 63)?]?)?;
     let (schema, _) = deserialize_schema(alloc, &bytes)?;
     assert_eq!(rt; schema.fields.len(), 1);
-    assert!(rt; fault_of(alloc, nested(alloc, 64)?)? == Some(SchemaFault::TooDeep));
+    assert!(rt;
+        fault_of(alloc, nested(alloc, FieldType::Bool, 64)?)? == Some(SchemaFault::TooDeep)
+    );
     Ok(())
-}
-
-fn put(bytes: &mut Vec<u8>, numbers: &[u16]) -> Result<(), AllocError> {
-    for number in numbers {
-        bytes.push((*number % 256) as u8)?;
-        bytes.push((*number / 256) as u8)?;
-    }
-    Ok(())
-}
-
-// Structs in structs, each of two fields whose offsets lead to one table, so many levels deep.
-fn shared(alloc: Global, levels: u16) -> Result<Vec<u8>, AllocError> {
-    let mut bytes = Vec::new(alloc);
-    for byte in &SMALLEST[..44] {
-        bytes.push(*byte)?;
-    }
-    // one field, at 68: the first level stands from 52 on, and each takes 48 bytes
-    put(&mut bytes, &[1, 0, 20, 0])?;
-    for level in 0..levels {
-        let behind = 48 * (levels.saturating_sub(level)).min(100);
-        let tag = if level.saturating_add(1) == levels {
-            1
-        } else {
-            13
-        };
-        // the vtable: name, nullable, tag, type, dictionary, children
-        put(&mut bytes, &[16, 20, 4, 0, 8, 12, 0, 16])?;
-        // the table, 16 bytes behind: the name and the type stand behind all levels
-        put(&mut bytes, &[16, 0, behind.saturating_sub(20), 0, tag, 0])?;
-        put(&mut bytes, &[behind.saturating_sub(16), 0, 4, 0])?;
-        // the children: twice the next level
-        put(&mut bytes, &[2, 0, 24, 0, 20, 0])?;
-    }
-    put(&mut bytes, &[0, 0, 0, 0, 4, 4, 4, 0])?;
-    Ok(bytes)
 }
 
 #[test]
 fn more_fields_than_bytes_are_refused(rt: HostRuntime) -> Result<(), Fail> {
     let alloc = rt.alloc();
     // 7 levels are 127 fields in 404 bytes
-    let (schema, _) = deserialize_schema(alloc, &shared(alloc, 7)?)?;
+    let (schema, _) = deserialize_schema(alloc, &shared(alloc, 7, 1)?)?;
     assert_eq!(rt; schema.fields.len(), 1);
     // 10 levels are 1023 fields in 548 bytes
-    let refused = match deserialize_schema(alloc, &shared(alloc, 10)?) {
+    let refused = match deserialize_schema(alloc, &shared(alloc, 10, 1)?) {
         Err(Fault::Schema(SchemaFault::TooManyFields)) => true,
         _ => false,
     };
@@ -351,10 +280,7 @@ fn more_fields_than_bytes_are_refused(rt: HostRuntime) -> Result<(), Fail> {
 
 // A schema of one field, whose table is written by hand.
 fn by_hand(alloc: Global, field: &[u16]) -> Result<Option<SchemaFault>, AllocError> {
-    let mut bytes = Vec::new(alloc);
-    for byte in &SMALLEST[..44] {
-        bytes.push(*byte)?;
-    }
+    let mut bytes = head(alloc)?;
     put(&mut bytes, &[1, 0])?;
     put(&mut bytes, field)?;
     Ok(match deserialize_schema(alloc, &bytes) {
@@ -408,7 +334,8 @@ fn union_table(alloc: Global) -> Result<tables::Field, AllocError> {
         mode: UnionModeTag::Dense,
         type_ids: Some(vec![in alloc; 5, 7]?),
     };
-    let children = vec![in alloc; leaf(alloc, "a", FieldType::Utf8)?, nested(alloc, 1)?]?;
+    let a = leaf(alloc, "a", FieldType::Utf8)?;
+    let children = vec![in alloc; a, nested(alloc, FieldType::Bool, 1)?]?;
     table(alloc, "u", FieldType::Union(union), children)
 }
 

@@ -1,5 +1,6 @@
 //! What is built is read back by the views.
 
+use crate::build::leaf;
 use ipc_tables::file::Footer;
 use ipc_tables::message::{DictionaryBatch, Message, MessageHeader, RecordBatch};
 use ipc_tables::schema::{DictionaryEncoding, Field, KeyValue, Schema};
@@ -12,17 +13,6 @@ use ipc_views::{
 };
 use std::alloc::{AllocError, Global};
 use std::test::Fail;
-
-fn field(alloc: Global, name: &str, type_: FieldType) -> Result<Field, AllocError> {
-    Ok(Field {
-        name: String::from_str(alloc, name)?,
-        nullable: true,
-        type_,
-        dictionary: None,
-        children: Vec::new(alloc),
-        custom_metadata: Vec::new(alloc),
-    })
-}
 
 fn pairs(alloc: Global) -> Result<Vec<KeyValue>, AllocError> {
     let key = String::from_str(alloc, "k")?;
@@ -39,10 +29,10 @@ fn timestamp(alloc: Global) -> Result<FieldType, AllocError> {
 
 // A struct of a timestamp, and texts by a dictionary.
 fn fields(alloc: Global) -> Result<Vec<Field>, AllocError> {
-    let time = field(alloc, "time", timestamp(alloc)?)?;
-    let mut parent = field(alloc, "parent", FieldType::Struct)?;
+    let time = leaf(alloc, "time", timestamp(alloc)?)?;
+    let mut parent = leaf(alloc, "parent", FieldType::Struct)?;
     parent.children = vec![in alloc; time]?;
-    let mut words = field(alloc, "words", FieldType::Utf8)?;
+    let mut words = leaf(alloc, "words", FieldType::Utf8)?;
     words.dictionary = Some(DictionaryEncoding {
         id: 7,
         index_type: Int {

@@ -3,23 +3,24 @@ mod dictionaries;
 mod nested;
 mod unions;
 
+use crate::build::{bits, buffer};
 use lower::bitmap::Bitmap;
-use lower::buffer::Buffer;
 use lower::datatypes::DataType;
 use lower::datatypes::equal::is_same_type;
 use lower_arrays::array::{AnyArray, AnyPrimitive, BooleanArray, NullArray, PrimitiveArray};
 use lower_equal::equal;
-use std::alloc::{AllocError, Global};
+use std::alloc::Global;
 use std::test::Fail;
 
-fn numbers(alloc: Global, values: &[i32]) -> Result<Buffer<i32>, AllocError> {
-    Buffer::new(Vec::from_slice(alloc, values)?)
+fn int32s(alloc: Global, values: &[i32], validity: Option<Bitmap>) -> Result<AnyArray, Fail> {
+    let array = PrimitiveArray::try_new(DataType::Int32, buffer(alloc, values)?, validity)?;
+    Ok(AnyArray::Primitive(AnyPrimitive::Int32(array)))
 }
 
-// As many bits as are asked, of a byte.
-fn bits(alloc: Global, byte: u8, count: usize) -> Result<Bitmap, Fail> {
-    let bytes = Buffer::new(Vec::from_slice(alloc, &[byte])?)?;
-    Ok(Bitmap::try_new(bytes, count)?)
+// As many truth values as are asked, of a byte.
+fn truths(alloc: Global, byte: u8, count: usize) -> Result<AnyArray, Fail> {
+    let values = bits(alloc, &[byte], count)?;
+    Ok(AnyArray::Boolean(BooleanArray::try_new(DataType::Boolean, values, None)?))
 }
 
 fn is_same(array: &AnyArray, other: AnyArray) -> bool {
@@ -37,14 +38,15 @@ fn cut(array: AnyArray, offset: usize, len: usize) -> Result<AnyArray, Fail> {
 
 // 1, null, 3 and 4, as dates.
 fn dates(alloc: Global, hidden: i32) -> Result<AnyArray, Fail> {
-    let values = numbers(alloc, &[1, hidden, 3, 4])?;
-    let array = PrimitiveArray::try_new(DataType::Date32, values, Some(bits(alloc, 0b1101, 4)?))?;
+    let values = buffer(alloc, &[1, hidden, 3, 4])?;
+    let validity = Some(bits(alloc, &[0b1101], 4)?);
+    let array = PrimitiveArray::try_new(DataType::Date32, values, validity)?;
     Ok(AnyArray::Primitive(AnyPrimitive::Int32(array)))
 }
 
 // 1 to 4, as dates.
 fn whole_dates(alloc: Global) -> Result<AnyArray, Fail> {
-    let values = numbers(alloc, &[1, 2, 3, 4])?;
+    let values = buffer(alloc, &[1, 2, 3, 4])?;
     let array = PrimitiveArray::try_new(DataType::Date32, values, None)?;
     Ok(AnyArray::Primitive(AnyPrimitive::Int32(array)))
 }
@@ -66,12 +68,6 @@ fn same_numbers(rt: HostRuntime) -> Result<(), Fail> {
     assert!(rt; !is_same(&array, whole_dates(alloc)?));
     assert!(rt; is_same(&cut(array, 2, 2)?, cut(whole_dates(alloc)?, 2, 2)?));
     Ok(())
-}
-
-// As many truth values as are asked, of a byte.
-fn truths(alloc: Global, byte: u8, count: usize) -> Result<AnyArray, Fail> {
-    let values = bits(alloc, byte, count)?;
-    Ok(AnyArray::Boolean(BooleanArray::try_new(DataType::Boolean, values, None)?))
 }
 
 fn are_nulls(array: &AnyArray, count: usize) -> bool {

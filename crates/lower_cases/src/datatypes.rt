@@ -1,4 +1,5 @@
 //! Values from the Arrow columnar format, and what no contract says: that memory is shared.
+use crate::build::{buffer, field};
 use lower::bitmap::Bitmap;
 use lower::buffer::Buffer;
 use lower::datatypes::{
@@ -11,15 +12,6 @@ use lower::offset::{Offset, OffsetsBuffer};
 use lower::types::PrimitiveType;
 use std::alloc::{AllocError, Global};
 use std::test::Fail;
-
-fn field(alloc: Global, name: &str, data_type: DataType) -> Result<Field, AllocError> {
-    Ok(Field {
-        name: String::from_str(alloc, name)?,
-        data_type,
-        is_nullable: true,
-        metadata: Metadata::new(alloc),
-    })
-}
 
 fn pair(alloc: Global, pairs: &mut Metadata, key: &str, value: &str) -> Result<(), AllocError> {
     pairs.insert(
@@ -223,8 +215,8 @@ fn clones_and_parts_share(rt: HostRuntime) -> Result<(), Fail> {
 
 // The first `count` bits of four bytes, of which three are 0.
 fn bits(alloc: Global, count: usize) -> Result<Result<Bitmap, Error>, AllocError> {
-    let bytes = Vec::from_slice(alloc, &[0, 0, 0, 0b0001_0101])?;
-    Ok(Bitmap::try_new(Buffer::new(bytes)?, count))
+    let bytes = buffer(alloc, &[0, 0, 0, 0b0001_0101])?;
+    Ok(Bitmap::try_new(bytes, count))
 }
 
 // Whether it is five bits from the seventh bit of the third byte on.
@@ -253,7 +245,7 @@ fn offsets_of(
     alloc: Global,
     offsets: &[i32],
 ) -> Result<Result<OffsetsBuffer<i32>, Error>, AllocError> {
-    Ok(OffsetsBuffer::try_new(Buffer::new(Vec::from_slice(alloc, offsets)?)?))
+    Ok(OffsetsBuffer::try_new(buffer(alloc, offsets)?))
 }
 
 #[test]

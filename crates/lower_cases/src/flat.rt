@@ -2,23 +2,12 @@
 mod numbers;
 mod spans;
 
-use lower::bitmap::Bitmap;
-use lower::buffer::Buffer;
+use crate::build::bits;
 use lower::datatypes::DataType;
 use lower::datatypes::equal::is_same_type;
 use lower::error::{Error, Rule};
 use lower_flat::{BooleanArray, NullArray};
-use std::alloc::{AllocError, Global};
 use std::test::Fail;
-
-fn bytes(alloc: Global, values: &[u8]) -> Result<Buffer<u8>, AllocError> {
-    Buffer::new(Vec::from_slice(alloc, values)?)
-}
-
-// The first `count` bits of some bytes.
-fn bits(alloc: Global, values: &[u8], count: usize) -> Result<Bitmap, Fail> {
-    Ok(Bitmap::try_new(bytes(alloc, values)?, count)?)
-}
 
 fn are_three_nulls(array: &NullArray) -> bool {
     is_same_type(array.data_type(), &DataType::Null)

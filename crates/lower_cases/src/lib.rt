@@ -6,6 +6,8 @@
 #[cfg(test)]
 mod arrays;
 #[cfg(test)]
+mod build;
+#[cfg(test)]
 mod datatypes;
 #[cfg(test)]
 mod flat;

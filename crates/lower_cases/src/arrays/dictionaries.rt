@@ -1,10 +1,8 @@
 //! Dictionaries at work.
 use super::{cut, is_same};
-use lower::bitmap::Bitmap;
-use lower::buffer::Buffer;
-use lower::datatypes::{DataType, Field, IntegerType, Metadata};
+use crate::build::{bits, buffer, field, offsets};
+use lower::datatypes::{DataType, IntegerType};
 use lower::error::{Error, Rule};
-use lower::offset::OffsetsBuffer;
 use lower::types::NativeType;
 use lower_arrays::array::{
     AnyArray, AnyPrimitive, DictionaryArray, DictionaryKeys, ListArray, ListOffsets,
@@ -15,30 +13,21 @@ use std::alloc::{AllocError, Global};
 use std::rc::Rc;
 use std::test::Fail;
 
-fn buffer<T: NativeType>(alloc: Global, values: &[T]) -> Result<Buffer<T>, AllocError> {
-    Buffer::new(Vec::from_slice(alloc, values)?)
-}
-
-// As many bits as are asked, of a byte.
-fn bits(alloc: Global, byte: u8, count: usize) -> Result<Bitmap, Fail> {
-    Ok(Bitmap::try_new(buffer(alloc, &[byte])?, count)?)
-}
-
 // The offsets of so many characters.
 fn ends(alloc: Global, count: usize) -> Result<Vec<i32>, Fail> {
-    let mut offsets = Vec::new(alloc);
+    let mut ends = Vec::new(alloc);
     for end in 0..=count {
-        offsets.push(i32::try_from(end)?)?;
+        ends.push(i32::try_from(end)?)?;
     }
-    Ok(offsets)
+    Ok(ends)
 }
 
 // Texts of one character each, of which those are null whose bit isn't set.
 fn texts(alloc: Global, characters: &str, valid: u8) -> Result<AnyArray, Fail> {
-    let offsets = OffsetsBuffer::try_new(Buffer::new(ends(alloc, characters.len())?)?)?;
+    let places = offsets(alloc, &ends(alloc, characters.len())?)?;
     let bytes = buffer(alloc, characters.as_bytes())?;
-    let validity = Some(bits(alloc, valid, characters.len())?);
-    Ok(AnyArray::Utf8(Utf8Array::try_new(DataType::Utf8, offsets, bytes, validity)?))
+    let validity = Some(bits(alloc, &[valid], characters.len())?);
+    Ok(AnyArray::Utf8(Utf8Array::try_new(DataType::Utf8, places, bytes, validity)?))
 }
 
 // A dictionary type with keys of this type.
@@ -48,7 +37,7 @@ fn type_of(alloc: Global, key: IntegerType, values: DataType) -> Result<DataType
 
 // Keys of 32 bits, of which those are null whose bit isn't set.
 fn keys(alloc: Global, keys: &[i32], valid: u8) -> Result<DictionaryKeys, Fail> {
-    let validity = Some(bits(alloc, valid, keys.len())?);
+    let validity = Some(bits(alloc, &[valid], keys.len())?);
     let keys = PrimitiveArray::try_new(DataType::Int32, buffer(alloc, keys)?, validity)?;
     Ok(DictionaryKeys::Int32(keys))
 }
@@ -116,15 +105,10 @@ fn values_that_are_keys(rt: HostRuntime) -> Result<(), Fail> {
 // Two lists of one text each, which is named by a key.
 fn lists(alloc: Global, characters: &str, places: &[i32]) -> Result<AnyArray, Fail> {
     let items = dictionary(alloc, places, 0b11, texts(alloc, characters, 0b11)?)?;
-    let item = Field {
-        name: String::from_str(alloc, "item")?,
-        data_type: items.data_type().clone()?,
-        is_nullable: true,
-        metadata: Metadata::new(alloc),
-    };
+    let item = field(alloc, "item", items.data_type().clone()?)?;
     let data_type = DataType::List(Box::new(alloc, item)?);
-    let offsets = ListOffsets::Small(OffsetsBuffer::try_new(buffer(alloc, &[0, 1, 2])?)?);
-    let array = ListArray::try_new(data_type, offsets, Box::new(alloc, items)?, None)?;
+    let ones = ListOffsets::Small(offsets(alloc, &[0, 1, 2])?);
+    let array = ListArray::try_new(data_type, ones, Box::new(alloc, items)?, None)?;
     Ok(AnyArray::List(array))
 }
 

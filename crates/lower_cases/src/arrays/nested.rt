@@ -1,48 +1,19 @@
 //! Arrays with children at work.
-use super::{cut, is_same};
+use super::{cut, int32s, is_same, truths};
+use crate::build::{bits, buffer, field, offsets};
 use lower::bitmap::Bitmap;
-use lower::buffer::Buffer;
-use lower::datatypes::{DataType, Field, Metadata};
+use lower::datatypes::DataType;
 use lower::error::{Error, Rule};
-use lower::offset::OffsetsBuffer;
 use lower_arrays::array::{
-    AnyArray, AnyPrimitive, BooleanArray, FixedSizeListArray, ListArray, ListOffsets, MapArray,
-    PrimitiveArray, StructArray, Utf8Array,
+    AnyArray, FixedSizeListArray, ListArray, ListOffsets, MapArray, StructArray, Utf8Array,
 };
 use std::alloc::{AllocError, Global};
 use std::test::Fail;
 
-// As many bits as are asked, of a byte.
-fn bits(alloc: Global, byte: u8, count: usize) -> Result<Option<Bitmap>, Fail> {
-    let bytes = Buffer::new(Vec::from_slice(alloc, &[byte])?)?;
-    Ok(Some(Bitmap::try_new(bytes, count)?))
-}
-
-fn int32s(alloc: Global, values: &[i32], validity: Option<Bitmap>) -> Result<AnyArray, Fail> {
-    let values = Buffer::new(Vec::from_slice(alloc, values)?)?;
-    let array = PrimitiveArray::try_new(DataType::Int32, values, validity)?;
-    Ok(AnyArray::Primitive(AnyPrimitive::Int32(array)))
-}
-
-fn booleans(alloc: Global, byte: u8, count: usize) -> Result<AnyArray, Fail> {
-    let bytes = Buffer::new(Vec::from_slice(alloc, &[byte])?)?;
-    let values = Bitmap::try_new(bytes, count)?;
-    Ok(AnyArray::Boolean(BooleanArray::try_new(DataType::Boolean, values, None)?))
-}
-
-fn texts(alloc: Global, offsets: &[i32], values: &[u8]) -> Result<AnyArray, Fail> {
-    let offsets = OffsetsBuffer::try_new(Buffer::new(Vec::from_slice(alloc, offsets)?)?)?;
-    let values = Buffer::new(Vec::from_slice(alloc, values)?)?;
-    Ok(AnyArray::Utf8(Utf8Array::try_new(DataType::Utf8, offsets, values, None)?))
-}
-
-fn field(alloc: Global, name: &str, data_type: DataType) -> Result<Field, AllocError> {
-    Ok(Field {
-        name: String::from_str(alloc, name)?,
-        data_type,
-        is_nullable: true,
-        metadata: Metadata::new(alloc),
-    })
+fn texts(alloc: Global, places: &[i32], values: &[u8]) -> Result<AnyArray, Fail> {
+    let places = offsets(alloc, places)?;
+    let array = Utf8Array::try_new(DataType::Utf8, places, buffer(alloc, values)?, None)?;
+    Ok(AnyArray::Utf8(array))
 }
 
 fn list_of(alloc: Global, item: DataType) -> Result<DataType, AllocError> {
@@ -65,17 +36,12 @@ fn map_of(alloc: Global, entries: DataType) -> Result<DataType, AllocError> {
     Ok(DataType::Map(Box::new(alloc, field(alloc, "entries", entries)?)?, false))
 }
 
-fn offsets(alloc: Global, numbers: &[i32]) -> Result<OffsetsBuffer<i32>, Fail> {
-    Ok(OffsetsBuffer::try_new(Buffer::new(Vec::from_slice(alloc, numbers)?)?)?)
-}
-
 fn small(alloc: Global, numbers: &[i32]) -> Result<ListOffsets, Fail> {
     Ok(ListOffsets::Small(offsets(alloc, numbers)?))
 }
 
 fn large(alloc: Global, numbers: &[i64]) -> Result<ListOffsets, Fail> {
-    let numbers = Buffer::new(Vec::from_slice(alloc, numbers)?)?;
-    Ok(ListOffsets::Large(OffsetsBuffer::try_new(numbers)?))
+    Ok(ListOffsets::Large(offsets(alloc, numbers)?))
 }
 
 // Lists of these numbers.
@@ -133,10 +99,10 @@ fn sized_fault(
 // Records of bits and numbers, as many of each, of which those are null whose bit isn't set.
 fn records(alloc: Global, byte: u8, numbers: &[i32], valid: u8) -> Result<StructArray, Fail> {
     let mut values = Vec::new(alloc);
-    values.push(booleans(alloc, byte, numbers.len())?)?;
+    values.push(truths(alloc, byte, numbers.len())?)?;
     values.push(int32s(alloc, numbers, None)?)?;
     let data_type = struct_of(alloc, DataType::Boolean, DataType::Int32)?;
-    let validity = bits(alloc, valid, numbers.len())?;
+    let validity = Some(bits(alloc, &[valid], numbers.len())?);
     Ok(StructArray::try_new(data_type, values, validity)?)
 }
 
@@ -152,7 +118,7 @@ fn struct_fault(
     validity: Option<Bitmap>,
 ) -> Result<Option<Error>, Fail> {
     let mut values = Vec::new(alloc);
-    values.push(booleans(alloc, 0, count)?)?;
+    values.push(truths(alloc, 0, count)?)?;
     values.push(int32s(alloc, &[1, 2], None)?)?;
     Ok(StructArray::try_new(data_type, values, validity).err())
 }
@@ -176,7 +142,7 @@ fn record_fault(
 fn entries(alloc: Global) -> Result<AnyArray, Fail> {
     let mut values = Vec::new(alloc);
     values.push(texts(alloc, &[0, 1, 2, 3], b"abc")?)?;
-    values.push(int32s(alloc, &[1, 2, 9], bits(alloc, 0b011, 3)?)?)?;
+    values.push(int32s(alloc, &[1, 2, 9], Some(bits(alloc, &[0b011], 3)?))?)?;
     let data_type = struct_of(alloc, DataType::Utf8, DataType::Int32)?;
     Ok(AnyArray::Struct(StructArray::try_new(data_type, values, None)?))
 }
@@ -267,7 +233,12 @@ fn a_slice_of_lists_keeps_all_numbers(rt: HostRuntime) -> Result<(), Fail> {
 #[test]
 fn lists_refused(rt: HostRuntime) -> Result<(), Fail> {
     let alloc = rt.alloc();
-    let long = list_fault(alloc, DataType::Int32, &[0, 1, 2], bits(alloc, 0, 3)?)?;
+    let long = list_fault(
+        alloc,
+        DataType::Int32,
+        &[0, 1, 2],
+        Some(bits(alloc, &[0], 3)?),
+    )?;
     assert!(rt; is_refused(long, Rule::ValidityLength));
     let past = list_fault(alloc, DataType::Int32, &[0, 3], None)?;
     assert!(rt; is_refused(past, Rule::OffsetsPastValues));
@@ -286,7 +257,7 @@ fn a_pair_of_six_numbers(rt: HostRuntime) -> Result<(), Fail> {
     let part = cut(array, 1, 1)?;
     assert_eq!(rt; part.len(), 1);
     assert!(rt; is_same(&part, pairs(alloc, &[3, 4], None)?));
-    assert!(rt; !is_same(&part, pairs(alloc, &[3, 4], bits(alloc, 0, 1)?)?));
+    assert!(rt; !is_same(&part, pairs(alloc, &[3, 4], Some(bits(alloc, &[0], 1)?))?));
     Ok(())
 }
 
@@ -321,7 +292,7 @@ fn lists_of_one_size_refused(rt: HostRuntime) -> Result<(), Fail> {
     assert!(rt; is_refused(rest, Rule::ChildLength));
     let other = sized_fault(alloc, DataType::UInt32, 2, None)?;
     assert!(rt; is_refused(other, Rule::ChildType));
-    let long = sized_fault(alloc, DataType::Int32, 2, bits(alloc, 0, 2)?)?;
+    let long = sized_fault(alloc, DataType::Int32, 2, Some(bits(alloc, &[0], 2)?))?;
     assert!(rt; is_refused(long, Rule::ValidityLength));
     Ok(())
 }
@@ -342,12 +313,12 @@ fn records_of_bits_and_numbers(rt: HostRuntime) -> Result<(), Fail> {
 
 // Whether they have what they had, where the record is null too.
 fn are_whole(alloc: Global, children: &[AnyArray]) -> Result<bool, Fail> {
-    let [truths, numbers] = children else {
+    let [flags, numbers] = children else {
         return Ok(false);
     };
     Ok(
-        truths.null_count() == 0
-            && is_same(truths, booleans(alloc, 0x0c, 4)?)
+        flags.null_count() == 0
+            && is_same(flags, truths(alloc, 0x0c, 4)?)
             && numbers.null_count() == 0
             && is_same(numbers, int32s(alloc, &[42, 28, 19, 31], None)?),
     )
@@ -376,7 +347,7 @@ fn records_refused(rt: HostRuntime) -> Result<(), Fail> {
     assert!(rt; is_refused(other, Rule::ChildType));
     let more = record_fault(alloc, DataType::Int32, 3, None)?;
     assert!(rt; is_refused(more, Rule::ChildLength));
-    let long = record_fault(alloc, DataType::Int32, 2, bits(alloc, 0, 3)?)?;
+    let long = record_fault(alloc, DataType::Int32, 2, Some(bits(alloc, &[0], 3)?))?;
     assert!(rt; is_refused(long, Rule::ValidityLength));
     Ok(())
 }
@@ -409,7 +380,7 @@ fn maps_refused(rt: HostRuntime) -> Result<(), Fail> {
     assert!(rt; is_refused(past, Rule::OffsetsPastValues));
     let other = map_fault(alloc, DataType::Int64, &[0, 3], None)?;
     assert!(rt; is_refused(other, Rule::ChildType));
-    let long = map_fault(alloc, DataType::Int32, &[0, 3], bits(alloc, 0, 2)?)?;
+    let long = map_fault(alloc, DataType::Int32, &[0, 3], Some(bits(alloc, &[0], 2)?))?;
     assert!(rt; is_refused(long, Rule::ValidityLength));
     let lists = child_fault(alloc, list_of(alloc, DataType::Int32)?)?;
     assert!(rt; is_refused(lists, Rule::PhysicalType));

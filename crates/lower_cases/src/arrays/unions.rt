@@ -1,43 +1,17 @@
 //! Unions at work.
-use super::{cut, is_same};
-use lower::bitmap::Bitmap;
-use lower::buffer::Buffer;
-use lower::datatypes::{DataType, Field, Metadata, UnionMode};
+use super::{cut, int32s, is_same, truths};
+use crate::build::{buffer, field};
+use lower::datatypes::{DataType, UnionMode};
 use lower::error::{Error, Rule};
-use lower::types::NativeType;
-use lower_arrays::array::{AnyArray, AnyPrimitive, BooleanArray, PrimitiveArray, UnionArray};
+use lower_arrays::array::{AnyArray, UnionArray};
 use std::alloc::{AllocError, Global};
 use std::test::Fail;
-
-fn buffer<T: NativeType>(alloc: Global, values: &[T]) -> Result<Buffer<T>, AllocError> {
-    Buffer::new(Vec::from_slice(alloc, values)?)
-}
-
-fn numbers(alloc: Global, values: &[i32]) -> Result<AnyArray, Fail> {
-    let array = PrimitiveArray::try_new(DataType::Int32, buffer(alloc, values)?, None)?;
-    Ok(AnyArray::Primitive(AnyPrimitive::Int32(array)))
-}
-
-// As many truth values as are asked, of a byte.
-fn truths(alloc: Global, byte: u8, count: usize) -> Result<AnyArray, Fail> {
-    let bits = Bitmap::try_new(buffer(alloc, &[byte])?, count)?;
-    Ok(AnyArray::Boolean(BooleanArray::try_new(DataType::Boolean, bits, None)?))
-}
-
-fn field(alloc: Global, data_type: DataType) -> Result<Field, AllocError> {
-    Ok(Field {
-        name: String::new(alloc),
-        data_type,
-        is_nullable: true,
-        metadata: Metadata::new(alloc),
-    })
-}
 
 // A union of numbers and of truth values, with these ids.
 fn type_of(alloc: Global, ids: Option<&[i32]>, mode: UnionMode) -> Result<DataType, AllocError> {
     let fields = vec![in alloc;
-        field(alloc, DataType::Int32)?,
-        field(alloc, DataType::Boolean)?,
+        field(alloc, "", DataType::Int32)?,
+        field(alloc, "", DataType::Boolean)?,
     ]?;
     let ids = match ids {
         None => None,
@@ -55,7 +29,10 @@ fn sparse(
     byte: u8,
 ) -> Result<UnionArray, Fail> {
     let data_type = type_of(alloc, ids, UnionMode::Sparse)?;
-    let fields = vec![in alloc; numbers(alloc, values)?, truths(alloc, byte, values.len())?]?;
+    let fields = vec![in alloc;
+        int32s(alloc, values, None)?,
+        truths(alloc, byte, values.len())?,
+    ]?;
     Ok(UnionArray::try_new(data_type, buffer(alloc, types)?, fields, None)?)
 }
 
@@ -72,7 +49,7 @@ fn dense(
     byte: u8,
 ) -> Result<UnionArray, Fail> {
     let data_type = type_of(alloc, None, UnionMode::Dense)?;
-    let fields = vec![in alloc; numbers(alloc, values)?, truths(alloc, byte, 1)?]?;
+    let fields = vec![in alloc; int32s(alloc, values, None)?, truths(alloc, byte, 1)?]?;
     let offsets = Some(buffer(alloc, offsets)?);
     Ok(UnionArray::try_new(data_type, buffer(alloc, types)?, fields, offsets)?)
 }
@@ -134,7 +111,7 @@ fn has_children(
     let [first, second] = array.fields() else {
         return Ok(false);
     };
-    Ok(is_same(first, numbers(alloc, values)?) && is_same(second, truths(alloc, byte, count)?))
+    Ok(is_same(first, int32s(alloc, values, None)?) && is_same(second, truths(alloc, byte, count)?))
 }
 
 #[test]
@@ -199,7 +176,7 @@ fn refusal(
     types: &[i8],
     offsets: Option<&[i32]>,
 ) -> Result<Option<Error>, Fail> {
-    let fields = vec![in alloc; numbers(alloc, &[1, 2])?, truths(alloc, 0b01, 2)?]?;
+    let fields = vec![in alloc; int32s(alloc, &[1, 2], None)?, truths(alloc, 0b01, 2)?]?;
     let offsets = match offsets {
         None => None,
         Some(offsets) => Some(buffer(alloc, offsets)?),
@@ -223,8 +200,8 @@ fn dense_refusal(alloc: Global, offsets: Option<&[i32]>) -> Result<Option<Error>
 // A union of truth values and of numbers.
 fn turned(alloc: Global) -> Result<DataType, AllocError> {
     let fields = vec![in alloc;
-        field(alloc, DataType::Boolean)?,
-        field(alloc, DataType::Int32)?,
+        field(alloc, "", DataType::Boolean)?,
+        field(alloc, "", DataType::Int32)?,
     ]?;
     Ok(DataType::Union(fields, None, UnionMode::Sparse))
 }

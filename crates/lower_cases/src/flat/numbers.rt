@@ -1,5 +1,5 @@
 //! Numbers, and bytes of one size.
-use super::{bits, bytes};
+use crate::build::{bits, buffer};
 use lower::bitmap::Bitmap;
 use lower::buffer::Buffer;
 use lower::datatypes::DataType;
@@ -15,7 +15,7 @@ fn numbers(
     data_type: DataType,
     validity: Option<Bitmap>,
 ) -> Result<Result<PrimitiveArray<i32>, Error>, Fail> {
-    let values = Buffer::new(Vec::from_slice(alloc, &[1, 2, 3, 4])?)?;
+    let values = buffer(alloc, &[1, 2, 3, 4])?;
     Ok(PrimitiveArray::try_new(data_type, values, validity))
 }
 
@@ -52,7 +52,7 @@ fn last_two(values: Buffer<i32>) -> Result<PrimitiveArray<i32>, Fail> {
 
 #[test]
 fn clones_and_slices_share_the_numbers(rt: HostRuntime) -> Result<(), Fail> {
-    let values = Buffer::new(Vec::from_slice(rt.alloc(), &[1, 2, 3])?)?;
+    let values = buffer(rt.alloc(), &[1, 2, 3])?;
     let part = last_two(values.clone()?)?;
     assert!(rt;
         values.into_vec().is_err(),
@@ -78,7 +78,7 @@ fn sized(
     size: usize,
     validity: Option<Bitmap>,
 ) -> Result<Result<FixedSizeBinaryArray, Error>, Fail> {
-    let values = bytes(alloc, &[1, 2, 3, 4, 5, 6])?;
+    let values = buffer(alloc, &[1, 2, 3, 4, 5, 6])?;
     Ok(FixedSizeBinaryArray::try_new(DataType::FixedSizeBinary(size), values, validity))
 }
 
@@ -117,7 +117,7 @@ fn bytes_of_one_size_refused(rt: HostRuntime) -> Result<(), Fail> {
     assert_eq!(rt; rest, Some(Error::OutOfSpec(Rule::ValuesLength)));
     let long = sized(alloc, 3, Some(bits(alloc, &[1], 3)?))?.err();
     assert_eq!(rt; long, Some(Error::OutOfSpec(Rule::ValidityLength)));
-    let other = FixedSizeBinaryArray::try_new(DataType::Binary, bytes(alloc, &[1])?, None);
+    let other = FixedSizeBinaryArray::try_new(DataType::Binary, buffer(alloc, &[1])?, None);
     assert_eq!(rt; other.err(), Some(Error::OutOfSpec(Rule::PhysicalType)));
     Ok(())
 }
@@ -134,7 +134,7 @@ fn second_pair(values: Buffer<u8>) -> Result<FixedSizeBinaryArray, Fail> {
 
 #[test]
 fn clones_and_slices_share_bytes_of_one_size(rt: HostRuntime) -> Result<(), Fail> {
-    let values = bytes(rt.alloc(), &[1, 2, 3, 4])?;
+    let values = buffer(rt.alloc(), &[1, 2, 3, 4])?;
     let part = second_pair(values.clone()?)?;
     assert!(rt; values.into_vec().is_err(), "the part has bytes of its own");
     assert_eq!(rt; part.len(), 1);

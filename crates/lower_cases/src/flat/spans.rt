@@ -1,17 +1,12 @@
 //! Bytes and texts by offsets.
-use super::{bits, bytes};
+use crate::build::{bits, buffer, offsets};
 use lower::bitmap::Bitmap;
 use lower::buffer::Buffer;
 use lower::datatypes::DataType;
 use lower::error::{Error, Rule};
-use lower::offset::OffsetsBuffer;
 use lower_flat::{BinaryArray, Utf8Array};
 use std::alloc::Global;
 use std::test::Fail;
-
-fn offsets(alloc: Global, values: &[i32]) -> Result<OffsetsBuffer<i32>, Fail> {
-    Ok(OffsetsBuffer::try_new(Buffer::new(Vec::from_slice(alloc, values)?)?)?)
-}
 
 // Slots of the bytes a, b and c.
 fn binary(
@@ -21,7 +16,7 @@ fn binary(
     validity: Option<Bitmap>,
 ) -> Result<Result<BinaryArray<i32>, Error>, Fail> {
     let places = offsets(alloc, places)?;
-    let values = bytes(alloc, b"abc")?;
+    let values = buffer(alloc, b"abc")?;
     Ok(BinaryArray::try_new(data_type, places, values, validity))
 }
 
@@ -72,7 +67,7 @@ fn texts(
     validity: Option<Bitmap>,
 ) -> Result<Result<Utf8Array<i32>, Error>, Fail> {
     let places = offsets(alloc, places)?;
-    Ok(Utf8Array::try_new(data_type, places, bytes(alloc, values)?, validity))
+    Ok(Utf8Array::try_new(data_type, places, buffer(alloc, values)?, validity))
 }
 
 fn are_three_texts(array: &Utf8Array<i32>) -> bool {
@@ -147,7 +142,7 @@ fn second_bytes(alloc: Global, values: Buffer<u8>) -> Result<BinaryArray<i32>, F
 #[test]
 fn clones_and_slices_share_the_bytes(rt: HostRuntime) -> Result<(), Fail> {
     let alloc = rt.alloc();
-    let values = bytes(alloc, b"abc")?;
+    let values = buffer(alloc, b"abc")?;
     let part = second_bytes(alloc, values.clone()?)?;
     assert!(rt; values.into_vec().is_err(), "the part has bytes of its own");
     assert_eq!(rt; part.len(), 1);
@@ -167,7 +162,7 @@ fn second_text(alloc: Global, values: Buffer<u8>) -> Result<Utf8Array<i32>, Fail
 #[test]
 fn clones_and_slices_share_the_texts(rt: HostRuntime) -> Result<(), Fail> {
     let alloc = rt.alloc();
-    let values = bytes(alloc, b"abc")?;
+    let values = buffer(alloc, b"abc")?;
     let part = second_text(alloc, values.clone()?)?;
     assert!(rt; values.into_vec().is_err(), "the part has texts of its own");
     assert_eq!(rt; part.len(), 1);
