@@ -1,23 +1,16 @@
-//! Worked examples of streams, run as tests over the public calls, and the devices that they need.
+//! Worked examples that data can't say, as proved tests over the public calls: devices with breaks and devices that fail,
+//! memory that is refused, memory that is shared, chunks of a type that is no array. What data can say is in `ipc_rows`.
 #![tactic(auto)]
 
-mod pieces;
-
-pub use pieces::Pieces;
-
 #[cfg(test)]
-mod chunks;
+mod blanks;
+#[cfg(test)]
+mod devices;
 #[cfg(test)]
 mod fixtures;
 #[cfg(test)]
+mod pieces;
+#[cfg(test)]
 mod refusals;
 #[cfg(test)]
-mod round_trips;
-#[cfg(test)]
-mod schemas;
-#[cfg(test)]
-mod streams;
-#[cfg(test)]
-mod tests;
-#[cfg(test)]
-mod writers;
+mod shared;

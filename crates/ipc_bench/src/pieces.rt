@@ -1,13 +1,15 @@
 //! A device with breaks between its pieces.
 ghost use Rattle.std.specs.Prelude.{◌≡◌, true, false, IfOk};
 
-use ipc_devices::{Failures, MemFile, Reads};
+use ipc_devices::{Failures, Fault, MemFile, Reads};
+use ipc_readers::read::begun::{Begun, Frame};
+use ipc_readers::read::frame::read_frame;
 use std::alloc::{AllocError, Global};
 use std::io;
 
 /// Gives pieces of bytes, and answers 0 once at the end of each, as a pipe does whose writer pauses.
 #[derive(Drop)]
-pub struct Pieces {
+struct Pieces {
     piece: MemFile<Vec<u8>>,
     // the last one comes first
     later: Vec<Vec<u8>>,
@@ -16,7 +18,7 @@ pub struct Pieces {
 
 impl Pieces {
     /// A device that gives these pieces in turn.
-    pub fn new(alloc: Global, pieces: &[&[u8]]) -> Result<Pieces, AllocError>
+    fn new(alloc: Global, pieces: &[&[u8]]) -> Result<Pieces, AllocError>
         ensures { IfOk result (λ device. device.given ≡ 0) }
     {
         let mut later = Vec::new(alloc);
@@ -64,4 +66,25 @@ impl Reads for Pieces {
         }
         Ok(n)
     }
+}
+
+fn three_frames(device: &mut Pieces, metadata: &mut Vec<u8>) -> Result<[Frame; 3], Fault> {
+    let mut begun = Begun::new();
+    let first = read_frame(device, &mut begun, metadata)?;
+    let second = read_frame(device, &mut begun, metadata)?;
+    let third = read_frame(device, &mut begun, metadata)?;
+    Ok([first, second, third])
+}
+
+// A prefix in three pieces: the reader waits twice and goes on.
+#[test]
+fn a_prefix_in_pieces_waits(rt: HostRuntime) -> Result<(), Fault> {
+    let alloc = rt.alloc();
+    let pieces: [&[u8]; 3] = [&[255, 255], &[255], &[255, 2, 0, 0, 0, 7, 8]];
+    let mut device = Pieces::new(alloc, &pieces)?;
+    let mut metadata = Vec::new(alloc);
+    let frames = three_frames(&mut device, &mut metadata)?;
+    assert!(rt; frames == [Frame::Waiting, Frame::Waiting, Frame::Message]);
+    assert_eq!(rt; metadata.as_slice(), [7, 8].as_slice());
+    Ok(())
 }

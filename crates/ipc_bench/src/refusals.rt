@@ -2,7 +2,7 @@
 //! refuses the allocation N, for each N in turn, and then each call that answers `Memory` is made
 //! again.
 
-use crate::fixtures::{five_chunks, is_same_chunk, two_int32, two_rows};
+use crate::fixtures::{Example, is_same_chunk, make_example};
 use arrow2_ipc::array::AnyArray;
 use arrow2_ipc::chunk::Chunk;
 use arrow2_ipc::datatypes::Schema;
@@ -10,18 +10,13 @@ use arrow2_ipc::io::ipc::fault::{Fault, MemFile};
 use arrow2_ipc::io::ipc::read::{StreamReader, StreamState, read_stream_metadata};
 use arrow2_ipc::io::ipc::write::{StreamWriter, WriteOptions};
 use std::alloc::Global;
-use std::test::Fail;
 
 // The example, made again where memory was refused.
-fn example(alloc: Global) -> Result<(Schema, Chunk<AnyArray>), Fault> {
-    match both(alloc) {
-        Err(Fault::Memory) => both(alloc),
+fn patient_example(alloc: Global) -> Result<Example, Fault> {
+    match make_example(alloc) {
+        Err(Fault::Memory) => make_example(alloc),
         made => made,
     }
-}
-
-fn both(alloc: Global) -> Result<(Schema, Chunk<AnyArray>), Fault> {
-    Ok((two_int32(alloc)?, two_rows(alloc)?))
 }
 
 // Room for the whole stream, so that the device itself never grows.
@@ -46,50 +41,85 @@ fn write(writer: &mut StreamWriter<Vec<u8>>, chunk: &Chunk<AnyArray>) -> Result<
     }
 }
 
-fn whole_stream(alloc: Global) -> Result<Vec<u8>, Fault> {
-    match five_chunks(alloc) {
-        Err(_) => five_chunks(alloc),
+// The stream of five equal chunks, by a writer whose refused calls are made again.
+fn put_patiently(writer: &mut StreamWriter<Vec<u8>>, example: &Example) -> Result<(), Fault> {
+    start(writer, &example.schema)?;
+    for _ in 0..5 {
+        write(writer, &example.chunk)?;
+    }
+    writer.finish()
+}
+
+fn patient_stream(alloc: Global, example: &Example) -> Result<Vec<u8>, Fault> {
+    let mut writer = StreamWriter::new(alloc, room(alloc)?, WriteOptions::default());
+    put_patiently(&mut writer, example)?;
+    Ok(writer.into_inner())
+}
+
+fn put(writer: &mut StreamWriter<Vec<u8>>, example: &Example) -> Result<(), Fault> {
+    writer.start(&example.schema, None)?;
+    for _ in 0..5 {
+        writer.write(&example.chunk, None)?;
+    }
+    writer.finish()
+}
+
+fn stream(alloc: Global, example: &Example) -> Result<Vec<u8>, Fault> {
+    let mut writer = StreamWriter::new(alloc, Vec::new(alloc), WriteOptions::default());
+    put(&mut writer, example)?;
+    Ok(writer.into_inner())
+}
+
+// The same stream, all of it made again where memory was refused.
+fn whole_stream(alloc: Global, example: &Example) -> Result<Vec<u8>, Fault> {
+    match stream(alloc, example) {
+        Err(_) => stream(alloc, example),
         made => made,
     }
 }
 
 #[test]
-fn a_writer_that_is_refused_memory_goes_on(rt: HostRuntime) -> Result<(), Fail> {
+fn a_writer_that_is_refused_memory_goes_on(rt: HostRuntime) -> Result<(), Fault> {
     let alloc = rt.alloc();
-    let (schema, chunk) = example(alloc)?;
-    let mut writer = StreamWriter::new(alloc, room(alloc)?, WriteOptions::default());
-    start(&mut writer, &schema)?;
-    for _ in 0..5 {
-        write(&mut writer, &chunk)?;
-    }
-    writer.finish()?;
-    let bytes = writer.into_inner();
-    assert!(rt; bytes == whole_stream(alloc)?);
+    let example = patient_example(alloc)?;
+    let bytes = patient_stream(alloc, &example)?;
+    assert!(rt; bytes == whole_stream(alloc, &example)?);
     Ok(())
+}
+
+// Whether a chunk is next that is the same as this one.
+fn is_next(
+    reader: &mut StreamReader<MemFile<&[u8]>>,
+    wanted: &Chunk<AnyArray>,
+) -> Result<bool, Fault> {
+    match reader.next() {
+        Some(Ok(StreamState::Some(chunk))) => Ok(is_same_chunk(&chunk, wanted)),
+        Some(Err(fault)) => Err(fault),
+        _ => Ok(false),
+    }
 }
 
 // How many chunks a stream has that are the same as this one.
 fn count(alloc: Global, bytes: &[u8], wanted: &Chunk<AnyArray>) -> Result<usize, Fault> {
     let mut input = MemFile::new(bytes);
     let metadata = read_stream_metadata(alloc, &mut input)?;
+    let mut reader = StreamReader::new(alloc, input, metadata, None)?;
     let mut same = 0usize;
-    for state in StreamReader::new(alloc, input, metadata, None)?.take(6) {
-        if let StreamState::Some(chunk) = state? {
-            if is_same_chunk(&chunk, wanted) {
-                same = same.saturating_add(1);
-            }
+    for _ in 0..6 {
+        if is_next(&mut reader, wanted)? {
+            same = same.saturating_add(1);
         }
     }
     Ok(same)
 }
 
 #[test]
-fn a_stream_is_read_again_where_memory_was_refused(rt: HostRuntime) -> Result<(), Fail> {
+fn a_stream_is_read_again_where_memory_was_refused(rt: HostRuntime) -> Result<(), Fault> {
     let alloc = rt.alloc();
-    let (_, chunk) = example(alloc)?;
-    let bytes = whole_stream(alloc)?;
-    let read = match count(alloc, &bytes, &chunk) {
-        Err(Fault::Memory) => count(alloc, &bytes, &chunk)?,
+    let example = patient_example(alloc)?;
+    let bytes = whole_stream(alloc, &example)?;
+    let read = match count(alloc, &bytes, &example.chunk) {
+        Err(Fault::Memory) => count(alloc, &bytes, &example.chunk)?,
         read => read?,
     };
     assert_eq!(rt; read, 5);

@@ -1,17 +1,8 @@
 //! `ipcat` writes the documented example as an Arrow IPC stream, and shows the streams that it is given.
 #![tactic(auto)]
 
-mod class;
-mod demo;
-mod forms;
-mod printer;
-mod program;
-mod show;
-#[cfg(test)]
-mod tests;
-
 use arrow2_ipc::io::ipc::fault::{MemFile, Watched};
-use program::run;
+use ipc_tools::cat::run;
 use std::process::ExitCode;
 use std::{env, io};
 

@@ -1,0 +1,65 @@
+//! Chunks of columns of a type that is no array.
+
+use ipc_base::chunk::{Chunk, Rows, equal_rows};
+use ipc_devices::{ArgFault, Fault};
+use std::test::Fail;
+
+/// A column of nothing but a length.
+#[derive(Clone, Copy, PartialEq, Eq)]
+struct Blank(usize);
+
+impl Rows for Blank {
+    ghost rows = { λ blank. blank.0 };
+
+    fn len(&self) -> usize {
+        self.0
+    }
+}
+
+// Whether it has two columns of two rows.
+fn is_two_by_two(chunk: &Chunk<Blank>) -> bool {
+    chunk.len() == 2 && !chunk.is_empty() && chunk.columns().len() == 2 && chunk.arrays().len() == 2
+}
+
+#[test]
+fn columns_of_one_length_make_a_chunk(rt: HostRuntime) -> Result<(), Fault> {
+    let alloc = rt.alloc();
+    let chunk = Chunk::try_new(vec![in alloc; Blank(2), Blank(2)]?)?;
+    assert!(rt; is_two_by_two(&chunk));
+    let again = chunk.clone()?;
+    assert!(rt; again == chunk);
+    let arrays: Vec<Blank> = Vec::from(again);
+    assert!(rt; equal_rows(&arrays));
+    assert!(rt; Chunk::new(arrays) == chunk);
+    assert_eq!(rt; chunk.into_arrays().len(), 2);
+    Ok(())
+}
+
+#[test]
+fn no_columns_make_a_chunk_without_rows(rt: HostRuntime) -> Result<(), Fault> {
+    let none: Chunk<Blank> = Chunk::try_new(Vec::new(rt.alloc()))?;
+    assert!(rt; none.len() == 0 && none.is_empty());
+    Ok(())
+}
+
+#[test]
+fn columns_of_two_lengths_are_refused(rt: HostRuntime) -> Result<(), Fail> {
+    let alloc = rt.alloc();
+    let arrays = vec![in alloc; Blank(2), Blank(3)]?;
+    assert!(rt; !equal_rows(&arrays));
+    let Err(fault) = Chunk::try_new(arrays) else {
+        assert!(rt; false);
+        return Ok(());
+    };
+    let text = format!(in alloc; "{fault}")?;
+    assert_eq!(rt;
+        text.as_str(),
+        "Chunk require all its arrays to have an equal number of rows"
+    );
+    let unequal = match fault {
+        Fault::Argument(ArgFault::UnequalRows) => true,
+        _ => false,
+    };
+    assert!(rt; unequal);
+    Ok(())
+}

@@ -1,0 +1,178 @@
+//! Bytes, and bits.
+//!
+//! Bytes are hex digits, `{"text": ".."}`, `{"zeros": 56}`, `{"message": TABLE}` or `{"footer": TABLE}`, which `tables.rt`
+//! builds, or a list of such parts. A part of a list may also change what stands before it: `{"cut": 44}` leaves so many bytes,
+//! `{"set": [[26, 3], ..]}` puts bytes at places. `{"repeat": [PART, ..], "times": 7}` is so many turns of plain parts, in which
+//! `{"u32": 316, "step": -48}` is a number of 32 bits that another is added to at each turn.
+//!
+//! Bits are `"1011"`, the first slot's first, or `{"bytes": BYTES, "bits": 9}`: so many of some bytes, the lowest bit of a byte
+//! first.
+
+use crate::json::{count, item, items, member, text, whole};
+use crate::tables::{footer, message};
+use crate::trouble::Trouble;
+use lower::bitmap::Bitmap;
+use lower::buffer::Buffer;
+use serde_json::Value;
+use std::alloc::Global;
+
+/// Some bytes.
+pub fn bytes(alloc: Global, value: &Value) -> Result<Vec<u8>, Trouble> {
+    let mut out = Vec::new(alloc);
+    match value {
+        Value::Array(parts) => {
+            for part in parts {
+                put_part(alloc, &mut out, part)?;
+            }
+        }
+        _ => put_part(alloc, &mut out, value)?,
+    }
+    Ok(out)
+}
+
+// Adds a part, or makes its change to what stands before it.
+fn put_part(alloc: Global, out: &mut Vec<u8>, part: &Value) -> Result<(), Trouble> {
+    if let Some(length) = part.get("cut") {
+        return cut(out, count(length, "cut")?);
+    }
+    if let Some(changes) = part.get("set") {
+        return set(out, items(changes, "set")?);
+    }
+    if let Some(parts) = part.get("repeat") {
+        let times = count(member(part, "times")?, "times")?;
+        return put_turns(alloc, out, items(parts, "repeat")?, times);
+    }
+    if let Some(table) = part.get("message") {
+        return Ok(out.extend_from_slice(&message(alloc, table)?)?);
+    }
+    if let Some(table) = part.get("footer") {
+        return Ok(out.extend_from_slice(&footer(alloc, table)?)?);
+    }
+    put_plain_part(alloc, out, part, 0)
+}
+
+// Leaves the first bytes, as many.
+fn cut(out: &mut Vec<u8>, length: usize) -> Result<(), Trouble> {
+    if length > out.len() {
+        return Err(Trouble::Row("cut"));
+    }
+    out.truncate(length);
+    Ok(())
+}
+
+// Puts bytes at places: each change is a place and a byte.
+fn set(out: &mut Vec<u8>, changes: &[Value]) -> Result<(), Trouble> {
+    for change in changes {
+        let change = items(change, "set")?;
+        let place = count(item(change, 0, "set")?, "set")?;
+        let byte = count(item(change, 1, "set")?, "set")?;
+        match (out.get_mut(place), u8::try_from(byte)) {
+            (Some(at), Ok(byte)) => *at = byte,
+            _ => return Err(Trouble::Row("set")),
+        }
+    }
+    Ok(())
+}
+
+// Adds these parts so many times.
+fn put_turns(
+    alloc: Global,
+    out: &mut Vec<u8>,
+    parts: &[Value],
+    times: usize,
+) -> Result<(), Trouble> {
+    for turn in 0..times {
+        put_turn(alloc, out, parts, turn)?;
+    }
+    Ok(())
+}
+
+fn put_turn(alloc: Global, out: &mut Vec<u8>, parts: &[Value], turn: usize) -> Result<(), Trouble> {
+    for part in parts {
+        put_plain_part(alloc, out, part, turn)?;
+    }
+    Ok(())
+}
+
+// Adds a part that changes nothing else and has no parts, at this turn.
+fn put_plain_part(
+    alloc: Global,
+    out: &mut Vec<u8>,
+    part: &Value,
+    turn: usize,
+) -> Result<(), Trouble> {
+    if let Some(zeros) = part.get("zeros") {
+        return put_zeros(out, count(zeros, "zeros")?);
+    }
+    if let Some(characters) = part.get("text") {
+        out.extend_from_slice(text(characters, "text")?.as_bytes())?;
+        return Ok(());
+    }
+    if let Some(first) = part.get("u32") {
+        return put_u32(out, first, part, turn);
+    }
+    put_hex(alloc, out, text(part, "bytes")?)
+}
+
+// Adds a number of 32 bits, its lowest byte first.
+fn put_u32(out: &mut Vec<u8>, first: &Value, part: &Value, turn: usize) -> Result<(), Trouble> {
+    let step = match part.get("step") {
+        None => 0,
+        Some(step) => whole(step, "step")?,
+    };
+    let number = whole(first, "u32")?.saturating_add(step.saturating_mul(turn as i128));
+    let number = u32::try_from(number).map_err(|_| Trouble::Row("u32"))?;
+    out.extend_from_slice(&number.to_le_bytes())?;
+    Ok(())
+}
+
+fn put_zeros(out: &mut Vec<u8>, zeros: usize) -> Result<(), Trouble> {
+    for _ in 0..zeros {
+        out.push(0)?;
+    }
+    Ok(())
+}
+
+// Two digits a byte. Spaces may stand between bytes.
+fn put_hex(alloc: Global, out: &mut Vec<u8>, digits: &str) -> Result<(), Trouble> {
+    for word in digits.split(' ') {
+        let Ok(bytes) = hex::decode(alloc, word) else {
+            return Err(Trouble::Row("bytes"));
+        };
+        out.extend_from_slice(&bytes)?;
+    }
+    Ok(())
+}
+
+/// Some bits, by the public call.
+pub fn bits(alloc: Global, value: &Value) -> Result<Bitmap, Trouble> {
+    match value {
+        Value::String(digits) => spelt_bits(alloc, digits.as_bytes()),
+        _ => {
+            let held = Buffer::new(bytes(alloc, member(value, "bytes")?)?)?;
+            Ok(Bitmap::try_new(held, count(member(value, "bits")?, "bits")?)?)
+        }
+    }
+}
+
+fn spelt_bits(alloc: Global, digits: &[u8]) -> Result<Bitmap, Trouble> {
+    let mut held = Vec::new(alloc);
+    for eight in digits.chunks(8) {
+        held.push(byte_of(eight)?)?;
+    }
+    Ok(Bitmap::try_new(Buffer::new(held)?, digits.len())?)
+}
+
+// The byte of up to eight bits, the first of which is its lowest.
+fn byte_of(digits: &[u8]) -> Result<u8, Trouble> {
+    let mut byte = 0u8;
+    for digit in digits.iter().rev() {
+        let bit = match digit {
+            b'0' => 0,
+            b'1' => 1,
+            _ => return Err(Trouble::Row("bits")),
+        };
+        byte = (byte & 0x7f) << 1 | bit;
+    }
+    Ok(byte)
+}

@@ -1,0 +1,57 @@
+//! Arrays. `"slots_of": ARRAY` gives how many slots are null, and the slots, `"parts_of": ARRAY` the parts as they lie;
+//! `"are_same": [ARRAY, ARRAY]` whether they are equal, `"is_same_as_clone": ARRAY` whether one is equal to its clone,
+//! `"is_dictionary": ARRAY` whether it is a dictionary.
+
+use crate::arrays::array;
+use crate::json::{item, items};
+use crate::parts::put_parts;
+use crate::slots::put_slots;
+use crate::trouble::Trouble;
+use crate::types::LEVELS;
+use lower_arrays::array::is_dictionary;
+use lower_equal::equal;
+use serde_json::Value;
+use std::alloc::Global;
+
+/// How many slots of an array are null, and its slots, by way of a clone.
+pub fn slots_of(alloc: Global, value: &Value) -> Result<String, Trouble> {
+    let array = array(alloc, value, LEVELS)?;
+    let mut out = format!(in alloc; "{{\"nulls\":{},\"slots\":", array.null_count())?;
+    put_slots(alloc, &mut out, &array.clone()?, LEVELS)?;
+    out.push('}')?;
+    Ok(out)
+}
+
+/// The parts of an array, and those of its clone where they are others.
+pub fn parts_of(alloc: Global, value: &Value) -> Result<String, Trouble> {
+    let array = array(alloc, value, LEVELS)?;
+    let mut own = String::new(alloc);
+    put_parts(alloc, &mut own, &array, LEVELS)?;
+    let mut copied = String::new(alloc);
+    put_parts(alloc, &mut copied, &array.clone()?, LEVELS)?;
+    if own != copied {
+        own.push_str(", and of its clone ")?;
+        own.push_str(copied.as_str())?;
+    }
+    Ok(own)
+}
+
+/// Whether two arrays are the same.
+pub fn are_same(alloc: Global, value: &Value) -> Result<String, Trouble> {
+    let both = items(value, "are_same")?;
+    let first = array(alloc, item(both, 0, "are_same")?, LEVELS)?;
+    let second = array(alloc, item(both, 1, "are_same")?, LEVELS)?;
+    Ok(equal(&first, &second).to_string(alloc)?)
+}
+
+/// Whether an array is the same as its clone.
+pub fn is_same_as_clone(alloc: Global, value: &Value) -> Result<String, Trouble> {
+    let array = array(alloc, value, LEVELS)?;
+    Ok(equal(&array, &array.clone()?).to_string(alloc)?)
+}
+
+/// Whether an array is a dictionary.
+pub fn is_dictionary_array(alloc: Global, value: &Value) -> Result<String, Trouble> {
+    let array = array(alloc, value, LEVELS)?;
+    Ok(is_dictionary(&array).to_string(alloc)?)
+}

@@ -1,0 +1,76 @@
+//! Chunks and ids. `"chunk_of": [ARRAY, ..]` gives what a chunk of these columns and its clone show: `{"arrays": [SLOTS, ..], "columns": [SLOTS, ..],
+//! "is_clone_same": true, "is_empty": false, "moved": [2, 2], "rows": 2}`, where `moved` is how many columns are moved out of each.
+//! `"are_equal_rows": [ARRAY, ..]` gives whether they have the same number of rows.
+//!
+//! `"fits": {"fields": [FIELD, ..], "ids": [ID, ..]}` gives whether the ids belong to the fields; `"cloned_ids_of"` of a schema gives it with clones of its ids.
+
+use crate::arrays::arrays;
+use crate::chunks::shown_columns;
+use crate::schemas::{ids_of, is_little_endian, schema, shown_schema};
+use crate::trouble::Trouble;
+use crate::types::LEVELS;
+use ipc_base::chunk::{Chunk, equal_rows};
+use ipc_base::ipc::{IpcSchema, clone_ipc_fields, fits};
+use lower_arrays::array::AnyArray;
+use lower_equal::equal;
+use serde_json::Value;
+use std::alloc::Global;
+use std::fmt::Write;
+
+/// What a chunk shows, and what it is moved to.
+pub fn chunk_of(alloc: Global, value: &Value) -> Result<String, Trouble> {
+    let chunk = Chunk::try_new(arrays(alloc, value, LEVELS)?)?;
+    let copy = chunk.clone()?;
+    let mut out = shown_chunk(alloc, &chunk, &copy)?;
+    let rows = chunk.len();
+    let first = Chunk::new(chunk.into_arrays()).into_arrays().len();
+    let second: Vec<_> = copy.into();
+    write!(
+        out,
+        "\"moved\":[{first},{}],\"rows\":{rows}}}",
+        second.len()
+    )?;
+    Ok(out)
+}
+
+fn shown_chunk(
+    alloc: Global,
+    chunk: &Chunk<AnyArray>,
+    copy: &Chunk<AnyArray>,
+) -> Result<String, Trouble> {
+    let arrays = shown_columns(alloc, chunk.arrays())?;
+    let columns = shown_columns(alloc, copy.columns())?;
+    let is_same = are_same(chunk.arrays(), copy.arrays());
+    let mut out = format!(in alloc; "{{\"arrays\":{arrays},\"columns\":{columns},")?;
+    let is_empty = chunk.is_empty();
+    write!(out, "\"is_clone_same\":{is_same},\"is_empty\":{is_empty},")?;
+    Ok(out)
+}
+
+fn are_same(columns: &[AnyArray], others: &[AnyArray]) -> bool {
+    columns.len() == others.len() && columns.iter().zip(others).all(|(a, b)| equal(a, b))
+}
+
+/// Whether columns have the same number of rows.
+pub fn are_equal_rows(alloc: Global, value: &Value) -> Result<String, Trouble> {
+    let columns = arrays(alloc, value, LEVELS)?;
+    Ok(equal_rows(&columns).to_string(alloc)?)
+}
+
+/// Whether ids belong to fields.
+pub fn fits_of(alloc: Global, value: &Value) -> Result<String, Trouble> {
+    let schema = schema(alloc, value)?;
+    let ids = ids_of(alloc, value, &schema)?;
+    Ok(fits(&schema.fields, &ids).to_string(alloc)?)
+}
+
+/// A schema with clones of its ids.
+pub fn cloned_ids_of(alloc: Global, value: &Value) -> Result<String, Trouble> {
+    let schema = schema(alloc, value)?;
+    let ids = ids_of(alloc, value, &schema)?;
+    let cloned = IpcSchema {
+        fields: clone_ipc_fields(&ids)?,
+        is_little_endian: is_little_endian(value)?,
+    };
+    shown_schema(alloc, &schema, &cloned.clone()?)
+}

@@ -1,0 +1,166 @@
+//! Devices. `"device_by": {"device": KIND, "bytes": BYTES, "calls": [CALL, ..]}` makes the calls of a device over these bytes, and gives
+//! `{"answers": [..], "bytes": HEX}`: what each answers, and the bytes behind them. A device is a file in memory, `"memory"`, the same through a borrow, `"lent"`, or
+//! one of the standard library, `"watched"`; to a `"vector"` can only be written.
+//!
+//! A call is `{"read": 2}` or `{"ahead": 2}`, which answer bytes, where `ahead` answers null if it shows none; `{"skip": 2}`, `{"seek": 2}`,
+//! `"flush"`, which answer `"ok"`; `{"write": BYTES}`, `"end"`, `"position"`, `"given"`, `"failures"`, which answer a number.
+
+use crate::bytes::bytes;
+use crate::json::{count, items, member, text};
+use crate::slots::{put_comma, put_hex};
+use crate::trouble::Trouble;
+use ipc_devices::{MemFile, Reads, Seeks, Watched, Writes, read_bytes};
+use serde_json::Value;
+use std::alloc::Global;
+use std::fmt::Write;
+use std::io::Cursor;
+
+/// What the calls of a device answer, and its bytes behind them.
+pub fn device_by(alloc: Global, value: &Value) -> Result<String, Trouble> {
+    let held = bytes(alloc, member(value, "bytes")?)?;
+    let calls = items(member(value, "calls")?, "calls")?;
+    let mut out = String::from_str(alloc, "{\"answers\":[")?;
+    let held = match text(member(value, "device")?, "device")? {
+        "memory" => by_memory(alloc, &mut out, held, calls)?,
+        "lent" => by_borrow(alloc, &mut out, held, calls)?,
+        "watched" => by_standard(alloc, &mut out, held, calls)?,
+        "vector" => by_vector(alloc, &mut out, held, calls)?,
+        _ => return Err(Trouble::Row("device")),
+    };
+    out.push_str("],\"bytes\":")?;
+    put_hex(alloc, &mut out, &held)?;
+    out.push('}')?;
+    Ok(out)
+}
+
+fn by_memory(
+    alloc: Global,
+    out: &mut String,
+    held: Vec<u8>,
+    calls: &[Value],
+) -> Result<Vec<u8>, Trouble> {
+    let mut file = MemFile::new(held);
+    put_answers(alloc, out, &mut file, calls)?;
+    Ok(file.into_inner())
+}
+
+fn by_borrow(
+    alloc: Global,
+    out: &mut String,
+    held: Vec<u8>,
+    calls: &[Value],
+) -> Result<Vec<u8>, Trouble> {
+    let mut file = MemFile::new(held);
+    put_answers(alloc, out, &mut &mut file, calls)?;
+    Ok(file.into_inner())
+}
+
+fn by_standard(
+    alloc: Global,
+    out: &mut String,
+    held: Vec<u8>,
+    calls: &[Value],
+) -> Result<Vec<u8>, Trouble> {
+    let mut file = Watched::new(Cursor::new(held));
+    put_answers(alloc, out, &mut file, calls)?;
+    Ok(file.into_inner().into_inner())
+}
+
+fn by_vector(
+    alloc: Global,
+    out: &mut String,
+    mut held: Vec<u8>,
+    calls: &[Value],
+) -> Result<Vec<u8>, Trouble> {
+    for call in calls {
+        put_comma(out)?;
+        put_write(alloc, out, &mut held, call)?;
+    }
+    Ok(held)
+}
+
+fn put_answers<D: Reads + Writes + Seeks>(
+    alloc: Global,
+    out: &mut String,
+    device: &mut D,
+    calls: &[Value],
+) -> Result<(), Trouble> {
+    for call in calls {
+        put_comma(out)?;
+        match call {
+            Value::String(name) => put_answer(alloc, out, device, name.as_str(), call)?,
+            _ => put_move(alloc, out, device, call)?,
+        }
+    }
+    Ok(())
+}
+
+// What a call without parts answers.
+fn put_answer<D: Reads + Writes + Seeks>(
+    alloc: Global,
+    out: &mut String,
+    device: &mut D,
+    name: &str,
+    call: &Value,
+) -> Result<(), Trouble> {
+    match name {
+        "end" => write!(out, "{}", device.seek_end()?)?,
+        "position" => write!(out, "{}", device.position()?)?,
+        "given" => write!(out, "{}", device.given())?,
+        "failures" => write!(out, "{}", device.failures())?,
+        _ => put_write(alloc, out, device, call)?,
+    }
+    Ok(())
+}
+
+// What a call that reads or moves answers.
+fn put_move<D: Reads + Writes + Seeks>(
+    alloc: Global,
+    out: &mut String,
+    device: &mut D,
+    call: &Value,
+) -> Result<(), Trouble> {
+    if let Some(place) = call.get("seek") {
+        device.seek_to(count(place, "seek")? as u64)?;
+        return Ok(out.push_str("\"ok\"")?);
+    }
+    if let Some(passed) = call.get("skip") {
+        device.skip(count(passed, "skip")?)?;
+        return Ok(out.push_str("\"ok\"")?);
+    }
+    if let Some(wanted) = call.get("ahead") {
+        return match device.ahead(count(wanted, "ahead")?) {
+            Some(bytes) => put_hex(alloc, out, bytes),
+            None => Ok(out.push_str("null")?),
+        };
+    }
+    if let Some(wanted) = call.get("read") {
+        let wanted = count(wanted, "read")?.min(MOST);
+        return put_hex(alloc, out, &read_bytes(alloc, device, wanted)?);
+    }
+    put_write(alloc, out, device, call)
+}
+
+// As many bytes are read at most.
+const MOST: usize = 1 << 20;
+
+// What a call that writes answers.
+fn put_write<W: Writes>(
+    alloc: Global,
+    out: &mut String,
+    device: &mut W,
+    call: &Value,
+) -> Result<(), Trouble> {
+    if let Some(written) = call.get("write") {
+        let written = bytes(alloc, written)?;
+        write!(out, "{}", device.write(&written)?)?;
+        return Ok(());
+    }
+    match call.as_str() {
+        Some("flush") => {
+            Writes::flush(device)?;
+            Ok(out.push_str("\"ok\"")?)
+        }
+        _ => Err(Trouble::Row("calls")),
+    }
+}

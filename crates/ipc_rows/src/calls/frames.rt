@@ -1,0 +1,38 @@
+//! Messages as they are sent. `"framed": {"message": BYTES, "body": BYTES}` gives `{"bytes": HEX, "lengths": [16, 128]}`, where the lengths are
+//! those of what stands before the body and of the body, each padded. `"continuation_of": 0` gives `{"bytes": HEX, "length": 8}`: what stands
+//! before a message of so many bytes.
+
+use crate::bytes::bytes;
+use crate::json::{int32, member};
+use crate::slots::put_hex;
+use crate::trouble::Trouble;
+use ipc_write::common::EncodedData;
+use ipc_write::common_sync::{write_continuation, write_message};
+use serde_json::Value;
+use std::alloc::Global;
+use std::fmt::Write;
+
+/// A message and its body, with their padding.
+pub fn framed(alloc: Global, value: &Value) -> Result<String, Trouble> {
+    let encoded = EncodedData {
+        ipc_message: bytes(alloc, member(value, "message")?)?,
+        arrow_data: bytes(alloc, member(value, "body")?)?,
+    };
+    let mut sent: Vec<u8> = Vec::new(alloc);
+    let (head, body) = write_message(&mut sent, &encoded)?;
+    let mut out = String::from_str(alloc, "{\"bytes\":")?;
+    put_hex(alloc, &mut out, &sent)?;
+    write!(out, ",\"lengths\":[{head},{body}]}}")?;
+    Ok(out)
+}
+
+/// What stands before a message.
+pub fn continuation_of(alloc: Global, value: &Value) -> Result<String, Trouble> {
+    let length = int32(value, "continuation_of")?;
+    let mut sent: Vec<u8> = Vec::new(alloc);
+    let sent_length = write_continuation(&mut sent, length)?;
+    let mut out = String::from_str(alloc, "{\"bytes\":")?;
+    put_hex(alloc, &mut out, &sent)?;
+    write!(out, ",\"length\":{sent_length}}}")?;
+    Ok(out)
+}

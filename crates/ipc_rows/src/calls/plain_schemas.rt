@@ -1,0 +1,251 @@
+//! Schema messages beside the plain program. `"plain_schema_of": BYTES` gives what it says of a message: a schema, in which an extension
+//! type is the one that it is stored as, `"Other"` or `"NoSchema"`. `"schema_by_both": BYTES` gives
+//! `{"plain": PLAIN, "reader": SCHEMA, "agree": true}`. `"damaged_schemas_of": {"bytes": BYTES, "kinds": ["NoSchema", ..]}` runs both on the message with
+//! each damage, and gives `{"cuts": 48, "sets": 192, "differ": [], "kinds": ["NoSchema", ..]}`: how many damages were tried, those at which they
+//! differ, and which of these kinds of answers came. `"only_cuts": true` leaves out the damages that set a byte.
+
+use crate::bytes::bytes;
+use crate::damages::{Damage, cuts, damaged, damages};
+use crate::json::{items, member, text};
+use crate::same_schemas::{are_plain, is_same_schema};
+use crate::schemas::{shown_by_both, shown_schema};
+use crate::slots::put_fault;
+use crate::trouble::Trouble;
+use ipc_base::ipc::IpcSchema;
+use ipc_devices::fault::Fault;
+use ipc_plain_schema::schema::{PlainAnswer, plain_schema};
+use ipc_plain_schema::types::{PlainField, PlainSchema, PlainType};
+use ipc_schema::read::schema::deserialize_schema;
+use ipc_schema_write::defaults::default_ipc_fields;
+use lower::datatypes::{DataType, Field, IntegerType, Schema};
+use lower_types::Endianness;
+use serde_json::Value;
+use std::alloc::Global;
+use std::fmt::Write;
+
+type Read = Result<(Schema, IpcSchema), Fault>;
+
+/// What the plain program says of a message.
+pub fn plain_schema_of(alloc: Global, value: &Value) -> Result<String, Trouble> {
+    let message = bytes(alloc, value)?;
+    shown_plain(alloc, &plain_schema(alloc, &message)?)
+}
+
+/// What both say of a message, and whether they agree.
+pub fn schema_by_both(alloc: Global, value: &Value) -> Result<String, Trouble> {
+    let message = bytes(alloc, value)?;
+    let read = read(alloc, &message)?;
+    let plain = plain_schema(alloc, &message)?;
+    let agree = judged(&plain, &read) != Kind::Differ;
+    let plain = shown_plain(alloc, &plain)?;
+    shown_by_both(alloc, agree, &plain, &shown_read(alloc, &read)?)
+}
+
+// What the reader answers. Memory that is refused is no answer.
+fn read(alloc: Global, message: &[u8]) -> Result<Read, Trouble> {
+    match deserialize_schema(alloc, message) {
+        Err(Fault::Memory) => Err(Trouble::Refused(Fault::Memory)),
+        read => Ok(read),
+    }
+}
+
+fn shown_read(alloc: Global, read: &Read) -> Result<String, Trouble> {
+    match read {
+        Ok((schema, ids)) => shown_schema(alloc, schema, ids),
+        Err(fault) => {
+            let mut named = String::new(alloc);
+            put_fault(alloc, &mut named, fault)?;
+            Ok(named)
+        }
+    }
+}
+
+// ---- the plain program's schema as a reader's
+
+fn shown_plain(alloc: Global, answer: &PlainAnswer) -> Result<String, Trouble> {
+    match answer {
+        PlainAnswer::NoSchema => Ok(String::from_str(alloc, "\"NoSchema\"")?),
+        PlainAnswer::Other => Ok(String::from_str(alloc, "\"Other\"")?),
+        PlainAnswer::Plain(plain) => shown_plain_schema(alloc, plain),
+    }
+}
+
+fn shown_plain_schema(alloc: Global, plain: &PlainSchema) -> Result<String, Trouble> {
+    let schema = Schema {
+        fields: fields_of(alloc, &plain.fields)?,
+        metadata: plain.metadata.clone()?,
+    };
+    let ids = IpcSchema {
+        fields: default_ipc_fields(alloc, &schema.fields)?,
+        is_little_endian: plain.order == Endianness::Little,
+    };
+    shown_schema(alloc, &schema, &ids)
+}
+
+/// The fields that a reader has for these.
+#[cycle(plain)]
+pub fn fields_of(alloc: Global, plain: &[PlainField]) -> Result<Vec<Field>, Trouble> {
+    let mut fields = Vec::new(alloc);
+    for plain in plain {
+        fields.push(field_of(alloc, plain)?)?;
+    }
+    Ok(fields)
+}
+
+#[cycle(plain)]
+fn field_of(alloc: Global, plain: &PlainField) -> Result<Field, Trouble> {
+    Ok(Field {
+        name: plain.name.clone()?,
+        data_type: type_of(alloc, &plain.data_type)?,
+        is_nullable: plain.is_nullable,
+        metadata: plain.metadata.clone()?,
+    })
+}
+
+#[cycle(plain)]
+fn type_of(alloc: Global, plain: &PlainType) -> Result<DataType, Trouble> {
+    match plain {
+        PlainType::Int(form) => Ok(integers_of(*form)),
+        PlainType::Utf8 => Ok(DataType::Utf8),
+        PlainType::List(item) => Ok(DataType::List(Box::new(alloc, field_of(alloc, item)?)?)),
+        PlainType::Struct(fields) => Ok(DataType::Struct(fields_of(alloc, fields)?)),
+    }
+}
+
+fn integers_of(form: IntegerType) -> DataType {
+    match form {
+        IntegerType::Int8 => DataType::Int8,
+        IntegerType::Int16 => DataType::Int16,
+        IntegerType::Int32 => DataType::Int32,
+        IntegerType::Int64 => DataType::Int64,
+        IntegerType::UInt8 => DataType::UInt8,
+        IntegerType::UInt16 => DataType::UInt16,
+        IntegerType::UInt32 => DataType::UInt32,
+        IntegerType::UInt64 => DataType::UInt64,
+    }
+}
+
+// ---- whether both agree
+
+// What both answer.
+#[derive(Clone, Copy, PartialEq, Eq)]
+enum Kind {
+    NoSchema,
+    Other,
+    Plain,
+    Differ,
+}
+
+// Where the plain program finds no schema the reader refuses the message. Where it finds another type the reader has one too.
+fn judged(plain: &PlainAnswer, read: &Read) -> Kind {
+    match (plain, read) {
+        (PlainAnswer::NoSchema, Err(_)) => Kind::NoSchema,
+        (PlainAnswer::Other, Ok((schema, _))) if !are_plain(&schema.fields) => Kind::Other,
+        (PlainAnswer::Plain(plain), Ok((schema, ids))) if is_same_schema(plain, schema, ids) => {
+            Kind::Plain
+        }
+        _ => Kind::Differ,
+    }
+}
+
+// ---- damages
+
+// What came of the damages that were tried.
+#[derive(Drop)]
+struct Tried {
+    cuts: u64,
+    sets: u64,
+    no_schema: bool,
+    other: bool,
+    plain: bool,
+    differ: Vec<Damage>,
+}
+
+impl Tried {
+    fn add(&mut self, damage: Damage, kind: Kind) -> Result<(), Trouble> {
+        match damage {
+            Damage::Cut(_) => self.cuts = self.cuts.saturating_add(1),
+            Damage::Set { .. } => self.sets = self.sets.saturating_add(1),
+        }
+        match kind {
+            Kind::NoSchema => self.no_schema = true,
+            Kind::Other => self.other = true,
+            Kind::Plain => self.plain = true,
+            Kind::Differ => self.differ.push(damage)?,
+        }
+        Ok(())
+    }
+
+    // Whether answers of the kind of this name came.
+    fn has(&self, name: &str) -> Result<bool, Trouble> {
+        match name {
+            "NoSchema" => Ok(self.no_schema),
+            "Other" => Ok(self.other),
+            "Plain" => Ok(self.plain),
+            _ => Err(Trouble::Row("kinds")),
+        }
+    }
+}
+
+/// What both say of a message with each damage.
+pub fn damaged_schemas_of(alloc: Global, value: &Value) -> Result<String, Trouble> {
+    let message = bytes(alloc, member(value, "bytes")?)?;
+    let damages = match value.get("only_cuts") {
+        None => damages(alloc, message.len())?,
+        Some(_) => cuts(alloc, message.len())?,
+    };
+    let tried = tried_all(alloc, &message, &damages)?;
+    let mut out = format!(in alloc; "{{\"cuts\":{},\"differ\":[", tried.cuts)?;
+    put_damages(&mut out, &tried.differ)?;
+    out.push_str("],\"kinds\":[")?;
+    put_kinds(&mut out, &tried, items(member(value, "kinds")?, "kinds")?)?;
+    write!(out, "],\"sets\":{}}}", tried.sets)?;
+    Ok(out)
+}
+
+fn tried_all(alloc: Global, message: &[u8], damages: &[Damage]) -> Result<Tried, Trouble> {
+    let mut tried = Tried {
+        cuts: 0,
+        sets: 0,
+        no_schema: false,
+        other: false,
+        plain: false,
+        differ: Vec::new(alloc),
+    };
+    for damage in damages {
+        let kind = kind_of(alloc, &damaged(alloc, message, *damage)?)?;
+        tried.add(*damage, kind)?;
+    }
+    Ok(tried)
+}
+
+fn kind_of(alloc: Global, message: &[u8]) -> Result<Kind, Trouble> {
+    let read = read(alloc, message)?;
+    Ok(judged(&plain_schema(alloc, message)?, &read))
+}
+
+fn put_damages(out: &mut String, damages: &[Damage]) -> Result<(), Trouble> {
+    for (number, damage) in damages.iter().enumerate() {
+        if number != 0 {
+            out.push(',')?;
+        }
+        write!(out, "{damage}")?;
+    }
+    Ok(())
+}
+
+// Those of these kinds of answers that came.
+fn put_kinds(out: &mut String, tried: &Tried, kinds: &[Value]) -> Result<(), Trouble> {
+    let mut first = true;
+    for kind in kinds {
+        let name = text(kind, "kinds")?;
+        if tried.has(name)? {
+            if !first {
+                out.push(',')?;
+            }
+            first = false;
+            write!(out, "\"{name}\"")?;
+        }
+    }
+    Ok(())
+}

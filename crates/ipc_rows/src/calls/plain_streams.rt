@@ -1,0 +1,192 @@
+//! Streams beside the plain programs. `"stream_by_both": STREAM` gives how their answers stand to each other: `{"chunks": 2, "end": "Mark"}`, the same
+//! chunks and then the same end, which is `"Mark"`, `"Waiting"` or `"Fault"`; `"NoStream"` where neither finds a schema at the front; else
+//! `"Differ"`. `"cut_streams_of": STREAM` makes both read it cut to each length, 0 first, and gives the answers as `runs.rt` shows them.
+//! `"damaged_streams_of": {"stream": STREAM, "places": [[0, 8], ..], "bytes": [255, ..]}` makes them read it with each byte of these ranges set to
+//! these in turn, and gives `{"differ": [], "sets": 160}`.
+
+use crate::bytes::bytes;
+use crate::calls::records::are_same;
+use crate::damages::{Damage, damaged};
+use crate::json::{count, item, items, member};
+use crate::plain_streams::{Item, PlainHead, item_of, plain_head};
+use crate::runs::Runs;
+use crate::same_schemas::is_same_schema;
+use crate::slots::put_comma;
+use crate::trouble::Trouble;
+use crate::written::stream;
+use ipc_devices::MemFile;
+use ipc_devices::fault::Fault;
+use ipc_readers::read::stream::{StreamReader, StreamState, read_stream_metadata};
+use serde_json::Value;
+use std::alloc::Global;
+use std::fmt::Write;
+
+#[derive(Clone, Copy, Debug)]
+enum End {
+    Mark,
+    Waiting,
+    Fault,
+}
+
+// What both answer.
+#[derive(Clone, Copy)]
+enum Answer {
+    NoStream,
+    Chunks(usize, End),
+    Differ,
+}
+
+// How the next answer of the reader stands to what the plain programs say: the bytes behind a chunk that both
+// give, or how both end.
+#[derive(Clone, Copy)]
+enum Step<'a> {
+    Chunk(&'a [u8]),
+    End(End),
+    Differ,
+}
+
+type Next = Option<Result<StreamState, Fault>>;
+
+// Whether the reader gives this chunk.
+fn is_chunk(alloc: Global, plain: &Item<'_>, read: &Next) -> Result<bool, Trouble> {
+    match (plain, read) {
+        (Item::Columns(columns, _), Some(Ok(StreamState::Some(chunk)))) => {
+            are_same(alloc, columns, chunk)
+        }
+        _ => Ok(false),
+    }
+}
+
+fn step_of<'a>(alloc: Global, plain: Item<'a>, read: &Next) -> Result<Step<'a>, Trouble> {
+    let is_chunk = is_chunk(alloc, &plain, read)?;
+    Ok(match (plain, read) {
+        (Item::Columns(_, rest), _) if is_chunk => Step::Chunk(rest),
+        (Item::Mark, None) => Step::End(End::Mark),
+        (Item::Waiting, Some(Ok(StreamState::Waiting))) => Step::End(End::Waiting),
+        (Item::Faulty, Some(Err(_))) => Step::End(End::Fault),
+        _ => Step::Differ,
+    })
+}
+
+// Compares the next message.
+fn next_step<'a>(
+    alloc: Global,
+    head: &PlainHead,
+    bytes: &'a [u8],
+    reader: &mut StreamReader<MemFile<&[u8]>>,
+) -> Result<Step<'a>, Trouble> {
+    let read = reader.next();
+    if matches!(&read, Some(Err(Fault::Memory))) {
+        return Err(Trouble::Refused(Fault::Memory));
+    }
+    step_of(alloc, item_of(alloc, head, bytes)?, &read)
+}
+
+// Compares the messages behind a schema, each of which has bytes.
+fn compare_messages(
+    alloc: Global,
+    head: &PlainHead,
+    bytes: &[u8],
+    reader: &mut StreamReader<MemFile<&[u8]>>,
+) -> Result<Answer, Trouble> {
+    let mut rest = bytes;
+    for chunks in 0..bytes.len().saturating_add(1) {
+        match next_step(alloc, head, rest, reader)? {
+            Step::Chunk(behind) => rest = behind,
+            Step::End(end) => return Ok(Answer::Chunks(chunks, end)),
+            Step::Differ => return Ok(Answer::Differ),
+        }
+    }
+    Ok(Answer::Differ)
+}
+
+fn answer_of(alloc: Global, bytes: &[u8]) -> Result<Answer, Trouble> {
+    let mut input = MemFile::new(bytes);
+    let read = read_stream_metadata(alloc, &mut input);
+    if matches!(&read, Err(Fault::Memory)) {
+        return Err(Trouble::Refused(Fault::Memory));
+    }
+    let Some((head, rest)) = plain_head(alloc, bytes)? else {
+        return Ok(if read.is_err() {
+            Answer::NoStream
+        } else {
+            Answer::Differ
+        });
+    };
+    let Ok(metadata) = read else {
+        return Ok(Answer::Differ);
+    };
+    if !is_same_schema(&head.schema, &metadata.schema, &metadata.ipc_schema) {
+        return Ok(Answer::Differ);
+    }
+    let mut reader = StreamReader::new(alloc, input, metadata, None)?;
+    compare_messages(alloc, &head, rest, &mut reader)
+}
+
+fn shown_answer(alloc: Global, answer: Answer) -> Result<String, Trouble> {
+    match answer {
+        Answer::NoStream => Ok(String::from_str(alloc, "\"NoStream\"")?),
+        Answer::Differ => Ok(String::from_str(alloc, "\"Differ\"")?),
+        Answer::Chunks(chunks, end) => {
+            Ok(format!(in alloc; "{{\"chunks\":{chunks},\"end\":\"{end:?}\"}}")?)
+        }
+    }
+}
+
+/// How the answers of the reader and the plain programs stand to each other.
+pub fn stream_by_both(alloc: Global, value: &Value) -> Result<String, Trouble> {
+    let stream = stream(alloc, value)?;
+    shown_answer(alloc, answer_of(alloc, &stream)?)
+}
+
+// ---- damages
+
+/// What both answer on a stream cut to each length.
+pub fn cut_streams_of(alloc: Global, value: &Value) -> Result<String, Trouble> {
+    let stream = stream(alloc, value)?;
+    let mut runs = Runs::new(alloc);
+    for length in 0..stream.len() {
+        let answer = answer_of(alloc, &stream[..length])?;
+        runs.add(shown_answer(alloc, answer)?)?;
+    }
+    runs.shown(alloc)
+}
+
+/// How many damages of a stream were tried, and those at which both differ.
+pub fn damaged_streams_of(alloc: Global, value: &Value) -> Result<String, Trouble> {
+    let stream = stream(alloc, member(value, "stream")?)?;
+    let mut differ = String::from_str(alloc, "[")?;
+    let mut sets = 0u64;
+    for damage in sets_of(alloc, value)? {
+        let answer = answer_of(alloc, &damaged(alloc, &stream, damage)?)?;
+        sets = sets.saturating_add(1);
+        if matches!(answer, Answer::Differ) {
+            put_comma(&mut differ)?;
+            write!(differ, "{damage}")?;
+        }
+    }
+    Ok(format!(in alloc; "{{\"differ\":{differ}],\"sets\":{sets}}}")?)
+}
+
+// Each byte of the ranges set to each of the bytes.
+fn sets_of(alloc: Global, value: &Value) -> Result<Vec<Damage>, Trouble> {
+    let mut all = Vec::new(alloc);
+    let set = bytes(alloc, member(value, "bytes")?)?;
+    for range in items(member(value, "places")?, "places")? {
+        let range = items(range, "places")?;
+        let from = count(item(range, 0, "places")?, "places")?;
+        let len = count(item(range, 1, "places")?, "places")?;
+        for place in from..from.saturating_add(len) {
+            put_sets(&mut all, place, &set)?;
+        }
+    }
+    Ok(all)
+}
+
+// The byte at a place set to each of these.
+fn put_sets(all: &mut Vec<Damage>, place: usize, bytes: &[u8]) -> Result<(), Trouble> {
+    for byte in bytes {
+        all.push(Damage::Set { place, byte: *byte })?;
+    }
+    Ok(())
+}

@@ -1,0 +1,174 @@
+//! Record messages, in the notation of `records.rt`. `"columns_of": RECORD` gives a chunk, by the reader; `"plain_columns_of": RECORD` gives
+//! `[SLOTS, ..]` by the plain program, or null where the record means nothing.
+//!
+//! `"columns_by_both": RECORD` gives how their answers stand to each other: `"Columns"`, the same ones; `"NoColumns"`, the reader refuses
+//! what means nothing; `"Nulls"`, it doesn't carry the nulls that the nodes tell of; `"NoBatch"`, the message holds no record batch; else
+//! `"Differ"`. `"damaged_records_of": RECORD` makes both read the message with each damage, and gives `{"cuts": 200, "differ": [], "sets": 800}`:
+//! how many damages were tried, and those at which they differ. `"cut_bodies_of": RECORD` makes them read the body cut to each
+//! length, 0 first, and gives the answers as `runs.rt` shows them.
+
+use crate::chunks::{put_chunk, shown_columns};
+use crate::damages::{Damage, damaged, damages};
+use crate::plain::{PlainColumns, PlainForm, shown_plain_columns};
+use crate::records::{Record, RecordForm, batch_of, record_of};
+use crate::runs::Runs;
+use crate::slots::put_comma;
+use crate::trouble::Trouble;
+use ipc_base::chunk::Chunk;
+use ipc_devices::fault::{Fault, Nyi};
+use ipc_views::RecordBatchRef;
+use lower_arrays::array::AnyArray;
+use serde_json::Value;
+use std::alloc::Global;
+use std::fmt::Write;
+
+/// The columns that are read of a record message.
+pub fn columns_of(alloc: Global, value: &Value) -> Result<String, Trouble> {
+    let record = record_of(alloc, value)?;
+    let batch = batch_of(&record.message).ok_or(Trouble::Row("record"))?;
+    let chunk = record.form.read(alloc, batch, &record.body)?;
+    let mut out = String::new(alloc);
+    put_chunk(alloc, &mut out, &chunk, &record.form.fields)?;
+    Ok(out)
+}
+
+/// The columns that a record message means by the plain program.
+pub fn plain_columns_of(alloc: Global, value: &Value) -> Result<String, Trouble> {
+    let record = record_of(alloc, value)?;
+    let batch = batch_of(&record.message).ok_or(Trouble::Row("record"))?;
+    let plain = record.form.plain(alloc)?;
+    match plain.columns(alloc, &batch, &record.body)? {
+        Some(columns) => shown_plain_columns(alloc, &columns),
+        None => Ok(String::from_str(alloc, "null")?),
+    }
+}
+
+// ---- by both
+
+// What both answer.
+#[derive(Clone, Copy, Debug, PartialEq, Eq)]
+enum Answer {
+    NoBatch,
+    NoColumns,
+    Columns,
+    // the reader doesn't carry nulls yet
+    Nulls,
+    Differ,
+}
+
+/// How the answers of the reader and the plain program stand to each other.
+pub fn columns_by_both(alloc: Global, value: &Value) -> Result<String, Trouble> {
+    let Record {
+        message,
+        body,
+        form,
+    } = record_of(alloc, value)?;
+    let plain = form.plain(alloc)?;
+    shown_answer(alloc, answer_of(alloc, &form, &plain, &message, &body)?)
+}
+
+fn shown_answer(alloc: Global, answer: Answer) -> Result<String, Trouble> {
+    Ok(format!(in alloc; "\"{answer:?}\"")?)
+}
+
+fn answer_of(
+    alloc: Global,
+    form: &RecordForm,
+    plain: &PlainForm,
+    message: &[u8],
+    body: &[u8],
+) -> Result<Answer, Trouble> {
+    let Some(batch) = batch_of(message) else {
+        return Ok(Answer::NoBatch);
+    };
+    let columns = plain.columns(alloc, &batch, body)?;
+    let has_nulls = tells_of_nulls(&batch, plain.kinds.len());
+    let read = form.read(alloc, batch, body);
+    if matches!(
+        &read,
+        Err(Trouble::Row(_)) | Err(Trouble::Refused(Fault::Memory))
+    ) {
+        return Err(Trouble::Row("a record"));
+    }
+    judged(alloc, &columns, &read, has_nulls)
+}
+
+// Whether one of the first nodes tells of nulls.
+fn tells_of_nulls(batch: &RecordBatchRef, count: usize) -> bool {
+    let Ok(Some(nodes)) = batch.nodes() else {
+        return false;
+    };
+    for index in 0..nodes.len() {
+        if index < count && nodes.get(index).null_count != 0 {
+            return true;
+        }
+    }
+    false
+}
+
+fn judged(
+    alloc: Global,
+    plain: &Option<PlainColumns>,
+    read: &Result<Chunk<AnyArray>, Trouble>,
+    has_nulls: bool,
+) -> Result<Answer, Trouble> {
+    Ok(match (plain, read) {
+        (Some(columns), Ok(chunk)) if are_same(alloc, columns, chunk)? => Answer::Columns,
+        (Some(_), Err(Trouble::Refused(Fault::NotYetImplemented(Nyi::Pending)))) if has_nulls => {
+            Answer::Nulls
+        }
+        (None, Err(Trouble::Refused(Fault::Io(_)))) => Answer::Differ,
+        (None, Err(_)) => Answer::NoColumns,
+        _ => Answer::Differ,
+    })
+}
+
+/// Whether columns of the plain program and of the reader have the same slots.
+pub fn are_same(
+    alloc: Global,
+    plain: &PlainColumns,
+    read: &Chunk<AnyArray>,
+) -> Result<bool, Trouble> {
+    let wanted = shown_plain_columns(alloc, plain)?;
+    Ok(wanted == shown_columns(alloc, read.arrays())?)
+}
+
+// ---- damages
+
+/// How many damages of a record message were tried, and those at which both differ.
+pub fn damaged_records_of(alloc: Global, value: &Value) -> Result<String, Trouble> {
+    let record = record_of(alloc, value)?;
+    let plain = record.form.plain(alloc)?;
+    let mut differ = String::from_str(alloc, "[")?;
+    let mut cuts = 0u64;
+    let mut sets = 0u64;
+    for damage in damages(alloc, record.message.len())? {
+        match damage {
+            Damage::Cut(_) => cuts = cuts.saturating_add(1),
+            Damage::Set { .. } => sets = sets.saturating_add(1),
+        }
+        let message = damaged(alloc, &record.message, damage)?;
+        let answer = answer_of(alloc, &record.form, &plain, &message, &record.body)?;
+        if answer == Answer::Differ {
+            put_comma(&mut differ)?;
+            write!(differ, "{damage}")?;
+        }
+    }
+    Ok(format!(in alloc; "{{\"cuts\":{cuts},\"differ\":{differ}],\"sets\":{sets}}}")?)
+}
+
+/// What both answer on the body of a record cut to each length.
+pub fn cut_bodies_of(alloc: Global, value: &Value) -> Result<String, Trouble> {
+    let Record {
+        message,
+        body,
+        form,
+    } = record_of(alloc, value)?;
+    let plain = form.plain(alloc)?;
+    let mut runs = Runs::new(alloc);
+    for length in 0..body.len() {
+        let answer = answer_of(alloc, &form, &plain, &message, &body[..length])?;
+        runs.add(shown_answer(alloc, answer)?)?;
+    }
+    runs.shown(alloc)
+}

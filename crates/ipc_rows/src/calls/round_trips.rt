@@ -1,0 +1,107 @@
+//! Streams that are written and read by one call. `"round_trip_of": {"fields": [FIELD, ..], "calls": [CALL, ..]}`, with the calls of `written.rt`, gives
+//! `{"answers": [true, ..], "chunks": [CHUNK, ..], "is_finished": true, "is_schema_same": true}`; `"whole_of": STREAM` reads one, and gives
+//! `{"chunks": [CHUNK, ..], "is_finished": true}`.
+
+use crate::arrays::arrays;
+use crate::chunks::put_chunk;
+use crate::json::{items, member};
+use crate::schemas::schema;
+use crate::slots::put_comma;
+use crate::trouble::Trouble;
+use crate::types::LEVELS;
+use crate::written::stream;
+use ipc_base::chunk::Chunk;
+use ipc_round_trip::read::{WholeStream, read_stream};
+use ipc_round_trip::round_trip::round_trip;
+use ipc_write::calls::StreamCall;
+use lower::datatypes::Field;
+use lower_arrays::array::AnyArray;
+use serde_json::Value;
+use std::alloc::Global;
+use std::fmt::Write;
+
+// A call of a writer, with the chunk that it writes.
+#[derive(Drop)]
+enum Call {
+    Start,
+    Write(Chunk<AnyArray>),
+    Finish,
+}
+
+fn call_of(alloc: Global, value: &Value) -> Result<Call, Trouble> {
+    if let Some(columns) = value.get("write") {
+        return Ok(Call::Write(Chunk::try_new(arrays(alloc, columns, LEVELS)?)?));
+    }
+    match value.as_str() {
+        Some("start") => Ok(Call::Start),
+        Some("finish") => Ok(Call::Finish),
+        _ => Err(Trouble::Row("calls")),
+    }
+}
+
+fn calls_of(alloc: Global, value: &Value) -> Result<Vec<Call>, Trouble> {
+    let mut calls = Vec::new(alloc);
+    for call in items(member(value, "calls")?, "calls")? {
+        calls.push(call_of(alloc, call)?)?;
+    }
+    Ok(calls)
+}
+
+// The same calls, as a list that is run takes them.
+fn borrowed<'a>(alloc: Global, calls: &'a [Call]) -> Result<Vec<StreamCall<'a>>, Trouble> {
+    let mut all = Vec::new(alloc);
+    for call in calls {
+        all.push(match call {
+            Call::Start => StreamCall::Start,
+            Call::Write(chunk) => StreamCall::Write(chunk),
+            Call::Finish => StreamCall::Finish,
+        })?;
+    }
+    Ok(all)
+}
+
+/// What comes back of the calls of a writer.
+pub fn round_trip_of(alloc: Global, value: &Value) -> Result<String, Trouble> {
+    let schema = schema(alloc, value)?;
+    let calls = calls_of(alloc, value)?;
+    let trip = round_trip(alloc, &schema, &borrowed(alloc, &calls)?)?;
+    let mut out = String::from_str(alloc, "{\"answers\":[")?;
+    put_truths(&mut out, &trip.answers)?;
+    out.push_str("],")?;
+    put_whole_stream(alloc, &mut out, &trip.stream, &schema.fields)?;
+    let is_same = trip.stream.metadata.schema == schema;
+    write!(out, ",\"is_schema_same\":{is_same}}}")?;
+    Ok(out)
+}
+
+fn put_truths(out: &mut String, truths: &[bool]) -> Result<(), Trouble> {
+    for truth in truths {
+        put_comma(out)?;
+        write!(out, "{truth}")?;
+    }
+    Ok(())
+}
+
+fn put_whole_stream(
+    alloc: Global,
+    out: &mut String,
+    stream: &WholeStream,
+    fields: &[Field],
+) -> Result<(), Trouble> {
+    out.push_str("\"chunks\":[")?;
+    for chunk in &stream.chunks {
+        put_comma(out)?;
+        put_chunk(alloc, out, chunk, fields)?;
+    }
+    write!(out, "],\"is_finished\":{}", stream.is_finished)?;
+    Ok(())
+}
+
+/// All chunks of a stream, and whether it ends by its mark.
+pub fn whole_of(alloc: Global, value: &Value) -> Result<String, Trouble> {
+    let whole = read_stream(alloc, &stream(alloc, value)?)?;
+    let mut out = String::from_str(alloc, "{")?;
+    put_whole_stream(alloc, &mut out, &whole, &whole.metadata.schema.fields)?;
+    out.push('}')?;
+    Ok(out)
+}

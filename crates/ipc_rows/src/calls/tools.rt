@@ -1,0 +1,229 @@
+//! The programs. `"ipcat": {"words": [WORD, ..], "input": BYTES}` runs ipcat over memory and gives its status and what it
+//! prints; `{"demo": true}` is an input too, the stream that `ipcat demo` writes. What isn't text is given by its length.
+//!
+//! `"ipcat_cut"` of the same parts runs it on each beginning of the input, and gives how many there are, the lengths of those
+//! that wait, how many end too soon, and the lengths of those that answer anything else.
+//!
+//! `"ipcat_damaged"` sets each byte of the input in turn to a `"byte"`, and gives how many runs show what came of it or refuse it
+//! by one of the `"classes"`, and the places where the answer is another one.
+
+use crate::bytes::bytes;
+use crate::json::{items, member, text};
+use crate::slots::put_text;
+use crate::trouble::Trouble;
+use ipc_devices::MemFile;
+use ipc_tools::cat::run;
+use serde_json::Value;
+use std::alloc::Global;
+use std::fmt::Write;
+
+// What a run answered.
+#[derive(Drop)]
+struct Run {
+    status: u8,
+    out: Vec<u8>,
+    err: Vec<u8>,
+}
+
+fn run_of(alloc: Global, words: &[String], input: &[u8]) -> Run {
+    let mut out = Vec::new(alloc);
+    let mut err = Vec::new(alloc);
+    let status = run(
+        alloc,
+        words,
+        &mut MemFile::new(input),
+        None::<MemFile<&[u8]>>,
+        &mut out,
+        &mut err,
+    );
+    Run { status, out, err }
+}
+
+fn words_of(alloc: Global, value: &Value) -> Result<Vec<String>, Trouble> {
+    let mut words = Vec::new(alloc);
+    for word in items(member(value, "words")?, "words")? {
+        words.push(text(word, "words")?.to_string(alloc)?)?;
+    }
+    Ok(words)
+}
+
+// What stands at the input: nothing where a row doesn't say.
+fn input_of(alloc: Global, value: &Value) -> Result<Vec<u8>, Trouble> {
+    match value.get("input") {
+        None => Ok(Vec::new(alloc)),
+        Some(input) if input.get("demo").is_some() => demo(alloc),
+        Some(input) => bytes(alloc, input),
+    }
+}
+
+fn demo(alloc: Global) -> Result<Vec<u8>, Trouble> {
+    let mut words = Vec::new(alloc);
+    words.push("demo".to_string(alloc)?)?;
+    Ok(run_of(alloc, &words, &[]).out)
+}
+
+/// What a run of ipcat answers.
+pub fn ipcat(alloc: Global, value: &Value) -> Result<String, Trouble> {
+    let words = words_of(alloc, value)?;
+    let input = input_of(alloc, value)?;
+    shown_run(alloc, &run_of(alloc, &words, &input))
+}
+
+fn shown_run(alloc: Global, run: &Run) -> Result<String, Trouble> {
+    let mut out = String::from_str(alloc, "{\"err\":")?;
+    put_printed(alloc, &mut out, &run.err)?;
+    out.push_str(",\"out\":")?;
+    put_printed(alloc, &mut out, &run.out)?;
+    write!(out, ",\"status\":{}}}", run.status)?;
+    Ok(out)
+}
+
+// A text, or how many bytes there are where they are none.
+fn put_printed(alloc: Global, out: &mut String, printed: &[u8]) -> Result<(), Trouble> {
+    if str::from_utf8(printed).is_ok() {
+        return put_text(alloc, out, printed);
+    }
+    write!(out, "{{\"bytes\":{}}}", printed.len())?;
+    Ok(())
+}
+
+// How a run ends on an input that was cut or damaged.
+#[derive(Clone, Copy, PartialEq, Eq)]
+enum Ending {
+    Waiting,
+    Ended,
+    Answered,
+    Other,
+}
+
+/// How ipcat ends on each beginning of an input.
+pub fn ipcat_cut(alloc: Global, value: &Value) -> Result<String, Trouble> {
+    let words = words_of(alloc, value)?;
+    let input = input_of(alloc, value)?;
+    let endings = endings_of_cuts(alloc, &words, &input)?;
+    let ended = count(&endings, Ending::Ended);
+    let mut out = format!(in alloc; "{{\"cuts\":{},\"ended\":{ended}", endings.len())?;
+    out.push_str(",\"other\":")?;
+    put_places(&mut out, &endings, Ending::Other)?;
+    out.push_str(",\"waiting\":")?;
+    put_places(&mut out, &endings, Ending::Waiting)?;
+    out.push('}')?;
+    Ok(out)
+}
+
+fn endings_of_cuts(alloc: Global, words: &[String], input: &[u8]) -> Result<Vec<Ending>, Trouble> {
+    let whole = run_of(alloc, words, input);
+    let mut endings = Vec::new(alloc);
+    for cut in 0..input.len() {
+        let run = run_of(alloc, words, &input[..cut]);
+        endings.push(ending_of_cut(&run, &whole))?;
+    }
+    Ok(endings)
+}
+
+// What is printed first has to be a beginning of what the whole input prints.
+fn ending_of_cut(run: &Run, whole: &Run) -> Ending {
+    let printed = run.out.as_slice();
+    if run.status == 0 && run.err.is_empty() {
+        return match printed.strip_suffix(b"waiting\n") {
+            Some(first) if whole.out.starts_with(first) => Ending::Waiting,
+            _ => Ending::Other,
+        };
+    }
+    let is_ended = run.status == 1 && run.err.as_slice() == b"ipcat: input ended\n".as_slice();
+    if is_ended && whole.out.starts_with(printed) {
+        return Ending::Ended;
+    }
+    Ending::Other
+}
+
+/// How ipcat ends on an input in which one byte is another one.
+pub fn ipcat_damaged(alloc: Global, value: &Value) -> Result<String, Trouble> {
+    let words = words_of(alloc, value)?;
+    let input = input_of(alloc, value)?;
+    let endings = endings_of_damages(alloc, &words, &input, value)?;
+    let answered = count(&endings, Ending::Answered);
+    let mut out = format!(in alloc; "{{\"answered\":{answered},\"other\":")?;
+    put_places(&mut out, &endings, Ending::Other)?;
+    out.push('}')?;
+    Ok(out)
+}
+
+fn endings_of_damages(
+    alloc: Global,
+    words: &[String],
+    input: &[u8],
+    value: &Value,
+) -> Result<Vec<Ending>, Trouble> {
+    let byte = byte_of(alloc, value)?;
+    let classes = items(member(value, "classes")?, "classes")?;
+    let mut endings = Vec::new(alloc);
+    for place in 0..input.len() {
+        let damaged = with_byte(alloc, input, place, byte)?;
+        let run = run_of(alloc, words, &damaged);
+        endings.push(ending_of_damage(&run, classes))?;
+    }
+    Ok(endings)
+}
+
+fn byte_of(alloc: Global, value: &Value) -> Result<u8, Trouble> {
+    match bytes(alloc, member(value, "byte")?)?.as_slice() {
+        [byte] => Ok(*byte),
+        _ => Err(Trouble::Row("byte")),
+    }
+}
+
+// The same bytes, but for the one at this place.
+fn with_byte(alloc: Global, input: &[u8], place: usize, byte: u8) -> Result<Vec<u8>, Trouble> {
+    let mut damaged = Vec::from_slice(alloc, input)?;
+    if let Some(old) = damaged.get_mut(place) {
+        *old = byte;
+    }
+    Ok(damaged)
+}
+
+// What comes of it is shown, or refused by its class.
+fn ending_of_damage(run: &Run, classes: &[Value]) -> Ending {
+    let is_answered = match run.status {
+        0 => run.err.is_empty(),
+        1 => is_class(&run.err, classes),
+        _ => false,
+    };
+    if is_answered {
+        Ending::Answered
+    } else {
+        Ending::Other
+    }
+}
+
+// A line that names one of these classes.
+fn is_class(line: &[u8], classes: &[Value]) -> bool {
+    let Some(class) = line.strip_prefix(b"ipcat: ") else {
+        return false;
+    };
+    let Some(class) = class.strip_suffix(b"\n") else {
+        return false;
+    };
+    classes.iter().any(|known| known.as_str().map(|name| name.as_bytes()) == Some(class))
+}
+
+fn count(endings: &[Ending], wanted: Ending) -> usize {
+    endings.iter().filter(|ending| **ending == wanted).count()
+}
+
+// Appends the places where this is the ending.
+fn put_places(out: &mut String, endings: &[Ending], wanted: Ending) -> Result<(), Trouble> {
+    let mut is_first = true;
+    out.push('[')?;
+    for (place, ending) in endings.iter().enumerate() {
+        if *ending == wanted {
+            if !is_first {
+                out.push(',')?;
+            }
+            write!(out, "{place}")?;
+            is_first = false;
+        }
+    }
+    out.push(']')?;
+    Ok(())
+}

@@ -1,0 +1,176 @@
+//! Record messages: `{"fields": [FIELD, ..], "nodes": [[2, 0], ..], "buffers": [[0, 8], ..], "body": BYTES}`. Each node is a
+//! length and a count of nulls, each buffer a place and a length. `"order": "big"` has the highest byte of numbers first,
+//! `"chosen": [2, 0]` reads these columns, `"limit": 2` so many slots at most. `"message": BYTES` may stand in place of nodes and buffers.
+
+use crate::bytes::bytes;
+use crate::json::{count, int64, items, member};
+use crate::plain::{PlainForm, all_columns, kinds_of};
+use crate::schemas::is_little_endian;
+use crate::trouble::Trouble;
+use crate::types::{LEVELS, fields};
+use ipc_base::chunk::Chunk;
+use ipc_base::ipc::IpcSchema;
+use ipc_devices::MemFile;
+use ipc_read::read::Dictionaries;
+use ipc_read::read::common::read_record_batch;
+use ipc_views::{MessageHeaderRef, MessageRef, MetadataVersion, RecordBatchRef};
+use lower::datatypes::Field;
+use lower_arrays::array::AnyArray;
+use lower_types::Endianness;
+use serde_json::Value;
+use std::alloc::Global;
+use std::collections::HashMap;
+
+/// A record message, its body, and what a schema and a caller say of it.
+#[derive(Drop)]
+pub struct Record {
+    pub message: Vec<u8>,
+    pub body: Vec<u8>,
+    pub form: RecordForm,
+}
+
+/// What a schema and a caller say of a record.
+#[derive(Drop)]
+pub struct RecordForm {
+    pub fields: Vec<Field>,
+    is_little_endian: bool,
+    chosen: Option<Vec<usize>>,
+    limit: Option<usize>,
+}
+
+/// The record of a row.
+pub fn record_of(alloc: Global, value: &Value) -> Result<Record, Trouble> {
+    let form = form(alloc, value)?;
+    let message = match value.get("message") {
+        Some(message) => bytes(alloc, message)?,
+        None => message_of(alloc, value)?,
+    };
+    let body = bytes(alloc, member(value, "body")?)?;
+    Ok(Record {
+        message,
+        body,
+        form,
+    })
+}
+
+fn form(alloc: Global, value: &Value) -> Result<RecordForm, Trouble> {
+    let limit = match value.get("limit") {
+        None => None,
+        Some(limit) => Some(count(limit, "limit")?),
+    };
+    Ok(RecordForm {
+        fields: fields(alloc, member(value, "fields")?, LEVELS)?,
+        is_little_endian: is_little_endian(value)?,
+        chosen: chosen(alloc, value)?,
+        limit,
+    })
+}
+
+fn chosen(alloc: Global, value: &Value) -> Result<Option<Vec<usize>>, Trouble> {
+    let Some(columns) = value.get("chosen") else {
+        return Ok(None);
+    };
+    let mut out = Vec::new(alloc);
+    for column in items(columns, "chosen")? {
+        out.push(count(column, "chosen")?)?;
+    }
+    Ok(Some(out))
+}
+
+/// The record batch of a message, where it holds one.
+pub fn batch_of(message: &[u8]) -> Option<RecordBatchRef<'_>> {
+    let Ok(message) = MessageRef::read_as_root(message) else {
+        return None;
+    };
+    match message.header() {
+        Ok(Some(MessageHeaderRef::RecordBatch(batch))) => Some(batch),
+        _ => None,
+    }
+}
+
+impl RecordForm {
+    /// The columns that a record means by the reader.
+    pub fn read(
+        &self,
+        alloc: Global,
+        batch: RecordBatchRef,
+        body: &[u8],
+    ) -> Result<Chunk<AnyArray>, Trouble> {
+        let ids = IpcSchema {
+            fields: Vec::new(alloc),
+            is_little_endian: self.is_little_endian,
+        };
+        let dictionaries: Dictionaries = HashMap::new(alloc);
+        Ok(read_record_batch(
+            alloc,
+            batch,
+            &self.fields,
+            &ids,
+            self.chosen.as_ref().map(|chosen| chosen.as_slice()),
+            self.limit,
+            &dictionaries,
+            MetadataVersion::V5,
+            &mut MemFile::new(body),
+            0,
+            body.len() as u64,
+            &mut Vec::new(alloc),
+        )?)
+    }
+
+    /// The same for the plain program.
+    pub fn plain(&self, alloc: Global) -> Result<PlainForm, Trouble> {
+        let chosen = match &self.chosen {
+            Some(chosen) => chosen.clone()?,
+            None => all_columns(alloc, self.fields.len())?,
+        };
+        let order = if self.is_little_endian {
+            Endianness::Little
+        } else {
+            Endianness::Big
+        };
+        Ok(PlainForm {
+            kinds: kinds_of(alloc, &self.fields)?,
+            chosen,
+            limit: self.limit,
+            order,
+            extra: 0,
+        })
+    }
+}
+
+// The record message that lists these nodes and buffers.
+fn message_of(alloc: Global, record: &Value) -> Result<Vec<u8>, Trouble> {
+    let nodes = items(member(record, "nodes")?, "nodes")?;
+    let buffers = items(member(record, "buffers")?, "buffers")?;
+    let mut out = Vec::new(alloc);
+    // The place of the message, its vtable, and the message: its header's place and tag, version V5.
+    out.extend_from_slice(&[16, 0, 0, 0])?;
+    out.extend_from_slice(&[12, 0, 12, 0, 10, 0, 8, 0, 4, 0, 0, 0])?;
+    out.extend_from_slice(&[12, 0, 0, 0, 28, 0, 0, 0, 3, 0, 4, 0])?;
+    // Eight bytes that nothing uses, the vtable of the record batch, and the record batch: the
+    // places of the nodes and of the buffers.
+    out.extend_from_slice(&[0, 0, 0, 0, 0, 0, 0, 0])?;
+    out.extend_from_slice(&[10, 0, 12, 0, 0, 0, 4, 0, 8, 0, 0, 0])?;
+    out.extend_from_slice(&[12, 0, 0, 0, 8, 0, 0, 0])?;
+    put_u32(&mut out, nodes.len().saturating_mul(16).saturating_add(8))?;
+    put_structs(&mut out, nodes, "nodes")?;
+    put_structs(&mut out, buffers, "buffers")?;
+    Ok(out)
+}
+
+// A vector of structs, each of two numbers.
+fn put_structs(out: &mut Vec<u8>, pairs: &[Value], name: &'static str) -> Result<(), Trouble> {
+    put_u32(out, pairs.len())?;
+    for pair in pairs {
+        for number in items(pair, name)? {
+            out.extend_from_slice(&int64(number, name)?.to_le_bytes())?;
+        }
+    }
+    Ok(())
+}
+
+fn put_u32(out: &mut Vec<u8>, number: usize) -> Result<(), Trouble> {
+    let number = u32::try_from(number).map_err(|_| Trouble::Row("record"))?;
+    out.extend_from_slice(&number.to_le_bytes())?;
+    Ok(())
+}

@@ -1,0 +1,117 @@
+//! A row: its call, and what comes out of it.
+//!
+//! `{"row": NAME, CALL: PARTS, "gives": VALUE}`. A call that is refused gives its fault as a text; one that ends in `..`
+//! leaves open what follows. `{"fault": NAME, "text": TEXT}` wants what the fault tells a reader too. `{"common": {CALL: PARTS}}` stands before rows that have these parts where they don't say others.
+
+use crate::calls::called;
+use crate::json::{member, text, truth};
+use crate::schemas::{shown_by_both, wanted_schema};
+use crate::slots::{put_fault, put_text};
+use crate::trouble::Trouble;
+use ipc_devices::fault::Fault;
+use serde_json::Value;
+use std::alloc::Global;
+
+/// What a row wants and what it got, as text.
+#[derive(Drop)]
+pub struct Answer {
+    pub name: String,
+    pub wanted: String,
+    pub got: String,
+}
+
+impl Answer {
+    /// Whether it got what it wants.
+    pub fn agrees(&self) -> bool {
+        match self.wanted.as_str().strip_suffix("..\"") {
+            Some(beginning) => self.got.as_str().starts_with(beginning),
+            None => self.got == self.wanted,
+        }
+    }
+}
+
+/// Runs a row, to which the common parts of its call are added.
+pub fn run_row(alloc: Global, row: Value, common: &Value) -> Result<Answer, Trouble> {
+    let row = with_common(row, common)?;
+    let name = String::from_str(alloc, text(member(&row, "row")?, "row")?)?;
+    let wanted = wanted_of(alloc, member(&row, "gives")?)?;
+    let got = match made_call(alloc, &row) {
+        Err(Trouble::Refused(fault)) => shown_fault(alloc, &fault, member(&row, "gives")?)?,
+        called => in_order(alloc, called?)?,
+    };
+    Ok(Answer { name, wanted, got })
+}
+
+// What a call gave, with its parts in the order of their names, as JSON text of a value has them. A schema isn't JSON.
+fn in_order(alloc: Global, got: String) -> Result<String, Trouble> {
+    match Value::from_str(alloc, got.as_str()) {
+        Ok(value) => Ok(value.to_string(alloc)?),
+        Err(_) => Ok(got),
+    }
+}
+
+// A fault by its name, with its text where that is wanted too.
+fn shown_fault(alloc: Global, fault: &Fault, wanted: &Value) -> Result<String, Trouble> {
+    let mut out = String::new(alloc);
+    if wanted.get("fault").is_none() {
+        put_fault(alloc, &mut out, fault)?;
+        return Ok(out);
+    }
+    out.push_str("{\"fault\":")?;
+    put_fault(alloc, &mut out, fault)?;
+    out.push_str(",\"text\":")?;
+    put_text(alloc, &mut out, format!(in alloc; "{fault}")?.as_bytes())?;
+    out.push('}')?;
+    Ok(out)
+}
+
+// What comes out of the row's call.
+fn made_call(alloc: Global, row: &Value) -> Result<String, Trouble> {
+    let Value::Object(members) = row else {
+        return Err(Trouble::Row("row"));
+    };
+    for (name, parts) in members {
+        if name.as_str() != "row" && name.as_str() != "gives" {
+            return called(alloc, name.as_str(), parts);
+        }
+    }
+    Err(Trouble::Row("a call"))
+}
+
+// What a row wants, as text: what the plain program and a reader say each by itself.
+fn wanted_of(alloc: Global, value: &Value) -> Result<String, Trouble> {
+    let (Some(plain), Some(reader)) = (value.get("plain"), value.get("reader")) else {
+        return wanted_part(alloc, value);
+    };
+    let agree = truth(member(value, "agree")?, "agree")?;
+    let plain = wanted_part(alloc, plain)?;
+    shown_by_both(alloc, agree, &plain, &wanted_part(alloc, reader)?)
+}
+
+// A schema as Rust shows one, anything else as it stands.
+fn wanted_part(alloc: Global, value: &Value) -> Result<String, Trouble> {
+    if value.get("fields").is_some() {
+        return wanted_schema(alloc, value);
+    }
+    Ok(value.to_string(alloc)?)
+}
+
+// The row with the common parts of its call that it doesn't have.
+fn with_common(mut row: Value, common: &Value) -> Result<Value, Trouble> {
+    let Some(Value::Object(calls)) = common.get("common") else {
+        return Ok(row);
+    };
+    for (call, common_parts) in calls {
+        if let (Some(Value::Object(parts)), Value::Object(common_parts)) = (
+            row.get_mut(call.as_str()),
+            common_parts,
+        ) {
+            for (name, part) in common_parts {
+                if !parts.contains_key(name.as_str()) {
+                    parts.insert(name.clone()?, part.clone()?)?;
+                }
+            }
+        }
+    }
+    Ok(row)
+}

@@ -1,0 +1,244 @@
+//! The tables of messages and files, from which bytes are built. They say what no schema of ours does, as integers of 24 bits.
+//!
+//! A message is `{"header": HEADER, "version": "V4", "body_length": 128}`: version V5 and no body where these are left out. A
+//! header is `{"schema": SCHEMA}`, `{"record_batch": BATCH}` or `{"dictionary_batch": {"id": 7, "data": BATCH, "is_delta": false}}`.
+//! A schema is `{"fields": [FIELD, ..], "endianness": "Big", "metadata": PAIRS}`, of which all but the fields may be left out. A
+//! batch is `{"length": 3, "nodes": [[3, 1], ..], "buffers": [[64, 12], ..]}`: of a node the length and how many are null, of a buffer its
+//! place and length. A footer is `{"schema": SCHEMA, "dictionaries": [BLOCK, ..], "record_batches": [BLOCK, ..], "metadata": PAIRS}`,
+//! and may have a version; a block is `[1024, 200, 64]`, its place and its lengths of metadata and body. Pairs are `[["k", "v"], ..]`.
+//!
+//! A field is `{"name": "f", "type": TYPE, "nullable": true, "children": [FIELD, ..], "dictionary": DICTIONARY, "metadata": PAIRS}`,
+//! of which only the name and the type must stand. `"lists": 63` puts it into so many lists of its name. A dictionary is
+//! `{"id": 7, "index_type": ["Int", 16, false], "is_ordered": true}`. `tables/types.rt` has the types.
+
+mod types;
+
+use crate::json::{count, int32, int64, item, items, member, text, truth};
+use crate::trouble::Trouble;
+use crate::types::LEVELS;
+use ipc_tables::file::Footer;
+use ipc_tables::message::{DictionaryBatch, Message, MessageHeader, RecordBatch};
+use ipc_tables::schema::{DictionaryEncoding, Field, KeyValue, Schema};
+use ipc_tables::types::FieldType;
+use ipc_views::{Block, Buffer, Endianness, FieldNode, MetadataVersion};
+use serde_json::Value;
+use std::alloc::Global;
+
+/// The bytes of a message.
+pub fn message(alloc: Global, value: &Value) -> Result<Vec<u8>, Trouble> {
+    let version = version(value)?;
+    let body_length = match value.get("body_length") {
+        None => 0,
+        Some(length) => int64(length, "body_length")?,
+    };
+    let message = Message {
+        version,
+        header: header(alloc, member(value, "header")?)?,
+        body_length,
+    };
+    Ok(message.to_bytes(alloc)?)
+}
+
+/// The bytes of a file's footer.
+pub fn footer(alloc: Global, value: &Value) -> Result<Vec<u8>, Trouble> {
+    let footer = Footer {
+        version: version(value)?,
+        schema: schema(alloc, member(value, "schema")?)?,
+        dictionaries: blocks(alloc, value, "dictionaries")?,
+        record_batches: blocks(alloc, value, "record_batches")?,
+        custom_metadata: pairs(alloc, value)?,
+    };
+    Ok(footer.to_bytes(alloc)?)
+}
+
+fn version(value: &Value) -> Result<MetadataVersion, Trouble> {
+    let Some(version) = value.get("version") else {
+        return Ok(MetadataVersion::V5);
+    };
+    match text(version, "version")? {
+        "V1" => Ok(MetadataVersion::V1),
+        "V2" => Ok(MetadataVersion::V2),
+        "V3" => Ok(MetadataVersion::V3),
+        "V4" => Ok(MetadataVersion::V4),
+        "V5" => Ok(MetadataVersion::V5),
+        _ => Err(Trouble::Row("version")),
+    }
+}
+
+fn header(alloc: Global, value: &Value) -> Result<MessageHeader, Trouble> {
+    if let Some(table) = value.get("schema") {
+        return Ok(MessageHeader::Schema(schema(alloc, table)?));
+    }
+    if let Some(table) = value.get("record_batch") {
+        return Ok(MessageHeader::RecordBatch(record_batch(alloc, table)?));
+    }
+    let table = member(value, "dictionary_batch")?;
+    Ok(MessageHeader::DictionaryBatch(DictionaryBatch {
+        id: int64(member(table, "id")?, "id")?,
+        is_delta: truth(member(table, "is_delta")?, "is_delta")?,
+        data_: record_batch(alloc, member(table, "data")?)?,
+    }))
+}
+
+// ---- batches
+
+fn record_batch(alloc: Global, value: &Value) -> Result<RecordBatch, Trouble> {
+    Ok(RecordBatch {
+        length: int64(member(value, "length")?, "length")?,
+        nodes: nodes(alloc, items(member(value, "nodes")?, "nodes")?)?,
+        buffers: buffers(alloc, items(member(value, "buffers")?, "buffers")?)?,
+    })
+}
+
+fn nodes(alloc: Global, values: &[Value]) -> Result<Vec<FieldNode>, Trouble> {
+    let mut out = Vec::new(alloc);
+    for value in values {
+        let parts = items(value, "nodes")?;
+        out.push(FieldNode {
+            length: int64(item(parts, 0, "nodes")?, "nodes")?,
+            null_count: int64(item(parts, 1, "nodes")?, "nodes")?,
+        })?;
+    }
+    Ok(out)
+}
+
+fn buffers(alloc: Global, values: &[Value]) -> Result<Vec<Buffer>, Trouble> {
+    let mut out = Vec::new(alloc);
+    for value in values {
+        let parts = items(value, "buffers")?;
+        out.push(Buffer {
+            offset: int64(item(parts, 0, "buffers")?, "buffers")?,
+            length: int64(item(parts, 1, "buffers")?, "buffers")?,
+        })?;
+    }
+    Ok(out)
+}
+
+fn blocks(alloc: Global, value: &Value, name: &'static str) -> Result<Vec<Block>, Trouble> {
+    let mut out = Vec::new(alloc);
+    for value in items(member(value, name)?, name)? {
+        let parts = items(value, name)?;
+        out.push(Block {
+            offset: int64(item(parts, 0, name)?, name)?,
+            meta_data_length: int32(item(parts, 1, name)?, name)?,
+            body_length: int64(item(parts, 2, name)?, name)?,
+        })?;
+    }
+    Ok(out)
+}
+
+// ---- schemas
+
+fn schema(alloc: Global, value: &Value) -> Result<Schema, Trouble> {
+    Ok(Schema {
+        endianness: endianness(value)?,
+        fields: fields(alloc, member(value, "fields")?, LEVELS)?,
+        custom_metadata: pairs(alloc, value)?,
+    })
+}
+
+fn endianness(value: &Value) -> Result<Endianness, Trouble> {
+    let Some(endianness) = value.get("endianness") else {
+        return Ok(Endianness::Little);
+    };
+    match text(endianness, "endianness")? {
+        "Little" => Ok(Endianness::Little),
+        "Big" => Ok(Endianness::Big),
+        _ => Err(Trouble::Row("endianness")),
+    }
+}
+
+// The pairs in the member `metadata`, in their order.
+fn pairs(alloc: Global, value: &Value) -> Result<Vec<KeyValue>, Trouble> {
+    let mut out = Vec::new(alloc);
+    let Some(pairs) = value.get("metadata") else {
+        return Ok(out);
+    };
+    for pair in items(pairs, "metadata")? {
+        out.push(key_value(alloc, items(pair, "metadata")?)?)?;
+    }
+    Ok(out)
+}
+
+fn key_value(alloc: Global, pair: &[Value]) -> Result<KeyValue, Trouble> {
+    let key = text(item(pair, 0, "metadata")?, "metadata")?;
+    let value = text(item(pair, 1, "metadata")?, "metadata")?;
+    Ok(KeyValue {
+        key: String::from_str(alloc, key)?,
+        value: String::from_str(alloc, value)?,
+    })
+}
+
+#[cycle(tables)]
+fn fields(alloc: Global, value: &Value, levels: usize) -> Result<Vec<Field>, Trouble> {
+    let mut out = Vec::new(alloc);
+    for value in items(value, "fields")? {
+        let field = field(alloc, value, levels)?;
+        out.push(in_lists(alloc, field, value)?)?;
+    }
+    Ok(out)
+}
+
+#[cycle(tables)]
+fn field(alloc: Global, value: &Value, levels: usize) -> Result<Field, Trouble> {
+    if levels == 0 {
+        return Err(Trouble::Row("fields"));
+    }
+    let dictionary = dictionary(value)?;
+    let nullable = match value.get("nullable") {
+        None => true,
+        Some(nullable) => truth(nullable, "nullable")?,
+    };
+    Ok(Field {
+        name: String::from_str(alloc, text(member(value, "name")?, "name")?)?,
+        nullable,
+        type_: types::field_type(alloc, member(value, "type")?)?,
+        dictionary,
+        children: children(alloc, value, levels - 1)?,
+        custom_metadata: pairs(alloc, value)?,
+    })
+}
+
+#[cycle(tables)]
+fn children(alloc: Global, value: &Value, levels: usize) -> Result<Vec<Field>, Trouble> {
+    match value.get("children") {
+        None => Ok(Vec::new(alloc)),
+        Some(children) => fields(alloc, children, levels),
+    }
+}
+
+// The field in as many lists of its name as its member `lists` says.
+fn in_lists(alloc: Global, field: Field, value: &Value) -> Result<Field, Trouble> {
+    let Some(lists) = value.get("lists") else {
+        return Ok(field);
+    };
+    let mut field = field;
+    for _ in 0..count(lists, "lists")? {
+        field = list_of(alloc, field)?;
+    }
+    Ok(field)
+}
+
+// A list of this field, of its name.
+fn list_of(alloc: Global, item: Field) -> Result<Field, Trouble> {
+    let name = item.name.clone()?;
+    Ok(Field {
+        name,
+        nullable: true,
+        type_: FieldType::List,
+        dictionary: None,
+        children: vec![in alloc; item]?,
+        custom_metadata: Vec::new(alloc),
+    })
+}
+
+fn dictionary(value: &Value) -> Result<Option<DictionaryEncoding>, Trouble> {
+    let Some(value) = value.get("dictionary") else {
+        return Ok(None);
+    };
+    Ok(Some(DictionaryEncoding {
+        id: int64(member(value, "id")?, "id")?,
+        index_type: types::int(items(member(value, "index_type")?, "index_type")?)?,
+        is_ordered: truth(member(value, "is_ordered")?, "is_ordered")?,
+    }))
+}

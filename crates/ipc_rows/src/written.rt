@@ -1,0 +1,77 @@
+//! Streams: bytes; or `{"fields": [FIELD, ..], "calls": [CALL, ..]}`, what a writer of these fields writes in these calls, refused ones among
+//! them; or a list of such parts, one behind the other. A call is `"start"`, `{"write": [ARRAY, ..]}` or `"finish"`.
+
+use crate::arrays::arrays;
+use crate::bytes::bytes;
+use crate::json::{items, member};
+use crate::schemas::schema;
+use crate::slots::{put_comma, put_fault};
+use crate::trouble::Trouble;
+use crate::types::LEVELS;
+use ipc_base::chunk::Chunk;
+use ipc_write::common::WriteOptions;
+use ipc_write::stream::StreamWriter;
+use lower::datatypes::Schema;
+use serde_json::Value;
+use std::alloc::Global;
+
+/// The bytes of a stream.
+pub fn stream(alloc: Global, value: &Value) -> Result<Vec<u8>, Trouble> {
+    let Value::Array(parts) = value else {
+        return part(alloc, value);
+    };
+    if !parts.iter().any(is_written) {
+        return bytes(alloc, value);
+    }
+    let mut out = Vec::new(alloc);
+    for value in parts {
+        out.extend_from_slice(&part(alloc, value)?)?;
+    }
+    Ok(out)
+}
+
+fn is_written(value: &Value) -> bool {
+    value.get("calls").is_some()
+}
+
+fn part(alloc: Global, value: &Value) -> Result<Vec<u8>, Trouble> {
+    if !is_written(value) {
+        return bytes(alloc, value);
+    }
+    let mut answers = String::new(alloc);
+    write(alloc, &mut answers, value)
+}
+
+/// Makes the calls of a writer over memory. It appends what each answers, `"ok"` or its fault, and gives the bytes.
+pub fn write(alloc: Global, answers: &mut String, value: &Value) -> Result<Vec<u8>, Trouble> {
+    let schema = schema(alloc, value)?;
+    let mut writer = StreamWriter::new(alloc, Vec::new(alloc), WriteOptions::default());
+    answers.push('[')?;
+    for call in items(member(value, "calls")?, "calls")? {
+        put_comma(answers)?;
+        match run_call(alloc, &mut writer, &schema, call) {
+            Ok(()) => answers.push_str("\"ok\"")?,
+            Err(Trouble::Refused(fault)) => put_fault(alloc, answers, &fault)?,
+            Err(trouble) => return Err(trouble),
+        }
+    }
+    answers.push(']')?;
+    Ok(writer.into_inner())
+}
+
+fn run_call(
+    alloc: Global,
+    writer: &mut StreamWriter<Vec<u8>>,
+    schema: &Schema,
+    call: &Value,
+) -> Result<(), Trouble> {
+    if let Some(columns) = call.get("write") {
+        let chunk = Chunk::try_new(arrays(alloc, columns, LEVELS)?)?;
+        return Ok(writer.write(&chunk, None)?);
+    }
+    match call.as_str() {
+        Some("start") => Ok(writer.start(schema, None)?),
+        Some("finish") => Ok(writer.finish()?),
+        _ => Err(Trouble::Row("calls")),
+    }
+}
