@@ -38,7 +38,8 @@ pub trait Reads: Failures {
     fn given(&self) -> u64
         ensures { result ≡ Self.given self.now };
 
-    /// Reads bytes into the front of `buf`, and answers how many. None are only where none are left.
+    /// Reads bytes into the front of `buf`, and answers how many. None are where `buf` is empty, or
+    /// where none are left: of memory no more come then, a device of another kind may have more later.
     fn read(&mut self, buf: &mut [u8]) -> io::Result<usize>
         ensures bound { ReadsAtMost result buf.new }
         ensures monotone { Self.failures self.old ≤ Self.failures self.new }
@@ -52,7 +53,8 @@ pub trait Reads: Failures {
             → (Self.memory self.new).whole ≡ (Self.memory self.old).whole };
 
     /// The next bytes, this many, where the device holds them in memory: to be looked at without a copy. None where it
-    /// doesn't, or where it holds fewer. They are still to be read.
+    /// doesn't, or where it holds fewer. They are still to be read. No clause asks a device to show any: one that answers
+    /// None is read from.
     fn ahead(&self, count: usize) -> Option<&[u8]>
         ensures count { IfSome result (λ bytes. length bytes.now ≡ count) }
         ensures memory { IsTrue Self.known → IfSome result (λ bytes.
@@ -63,7 +65,8 @@ pub trait Reads: Failures {
         None
     }
 
-    /// Goes past the next bytes, this many, or past all where there are fewer.
+    /// Goes past the next bytes, this many, or past all where there are fewer, of which no clause
+    /// speaks.
     fn skip(&mut self, count: usize) -> io::Result<()>
         ensures monotone { Self.failures self.old ≤ Self.failures self.new }
         ensures failed { OnErr result (Rises (Self.failures self.old) (Self.failures self.new)) }

@@ -11,12 +11,15 @@ use thiserror::Error;
 pub type Result<T> = std::result::Result<T, Fault>;
 
 /// Why a call was refused.
+///
+/// No call answers yet the cases of files, of dictionary batches, of bitmaps, and of columns of floats
+/// or of a fixed size: nothing reads or writes these.
 #[derive(Debug, Drop, Error)]
 pub enum Fault {
     /// The bytes break a rule of the Arrow columnar format.
     #[error("out of spec: {0}")]
     OutOfSpec(OutOfSpecKind),
-    /// The input is shorter than it states.
+    /// The input is shorter than it states, or ends where a schema message has to stand.
     #[error("the input ended early")]
     Ended,
     /// The bytes, or the call, ask for a form that isn't carried.
@@ -25,7 +28,8 @@ pub enum Fault {
     /// A schema that is read breaks a rule.
     #[error("bad schema: {0}")]
     Schema(SchemaFault),
-    /// An argument breaks a rule of the call. Nothing was changed.
+    /// An argument breaks a rule of the call, which changed nothing; or the columns of a batch that is
+    /// read have different numbers of rows.
     #[error("{0}")]
     Argument(ArgFault),
     /// A writer isn't in the state that the call asks for. Nothing was changed.
@@ -34,13 +38,15 @@ pub enum Fault {
     /// More than 65,536 dictionary messages stand before one record batch.
     #[error("more than 65536 dictionary messages before a record batch")]
     TooManyDictionaries,
-    /// A device answered this error during the call.
+    /// A device answered this error during the call, as memory that is written to does where its
+    /// growth is refused.
     #[error("input or output failed: {0}")]
     Io(io::Error),
     /// Memory was refused.
     #[error("no memory")]
     Memory,
-    /// The bytes of a column break a rule of its array.
+    /// Some parts make no array: `?` makes this of an array's own error. No reader and no writer
+    /// answers it.
     #[error("bad array: {0}")]
     Lower(ArrayError),
 }
@@ -55,8 +61,8 @@ pub enum OutOfSpecKind {
     /// A file doesn't end with `ARROW1`.
     #[error("the file does not end with ARROW1")]
     InvalidFooter,
-    /// A length that has to be at least 0 is below it: of a footer, of the prefix of a message,
-    /// of a record block, of a node or a buffer.
+    /// A number that has to be at least 0 is below it: the length of a footer, of the prefix of a
+    /// message, of a record block, of a node or a buffer, or the offset of a buffer.
     #[error("a length or an offset is negative")]
     NegativeFooterLength,
     /// The root of a footer is ill-made.
@@ -80,7 +86,7 @@ pub enum OutOfSpecKind {
     /// The dictionary blocks of a footer are ill-made.
     #[error("the footer's dictionaries are ill-made: {0}")]
     InvalidFlatbufferDictionaries(TableFault),
-    /// Kept by its name; no call answers it.
+    /// A block of a footer is ill-made.
     #[error("a block is ill-made: {0}")]
     InvalidFlatbufferBlock(TableFault),
     /// The root of a message is ill-made.

@@ -67,8 +67,8 @@ fn make_room(bytes: &mut Vec<u8>, piece: usize, left: usize) -> Result<(), Alloc
     Ok(())
 }
 
-/// Reads this many bytes in place of those that `bytes` holds, by at most 65,536 at a time, and takes memory for no more than four
-/// times as many as have come: a stated length alone takes none. `Ended` comes exactly where there are fewer.
+/// Reads this many bytes in place of those that `bytes` holds, by at most 65,536 at a time, and takes memory for no more than 65,536,
+/// or for four times as many as have come: a stated length alone takes no more. `Ended` comes exactly where there are fewer.
 pub fn read_into<R: Reads>(reader: &mut R, bytes: &mut Vec<u8>, count: usize) -> Result<(), Fault>
     requires { count < 2 ^ 63 }
     ensures count { OnOk result (length bytes.new.items ≡ count) }

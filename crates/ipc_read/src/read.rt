@@ -8,5 +8,5 @@ pub mod read_basic;
 use lower_arrays::array::AnyArray;
 use std::collections::HashMap;
 
-/// The values of dictionaries by their ids.
+/// The values of dictionaries by their ids. No column is read by them yet.
 pub type Dictionaries = HashMap<i64, AnyArray>;

@@ -1,4 +1,4 @@
-//! Reads the Arrow IPC formats.
+//! Reads the Arrow IPC streaming format.
 pub mod begun;
 pub mod frame;
 pub mod message;

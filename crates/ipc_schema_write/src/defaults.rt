@@ -16,7 +16,8 @@ use std::alloc::Global;
 
 /// The ids that fields get where none are given: 0, 1, 2 and on, in pre-order of the dictionary fields.
 ///
-/// Faults: `Argument(TooLarge)` only where the ids pass `i64::MAX`; `Memory`.
+/// Faults: `Argument(TooLarge)` only where there are `2^63` dictionary fields or more, of which one would
+/// get `i64::MAX`; `Memory`.
 pub fn default_ipc_fields(alloc: Global, fields: &[Field]) -> Result<Vec<IpcField>, Fault>
     ensures ids { IfOk result (λ r. all_ids_view r.items ≡ default_all 0 (fields_view fields.now)) }
     ensures fit { IfOk result (λ r. AllFit (fields_view fields.now) (all_ids_view r.items)) }

@@ -73,11 +73,13 @@ pub fn serialize_schema(
 ///
 /// Faults: `Argument(FieldsShape)` where the ids don't fit; `NotYetImplemented(Pending)` where two
 /// dictionaries have one id; `Argument(NotWritable)` where there are more than 65,536 dictionaries,
-/// where a field stands below level 64, where a type can't be written (floats; a time whose unit its
-/// width can't hold; a size of 0, or one above `2^31 - 1`; a struct without a field; a map whose
-/// child isn't a struct of two fields; a union without children, with more than 127, or whose ids
-/// aren't distinct, as many as these, and from 0 to 126; an extension right under an extension), and
-/// where the weight is above `2^30`; `Memory`.
+/// where a field stands below level 64, where a type can't be written (floats; a time of 32 bits in
+/// microseconds or nanoseconds, or one of 64 bits in seconds or milliseconds; a size of 0, or one
+/// above `2^31 - 1`; a decimal with a precision or a scale above `2^31 - 1`; a struct without a field;
+/// a map whose child isn't a struct of two fields; a union without children, with more than 127, or
+/// whose ids aren't distinct, as many as these, and from 0 to 126; a dictionary right under a
+/// dictionary; a dictionary or an extension right under an extension), and where the weight is above
+/// `2^30`; `Memory`.
 pub fn schema_to_bytes(
     alloc: Global,
     schema: &Schema,

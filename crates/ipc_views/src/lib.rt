@@ -1,7 +1,7 @@
 //! Views of the tables in the metadata of Arrow's messages and files.
 //!
-//! A view is a place in bytes that may be hostile. An accessor answers one slot: None where it is
-//! absent, a [`TableFault`] where it is ill-made, and takes no memory.
+//! A view is a place in bytes that may be hostile. An accessor answers one slot: None, or the default
+//! of the format, where it is absent, a [`TableFault`] where it is ill-made. It takes no memory.
 #![tactic(auto)]
 
 mod file;

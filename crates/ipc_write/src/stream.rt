@@ -47,7 +47,8 @@ pub enum WriterState {
 /// Writes a stream: a schema, then chunks, then the mark that ends it.
 ///
 /// The order of its calls is `start`, any number of `write`, `finish`; any other call is refused, and
-/// a refused call changes nothing. After an `Io` fault each call answers `State(Failed)`.
+/// a refused call leaves the device and the writer's state as they were. After an `Io` fault each of
+/// these three answers `State(Failed)`; `into_inner` still hands out the device.
 #[derive(Drop)]
 pub struct StreamWriter<W> {
     pub(crate) alloc: Global,
@@ -268,10 +269,10 @@ impl<W: Writes + Drop> StreamWriter<W> {
     /// Faults: `State(AlreadyStarted)`, `State(Finished)`, `State(Failed)` by the writer's state;
     /// `NotYetImplemented(Pending)` where the schema has metadata, dictionaries or types other than
     /// integers; `Argument(FieldsShape)` where the ids don't fit the fields; `Argument(NotWritable)`
-    /// where the schema's weight is above `2^30`; `Argument(TooLarge)` where ids by default would pass
-    /// `2^63 - 1`; `Memory`: after these nothing was sent and the writer is as it was. `Io` where the
-    /// device failed, or where it is memory whose growth was refused: then some of the first bytes were
-    /// sent, and each later call answers `State(Failed)`.
+    /// where the schema's weight is above `2^30`; `Memory`: after these nothing was sent and the writer
+    /// is as it was. `Io` where the device failed, or where it is memory whose growth was refused: then
+    /// some of the first bytes may have been sent, and each later `start`, `write` and `finish` answers
+    /// `State(Failed)`.
     pub fn start(&mut self, schema: &Schema, ipc_fields: Option<Vec<IpcField>>) -> Result<(), Fault>
         ensures step { SendStep W.known W.grows W.failures W.room W.memory (seen self.old) result (seen self.new)
             (message_bytes (seen self.new).metadata [])
@@ -306,12 +307,12 @@ impl<W: Writes + Drop> StreamWriter<W> {
     ///
     /// Faults: `State(NotStarted)`, `State(Finished)`, `State(Failed)` by the writer's state;
     /// `Argument(FieldsDiffer)` for other ids; `Argument(ColumnCount)` for another number of columns;
-    /// `Argument(ColumnType)` for a column of another type; `NotYetImplemented(Pending)` for a column
-    /// with a validity, or whose type is an extension; `Argument(TooLong)` for a column of more than `2^63 - 1` slots;
+    /// `Argument(ColumnType)` for a column of another type, as one of an extension is;
+    /// `NotYetImplemented(Pending)` for a column with a validity, also one in which no slot is null;
     /// `Argument(TooLarge)` where the body would end past `2^63 - 1`, or the metadata would have more
     /// than `2^31 - 1` bytes; `Memory`: after these nothing was sent and the writer is as it was. `Io`
     /// where the device failed, or where it is memory whose growth was refused: then some of the first
-    /// bytes were sent, and each later call answers `State(Failed)`.
+    /// bytes may have been sent, and each later `start`, `write` and `finish` answers `State(Failed)`.
     pub fn write(
         &mut self,
         columns: &Chunk<AnyArray>,
@@ -340,7 +341,8 @@ impl<W: Writes + Drop> StreamWriter<W> {
     ///
     /// Faults: `State(NotStarted)`, `State(Finished)`, `State(Failed)` by the writer's state, after
     /// which nothing was sent and the writer is as it was; `Io` where the device failed, or where it is
-    /// memory whose growth was refused, after which each later call answers `State(Failed)`.
+    /// memory whose growth was refused, after which each later `start`, `write` and `finish` answers
+    /// `State(Failed)`.
     pub fn finish(&mut self) -> Result<(), Fault>
         ensures step { SendStep W.known W.grows W.failures W.room W.memory (seen self.old) result (seen self.new)
             (prefix_bytes (pos 0)) 8 }

@@ -76,7 +76,9 @@ impl AnyArray {
         }
     }
 
-    /// The bits that say which slots are valid, or `None` where all are.
+    /// The bits that say which slots are valid. `None` says that all are, but for an array of nulls,
+    /// for a union, whose slots are null as its children's are, and for a dictionary, whose slots are
+    /// null also where their values are.
     pub fn validity(&self) -> Option<&Bitmap>
         ensures bits { option_copied result ≡ (level (layout_of self.now)).validity }
         ensures valid { IsArray (layout_of self.now) }
@@ -122,7 +124,8 @@ impl AnyArray {
         }
     }
 
-    /// How many slots are null.
+    /// How many slots are null by the array's own validity: all of an array of nulls, none of a union.
+    /// The null values of a dictionary aren't counted.
     pub fn null_count(&self) -> usize
         ensures { result ≡ nulls_of (layout_of self.now) }
     {

@@ -22,7 +22,7 @@ use lower_arrays::array::{
 };
 use std::slice;
 
-/// A number of any type.
+/// A number of any type that arrays have.
 #[derive(Clone, Copy)]
 pub enum Scalar {
     Whole(i128),

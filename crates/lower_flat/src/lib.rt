@@ -1,7 +1,8 @@
 //! The arrays of Arrow that have no child: nulls, truth values, numbers, bytes and texts.
 //!
 //! Each keeps the rules of the Arrow columnar format, "Physical memory layout", from its
-//! constructor on. Its parts share their memory: a clone or a slice copies no slot.
+//! constructor on. Its parts share their memory: a clone or a slice copies no slot. That is said by
+//! no clause: tests show it. A slice takes no memory: there is no error by which it could be refused.
 #![tactic(auto)]
 
 mod binary;

@@ -1,5 +1,6 @@
-//! What arrays have that needs no child: numbers of any type, the keys of dictionaries, the ids of
-//! unions, the offsets of lists, and the rules, which see of a child only its type and its length.
+//! What arrays have that needs no child: numbers of each type but floats, the keys of dictionaries,
+//! the ids of unions, the offsets of lists, and the rules, which see of a child only its type and its
+//! length. That clones and slices share memory is said by no clause: tests show it.
 #![tactic(auto)]
 
 pub mod children;

@@ -1,4 +1,4 @@
-//! Arrays of numbers of any type.
+//! Arrays of numbers of each type but floats.
 ghost use Rattle.std.specs.Prelude.{◌≡◌, ◌+◌, ◌≤◌};
 ghost use Rattle.std.specs.Option.{option_copied};
 ghost use Rattle.lower.specs.TypeViews.{type_view};
@@ -12,7 +12,7 @@ use lower::types::{days_ms, i256, months_days_ns};
 use lower_flat::PrimitiveArray;
 use std::alloc::AllocError;
 
-/// An array of numbers, of any type of number.
+/// An array of numbers, of any type of number but floats.
 #[derive(Drop)]
 pub enum AnyPrimitive {
     Int8(PrimitiveArray<i8>),

@@ -1,2 +1,2 @@
-//! Reads the columns of each physical type.
+//! Reads columns by their physical type: those of numbers, and no other yet.
 pub mod primitive;

@@ -160,7 +160,7 @@ fn read_columns<R: Reads + Seeks>(
 /// the buffers list more than `file_size` bytes, `InvalidBuffer` and `Ended` where bytes that are
 /// needed aren't listed or aren't there, `UnequalRows`. `Pending` where a projection or a limit is
 /// given, the numbers have their highest byte first, a field isn't of integers, or a column has nulls.
-/// `Io` and `Memory` come too, and no other.
+/// `Io` and `Memory` come too, and no other. The dictionaries and the scratch memory aren't used yet.
 #[allow(clippy::too_many_arguments)]
 #[tactic(auto, using(crate::proofs::Refusals::column_batch))]
 pub fn read_record_batch<R: Reads + Seeks>(

@@ -1,4 +1,4 @@
-//! Reads a column of each type.
+//! Reads a column of a field's type, which is one of the integers.
 ghost use Rattle.std.specs.Prelude.{◌+◌, IsTrue, IfErr};
 ghost use Rattle.ipc_devices.specs.Faults.{Answers, OwnFault};
 ghost use Rattle.lower.specs.TypeViews.{type_view};

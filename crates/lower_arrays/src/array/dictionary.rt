@@ -129,7 +129,8 @@ impl DictionaryArray {
         self.values.clone()
     }
 
-    /// The bits that say which keys are valid, or `None` where all are.
+    /// The bits that say which keys are valid, or `None` where all are. A slot is null also where the
+    /// value is that its key names.
     pub fn validity(&self) -> Option<&Bitmap>
         ensures bits { option_copied result ≡ self.now.keys.validity }
         ensures valid { IsDictionary self.now }

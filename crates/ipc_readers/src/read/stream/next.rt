@@ -186,7 +186,7 @@ impl<R: Reads + Drop> StreamReader<R> {
         &self.batches.metadata.schema
     }
 
-    /// Whether `next` gives None from now on.
+    /// Whether `next` gives None from now on: after the mark, and after a fault.
     pub fn is_finished(&self) -> bool
         ensures { result ≡ is_over self.now }
     {

@@ -15,8 +15,9 @@ use std::alloc::Global;
 /// Format").
 ///
 /// `next` answers the chunk that the record batch at the front means; [`StreamState::Waiting`] where the
-/// input ends before the next message, and then each later call goes on from there; None from the mark
-/// that ends the stream on; or a fault, once, and None from then on.
+/// input ends before the next message, or up to three bytes into its prefix, which are kept, and then
+/// each later call goes on from there; None from the mark that ends the stream on; or a fault, once, and
+/// None from then on.
 ///
 /// Faults of `next`: those of [`read_frame`], [`open_message`] and [`read_record_batch`]; `Ended` where
 /// the body is shorter than stated; `OutOfSpec(UnexpectedMessageType)` where the message is neither a
@@ -54,7 +55,7 @@ pub(crate) struct Batches {
 /// What a call of `next` found.
 #[derive(Drop)]
 pub enum StreamState {
-    /// The input ended before the next message. More may come.
+    /// The input ended before the next message, or up to three bytes into its prefix. More may come.
     Waiting,
     /// The next chunk.
     Some(Chunk<AnyArray>),
