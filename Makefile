@@ -1,8 +1,8 @@
 # `rt` is the command of the Rattle kit.
-.PHONY: demo build test
+.PHONY: demo build edits test
 
-# Builds ipcat without its proofs, and runs `ipcat demo | ipcat stream` as two processes. What is tried waits two seconds for its
-# input and no longer, so the second begins when the first has ended.
+# Builds ipcat without its proofs, and runs `ipcat demo`, and then `ipcat stream` on what it wrote. What is tried waits two seconds for
+# its input and no longer, so the second begins when the first has ended.
 demo:
 	@cd crates/ipcat && stream=$$(mktemp) && rt try -- demo > $$stream && rt try -- stream < $$stream; \
 	status=$$?; rm -f $$stream; exit $$status
@@ -12,6 +12,13 @@ build:
 	@cd crates/ipcat && rt run -- demo > /dev/null
 	@echo "the proved program: crates/ipcat/out/ipcat"
 
-# The gate: every proof from nothing, the must-fail edits, every test and every program.
+# The wrong bodies that the gate leaves out: all of edits/, or make edits ONLY="lower_keys ipc_views".
+edits:
+	tools/edits $(ONLY)
+
+# The gate: that each edit applies, and that the README's program is the tour; then every proof from nothing, the must-fail edits, every
+# test and every program.
 test:
+	tools/edits --applies
+	tools/readme
 	rt ci
