@@ -120,10 +120,10 @@ fn put_u32(out: &mut Vec<u8>, first: &Value, part: &Value, turn: usize) -> Resul
         None => 0,
         Some(step) => whole(step, "step")?,
     };
-    let number = whole(first, "u32")?.saturating_add(step.saturating_mul(turn as i128));
-    let number = u32::try_from(number).map_err(|_| Trouble::Row("u32"))?;
-    out.extend_from_slice(&number.to_le_bytes())?;
-    Ok(())
+    match u32::try_from(whole(first, "u32")?.saturating_add(step.saturating_mul(turn as i128))) {
+        Ok(number) => Ok(out.extend_from_slice(&number.to_le_bytes())?),
+        Err(_) => Err(Trouble::Row("u32")),
+    }
 }
 
 fn put_zeros(out: &mut Vec<u8>, zeros: usize) -> Result<(), Trouble> {

@@ -1,56 +1,51 @@
 //! Chunks, as text: `{"columns": [[..], ..], "rows": 2}`. A column whose type isn't that of its field is `{"slots": [..], "type": ".."}`,
 //! the type as Rust shows it.
 
-use crate::slots::{put_comma, put_slots, put_text};
+use crate::slots::put_slots;
+use crate::text::Text;
 use crate::trouble::Trouble;
 use crate::types::LEVELS;
 use ipc_base::chunk::Chunk;
 use lower::datatypes::Field;
 use lower_arrays::array::AnyArray;
 use std::alloc::Global;
-use std::fmt::Write;
 
 /// Appends the columns of a chunk that these fields are of, and how many rows it has.
-pub fn put_chunk(
-    alloc: Global,
-    out: &mut String,
-    chunk: &Chunk<AnyArray>,
-    fields: &[Field],
-) -> Result<(), Trouble> {
-    out.push_str("{\"columns\":[")?;
+pub fn put_chunk(out: &mut Text, chunk: &Chunk<AnyArray>, fields: &[Field]) {
+    out.put("{\"columns\":[");
     for (number, column) in chunk.arrays().iter().enumerate() {
-        put_comma(out)?;
-        put_column(alloc, out, column, fields.get(number))?;
+        out.comma();
+        put_column(out, column, fields.get(number));
     }
-    write!(out, "],\"rows\":{}}}", chunk.len())?;
-    Ok(())
+    out.put("],\"rows\":");
+    out.show(&chunk.len());
+    out.put("}");
 }
 
-fn put_column(
-    alloc: Global,
-    out: &mut String,
-    column: &AnyArray,
-    field: Option<&Field>,
-) -> Result<(), Trouble> {
+fn put_column(out: &mut Text, column: &AnyArray, field: Option<&Field>) {
     if field.is_some_and(|field| field.data_type == *column.data_type()) {
-        return put_slots(alloc, out, column, LEVELS);
+        return put_slots(out, column, LEVELS);
     }
-    let found = format!(in alloc; "{:?}", column.data_type())?;
-    out.push_str("{\"slots\":")?;
-    put_slots(alloc, out, column, LEVELS)?;
-    out.push_str(",\"type\":")?;
-    put_text(alloc, out, found.as_bytes())?;
-    out.push('}')?;
-    Ok(())
+    out.put("{\"slots\":");
+    put_slots(out, column, LEVELS);
+    out.put(",\"type\":");
+    out.shown(column.data_type());
+    out.put("}");
+}
+
+/// Appends the slots of columns.
+pub fn put_columns(out: &mut Text, columns: &[AnyArray]) {
+    out.put("[");
+    for column in columns {
+        out.comma();
+        put_slots(out, column, LEVELS);
+    }
+    out.put("]");
 }
 
 /// The slots of columns, as text.
 pub fn shown_columns(alloc: Global, columns: &[AnyArray]) -> Result<String, Trouble> {
-    let mut out = String::from_str(alloc, "[")?;
-    for column in columns {
-        put_comma(&mut out)?;
-        put_slots(alloc, &mut out, column, LEVELS)?;
-    }
-    out.push(']')?;
-    Ok(out)
+    let mut out = Text::new(alloc);
+    put_columns(&mut out, columns);
+    out.finish()
 }

@@ -1,10 +1,10 @@
 //! The damages of a message that are tried one by one: it is cut after each byte, and each byte is set to others.
 
+use crate::text::Text;
 use crate::trouble::Trouble;
 use std::alloc::{AllocError, Global};
-use std::fmt;
 
-/// A damage of a message, which prints as `bytes.rt` reads it.
+/// A damage of a message.
 #[derive(Clone, Copy)]
 pub enum Damage {
     /// Only so many bytes are left.
@@ -13,11 +13,66 @@ pub enum Damage {
     Set { place: usize, byte: u8 },
 }
 
-impl fmt::Display for Damage {
-    fn fmt<W: fmt::Write>(&self, f: &mut fmt::Formatter<W>) -> fmt::Result {
-        match self {
-            Damage::Cut(length) => write!(f, "{{\"cut\":{length}}}"),
-            Damage::Set { place, byte } => write!(f, "{{\"set\":[[{place},{byte}]]}}"),
+/// How many damages were tried, and those at which two answers differ.
+#[derive(Drop)]
+pub struct Tried {
+    cuts: u64,
+    sets: u64,
+    differ: Text,
+}
+
+impl Tried {
+    pub fn new(alloc: Global) -> Tried {
+        let mut differ = Text::new(alloc);
+        differ.put("[");
+        Tried {
+            cuts: 0,
+            sets: 0,
+            differ,
+        }
+    }
+
+    /// Counts a damage.
+    pub fn add(&mut self, damage: Damage, differs: bool) {
+        match damage {
+            Damage::Cut(_) => self.cuts = self.cuts.saturating_add(1),
+            Damage::Set { .. } => self.sets = self.sets.saturating_add(1),
+        }
+        if differs {
+            self.differ.comma();
+            put_damage(&mut self.differ, damage);
+        }
+    }
+
+    /// Appends how many cuts were tried: `"cuts": 200,`.
+    pub fn put_cuts(&self, out: &mut Text) {
+        out.put("\"cuts\":");
+        out.show(&self.cuts);
+        out.put(",");
+    }
+
+    /// Appends how many sets were tried, and those damages at which two answers differ, as `bytes.rt` reads them: `"sets": 800, "differ": []`.
+    pub fn put(self, out: &mut Text) -> Result<(), Trouble> {
+        out.put("\"sets\":");
+        out.show(&self.sets);
+        out.put(",\"differ\":");
+        out.put(self.differ.finish()?.as_str());
+        out.put("]");
+        Ok(())
+    }
+}
+
+fn put_damage(out: &mut Text, damage: Damage) {
+    match damage {
+        Damage::Cut(length) => {
+            out.put("{\"cut\":");
+            out.show(&length);
+            out.put("}");
+        }
+        Damage::Set { place, byte } => {
+            out.put("{\"set\":[");
+            out.pair(&place, &byte);
+            out.put("]}");
         }
     }
 }

@@ -2,6 +2,7 @@
 
 use crate::trouble::Trouble;
 use serde_json::Value;
+use std::alloc::Global;
 
 /// The member of this name.
 pub fn member<'v>(value: &'v Value, name: &'static str) -> Result<&'v Value, Trouble> {
@@ -51,17 +52,37 @@ pub fn whole(value: &Value, name: &'static str) -> Result<i128, Trouble> {
     number.ok_or(Trouble::Row(name))
 }
 
+/// A whole number of some type, which is the part of this name.
+pub fn number<T: TryFrom<i128>>(value: &Value, name: &'static str) -> Result<T, Trouble>
+where
+    T::Error: Drop,
+{
+    match T::try_from(whole(value, name)?) {
+        Ok(number) => Ok(number),
+        Err(_) => Err(Trouble::Row(name)),
+    }
+}
+
 /// A count or a place, which is the part of this name.
 pub fn count(value: &Value, name: &'static str) -> Result<usize, Trouble> {
-    usize::try_from(whole(value, name)?).map_err(|_| Trouble::Row(name))
+    number(value, name)
 }
 
-/// A number of 32 bits, which is the part of this name.
-pub fn int32(value: &Value, name: &'static str) -> Result<i32, Trouble> {
-    i32::try_from(whole(value, name)?).map_err(|_| Trouble::Row(name))
+/// A part of a row that is a list of values of this type.
+pub trait Part {
+    /// The value of an item, in a list that is the part of this name.
+    fn of(item: &Value, name: &'static str) -> Result<Self, Trouble>;
 }
 
-/// A number of 64 bits, which is the part of this name.
-pub fn int64(value: &Value, name: &'static str) -> Result<i64, Trouble> {
-    i64::try_from(whole(value, name)?).map_err(|_| Trouble::Row(name))
+/// The values of a list, which is the part of this name.
+pub fn values<T: Part + Drop>(
+    alloc: Global,
+    value: &Value,
+    name: &'static str,
+) -> Result<Vec<T>, Trouble> {
+    let mut out = Vec::new(alloc);
+    for item in items(value, name)? {
+        out.push(T::of(item, name)?)?;
+    }
+    Ok(out)
 }

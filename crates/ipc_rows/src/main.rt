@@ -23,6 +23,7 @@ mod schemas;
 mod slots;
 mod tables;
 mod tally;
+mod text;
 mod trouble;
 mod types;
 mod written;

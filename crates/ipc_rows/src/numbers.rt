@@ -1,7 +1,7 @@
 //! Arrays of numbers. Whole numbers are a list, or `{"from": 0, "step": 3, "count": 1000}`.
 
 use crate::bytes::bits;
-use crate::json::{count, items, member, text, whole};
+use crate::json::{Part, count, items, member, number, text, values, whole};
 use crate::trouble::Trouble;
 use crate::types::{LEVELS, data_type, integer_named, plain_type};
 use lower::bitmap::Bitmap;
@@ -134,75 +134,61 @@ pub fn of_values<T: NativeType>(
 fn large_numbers(alloc: Global, array: &Value, kind: &str) -> Result<AnyPrimitive, Trouble> {
     match kind {
         "int128" => Ok(AnyPrimitive::Int128(integers(alloc, array, kind)?)),
-        "int256" => {
-            let values = wide_numbers(alloc, member(array, "values")?)?;
-            Ok(AnyPrimitive::Int256(of_values(alloc, array, kind, values)?))
-        }
-        "days_ms" => {
-            let values = day_times(alloc, member(array, "values")?)?;
-            Ok(AnyPrimitive::DaysMs(of_values(alloc, array, kind, values)?))
-        }
-        "months_days_ns" => {
-            let values = month_times(alloc, member(array, "values")?)?;
-            Ok(AnyPrimitive::MonthDayNano(of_values(alloc, array, kind, values)?))
-        }
+        "int256" => Ok(AnyPrimitive::Int256(large_array(alloc, array, kind)?)),
+        "days_ms" => Ok(AnyPrimitive::DaysMs(large_array(alloc, array, kind)?)),
+        "months_days_ns" => Ok(AnyPrimitive::MonthDayNano(large_array(alloc, array, kind)?)),
         _ => Err(Trouble::Row("array")),
     }
 }
 
-// The high and the low half of each, as texts of digits.
-fn wide_numbers(alloc: Global, value: &Value) -> Result<Buffer<i256>, Trouble> {
-    let mut out = Vec::new(alloc);
-    for value in items(value, "values")? {
-        let [high, low] = items(value, "values")? else {
-            return Err(Trouble::Row("values"));
-        };
-        let Ok(low) = text(low, "values")?.parse() else {
-            return Err(Trouble::Row("values"));
-        };
-        out.push(i256 {
-            high: whole(high, "values")?,
-            low,
-        })?;
-    }
-    Ok(Buffer::new(out)?)
+fn large_array<T: NativeType + Part>(
+    alloc: Global,
+    array: &Value,
+    kind: &str,
+) -> Result<PrimitiveArray<T>, Trouble> {
+    let values = Buffer::new(values(alloc, member(array, "values")?, "values")?)?;
+    of_values(alloc, array, kind, values)
 }
 
-// The days and the milliseconds of each.
-fn day_times(alloc: Global, value: &Value) -> Result<Buffer<days_ms>, Trouble> {
-    let mut out = Vec::new(alloc);
-    for value in items(value, "values")? {
-        let [days, milliseconds] = items(value, "values")? else {
-            return Err(Trouble::Row("values"));
+// The high and the low half, as texts of digits.
+impl Part for i256 {
+    fn of(item: &Value, name: &'static str) -> Result<i256, Trouble> {
+        let [high, low] = items(item, name)? else {
+            return Err(Trouble::Row(name));
         };
-        out.push(days_ms {
-            days: small(days)?,
-            milliseconds: small(milliseconds)?,
-        })?;
+        let high = whole(high, name)?;
+        match text(low, name)?.parse() {
+            Ok(low) => Ok(i256 { high, low }),
+            Err(_) => Err(Trouble::Row(name)),
+        }
     }
-    Ok(Buffer::new(out)?)
 }
 
-// The months, the days and the nanoseconds of each.
-fn month_times(alloc: Global, value: &Value) -> Result<Buffer<months_days_ns>, Trouble> {
-    let mut out = Vec::new(alloc);
-    for value in items(value, "values")? {
-        let [months, days, nanoseconds] = items(value, "values")? else {
-            return Err(Trouble::Row("values"));
+// The days and the milliseconds.
+impl Part for days_ms {
+    fn of(item: &Value, name: &'static str) -> Result<days_ms, Trouble> {
+        let [days, milliseconds] = items(item, name)? else {
+            return Err(Trouble::Row(name));
         };
-        out.push(months_days_ns {
-            months: small(months)?,
-            days: small(days)?,
-            nanoseconds: i64::try_from(whole(nanoseconds, "values")?).map_err(|_| Trouble::Row(
-                "values",
-            ))?,
-        })?;
+        Ok(days_ms {
+            days: number(days, name)?,
+            milliseconds: number(milliseconds, name)?,
+        })
     }
-    Ok(Buffer::new(out)?)
 }
 
-fn small(value: &Value) -> Result<i32, Trouble> {
-    i32::try_from(whole(value, "values")?).map_err(|_| Trouble::Row("values"))
+// The months, the days and the nanoseconds.
+impl Part for months_days_ns {
+    fn of(item: &Value, name: &'static str) -> Result<months_days_ns, Trouble> {
+        let [months, days, nanoseconds] = items(item, name)? else {
+            return Err(Trouble::Row(name));
+        };
+        Ok(months_days_ns {
+            months: number(months, name)?,
+            days: number(days, name)?,
+            nanoseconds: number(nanoseconds, name)?,
+        })
+    }
 }
 
 /// Such numbers as keys of a dictionary.

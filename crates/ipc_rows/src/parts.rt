@@ -6,218 +6,188 @@
 //! `"places"` of its slots, each a child and a slot of it, and `"children"`; a dictionary whether it is `"ordered"`, `"keys"` and `"values"`.
 ghost use Rattle.std.specs.Prelude.{◌<◌, length};
 
-use crate::slots::{put_hex, put_slots, put_text};
+use crate::slots::put_slots;
+use crate::text::Text;
 use crate::trouble::Trouble;
 use lower::bitmap::Bitmap;
 use lower::buffer::Buffer;
 use lower::offset::{Offset, OffsetsBuffer};
 use lower::types::NativeType;
 use lower_arrays::array::{
-    AnyArray, AnyPrimitive, DictionaryArray, DictionaryKeys, FixedSizeBinaryArray, ListOffsets,
-    PrimitiveArray, UnionArray,
+    AnyArray, AnyPrimitive, DictionaryArray, DictionaryKeys, ListOffsets, PrimitiveArray,
+    UnionArray,
 };
-use std::alloc::Global;
-use std::fmt::Write;
+use std::fmt::Display;
 
 /// Appends the parts of an array, of as many levels at most.
 #[cycle(parts)]
-pub fn put_parts(
-    alloc: Global,
-    out: &mut String,
-    array: &AnyArray,
-    levels: usize,
-) -> Result<(), Trouble> {
+pub fn put_parts(out: &mut Text, array: &AnyArray, levels: usize) {
     if levels == 0 {
-        return Err(Trouble::Row("levels"));
+        out.miss("levels");
+        return;
     }
-    out.push('{')?;
-    put_counts(out, array)?;
+    out.put("{");
+    put_counts(out, array);
     match array {
         AnyArray::List(lists) => {
-            put_list_offsets(out, lists.offsets())?;
-            put_child(alloc, out, "child", lists.values(), levels - 1)?;
+            put_list_offsets(out, lists.offsets());
+            put_child(out, ",\"child\":", lists.values(), levels - 1);
         }
         AnyArray::FixedSizeList(lists) => {
-            write!(out, ",\"size\":{}", lists.size())?;
-            put_child(alloc, out, "child", lists.values(), levels - 1)?;
+            put_size(out, lists.size());
+            put_child(out, ",\"child\":", lists.values(), levels - 1);
         }
         AnyArray::Map(maps) => {
-            put_named_offsets(out, maps.offsets())?;
-            put_child(alloc, out, "child", maps.field(), levels - 1)?;
+            put_offsets(out, maps.offsets());
+            put_child(out, ",\"child\":", maps.field(), levels - 1);
         }
-        AnyArray::Struct(records) => put_children(alloc, out, records.values(), levels - 1)?,
+        AnyArray::Struct(records) => put_children(out, records.values(), levels - 1),
         AnyArray::Union(union) => {
-            put_places(out, union)?;
-            put_children(alloc, out, union.fields(), levels - 1)?;
+            put_places(out, union);
+            put_children(out, union.fields(), levels - 1);
         }
         AnyArray::Dictionary(keys) => {
-            put_keys(alloc, out, keys)?;
-            put_child(alloc, out, "values", keys.values(), levels - 1)?;
+            put_keys(out, keys);
+            put_child(out, ",\"values\":", keys.values(), levels - 1);
         }
-        _ => put_flat(alloc, out, array)?,
+        _ => put_flat(out, array),
     }
-    out.push('}')?;
-    Ok(())
+    out.put("}");
 }
 
 #[cycle(parts)]
-fn put_child(
-    alloc: Global,
-    out: &mut String,
-    name: &str,
-    child: &AnyArray,
-    levels: usize,
-) -> Result<(), Trouble> {
-    write!(out, ",\"{name}\":")?;
-    put_parts(alloc, out, child, levels)
+fn put_child(out: &mut Text, name: &str, child: &AnyArray, levels: usize) {
+    out.put(name);
+    put_parts(out, child, levels);
 }
 
 #[cycle(parts)]
-fn put_children(
-    alloc: Global,
-    out: &mut String,
-    children: &[AnyArray],
-    levels: usize,
-) -> Result<(), Trouble> {
-    out.push_str(",\"children\":[")?;
-    for (number, child) in children.iter().enumerate() {
-        put_comma(out, number)?;
-        put_parts(alloc, out, child, levels)?;
+fn put_children(out: &mut Text, children: &[AnyArray], levels: usize) {
+    out.put(",\"children\":[");
+    for child in children {
+        out.comma();
+        put_parts(out, child, levels);
     }
-    out.push(']')?;
-    Ok(())
+    out.put("]");
 }
 
 // How many slots an array has, how many of them are null, and which where bits say so.
-fn put_counts(out: &mut String, array: &AnyArray) -> Result<(), Trouble> {
-    write!(
-        out,
-        "\"len\":{},\"nulls\":{}",
-        array.len(),
-        array.null_count()
-    )?;
+fn put_counts(out: &mut Text, array: &AnyArray) {
+    out.put("\"len\":");
+    out.show(&array.len());
+    out.put(",\"nulls\":");
+    out.show(&array.null_count());
     if let Some(bits) = array.validity() {
-        out.push_str(",\"validity\":")?;
-        put_bits(out, bits)?;
+        out.put(",\"validity\":");
+        put_bits(out, bits);
     }
-    Ok(())
 }
 
 // The type and the parts of an array without children.
-fn put_flat(alloc: Global, out: &mut String, array: &AnyArray) -> Result<(), Trouble> {
-    put_type(alloc, out, array)?;
+fn put_flat(out: &mut Text, array: &AnyArray) {
+    out.put(",\"type\":");
+    out.shown(array.data_type());
     match array {
         AnyArray::Boolean(bits) => {
-            out.push_str(",\"values\":")?;
-            put_bits(out, bits.values())
+            out.put(",\"values\":");
+            put_bits(out, bits.values());
         }
-        AnyArray::Primitive(numbers) => put_numbers(alloc, out, numbers),
-        AnyArray::FixedSizeBinary(bytes) => put_sized(alloc, out, bytes),
-        AnyArray::Binary(bytes) => put_spans(alloc, out, bytes.offsets(), bytes.values()),
-        AnyArray::LargeBinary(bytes) => put_spans(alloc, out, bytes.offsets(), bytes.values()),
-        AnyArray::Utf8(texts) => put_spans(alloc, out, texts.offsets(), texts.values()),
-        AnyArray::LargeUtf8(texts) => put_spans(alloc, out, texts.offsets(), texts.values()),
-        _ => Ok(()),
+        AnyArray::Primitive(numbers) => put_numbers(out, numbers),
+        AnyArray::FixedSizeBinary(bytes) => {
+            put_size(out, bytes.size());
+            put_bytes(out, bytes.values());
+        }
+        AnyArray::Binary(bytes) => put_spans(out, bytes.offsets(), bytes.values()),
+        AnyArray::LargeBinary(bytes) => put_spans(out, bytes.offsets(), bytes.values()),
+        AnyArray::Utf8(texts) => put_spans(out, texts.offsets(), texts.values()),
+        AnyArray::LargeUtf8(texts) => put_spans(out, texts.offsets(), texts.values()),
+        _ => {}
     }
 }
 
-fn put_type(alloc: Global, out: &mut String, array: &AnyArray) -> Result<(), Trouble> {
-    let shown = format!(in alloc; "{:?}", array.data_type())?;
-    out.push_str(",\"type\":")?;
-    put_text(alloc, out, shown.as_str().as_bytes())
+fn put_size(out: &mut Text, size: usize) {
+    out.put(",\"size\":");
+    out.show(&size);
 }
 
-fn put_sized(alloc: Global, out: &mut String, bytes: &FixedSizeBinaryArray) -> Result<(), Trouble> {
-    write!(out, ",\"size\":{},\"values\":", bytes.size())?;
-    put_hex(alloc, out, bytes.values().as_slice())
+fn put_bytes(out: &mut Text, bytes: &Buffer<u8>) {
+    out.put(",\"values\":");
+    out.hex(bytes.as_slice());
 }
 
-fn put_spans<O: Offset>(
-    alloc: Global,
-    out: &mut String,
-    offsets: &OffsetsBuffer<O>,
-    values: &Buffer<u8>,
-) -> Result<(), Trouble> {
-    put_named_offsets(out, offsets)?;
-    out.push_str(",\"values\":")?;
-    put_hex(alloc, out, values.as_slice())
+fn put_spans<O: Offset>(out: &mut Text, offsets: &OffsetsBuffer<O>, values: &Buffer<u8>) {
+    put_offsets(out, offsets);
+    put_bytes(out, values);
 }
 
-fn put_list_offsets(out: &mut String, offsets: &ListOffsets) -> Result<(), Trouble> {
+fn put_list_offsets(out: &mut Text, offsets: &ListOffsets) {
     match offsets {
-        ListOffsets::Small(offsets) => put_named_offsets(out, offsets),
-        ListOffsets::Large(offsets) => put_named_offsets(out, offsets),
+        ListOffsets::Small(offsets) => put_offsets(out, offsets),
+        ListOffsets::Large(offsets) => put_offsets(out, offsets),
     }
 }
 
-fn put_named_offsets<O: Offset>(
-    out: &mut String,
-    offsets: &OffsetsBuffer<O>,
-) -> Result<(), Trouble> {
-    out.push_str(",\"offsets\":")?;
-    put_offsets(out, offsets)
+fn put_offsets<O: Offset>(out: &mut Text, offsets: &OffsetsBuffer<O>) {
+    out.put(",\"offsets\":[");
+    put_each_offset(out, offsets);
+    out.put("]");
 }
 
-/// Appends offsets, as a list.
-pub fn put_offsets<O: Offset>(out: &mut String, offsets: &OffsetsBuffer<O>) -> Result<(), Trouble> {
-    out.push('[')?;
+/// Appends offsets, with commas between them.
+pub fn put_each_offset<O: Offset>(out: &mut Text, offsets: &OffsetsBuffer<O>) {
     for number in 0..offsets.len() {
-        put_comma(out, number)?;
-        write!(out, "{}", offsets.get(number))?;
+        out.comma();
+        out.show(&offsets.get(number));
     }
-    out.push(']')?;
-    Ok(())
 }
 
 /// Appends bits in quotes, the first slot's first.
-pub fn put_bits(out: &mut String, bits: &Bitmap) -> Result<(), Trouble> {
-    out.push('"')?;
+pub fn put_bits(out: &mut Text, bits: &Bitmap) {
+    out.put("\"");
     for number in 0..bits.len() {
-        out.push(if bits.get_bit(number) { '1' } else { '0' })?;
+        out.put(if bits.get_bit(number) { "1" } else { "0" });
     }
-    out.push('"')?;
-    Ok(())
+    out.put("\"");
 }
 
 // The types, the offsets and the places of a union's slots.
-fn put_places(out: &mut String, union: &UnionArray) -> Result<(), Trouble> {
-    out.push_str(",\"types\":[")?;
-    for (number, id) in union.types().as_slice().iter().enumerate() {
-        put_comma(out, number)?;
-        write!(out, "{id}")?;
-    }
-    out.push(']')?;
+fn put_places(out: &mut Text, union: &UnionArray) {
+    out.put(",\"types\":[");
+    put_each(out, union.types().as_slice());
     if let Some(offsets) = union.offsets() {
-        put_union_offsets(out, offsets.as_slice())?;
+        out.put("],\"offsets\":[");
+        put_each(out, offsets.as_slice());
     }
-    out.push_str(",\"places\":[")?;
+    out.put("],\"places\":[");
     for number in 0..union.len() {
-        put_comma(out, number)?;
         let (child, slot) = union.index(number);
-        write!(out, "[{child},{slot}]")?;
+        out.comma();
+        out.pair(&child, &slot);
     }
-    out.push(']')?;
-    Ok(())
+    out.put("]");
 }
 
-fn put_union_offsets(out: &mut String, offsets: &[i32]) -> Result<(), Trouble> {
-    out.push_str(",\"offsets\":[")?;
-    for (number, offset) in offsets.iter().enumerate() {
-        put_comma(out, number)?;
-        write!(out, "{offset}")?;
+fn put_each<T: Display>(out: &mut Text, numbers: &[T]) {
+    for number in numbers {
+        out.comma();
+        out.show(number);
     }
-    out.push(']')?;
-    Ok(())
 }
 
 // Whether a dictionary is ordered, and the parts of its keys.
-fn put_keys(alloc: Global, out: &mut String, array: &DictionaryArray) -> Result<(), Trouble> {
-    let keys = AnyArray::Primitive(as_numbers(array.keys())?);
-    write!(out, ",\"ordered\":{},\"keys\":{{", array.is_ordered())?;
-    put_counts(out, &keys)?;
-    put_flat(alloc, out, &keys)?;
-    out.push('}')?;
-    Ok(())
+fn put_keys(out: &mut Text, array: &DictionaryArray) {
+    out.put(",\"ordered\":");
+    out.show(&array.is_ordered());
+    out.put(",\"keys\":{");
+    match as_numbers(array.keys()) {
+        Ok(numbers) => {
+            let keys = AnyArray::Primitive(numbers);
+            put_counts(out, &keys);
+            put_flat(out, &keys);
+        }
+        Err(_) => out.miss("keys"),
+    }
+    out.put("}");
 }
 
 fn as_numbers(keys: &DictionaryKeys) -> Result<AnyPrimitive, Trouble> {
@@ -234,9 +204,12 @@ fn as_numbers(keys: &DictionaryKeys) -> Result<AnyPrimitive, Trouble> {
 }
 
 // All numbers of an array, with those under a null.
-fn put_numbers(alloc: Global, out: &mut String, numbers: &AnyPrimitive) -> Result<(), Trouble> {
-    out.push_str(",\"values\":")?;
-    put_slots(alloc, out, &AnyArray::Primitive(all_valid(numbers)?), 1)
+fn put_numbers(out: &mut Text, numbers: &AnyPrimitive) {
+    out.put(",\"values\":");
+    match all_valid(numbers) {
+        Ok(numbers) => put_slots(out, &AnyArray::Primitive(numbers), 1),
+        Err(_) => out.miss("values"),
+    }
 }
 
 // The same numbers, none of which is null.
@@ -262,11 +235,4 @@ fn all_valid(numbers: &AnyPrimitive) -> Result<AnyPrimitive, Trouble> {
 fn each_valid<T: NativeType>(numbers: &PrimitiveArray<T>) -> Result<PrimitiveArray<T>, Trouble> {
     let data_type = numbers.data_type().clone()?;
     Ok(PrimitiveArray::try_new(data_type, numbers.values().clone()?, None)?)
-}
-
-fn put_comma(out: &mut String, number: usize) -> Result<(), Trouble> {
-    if number != 0 {
-        out.push(',')?;
-    }
-    Ok(())
 }

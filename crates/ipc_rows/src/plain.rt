@@ -1,6 +1,7 @@
 //! The plain program of columns, and what it answers as text.
 
-use crate::slots::{put_comma, put_text, put_whole};
+use crate::slots::put_whole;
+use crate::text::Text;
 use crate::trouble::Trouble;
 use ipc_plain::batch::is_projection;
 use ipc_plain::kinds::PlainKind;
@@ -101,32 +102,32 @@ fn integer_of(data_type: &DataType) -> Result<IntegerType, Trouble> {
 
 /// The slots of columns, as those of arrays are shown.
 pub fn shown_plain_columns(alloc: Global, columns: &[Vec<PlainSlot>]) -> Result<String, Trouble> {
-    let mut out = String::from_str(alloc, "[")?;
+    let mut out = Text::new(alloc);
+    out.put("[");
     for column in columns {
-        put_comma(&mut out)?;
-        put_plain_slots(alloc, &mut out, column)?;
+        out.comma();
+        put_plain_slots(&mut out, column);
     }
-    out.push(']')?;
-    Ok(out)
+    out.put("]");
+    out.finish()
 }
 
 #[cycle(plain)]
-fn put_plain_slots(alloc: Global, out: &mut String, slots: &[PlainSlot]) -> Result<(), Trouble> {
-    out.push('[')?;
+fn put_plain_slots(out: &mut Text, slots: &[PlainSlot]) {
+    out.put("[");
     for slot in slots {
-        put_comma(out)?;
-        put_plain_slot(alloc, out, slot)?;
+        out.comma();
+        put_plain_slot(out, slot);
     }
-    out.push(']')?;
-    Ok(())
+    out.put("]");
 }
 
 #[cycle(plain)]
-fn put_plain_slot(alloc: Global, out: &mut String, slot: &PlainSlot) -> Result<(), Trouble> {
+fn put_plain_slot(out: &mut Text, slot: &PlainSlot) {
     match slot {
-        PlainSlot::Null => Ok(out.push_str("null")?),
+        PlainSlot::Null => out.put("null"),
         PlainSlot::Number(number) => put_whole(out, *number),
-        PlainSlot::Text(text) => put_text(alloc, out, text),
-        PlainSlot::List(slots) | PlainSlot::Record(slots) => put_plain_slots(alloc, out, slots),
+        PlainSlot::Text(text) => out.text(text),
+        PlainSlot::List(slots) | PlainSlot::Record(slots) => put_plain_slots(out, slots),
     }
 }

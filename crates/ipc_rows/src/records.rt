@@ -3,7 +3,7 @@
 //! `"chosen": [2, 0]` reads these columns, `"limit": 2` so many slots at most. `"message": BYTES` may stand in place of nodes and buffers.
 
 use crate::bytes::bytes;
-use crate::json::{count, int64, items, member};
+use crate::json::{self, count, items, member};
 use crate::plain::{PlainForm, all_columns, kinds_of};
 use crate::schemas::is_little_endian;
 use crate::trouble::Trouble;
@@ -163,14 +163,16 @@ fn put_structs(out: &mut Vec<u8>, pairs: &[Value], name: &'static str) -> Result
     put_u32(out, pairs.len())?;
     for pair in pairs {
         for number in items(pair, name)? {
-            out.extend_from_slice(&int64(number, name)?.to_le_bytes())?;
+            let number: i64 = json::number(number, name)?;
+            out.extend_from_slice(&number.to_le_bytes())?;
         }
     }
     Ok(())
 }
 
 fn put_u32(out: &mut Vec<u8>, number: usize) -> Result<(), Trouble> {
-    let number = u32::try_from(number).map_err(|_| Trouble::Row("record"))?;
-    out.extend_from_slice(&number.to_le_bytes())?;
-    Ok(())
+    match u32::try_from(number) {
+        Ok(number) => Ok(out.extend_from_slice(&number.to_le_bytes())?),
+        Err(_) => Err(Trouble::Row("record")),
+    }
 }

@@ -6,7 +6,7 @@
 use crate::calls::called;
 use crate::json::{member, text, truth};
 use crate::schemas::{shown_by_both, wanted_schema};
-use crate::slots::{put_fault, put_text};
+use crate::text::Text;
 use crate::trouble::Trouble;
 use ipc_devices::fault::Fault;
 use serde_json::Value;
@@ -52,17 +52,17 @@ fn in_order(alloc: Global, got: String) -> Result<String, Trouble> {
 
 // A fault by its name, with its text where that is wanted too.
 fn shown_fault(alloc: Global, fault: &Fault, wanted: &Value) -> Result<String, Trouble> {
-    let mut out = String::new(alloc);
+    let mut out = Text::new(alloc);
     if wanted.get("fault").is_none() {
-        put_fault(alloc, &mut out, fault)?;
-        return Ok(out);
+        out.shown(fault);
+        return out.finish();
     }
-    out.push_str("{\"fault\":")?;
-    put_fault(alloc, &mut out, fault)?;
-    out.push_str(",\"text\":")?;
-    put_text(alloc, &mut out, format!(in alloc; "{fault}")?.as_bytes())?;
-    out.push('}')?;
-    Ok(out)
+    out.put("{\"fault\":");
+    out.shown(fault);
+    out.put(",\"text\":");
+    out.quoted(format!(in alloc; "{fault}")?.as_str());
+    out.put("}");
+    out.finish()
 }
 
 // What comes out of the row's call.

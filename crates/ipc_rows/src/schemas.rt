@@ -4,7 +4,7 @@
 //!
 //! An id is `{"id": 7, "children": [ID, ..]}`, where either may be left out.
 
-use crate::json::{items, member, text, whole};
+use crate::json::{items, member, number, text};
 use crate::trouble::Trouble;
 use crate::types::{LEVELS, fields, metadata};
 use ipc_base::ipc::{IpcField, IpcSchema};
@@ -80,7 +80,7 @@ fn id_tree(alloc: Global, value: &Value, levels: usize) -> Result<IpcField, Trou
     }
     let dictionary_id = match value.get("id") {
         None => None,
-        Some(id) => Some(i64::try_from(whole(id, "id")?).map_err(|_| Trouble::Row("id"))?),
+        Some(id) => Some(number(id, "id")?),
     };
     let fields = match value.get("children") {
         None => Vec::new(alloc),

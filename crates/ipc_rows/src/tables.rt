@@ -13,7 +13,7 @@
 
 mod types;
 
-use crate::json::{count, int32, int64, item, items, member, text, truth};
+use crate::json::{Part, count, item, items, member, number, text, truth, values};
 use crate::trouble::Trouble;
 use crate::types::LEVELS;
 use ipc_tables::file::Footer;
@@ -29,7 +29,7 @@ pub fn message(alloc: Global, value: &Value) -> Result<Vec<u8>, Trouble> {
     let version = version(value)?;
     let body_length = match value.get("body_length") {
         None => 0,
-        Some(length) => int64(length, "body_length")?,
+        Some(length) => number(length, "body_length")?,
     };
     let message = Message {
         version,
@@ -44,8 +44,8 @@ pub fn footer(alloc: Global, value: &Value) -> Result<Vec<u8>, Trouble> {
     let footer = Footer {
         version: version(value)?,
         schema: schema(alloc, member(value, "schema")?)?,
-        dictionaries: blocks(alloc, value, "dictionaries")?,
-        record_batches: blocks(alloc, value, "record_batches")?,
+        dictionaries: values(alloc, member(value, "dictionaries")?, "dictionaries")?,
+        record_batches: values(alloc, member(value, "record_batches")?, "record_batches")?,
         custom_metadata: pairs(alloc, value)?,
     };
     Ok(footer.to_bytes(alloc)?)
@@ -74,7 +74,7 @@ fn header(alloc: Global, value: &Value) -> Result<MessageHeader, Trouble> {
     }
     let table = member(value, "dictionary_batch")?;
     Ok(MessageHeader::DictionaryBatch(DictionaryBatch {
-        id: int64(member(table, "id")?, "id")?,
+        id: number(member(table, "id")?, "id")?,
         is_delta: truth(member(table, "is_delta")?, "is_delta")?,
         data_: record_batch(alloc, member(table, "data")?)?,
     }))
@@ -84,47 +84,47 @@ fn header(alloc: Global, value: &Value) -> Result<MessageHeader, Trouble> {
 
 fn record_batch(alloc: Global, value: &Value) -> Result<RecordBatch, Trouble> {
     Ok(RecordBatch {
-        length: int64(member(value, "length")?, "length")?,
-        nodes: nodes(alloc, items(member(value, "nodes")?, "nodes")?)?,
-        buffers: buffers(alloc, items(member(value, "buffers")?, "buffers")?)?,
+        length: number(member(value, "length")?, "length")?,
+        nodes: values(alloc, member(value, "nodes")?, "nodes")?,
+        buffers: values(alloc, member(value, "buffers")?, "buffers")?,
     })
 }
 
-fn nodes(alloc: Global, values: &[Value]) -> Result<Vec<FieldNode>, Trouble> {
-    let mut out = Vec::new(alloc);
-    for value in values {
-        let parts = items(value, "nodes")?;
-        out.push(FieldNode {
-            length: int64(item(parts, 0, "nodes")?, "nodes")?,
-            null_count: int64(item(parts, 1, "nodes")?, "nodes")?,
-        })?;
+impl Part for FieldNode {
+    fn of(item: &Value, name: &'static str) -> Result<FieldNode, Trouble> {
+        let [length, null_count] = items(item, name)? else {
+            return Err(Trouble::Row(name));
+        };
+        Ok(FieldNode {
+            length: number(length, name)?,
+            null_count: number(null_count, name)?,
+        })
     }
-    Ok(out)
 }
 
-fn buffers(alloc: Global, values: &[Value]) -> Result<Vec<Buffer>, Trouble> {
-    let mut out = Vec::new(alloc);
-    for value in values {
-        let parts = items(value, "buffers")?;
-        out.push(Buffer {
-            offset: int64(item(parts, 0, "buffers")?, "buffers")?,
-            length: int64(item(parts, 1, "buffers")?, "buffers")?,
-        })?;
+impl Part for Buffer {
+    fn of(item: &Value, name: &'static str) -> Result<Buffer, Trouble> {
+        let [offset, length] = items(item, name)? else {
+            return Err(Trouble::Row(name));
+        };
+        Ok(Buffer {
+            offset: number(offset, name)?,
+            length: number(length, name)?,
+        })
     }
-    Ok(out)
 }
 
-fn blocks(alloc: Global, value: &Value, name: &'static str) -> Result<Vec<Block>, Trouble> {
-    let mut out = Vec::new(alloc);
-    for value in items(member(value, name)?, name)? {
-        let parts = items(value, name)?;
-        out.push(Block {
-            offset: int64(item(parts, 0, name)?, name)?,
-            meta_data_length: int32(item(parts, 1, name)?, name)?,
-            body_length: int64(item(parts, 2, name)?, name)?,
-        })?;
+impl Part for Block {
+    fn of(item: &Value, name: &'static str) -> Result<Block, Trouble> {
+        let [offset, metadata, body] = items(item, name)? else {
+            return Err(Trouble::Row(name));
+        };
+        Ok(Block {
+            offset: number(offset, name)?,
+            meta_data_length: number(metadata, name)?,
+            body_length: number(body, name)?,
+        })
     }
-    Ok(out)
 }
 
 // ---- schemas
@@ -237,7 +237,7 @@ fn dictionary(value: &Value) -> Result<Option<DictionaryEncoding>, Trouble> {
         return Ok(None);
     };
     Ok(Some(DictionaryEncoding {
-        id: int64(member(value, "id")?, "id")?,
+        id: number(member(value, "id")?, "id")?,
         index_type: types::int(items(member(value, "index_type")?, "index_type")?)?,
         is_ordered: truth(member(value, "is_ordered")?, "is_ordered")?,
     }))

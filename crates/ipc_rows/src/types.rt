@@ -13,7 +13,7 @@
 //! A field is `{"name": "a", "type": TYPE, "nullable": false, "metadata": {"k": "v"}}`, or a type alone: a field without a
 //! name, whose slots may be null.
 
-use crate::json::{count, item, items, member, text, truth, whole};
+use crate::json::{count, item, items, member, number, text, truth};
 use crate::trouble::Trouble;
 use lower::datatypes::{DataType, Field, IntegerType, IntervalUnit, Metadata, TimeUnit, UnionMode};
 use serde_json::Value;
@@ -134,8 +134,9 @@ fn nested_type(
 ) -> Result<DataType, Trouble> {
     match name {
         "list" | "large_list" | "fixed_size_list" | "map" => {
+            let form = list_form(name, parts)?;
             let item = field(alloc, item(parts, 1, "type")?, levels)?;
-            type_of_field(alloc, name, parts, item)
+            Ok(list_type(form, Box::new(alloc, item)?))
         }
         "lists" => {
             let inner = data_type(alloc, item(parts, 1, "type")?, levels)?;
@@ -159,22 +160,33 @@ fn nested_type(
     }
 }
 
-// A type of lists.
-fn type_of_field(
-    alloc: Global,
-    name: &str,
-    parts: &[Value],
-    item_field: Field,
-) -> Result<DataType, Trouble> {
-    let boxed = Box::new(alloc, item_field)?;
+// The types of lists, with what they take beside a field.
+#[derive(Clone, Copy)]
+enum ListForm {
+    Small,
+    Large,
+    Fixed(usize),
+    Map { is_sorted: bool },
+}
+
+fn list_form(name: &str, parts: &[Value]) -> Result<ListForm, Trouble> {
     match name {
-        "list" => Ok(DataType::List(boxed)),
-        "large_list" => Ok(DataType::LargeList(boxed)),
-        "fixed_size_list" => {
-            let size = count(item(parts, 2, "size")?, "size")?;
-            Ok(DataType::FixedSizeList(boxed, size))
+        "list" => Ok(ListForm::Small),
+        "large_list" => Ok(ListForm::Large),
+        "fixed_size_list" => Ok(ListForm::Fixed(count(item(parts, 2, "size")?, "size")?)),
+        _ => {
+            let is_sorted = truth(item(parts, 2, "sorted")?, "sorted")?;
+            Ok(ListForm::Map { is_sorted })
         }
-        _ => Ok(DataType::Map(boxed, truth(item(parts, 2, "sorted")?, "sorted")?)),
+    }
+}
+
+fn list_type(form: ListForm, item: Box<Field>) -> DataType {
+    match form {
+        ListForm::Small => DataType::List(item),
+        ListForm::Large => DataType::LargeList(item),
+        ListForm::Fixed(size) => DataType::FixedSizeList(item, size),
+        ListForm::Map { is_sorted } => DataType::Map(item, is_sorted),
     }
 }
 
@@ -238,8 +250,7 @@ fn union_type(alloc: Global, parts: &[Value], children: Vec<Field>) -> Result<Da
 fn union_ids(alloc: Global, ids: &[Value]) -> Result<Vec<i32>, Trouble> {
     let mut out = Vec::new(alloc);
     for id in ids {
-        let id = i32::try_from(whole(id, "ids")?).map_err(|_| Trouble::Row("ids"))?;
-        out.push(id)?;
+        out.push(number(id, "ids")?)?;
     }
     Ok(out)
 }

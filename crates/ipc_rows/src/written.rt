@@ -5,7 +5,7 @@ use crate::arrays::arrays;
 use crate::bytes::bytes;
 use crate::json::{items, member};
 use crate::schemas::schema;
-use crate::slots::{put_comma, put_fault};
+use crate::text::Text;
 use crate::trouble::Trouble;
 use crate::types::LEVELS;
 use ipc_base::chunk::Chunk;
@@ -38,24 +38,23 @@ fn part(alloc: Global, value: &Value) -> Result<Vec<u8>, Trouble> {
     if !is_written(value) {
         return bytes(alloc, value);
     }
-    let mut answers = String::new(alloc);
-    write(alloc, &mut answers, value)
+    write(alloc, &mut Text::new(alloc), value)
 }
 
 /// Makes the calls of a writer over memory. It appends what each answers, `"ok"` or its fault, and gives the bytes.
-pub fn write(alloc: Global, answers: &mut String, value: &Value) -> Result<Vec<u8>, Trouble> {
+pub fn write(alloc: Global, answers: &mut Text, value: &Value) -> Result<Vec<u8>, Trouble> {
     let schema = schema(alloc, value)?;
     let mut writer = StreamWriter::new(alloc, Vec::new(alloc), WriteOptions::default());
-    answers.push('[')?;
+    answers.put("[");
     for call in items(member(value, "calls")?, "calls")? {
-        put_comma(answers)?;
+        answers.comma();
         match run_call(alloc, &mut writer, &schema, call) {
-            Ok(()) => answers.push_str("\"ok\"")?,
-            Err(Trouble::Refused(fault)) => put_fault(alloc, answers, &fault)?,
+            Ok(()) => answers.put("\"ok\""),
+            Err(Trouble::Refused(fault)) => answers.shown(&fault),
             Err(trouble) => return Err(trouble),
         }
     }
-    answers.push(']')?;
+    answers.put("]");
     Ok(writer.into_inner())
 }
 

@@ -6,9 +6,10 @@ use crate::arrays::array;
 use crate::json::{item, items};
 use crate::parts::put_parts;
 use crate::slots::put_slots;
+use crate::text::Text;
 use crate::trouble::Trouble;
 use crate::types::LEVELS;
-use lower_arrays::array::is_dictionary;
+use lower_arrays::array::{AnyArray, is_dictionary};
 use lower_equal::equal;
 use serde_json::Value;
 use std::alloc::Global;
@@ -16,24 +17,30 @@ use std::alloc::Global;
 /// How many slots of an array are null, and its slots, by way of a clone.
 pub fn slots_of(alloc: Global, value: &Value) -> Result<String, Trouble> {
     let array = array(alloc, value, LEVELS)?;
-    let mut out = format!(in alloc; "{{\"nulls\":{},\"slots\":", array.null_count())?;
-    put_slots(alloc, &mut out, &array.clone()?, LEVELS)?;
-    out.push('}')?;
-    Ok(out)
+    let mut out = Text::new(alloc);
+    out.put("{\"nulls\":");
+    out.show(&array.null_count());
+    out.put(",\"slots\":");
+    put_slots(&mut out, &array.clone()?, LEVELS);
+    out.put("}");
+    out.finish()
 }
 
 /// The parts of an array, and those of its clone where they are others.
 pub fn parts_of(alloc: Global, value: &Value) -> Result<String, Trouble> {
     let array = array(alloc, value, LEVELS)?;
-    let mut own = String::new(alloc);
-    put_parts(alloc, &mut own, &array, LEVELS)?;
-    let mut copied = String::new(alloc);
-    put_parts(alloc, &mut copied, &array.clone()?, LEVELS)?;
-    if own != copied {
-        own.push_str(", and of its clone ")?;
-        own.push_str(copied.as_str())?;
+    let own = shown_parts(alloc, &array)?;
+    let copied = shown_parts(alloc, &array.clone()?)?;
+    if own == copied {
+        return Ok(own);
     }
-    Ok(own)
+    Ok(format!(in alloc; "{own}, and of its clone {copied}")?)
+}
+
+fn shown_parts(alloc: Global, array: &AnyArray) -> Result<String, Trouble> {
+    let mut out = Text::new(alloc);
+    put_parts(&mut out, array, LEVELS);
+    out.finish()
 }
 
 /// Whether two arrays are the same.

@@ -5,25 +5,29 @@
 use crate::arrays::{cut_of, offsets};
 use crate::bytes::bits;
 use crate::json::{count, item, items, member, text};
-use crate::parts::{put_bits, put_offsets};
-use crate::slots::put_hex;
+use crate::parts::{put_bits, put_each_offset};
+use crate::text::Text;
 use crate::trouble::Trouble;
 use lower::bitmap::Bitmap;
 use lower::offset::{Offset, OffsetsBuffer};
 use serde_json::Value;
 use std::alloc::Global;
-use std::fmt::Write;
 
 /// Bits, and how bytes hold them.
 pub fn bits_of(alloc: Global, value: &Value) -> Result<String, Trouble> {
     let bits = part_of_bits(bits(alloc, member(value, "bits")?)?, value)?.clone()?;
     let (held, start, len) = bits.as_slice();
-    let mut out = format!(in alloc; "{{\"len\":{len},\"bits\":")?;
-    put_bits(&mut out, &bits)?;
-    write!(out, ",\"start\":{start},\"bytes\":")?;
-    put_hex(alloc, &mut out, held)?;
-    out.push('}')?;
-    Ok(out)
+    let mut out = Text::new(alloc);
+    out.put("{\"len\":");
+    out.show(&len);
+    out.put(",\"bits\":");
+    put_bits(&mut out, &bits);
+    out.put(",\"start\":");
+    out.show(&start);
+    out.put(",\"bytes\":");
+    out.hex(held);
+    out.put("}");
+    out.finish()
 }
 
 fn part_of_bits(bits: Bitmap, value: &Value) -> Result<Bitmap, Trouble> {
@@ -36,11 +40,13 @@ fn part_of_bits(bits: Bitmap, value: &Value) -> Result<Bitmap, Trouble> {
 /// Offsets, and the last one.
 pub fn offsets_of(alloc: Global, value: &Value) -> Result<String, Trouble> {
     let offsets = part_of_offsets(offsets(alloc, value)?, value)?;
-    let mut out = String::new(alloc);
-    out.push_str("{\"offsets\":")?;
-    put_offsets(&mut out, &offsets)?;
-    write!(out, ",\"last\":{}}}", offsets.last())?;
-    Ok(out)
+    let mut out = Text::new(alloc);
+    out.put("{\"offsets\":[");
+    put_each_offset(&mut out, &offsets);
+    out.put("],\"last\":");
+    out.show(&offsets.last());
+    out.put("}");
+    out.finish()
 }
 
 fn part_of_offsets(

@@ -5,8 +5,9 @@
 //! `"fits": {"fields": [FIELD, ..], "ids": [ID, ..]}` gives whether the ids belong to the fields; `"cloned_ids_of"` of a schema gives it with clones of its ids.
 
 use crate::arrays::arrays;
-use crate::chunks::shown_columns;
+use crate::chunks::put_columns;
 use crate::schemas::{ids_of, is_little_endian, schema, shown_schema};
+use crate::text::Text;
 use crate::trouble::Trouble;
 use crate::types::LEVELS;
 use ipc_base::chunk::{Chunk, equal_rows};
@@ -15,36 +16,33 @@ use lower_arrays::array::AnyArray;
 use lower_equal::equal;
 use serde_json::Value;
 use std::alloc::Global;
-use std::fmt::Write;
 
 /// What a chunk shows, and what it is moved to.
 pub fn chunk_of(alloc: Global, value: &Value) -> Result<String, Trouble> {
     let chunk = Chunk::try_new(arrays(alloc, value, LEVELS)?)?;
     let copy = chunk.clone()?;
-    let mut out = shown_chunk(alloc, &chunk, &copy)?;
+    let mut out = Text::new(alloc);
+    put_both(&mut out, &chunk, &copy);
     let rows = chunk.len();
     let first = Chunk::new(chunk.into_arrays()).into_arrays().len();
     let second: Vec<_> = copy.into();
-    write!(
-        out,
-        "\"moved\":[{first},{}],\"rows\":{rows}}}",
-        second.len()
-    )?;
-    Ok(out)
+    out.put(",\"moved\":");
+    out.pair(&first, &second.len());
+    out.put(",\"rows\":");
+    out.show(&rows);
+    out.put("}");
+    out.finish()
 }
 
-fn shown_chunk(
-    alloc: Global,
-    chunk: &Chunk<AnyArray>,
-    copy: &Chunk<AnyArray>,
-) -> Result<String, Trouble> {
-    let arrays = shown_columns(alloc, chunk.arrays())?;
-    let columns = shown_columns(alloc, copy.columns())?;
-    let is_same = are_same(chunk.arrays(), copy.arrays());
-    let mut out = format!(in alloc; "{{\"arrays\":{arrays},\"columns\":{columns},")?;
-    let is_empty = chunk.is_empty();
-    write!(out, "\"is_clone_same\":{is_same},\"is_empty\":{is_empty},")?;
-    Ok(out)
+fn put_both(out: &mut Text, chunk: &Chunk<AnyArray>, copy: &Chunk<AnyArray>) {
+    out.put("{\"arrays\":");
+    put_columns(out, chunk.arrays());
+    out.put(",\"columns\":");
+    put_columns(out, copy.columns());
+    out.put(",\"is_clone_same\":");
+    out.show(&are_same(chunk.arrays(), copy.arrays()));
+    out.put(",\"is_empty\":");
+    out.show(&chunk.is_empty());
 }
 
 fn are_same(columns: &[AnyArray], others: &[AnyArray]) -> bool {

@@ -7,19 +7,19 @@
 
 use crate::bytes::bytes;
 use crate::json::{count, items, member, text};
-use crate::slots::{put_comma, put_hex};
+use crate::text::Text;
 use crate::trouble::Trouble;
 use ipc_devices::{MemFile, Reads, Seeks, Watched, Writes, read_bytes};
 use serde_json::Value;
 use std::alloc::Global;
-use std::fmt::Write;
 use std::io::Cursor;
 
 /// What the calls of a device answer, and its bytes behind them.
 pub fn device_by(alloc: Global, value: &Value) -> Result<String, Trouble> {
     let held = bytes(alloc, member(value, "bytes")?)?;
     let calls = items(member(value, "calls")?, "calls")?;
-    let mut out = String::from_str(alloc, "{\"answers\":[")?;
+    let mut out = Text::new(alloc);
+    out.put("{\"answers\":[");
     let held = match text(member(value, "device")?, "device")? {
         "memory" => by_memory(alloc, &mut out, held, calls)?,
         "lent" => by_borrow(alloc, &mut out, held, calls)?,
@@ -27,15 +27,15 @@ pub fn device_by(alloc: Global, value: &Value) -> Result<String, Trouble> {
         "vector" => by_vector(alloc, &mut out, held, calls)?,
         _ => return Err(Trouble::Row("device")),
     };
-    out.push_str("],\"bytes\":")?;
-    put_hex(alloc, &mut out, &held)?;
-    out.push('}')?;
-    Ok(out)
+    out.put("],\"bytes\":");
+    out.hex(&held);
+    out.put("}");
+    out.finish()
 }
 
 fn by_memory(
     alloc: Global,
-    out: &mut String,
+    out: &mut Text,
     held: Vec<u8>,
     calls: &[Value],
 ) -> Result<Vec<u8>, Trouble> {
@@ -46,7 +46,7 @@ fn by_memory(
 
 fn by_borrow(
     alloc: Global,
-    out: &mut String,
+    out: &mut Text,
     held: Vec<u8>,
     calls: &[Value],
 ) -> Result<Vec<u8>, Trouble> {
@@ -57,7 +57,7 @@ fn by_borrow(
 
 fn by_standard(
     alloc: Global,
-    out: &mut String,
+    out: &mut Text,
     held: Vec<u8>,
     calls: &[Value],
 ) -> Result<Vec<u8>, Trouble> {
@@ -68,12 +68,12 @@ fn by_standard(
 
 fn by_vector(
     alloc: Global,
-    out: &mut String,
+    out: &mut Text,
     mut held: Vec<u8>,
     calls: &[Value],
 ) -> Result<Vec<u8>, Trouble> {
     for call in calls {
-        put_comma(out)?;
+        out.comma();
         put_write(alloc, out, &mut held, call)?;
     }
     Ok(held)
@@ -81,12 +81,12 @@ fn by_vector(
 
 fn put_answers<D: Reads + Writes + Seeks>(
     alloc: Global,
-    out: &mut String,
+    out: &mut Text,
     device: &mut D,
     calls: &[Value],
 ) -> Result<(), Trouble> {
     for call in calls {
-        put_comma(out)?;
+        out.comma();
         match call {
             Value::String(name) => put_answer(alloc, out, device, name.as_str(), call)?,
             _ => put_move(alloc, out, device, call)?,
@@ -98,16 +98,16 @@ fn put_answers<D: Reads + Writes + Seeks>(
 // What a call without parts answers.
 fn put_answer<D: Reads + Writes + Seeks>(
     alloc: Global,
-    out: &mut String,
+    out: &mut Text,
     device: &mut D,
     name: &str,
     call: &Value,
 ) -> Result<(), Trouble> {
     match name {
-        "end" => write!(out, "{}", device.seek_end()?)?,
-        "position" => write!(out, "{}", device.position()?)?,
-        "given" => write!(out, "{}", device.given())?,
-        "failures" => write!(out, "{}", device.failures())?,
+        "end" => out.show(&device.seek_end()?),
+        "position" => out.show(&device.position()?),
+        "given" => out.show(&device.given()),
+        "failures" => out.show(&device.failures()),
         _ => put_write(alloc, out, device, call)?,
     }
     Ok(())
@@ -116,27 +116,31 @@ fn put_answer<D: Reads + Writes + Seeks>(
 // What a call that reads or moves answers.
 fn put_move<D: Reads + Writes + Seeks>(
     alloc: Global,
-    out: &mut String,
+    out: &mut Text,
     device: &mut D,
     call: &Value,
 ) -> Result<(), Trouble> {
     if let Some(place) = call.get("seek") {
         device.seek_to(count(place, "seek")? as u64)?;
-        return Ok(out.push_str("\"ok\"")?);
+        out.put("\"ok\"");
+        return Ok(());
     }
     if let Some(passed) = call.get("skip") {
         device.skip(count(passed, "skip")?)?;
-        return Ok(out.push_str("\"ok\"")?);
+        out.put("\"ok\"");
+        return Ok(());
     }
     if let Some(wanted) = call.get("ahead") {
-        return match device.ahead(count(wanted, "ahead")?) {
-            Some(bytes) => put_hex(alloc, out, bytes),
-            None => Ok(out.push_str("null")?),
-        };
+        match device.ahead(count(wanted, "ahead")?) {
+            Some(bytes) => out.hex(bytes),
+            None => out.put("null"),
+        }
+        return Ok(());
     }
     if let Some(wanted) = call.get("read") {
         let wanted = count(wanted, "read")?.min(MOST);
-        return put_hex(alloc, out, &read_bytes(alloc, device, wanted)?);
+        out.hex(&read_bytes(alloc, device, wanted)?);
+        return Ok(());
     }
     put_write(alloc, out, device, call)
 }
@@ -147,19 +151,20 @@ const MOST: usize = 1 << 20;
 // What a call that writes answers.
 fn put_write<W: Writes>(
     alloc: Global,
-    out: &mut String,
+    out: &mut Text,
     device: &mut W,
     call: &Value,
 ) -> Result<(), Trouble> {
     if let Some(written) = call.get("write") {
         let written = bytes(alloc, written)?;
-        write!(out, "{}", device.write(&written)?)?;
+        out.show(&device.write(&written)?);
         return Ok(());
     }
     match call.as_str() {
         Some("flush") => {
             Writes::flush(device)?;
-            Ok(out.push_str("\"ok\"")?)
+            out.put("\"ok\"");
+            Ok(())
         }
         _ => Err(Trouble::Row("calls")),
     }

@@ -3,14 +3,13 @@
 //! before a message of so many bytes.
 
 use crate::bytes::bytes;
-use crate::json::{int32, member};
-use crate::slots::put_hex;
+use crate::json::{member, number};
+use crate::text::Text;
 use crate::trouble::Trouble;
 use ipc_write::common::EncodedData;
 use ipc_write::common_sync::{write_continuation, write_message};
 use serde_json::Value;
 use std::alloc::Global;
-use std::fmt::Write;
 
 /// A message and its body, with their padding.
 pub fn framed(alloc: Global, value: &Value) -> Result<String, Trouble> {
@@ -20,19 +19,25 @@ pub fn framed(alloc: Global, value: &Value) -> Result<String, Trouble> {
     };
     let mut sent: Vec<u8> = Vec::new(alloc);
     let (head, body) = write_message(&mut sent, &encoded)?;
-    let mut out = String::from_str(alloc, "{\"bytes\":")?;
-    put_hex(alloc, &mut out, &sent)?;
-    write!(out, ",\"lengths\":[{head},{body}]}}")?;
-    Ok(out)
+    let mut out = Text::new(alloc);
+    out.put("{\"bytes\":");
+    out.hex(&sent);
+    out.put(",\"lengths\":");
+    out.pair(&head, &body);
+    out.put("}");
+    out.finish()
 }
 
 /// What stands before a message.
 pub fn continuation_of(alloc: Global, value: &Value) -> Result<String, Trouble> {
-    let length = int32(value, "continuation_of")?;
+    let length = number(value, "continuation_of")?;
     let mut sent: Vec<u8> = Vec::new(alloc);
     let sent_length = write_continuation(&mut sent, length)?;
-    let mut out = String::from_str(alloc, "{\"bytes\":")?;
-    put_hex(alloc, &mut out, &sent)?;
-    write!(out, ",\"length\":{sent_length}}}")?;
-    Ok(out)
+    let mut out = Text::new(alloc);
+    out.put("{\"bytes\":");
+    out.hex(&sent);
+    out.put(",\"length\":");
+    out.show(&sent_length);
+    out.put("}");
+    out.finish()
 }

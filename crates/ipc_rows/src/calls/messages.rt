@@ -7,7 +7,8 @@
 use crate::bytes::bytes;
 use crate::calls::views::put_message;
 use crate::json::items;
-use crate::slots::{put_comma, put_hex, put_words};
+use crate::slots::put_words;
+use crate::text::Text;
 use crate::trouble::Trouble;
 use crate::written::stream;
 use ipc_devices::{MemFile, read_bytes};
@@ -16,23 +17,23 @@ use ipc_readers::read::frame::read_frame;
 use ipc_views::MessageRef;
 use serde_json::Value;
 use std::alloc::Global;
-use std::fmt::Write;
 
 /// The frames of pieces of a stream.
 pub fn frames_of(alloc: Global, value: &Value) -> Result<String, Trouble> {
     let mut begun = Begun::new();
-    let mut out = String::from_str(alloc, "[")?;
+    let mut out = Text::new(alloc);
+    out.put("[");
     for piece in items(value, "frames_of")? {
         put_frames(alloc, &mut out, &mut begun, &bytes(alloc, piece)?)?;
     }
-    out.push(']')?;
-    Ok(out)
+    out.put("]");
+    out.finish()
 }
 
 // The frames of a piece, up to where it waits. Each other has bytes.
 fn put_frames(
     alloc: Global,
-    out: &mut String,
+    out: &mut Text,
     begun: &mut Begun,
     piece: &[u8],
 ) -> Result<(), Trouble> {
@@ -40,8 +41,8 @@ fn put_frames(
     let mut metadata = Vec::new(alloc);
     for _ in 0..piece.len().saturating_add(1) {
         let frame = read_frame(&mut input, begun, &mut metadata)?;
-        put_comma(out)?;
-        put_frame(alloc, out, frame, &metadata)?;
+        out.comma();
+        put_frame(out, frame, &metadata);
         if frame == Frame::Waiting {
             break;
         }
@@ -49,20 +50,13 @@ fn put_frames(
     Ok(())
 }
 
-fn put_frame(
-    alloc: Global,
-    out: &mut String,
-    frame: Frame,
-    metadata: &[u8],
-) -> Result<(), Trouble> {
+fn put_frame(out: &mut Text, frame: Frame, metadata: &[u8]) {
     if frame != Frame::Message {
-        write!(out, "\"{frame:?}\"")?;
-        return Ok(());
+        return out.name(&frame);
     }
-    out.push_str("{\"message\":")?;
-    put_hex(alloc, out, metadata)?;
-    out.push('}')?;
-    Ok(())
+    out.put("{\"message\":");
+    out.hex(metadata);
+    out.put("}");
 }
 
 /// The messages of a stream behind the first one.
@@ -74,22 +68,26 @@ pub fn records_of(alloc: Global, value: &Value) -> Result<String, Trouble> {
     if first != Frame::Message {
         return Err(Trouble::Row("a stream"));
     }
-    let mut records = String::from_str(alloc, "[")?;
+    let mut out = Text::new(alloc);
+    out.put("{\"records\":[");
     let mut end = first;
     for _ in 0..stream.len() {
         end = read_frame(&mut input, &mut Begun::new(), &mut metadata)?;
         if end != Frame::Message {
             break;
         }
-        put_comma(&mut records)?;
-        put_record(alloc, &mut records, &mut input, &metadata)?;
+        out.comma();
+        put_record(alloc, &mut out, &mut input, &metadata)?;
     }
-    Ok(format!(in alloc; "{{\"end\":\"{end:?}\",\"records\":{records}]}}")?)
+    out.put("],\"end\":");
+    out.name(&end);
+    out.put("}");
+    out.finish()
 }
 
 fn put_record(
     alloc: Global,
-    out: &mut String,
+    out: &mut Text,
     input: &mut MemFile<&[u8]>,
     metadata: &[u8],
 ) -> Result<(), Trouble> {
@@ -100,10 +98,10 @@ fn put_record(
         Ok(length) if length >= 0 => read_bytes(alloc, input, length as usize)?,
         _ => return Err(Trouble::Row("a body")),
     };
-    out.push_str("{\"body\":")?;
-    put_words(alloc, out, &body)?;
-    out.push_str(",\"message\":")?;
-    put_message(alloc, out, &message)?;
-    out.push('}')?;
+    out.put("{\"body\":");
+    put_words(out, &body);
+    out.put(",\"message\":");
+    put_message(out, &message);
+    out.put("}");
     Ok(())
 }

@@ -8,7 +8,8 @@ use crate::bytes::bytes;
 use crate::json::{member, text};
 use crate::numbers::{numbers, of_values};
 use crate::schemas::is_little_endian;
-use crate::slots::{put_hex, put_slots};
+use crate::slots::put_slots;
+use crate::text::Text;
 use crate::trouble::Trouble;
 use crate::types::{LEVELS, integer_named};
 use lower::buffer::Buffer;
@@ -24,19 +25,24 @@ pub fn bytes_of_numbers(alloc: Global, value: &Value) -> Result<String, Trouble>
     let numbers = numbers(alloc, value, kind_of(value)?)?;
     let mut bytes = Vec::new(alloc);
     let (name, width) = spell(&mut bytes, &numbers, order_of(value)?)?;
-    let mut out = format!(in alloc; "{{\"type\":\"{name:?}\",\"width\":{width},\"bytes\":")?;
-    put_hex(alloc, &mut out, &bytes)?;
-    out.push('}')?;
-    Ok(out)
+    let mut out = Text::new(alloc);
+    out.put("{\"type\":");
+    out.name(&name);
+    out.put(",\"width\":");
+    out.show(&width);
+    out.put(",\"bytes\":");
+    out.hex(&bytes);
+    out.put("}");
+    out.finish()
 }
 
 /// The numbers that some bytes are.
 pub fn numbers_of_bytes(alloc: Global, value: &Value) -> Result<String, Trouble> {
     let bytes = bytes(alloc, member(value, "bytes")?)?;
     let numbers = AnyArray::Primitive(read(alloc, value, &bytes)?);
-    let mut out = String::new(alloc);
-    put_slots(alloc, &mut out, &numbers, LEVELS)?;
-    Ok(out)
+    let mut out = Text::new(alloc);
+    put_slots(&mut out, &numbers, LEVELS);
+    out.finish()
 }
 
 /// How many bytes numbers and those in front take, and whether they are the same when they are read again.

@@ -5,11 +5,11 @@
 //! differ, and which of these kinds of answers came. `"only_cuts": true` leaves out the damages that set a byte.
 
 use crate::bytes::bytes;
-use crate::damages::{Damage, cuts, damaged, damages};
+use crate::damages::{Damage, Tried, cuts, damaged, damages};
 use crate::json::{items, member, text};
 use crate::same_schemas::{are_plain, is_same_schema};
 use crate::schemas::{shown_by_both, shown_schema};
-use crate::slots::put_fault;
+use crate::text::Text;
 use crate::trouble::Trouble;
 use ipc_base::ipc::IpcSchema;
 use ipc_devices::fault::Fault;
@@ -21,7 +21,6 @@ use lower::datatypes::{DataType, Field, IntegerType, Schema};
 use lower_types::Endianness;
 use serde_json::Value;
 use std::alloc::Global;
-use std::fmt::Write;
 
 type Read = Result<(Schema, IpcSchema), Fault>;
 
@@ -53,9 +52,9 @@ fn shown_read(alloc: Global, read: &Read) -> Result<String, Trouble> {
     match read {
         Ok((schema, ids)) => shown_schema(alloc, schema, ids),
         Err(fault) => {
-            let mut named = String::new(alloc);
-            put_fault(alloc, &mut named, fault)?;
-            Ok(named)
+            let mut named = Text::new(alloc);
+            named.shown(fault);
+            named.finish()
         }
     }
 }
@@ -150,30 +149,22 @@ fn judged(plain: &PlainAnswer, read: &Read) -> Kind {
 
 // ---- damages
 
-// What came of the damages that were tried.
-#[derive(Drop)]
-struct Tried {
-    cuts: u64,
-    sets: u64,
+// Which kinds of answers came.
+#[derive(Clone, Copy)]
+struct Kinds {
     no_schema: bool,
     other: bool,
     plain: bool,
-    differ: Vec<Damage>,
 }
 
-impl Tried {
-    fn add(&mut self, damage: Damage, kind: Kind) -> Result<(), Trouble> {
-        match damage {
-            Damage::Cut(_) => self.cuts = self.cuts.saturating_add(1),
-            Damage::Set { .. } => self.sets = self.sets.saturating_add(1),
-        }
+impl Kinds {
+    fn add(&mut self, kind: Kind) {
         match kind {
             Kind::NoSchema => self.no_schema = true,
             Kind::Other => self.other = true,
             Kind::Plain => self.plain = true,
-            Kind::Differ => self.differ.push(damage)?,
+            Kind::Differ => {}
         }
-        Ok(())
     }
 
     // Whether answers of the kind of this name came.
@@ -194,29 +185,36 @@ pub fn damaged_schemas_of(alloc: Global, value: &Value) -> Result<String, Troubl
         None => damages(alloc, message.len())?,
         Some(_) => cuts(alloc, message.len())?,
     };
-    let tried = tried_all(alloc, &message, &damages)?;
-    let mut out = format!(in alloc; "{{\"cuts\":{},\"differ\":[", tried.cuts)?;
-    put_damages(&mut out, &tried.differ)?;
-    out.push_str("],\"kinds\":[")?;
-    put_kinds(&mut out, &tried, items(member(value, "kinds")?, "kinds")?)?;
-    write!(out, "],\"sets\":{}}}", tried.sets)?;
-    Ok(out)
+    let mut out = Text::new(alloc);
+    out.put("{");
+    let kinds = put_tried(alloc, &mut out, &message, &damages)?;
+    out.put(",\"kinds\":[");
+    put_kinds(&mut out, kinds, items(member(value, "kinds")?, "kinds")?)?;
+    out.put("]}");
+    out.finish()
 }
 
-fn tried_all(alloc: Global, message: &[u8], damages: &[Damage]) -> Result<Tried, Trouble> {
-    let mut tried = Tried {
-        cuts: 0,
-        sets: 0,
+// Tries each damage, and appends how many there are and those at which both differ.
+fn put_tried(
+    alloc: Global,
+    out: &mut Text,
+    message: &[u8],
+    damages: &[Damage],
+) -> Result<Kinds, Trouble> {
+    let mut tried = Tried::new(alloc);
+    let mut kinds = Kinds {
         no_schema: false,
         other: false,
         plain: false,
-        differ: Vec::new(alloc),
     };
     for damage in damages {
         let kind = kind_of(alloc, &damaged(alloc, message, *damage)?)?;
-        tried.add(*damage, kind)?;
+        tried.add(*damage, kind == Kind::Differ);
+        kinds.add(kind);
     }
-    Ok(tried)
+    tried.put_cuts(out);
+    tried.put(out)?;
+    Ok(kinds)
 }
 
 fn kind_of(alloc: Global, message: &[u8]) -> Result<Kind, Trouble> {
@@ -224,27 +222,13 @@ fn kind_of(alloc: Global, message: &[u8]) -> Result<Kind, Trouble> {
     Ok(judged(&plain_schema(alloc, message)?, &read))
 }
 
-fn put_damages(out: &mut String, damages: &[Damage]) -> Result<(), Trouble> {
-    for (number, damage) in damages.iter().enumerate() {
-        if number != 0 {
-            out.push(',')?;
-        }
-        write!(out, "{damage}")?;
-    }
-    Ok(())
-}
-
 // Those of these kinds of answers that came.
-fn put_kinds(out: &mut String, tried: &Tried, kinds: &[Value]) -> Result<(), Trouble> {
-    let mut first = true;
+fn put_kinds(out: &mut Text, came: Kinds, kinds: &[Value]) -> Result<(), Trouble> {
     for kind in kinds {
         let name = text(kind, "kinds")?;
-        if tried.has(name)? {
-            if !first {
-                out.push(',')?;
-            }
-            first = false;
-            write!(out, "\"{name}\"")?;
+        if came.has(name)? {
+            out.comma();
+            out.quoted(name);
         }
     }
     Ok(())

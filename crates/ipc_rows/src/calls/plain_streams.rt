@@ -6,12 +6,12 @@
 
 use crate::bytes::bytes;
 use crate::calls::records::are_same;
-use crate::damages::{Damage, damaged};
+use crate::damages::{Damage, Tried, damaged};
 use crate::json::{count, item, items, member};
 use crate::plain_streams::{Item, PlainHead, item_of, plain_head};
 use crate::runs::Runs;
 use crate::same_schemas::is_same_schema;
-use crate::slots::put_comma;
+use crate::text::Text;
 use crate::trouble::Trouble;
 use crate::written::stream;
 use ipc_devices::MemFile;
@@ -19,9 +19,8 @@ use ipc_devices::fault::Fault;
 use ipc_readers::read::stream::{StreamReader, StreamState, read_stream_metadata};
 use serde_json::Value;
 use std::alloc::Global;
-use std::fmt::Write;
 
-#[derive(Clone, Copy, Debug)]
+#[derive(Clone, Copy)]
 enum End {
     Mark,
     Waiting,
@@ -128,7 +127,12 @@ fn shown_answer(alloc: Global, answer: Answer) -> Result<String, Trouble> {
         Answer::NoStream => Ok(String::from_str(alloc, "\"NoStream\"")?),
         Answer::Differ => Ok(String::from_str(alloc, "\"Differ\"")?),
         Answer::Chunks(chunks, end) => {
-            Ok(format!(in alloc; "{{\"chunks\":{chunks},\"end\":\"{end:?}\"}}")?)
+            let end = match end {
+                End::Mark => "Mark",
+                End::Waiting => "Waiting",
+                End::Fault => "Fault",
+            };
+            Ok(format!(in alloc; "{{\"chunks\":{chunks},\"end\":\"{end}\"}}")?)
         }
     }
 }
@@ -147,25 +151,24 @@ pub fn cut_streams_of(alloc: Global, value: &Value) -> Result<String, Trouble> {
     let mut runs = Runs::new(alloc);
     for length in 0..stream.len() {
         let answer = answer_of(alloc, &stream[..length])?;
-        runs.add(shown_answer(alloc, answer)?)?;
+        runs.add(shown_answer(alloc, answer)?);
     }
-    runs.shown(alloc)
+    runs.finish()
 }
 
 /// How many damages of a stream were tried, and those at which both differ.
 pub fn damaged_streams_of(alloc: Global, value: &Value) -> Result<String, Trouble> {
     let stream = stream(alloc, member(value, "stream")?)?;
-    let mut differ = String::from_str(alloc, "[")?;
-    let mut sets = 0u64;
+    let mut tried = Tried::new(alloc);
     for damage in sets_of(alloc, value)? {
         let answer = answer_of(alloc, &damaged(alloc, &stream, damage)?)?;
-        sets = sets.saturating_add(1);
-        if matches!(answer, Answer::Differ) {
-            put_comma(&mut differ)?;
-            write!(differ, "{damage}")?;
-        }
+        tried.add(damage, matches!(answer, Answer::Differ));
     }
-    Ok(format!(in alloc; "{{\"differ\":{differ}],\"sets\":{sets}}}")?)
+    let mut out = Text::new(alloc);
+    out.put("{");
+    tried.put(&mut out)?;
+    out.put("}");
+    out.finish()
 }
 
 // Each byte of the ranges set to each of the bytes.

@@ -8,11 +8,11 @@
 //! length, 0 first, and gives the answers as `runs.rt` shows them.
 
 use crate::chunks::{put_chunk, shown_columns};
-use crate::damages::{Damage, damaged, damages};
+use crate::damages::{Tried, damaged, damages};
 use crate::plain::{PlainColumns, PlainForm, shown_plain_columns};
 use crate::records::{Record, RecordForm, batch_of, record_of};
 use crate::runs::Runs;
-use crate::slots::put_comma;
+use crate::text::Text;
 use crate::trouble::Trouble;
 use ipc_base::chunk::Chunk;
 use ipc_devices::fault::{Fault, Nyi};
@@ -20,16 +20,15 @@ use ipc_views::RecordBatchRef;
 use lower_arrays::array::AnyArray;
 use serde_json::Value;
 use std::alloc::Global;
-use std::fmt::Write;
 
 /// The columns that are read of a record message.
 pub fn columns_of(alloc: Global, value: &Value) -> Result<String, Trouble> {
     let record = record_of(alloc, value)?;
     let batch = batch_of(&record.message).ok_or(Trouble::Row("record"))?;
     let chunk = record.form.read(alloc, batch, &record.body)?;
-    let mut out = String::new(alloc);
-    put_chunk(alloc, &mut out, &chunk, &record.form.fields)?;
-    Ok(out)
+    let mut out = Text::new(alloc);
+    put_chunk(&mut out, &chunk, &record.form.fields);
+    out.finish()
 }
 
 /// The columns that a record message means by the plain program.
@@ -46,7 +45,7 @@ pub fn plain_columns_of(alloc: Global, value: &Value) -> Result<String, Trouble>
 // ---- by both
 
 // What both answer.
-#[derive(Clone, Copy, Debug, PartialEq, Eq)]
+#[derive(Clone, Copy, PartialEq, Eq)]
 enum Answer {
     NoBatch,
     NoColumns,
@@ -68,7 +67,14 @@ pub fn columns_by_both(alloc: Global, value: &Value) -> Result<String, Trouble> 
 }
 
 fn shown_answer(alloc: Global, answer: Answer) -> Result<String, Trouble> {
-    Ok(format!(in alloc; "\"{answer:?}\"")?)
+    let name = match answer {
+        Answer::NoBatch => "\"NoBatch\"",
+        Answer::NoColumns => "\"NoColumns\"",
+        Answer::Columns => "\"Columns\"",
+        Answer::Nulls => "\"Nulls\"",
+        Answer::Differ => "\"Differ\"",
+    };
+    Ok(String::from_str(alloc, name)?)
 }
 
 fn answer_of(
@@ -139,22 +145,18 @@ pub fn are_same(
 pub fn damaged_records_of(alloc: Global, value: &Value) -> Result<String, Trouble> {
     let record = record_of(alloc, value)?;
     let plain = record.form.plain(alloc)?;
-    let mut differ = String::from_str(alloc, "[")?;
-    let mut cuts = 0u64;
-    let mut sets = 0u64;
+    let mut tried = Tried::new(alloc);
     for damage in damages(alloc, record.message.len())? {
-        match damage {
-            Damage::Cut(_) => cuts = cuts.saturating_add(1),
-            Damage::Set { .. } => sets = sets.saturating_add(1),
-        }
         let message = damaged(alloc, &record.message, damage)?;
         let answer = answer_of(alloc, &record.form, &plain, &message, &record.body)?;
-        if answer == Answer::Differ {
-            put_comma(&mut differ)?;
-            write!(differ, "{damage}")?;
-        }
+        tried.add(damage, answer == Answer::Differ);
     }
-    Ok(format!(in alloc; "{{\"cuts\":{cuts},\"differ\":{differ}],\"sets\":{sets}}}")?)
+    let mut out = Text::new(alloc);
+    out.put("{");
+    tried.put_cuts(&mut out);
+    tried.put(&mut out)?;
+    out.put("}");
+    out.finish()
 }
 
 /// What both answer on the body of a record cut to each length.
@@ -168,7 +170,7 @@ pub fn cut_bodies_of(alloc: Global, value: &Value) -> Result<String, Trouble> {
     let mut runs = Runs::new(alloc);
     for length in 0..body.len() {
         let answer = answer_of(alloc, &form, &plain, &message, &body[..length])?;
-        runs.add(shown_answer(alloc, answer)?)?;
+        runs.add(shown_answer(alloc, answer)?);
     }
-    runs.shown(alloc)
+    runs.finish()
 }

@@ -6,7 +6,7 @@ use crate::arrays::arrays;
 use crate::chunks::put_chunk;
 use crate::json::{items, member};
 use crate::schemas::schema;
-use crate::slots::put_comma;
+use crate::text::Text;
 use crate::trouble::Trouble;
 use crate::types::LEVELS;
 use crate::written::stream;
@@ -18,7 +18,6 @@ use lower::datatypes::Field;
 use lower_arrays::array::AnyArray;
 use serde_json::Value;
 use std::alloc::Global;
-use std::fmt::Write;
 
 // A call of a writer, with the chunk that it writes.
 #[derive(Drop)]
@@ -65,43 +64,36 @@ pub fn round_trip_of(alloc: Global, value: &Value) -> Result<String, Trouble> {
     let schema = schema(alloc, value)?;
     let calls = calls_of(alloc, value)?;
     let trip = round_trip(alloc, &schema, &borrowed(alloc, &calls)?)?;
-    let mut out = String::from_str(alloc, "{\"answers\":[")?;
-    put_truths(&mut out, &trip.answers)?;
-    out.push_str("],")?;
-    put_whole_stream(alloc, &mut out, &trip.stream, &schema.fields)?;
-    let is_same = trip.stream.metadata.schema == schema;
-    write!(out, ",\"is_schema_same\":{is_same}}}")?;
-    Ok(out)
-}
-
-fn put_truths(out: &mut String, truths: &[bool]) -> Result<(), Trouble> {
-    for truth in truths {
-        put_comma(out)?;
-        write!(out, "{truth}")?;
+    let mut out = Text::new(alloc);
+    out.put("{\"answers\":[");
+    for answer in &trip.answers {
+        out.comma();
+        out.show(answer);
     }
-    Ok(())
+    out.put("],");
+    put_whole_stream(&mut out, &trip.stream, &schema.fields);
+    out.put(",\"is_schema_same\":");
+    out.show(&(trip.stream.metadata.schema == schema));
+    out.put("}");
+    out.finish()
 }
 
-fn put_whole_stream(
-    alloc: Global,
-    out: &mut String,
-    stream: &WholeStream,
-    fields: &[Field],
-) -> Result<(), Trouble> {
-    out.push_str("\"chunks\":[")?;
+fn put_whole_stream(out: &mut Text, stream: &WholeStream, fields: &[Field]) {
+    out.put("\"chunks\":[");
     for chunk in &stream.chunks {
-        put_comma(out)?;
-        put_chunk(alloc, out, chunk, fields)?;
+        out.comma();
+        put_chunk(out, chunk, fields);
     }
-    write!(out, "],\"is_finished\":{}", stream.is_finished)?;
-    Ok(())
+    out.put("],\"is_finished\":");
+    out.show(&stream.is_finished);
 }
 
 /// All chunks of a stream, and whether it ends by its mark.
 pub fn whole_of(alloc: Global, value: &Value) -> Result<String, Trouble> {
     let whole = read_stream(alloc, &stream(alloc, value)?)?;
-    let mut out = String::from_str(alloc, "{")?;
-    put_whole_stream(alloc, &mut out, &whole, &whole.metadata.schema.fields)?;
-    out.push('}')?;
-    Ok(out)
+    let mut out = Text::new(alloc);
+    out.put("{");
+    put_whole_stream(&mut out, &whole, &whole.metadata.schema.fields);
+    out.put("}");
+    out.finish()
 }

@@ -7,7 +7,7 @@
 use crate::bytes::bytes;
 use crate::json::{item, items};
 use crate::schemas::{ids_of, schema, shown_of_row, shown_schema};
-use crate::slots::put_hex;
+use crate::text::Text;
 use crate::trouble::Trouble;
 use ipc_schema::read::schema::deserialize_schema;
 use ipc_schema_write::schema::{schema_to_bytes, serialize_schema};
@@ -34,9 +34,9 @@ fn message_of(alloc: Global, value: &Value) -> Result<Vec<u8>, Trouble> {
 
 /// The bytes of a schema's message.
 pub fn schema_bytes_of(alloc: Global, value: &Value) -> Result<String, Trouble> {
-    let mut out = String::new(alloc);
-    put_hex(alloc, &mut out, &message_of(alloc, value)?)?;
-    Ok(out)
+    let mut out = Text::new(alloc);
+    out.hex(&message_of(alloc, value)?);
+    out.finish()
 }
 
 /// The schema that such a message means.

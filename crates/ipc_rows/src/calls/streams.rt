@@ -12,7 +12,7 @@
 use crate::chunks::put_chunk;
 use crate::json::{count, item, items, member};
 use crate::schemas::{schema, shown_schema};
-use crate::slots::{put_comma, put_fault, put_hex, put_text};
+use crate::text::Text;
 use crate::trouble::Trouble;
 use crate::written::{stream, write};
 use ipc_base::ipc::fits;
@@ -22,7 +22,6 @@ use ipc_readers::read::stream::{StreamMetadata, StreamReader, StreamState, read_
 use lower::datatypes::Field;
 use serde_json::Value;
 use std::alloc::Global;
-use std::fmt::Write;
 
 type Reader<'a> = StreamReader<MemFile<&'a [u8]>>;
 
@@ -38,27 +37,22 @@ pub fn read_of(alloc: Global, value: &Value) -> Result<String, Trouble> {
     let stream = stream(alloc, value)?;
     let mut reader = opened(alloc, &stream)?;
     let fields = reader.metadata().clone()?.schema.fields;
-    let mut out = String::from_str(alloc, "{")?;
-    put_stream(alloc, &mut out, &mut reader, &fields)?;
-    out.push('}')?;
-    Ok(out)
+    let mut out = Text::new(alloc);
+    out.put("{");
+    put_stream(&mut out, &mut reader, &fields);
+    out.put("}");
+    out.finish()
 }
 
-fn put_stream(
-    alloc: Global,
-    out: &mut String,
-    reader: &mut Reader<'_>,
-    fields: &[Field],
-) -> Result<(), Trouble> {
-    out.push_str("\"chunks\":[")?;
-    let end = put_chunks(alloc, out, reader, fields)?;
-    out.push_str("],\"end\":")?;
+fn put_stream(out: &mut Text, reader: &mut Reader<'_>, fields: &[Field]) {
+    out.put("\"chunks\":[");
+    let end = put_chunks(out, reader, fields);
+    out.put("],\"end\":");
     match end {
-        None if reader.is_finished() => out.push_str("\"finished\"")?,
-        None => out.push_str("\"waiting\"")?,
-        Some(fault) => put_fault(alloc, out, &fault)?,
+        None if reader.is_finished() => out.put("\"finished\""),
+        None => out.put("\"waiting\""),
+        Some(fault) => out.shown(&fault),
     }
-    Ok(())
 }
 
 // What came next in a stream.
@@ -69,60 +63,52 @@ enum Progress {
     Refused(Fault),
 }
 
-fn put_next(
-    alloc: Global,
-    out: &mut String,
-    reader: &mut Reader<'_>,
-    fields: &[Field],
-) -> Result<Progress, Trouble> {
+fn put_next(out: &mut Text, reader: &mut Reader<'_>, fields: &[Field]) -> Progress {
     match reader.next() {
         Some(Ok(StreamState::Some(chunk))) => {
-            put_comma(out)?;
-            put_chunk(alloc, out, &chunk, fields)?;
-            Ok(Progress::Chunk)
+            out.comma();
+            put_chunk(out, &chunk, fields);
+            Progress::Chunk
         }
-        Some(Ok(StreamState::Waiting)) | None => Ok(Progress::Over),
-        Some(Err(fault)) => Ok(Progress::Refused(fault)),
+        Some(Ok(StreamState::Waiting)) | None => Progress::Over,
+        Some(Err(fault)) => Progress::Refused(fault),
     }
 }
 
 // The chunks up to where no more come, and the fault that ends them where one does.
-fn put_chunks(
-    alloc: Global,
-    out: &mut String,
-    reader: &mut Reader<'_>,
-    fields: &[Field],
-) -> Result<Option<Fault>, Trouble> {
+fn put_chunks(out: &mut Text, reader: &mut Reader<'_>, fields: &[Field]) -> Option<Fault> {
     for _ in 0..u64::MAX {
-        match put_next(alloc, out, reader, fields)? {
+        match put_next(out, reader, fields) {
             Progress::Chunk => {}
-            Progress::Over => return Ok(None),
-            Progress::Refused(fault) => return Ok(Some(fault)),
+            Progress::Over => return None,
+            Progress::Refused(fault) => return Some(fault),
         }
     }
-    Ok(None)
+    None
 }
 
 /// What each call of a writer answers, and what is read back.
 pub fn written_by(alloc: Global, value: &Value) -> Result<String, Trouble> {
     let wanted = schema(alloc, value)?;
-    let mut out = String::from_str(alloc, "{\"answers\":")?;
+    let mut out = Text::new(alloc);
+    out.put("{\"answers\":");
     let stream = write(alloc, &mut out, value)?;
-    out.push(',')?;
+    out.put(",");
     let mut reader = opened(alloc, &stream)?;
-    put_stream(alloc, &mut out, &mut reader, &wanted.fields)?;
-    out.push('}')?;
-    Ok(out)
+    put_stream(&mut out, &mut reader, &wanted.fields);
+    out.put("}");
+    out.finish()
 }
 
 /// What each call of a writer answers, and the bytes.
 pub fn bytes_by(alloc: Global, value: &Value) -> Result<String, Trouble> {
-    let mut out = String::from_str(alloc, "{\"answers\":")?;
+    let mut out = Text::new(alloc);
+    out.put("{\"answers\":");
     let stream = write(alloc, &mut out, value)?;
-    out.push_str(",\"bytes\":")?;
-    put_hex(alloc, &mut out, &stream)?;
-    out.push('}')?;
-    Ok(out)
+    out.put(",\"bytes\":");
+    out.hex(&stream);
+    out.put("}");
+    out.finish()
 }
 
 /// Whether two streams have the same bytes.
@@ -139,9 +125,8 @@ pub fn are_same_bytes(alloc: Global, value: &Value) -> Result<String, Trouble> {
 pub fn head_of(alloc: Global, value: &Value) -> Result<String, Trouble> {
     let stream = stream(alloc, value)?;
     let head = read_stream_metadata(alloc, &mut MemFile::new(stream.as_slice()))?;
-    let mut out = shown_schema(alloc, &head.schema, &head.ipc_schema)?;
-    write!(out, " {:?}", head.version)?;
-    Ok(out)
+    let shown = shown_schema(alloc, &head.schema, &head.ipc_schema)?;
+    Ok(format!(in alloc; "{shown} {:?}", head.version)?)
 }
 
 /// What so many calls of a reader answer.
@@ -149,54 +134,51 @@ pub fn answers_of(alloc: Global, value: &Value) -> Result<String, Trouble> {
     let stream = stream(alloc, member(value, "stream")?)?;
     let mut reader = opened(alloc, &stream)?;
     let fields = reader.schema().clone()?.fields;
-    let mut out = String::from_str(alloc, "{\"answers\":[")?;
+    let mut out = Text::new(alloc);
+    out.put("{\"answers\":[");
     for _ in 0..count(member(value, "calls")?, "calls")? {
-        put_comma(&mut out)?;
-        put_answer(alloc, &mut out, &mut reader, &fields)?;
+        out.comma();
+        put_answer(&mut out, &mut reader, &fields);
     }
-    out.push_str("],\"columns\":[")?;
+    out.put("],\"columns\":[");
     put_columns(alloc, &mut out, &reader.schema().fields)?;
-    out.push_str("],")?;
-    put_head(&mut out, reader.metadata())?;
-    out.push('}')?;
-    Ok(out)
+    out.put("],");
+    put_head(&mut out, reader.metadata());
+    out.put("}");
+    out.finish()
 }
 
-fn put_answer(
-    alloc: Global,
-    out: &mut String,
-    reader: &mut Reader<'_>,
-    fields: &[Field],
-) -> Result<(), Trouble> {
-    out.push('[')?;
+fn put_answer(out: &mut Text, reader: &mut Reader<'_>, fields: &[Field]) {
+    out.put("[");
     match reader.next() {
-        None => out.push_str("null")?,
-        Some(Ok(StreamState::Waiting)) => out.push_str("\"waiting\"")?,
-        Some(Ok(StreamState::Some(chunk))) => put_chunk(alloc, out, &chunk, fields)?,
-        Some(Err(fault)) => put_fault(alloc, out, &fault)?,
+        None => out.put("null"),
+        Some(Ok(StreamState::Waiting)) => out.put("\"waiting\""),
+        Some(Ok(StreamState::Some(chunk))) => put_chunk(out, &chunk, fields),
+        Some(Err(fault)) => out.shown(&fault),
     }
-    write!(out, ",{}]", reader.is_finished())?;
-    Ok(())
+    out.put(",");
+    out.show(&reader.is_finished());
+    out.put("]");
 }
 
 // The name and the type of each.
-fn put_columns(alloc: Global, out: &mut String, fields: &[Field]) -> Result<(), Trouble> {
+fn put_columns(alloc: Global, out: &mut Text, fields: &[Field]) -> Result<(), Trouble> {
     for field in fields {
-        let told = format!(in alloc; "{}: {:?}", field.name, field.data_type)?;
-        put_comma(out)?;
-        put_text(alloc, out, told.as_bytes())?;
+        out.comma();
+        out.quoted(format!(in alloc; "{}: {:?}", field.name, field.data_type)?.as_str());
     }
     Ok(())
 }
 
-fn put_head(out: &mut String, head: &StreamMetadata) -> Result<(), Trouble> {
-    let fits = fits(&head.schema.fields, &head.ipc_schema.fields);
-    let order = if head.ipc_schema.is_little_endian {
+fn put_head(out: &mut Text, head: &StreamMetadata) {
+    out.put("\"fits\":");
+    out.show(&fits(&head.schema.fields, &head.ipc_schema.fields));
+    out.put(",\"order\":\"");
+    out.put(if head.ipc_schema.is_little_endian {
         "little"
     } else {
         "big"
-    };
-    write!(out, "\"fits\":{fits},\"order\":\"{order}\",")?;
-    write!(out, "\"version\":\"{:?}\"", head.version)?;
-    Ok(())
+    });
+    out.put("\",\"version\":");
+    out.name(&head.version);
 }

@@ -9,13 +9,12 @@
 
 use crate::bytes::bytes;
 use crate::json::{items, member, text};
-use crate::slots::put_text;
+use crate::text::Text;
 use crate::trouble::Trouble;
 use ipc_devices::MemFile;
 use ipc_tools::cat::run;
 use serde_json::Value;
 use std::alloc::Global;
-use std::fmt::Write;
 
 // What a run answered.
 #[derive(Drop)]
@@ -70,21 +69,27 @@ pub fn ipcat(alloc: Global, value: &Value) -> Result<String, Trouble> {
 }
 
 fn shown_run(alloc: Global, run: &Run) -> Result<String, Trouble> {
-    let mut out = String::from_str(alloc, "{\"err\":")?;
-    put_printed(alloc, &mut out, &run.err)?;
-    out.push_str(",\"out\":")?;
-    put_printed(alloc, &mut out, &run.out)?;
-    write!(out, ",\"status\":{}}}", run.status)?;
-    Ok(out)
+    let mut out = Text::new(alloc);
+    out.put("{\"err\":");
+    put_printed(&mut out, &run.err);
+    out.put(",\"out\":");
+    put_printed(&mut out, &run.out);
+    out.put(",\"status\":");
+    out.show(&run.status);
+    out.put("}");
+    out.finish()
 }
 
 // A text, or how many bytes there are where they are none.
-fn put_printed(alloc: Global, out: &mut String, printed: &[u8]) -> Result<(), Trouble> {
-    if str::from_utf8(printed).is_ok() {
-        return put_text(alloc, out, printed);
+fn put_printed(out: &mut Text, printed: &[u8]) {
+    match str::from_utf8(printed) {
+        Ok(text) => out.quoted(text),
+        Err(_) => {
+            out.put("{\"bytes\":");
+            out.show(&printed.len());
+            out.put("}");
+        }
     }
-    write!(out, "{{\"bytes\":{}}}", printed.len())?;
-    Ok(())
 }
 
 // How a run ends on an input that was cut or damaged.
@@ -101,14 +106,17 @@ pub fn ipcat_cut(alloc: Global, value: &Value) -> Result<String, Trouble> {
     let words = words_of(alloc, value)?;
     let input = input_of(alloc, value)?;
     let endings = endings_of_cuts(alloc, &words, &input)?;
-    let ended = count(&endings, Ending::Ended);
-    let mut out = format!(in alloc; "{{\"cuts\":{},\"ended\":{ended}", endings.len())?;
-    out.push_str(",\"other\":")?;
-    put_places(&mut out, &endings, Ending::Other)?;
-    out.push_str(",\"waiting\":")?;
-    put_places(&mut out, &endings, Ending::Waiting)?;
-    out.push('}')?;
-    Ok(out)
+    let mut out = Text::new(alloc);
+    out.put("{\"cuts\":");
+    out.show(&endings.len());
+    out.put(",\"ended\":");
+    out.show(&count(&endings, Ending::Ended));
+    out.put(",\"other\":");
+    put_places(&mut out, &endings, Ending::Other);
+    out.put(",\"waiting\":");
+    put_places(&mut out, &endings, Ending::Waiting);
+    out.put("}");
+    out.finish()
 }
 
 fn endings_of_cuts(alloc: Global, words: &[String], input: &[u8]) -> Result<Vec<Ending>, Trouble> {
@@ -142,11 +150,13 @@ pub fn ipcat_damaged(alloc: Global, value: &Value) -> Result<String, Trouble> {
     let words = words_of(alloc, value)?;
     let input = input_of(alloc, value)?;
     let endings = endings_of_damages(alloc, &words, &input, value)?;
-    let answered = count(&endings, Ending::Answered);
-    let mut out = format!(in alloc; "{{\"answered\":{answered},\"other\":")?;
-    put_places(&mut out, &endings, Ending::Other)?;
-    out.push('}')?;
-    Ok(out)
+    let mut out = Text::new(alloc);
+    out.put("{\"answered\":");
+    out.show(&count(&endings, Ending::Answered));
+    out.put(",\"other\":");
+    put_places(&mut out, &endings, Ending::Other);
+    out.put("}");
+    out.finish()
 }
 
 fn endings_of_damages(
@@ -212,18 +222,13 @@ fn count(endings: &[Ending], wanted: Ending) -> usize {
 }
 
 // Appends the places where this is the ending.
-fn put_places(out: &mut String, endings: &[Ending], wanted: Ending) -> Result<(), Trouble> {
-    let mut is_first = true;
-    out.push('[')?;
+fn put_places(out: &mut Text, endings: &[Ending], wanted: Ending) {
+    out.put("[");
     for (place, ending) in endings.iter().enumerate() {
         if *ending == wanted {
-            if !is_first {
-                out.push(',')?;
-            }
-            write!(out, "{place}")?;
-            is_first = false;
+            out.comma();
+            out.show(&place);
         }
     }
-    out.push(']')?;
-    Ok(())
+    out.put("]");
 }

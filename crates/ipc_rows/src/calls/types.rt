@@ -5,6 +5,7 @@
 //! `"is_dictionary_type": TYPE`; `"is_within_levels": [[FIELD, ..], LEVELS]`.
 
 use crate::json::{item, items, text, whole};
+use crate::text::Text;
 use crate::trouble::Trouble;
 use crate::types::{LEVELS, data_type, field, fields, integer_type};
 use lower::datatypes::{
@@ -13,7 +14,6 @@ use lower::datatypes::{
 };
 use serde_json::Value;
 use std::alloc::Global;
-use std::fmt::Write;
 
 /// How many nodes and buffers a column of a type has, where a union has so many buffers in front: `[TYPE, EXTRA]`.
 pub fn counts_of(alloc: Global, value: &Value) -> Result<String, Trouble> {
@@ -26,12 +26,12 @@ pub fn counts_of(alloc: Global, value: &Value) -> Result<String, Trouble> {
     };
     let nodes = count_nodes(&data_type);
     let buffers = count_buffers(&data_type, extra);
-    let mut out = String::new(alloc);
+    let mut out = Text::new(alloc);
     match (nodes, buffers) {
-        (Some(nodes), Some(buffers)) => write!(out, "[{nodes},{buffers}]")?,
-        _ => out.push_str("null")?,
+        (Some(nodes), Some(buffers)) => out.pair(&nodes, &buffers),
+        _ => out.put("null"),
     }
-    Ok(out)
+    out.finish()
 }
 
 /// How the slots of a type lie in memory.

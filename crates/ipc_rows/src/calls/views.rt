@@ -6,6 +6,7 @@ mod parts;
 mod types;
 
 use crate::bytes::bytes;
+use crate::text::Text;
 use crate::trouble::Trouble;
 use crate::types::LEVELS;
 use ipc_views::{
@@ -22,198 +23,173 @@ use std::alloc::Global;
 /// What the views say of a message.
 pub fn views_of(alloc: Global, value: &Value) -> Result<String, Trouble> {
     let message = bytes(alloc, value)?;
-    let mut out = String::new(alloc);
+    let mut out = Text::new(alloc);
     match MessageRef::read_as_root(&message) {
-        Ok(message) => put_message(alloc, &mut out, &message)?,
-        Err(fault) => put_fault(&mut out, fault)?,
+        Ok(message) => put_message(&mut out, &message),
+        Err(fault) => put_fault(&mut out, fault),
     }
-    Ok(out)
+    out.finish()
 }
 
 /// What the views say of a file's footer.
 pub fn footer_views_of(alloc: Global, value: &Value) -> Result<String, Trouble> {
     let footer = bytes(alloc, value)?;
-    let mut out = String::new(alloc);
+    let mut out = Text::new(alloc);
     match FooterRef::read_as_root(&footer) {
-        Ok(footer) => put_footer(alloc, &mut out, &footer)?,
-        Err(fault) => put_fault(&mut out, fault)?,
+        Ok(footer) => put_footer(&mut out, &footer),
+        Err(fault) => put_fault(&mut out, fault),
     }
-    Ok(out)
+    out.finish()
 }
 
 /// Appends what the views say of a message.
-pub fn put_message(
-    alloc: Global,
-    out: &mut String,
-    message: &MessageRef<'_>,
-) -> Result<(), Trouble> {
-    out.push_str("{\"body_length\":")?;
-    put_value(out, message.body_length())?;
-    out.push_str(",\"header\":")?;
-    put_header(alloc, out, message.header())?;
-    out.push_str(",\"metadata\":")?;
-    put_pairs(alloc, out, message.custom_metadata())?;
-    out.push_str(",\"version\":")?;
-    put_name(out, message.version())?;
-    out.push('}')?;
-    Ok(())
+pub fn put_message(out: &mut Text, message: &MessageRef<'_>) {
+    out.put("{\"body_length\":");
+    put_value(out, message.body_length());
+    out.put(",\"header\":");
+    put_header(out, message.header());
+    out.put(",\"metadata\":");
+    put_pairs(out, message.custom_metadata());
+    out.put(",\"version\":");
+    put_name(out, message.version());
+    out.put("}");
 }
 
-fn put_header(
-    alloc: Global,
-    out: &mut String,
-    header: Result<Option<MessageHeaderRef<'_>>, TableFault>,
-) -> Result<(), Trouble> {
-    let Some(header) = told(out, header)? else {
-        return Ok(());
+fn put_header(out: &mut Text, header: Result<Option<MessageHeaderRef<'_>>, TableFault>) {
+    let Some(header) = told(out, header) else {
+        return;
     };
     match &header {
         MessageHeaderRef::Schema(schema) => {
-            out.push_str("{\"schema\":")?;
-            put_schema(alloc, out, schema)?;
+            out.put("{\"schema\":");
+            put_schema(out, schema);
         }
         MessageHeaderRef::DictionaryBatch(batch) => {
-            out.push_str("{\"dictionary_batch\":")?;
-            put_dictionary_batch(out, batch)?;
+            out.put("{\"dictionary_batch\":");
+            put_dictionary_batch(out, batch);
         }
         MessageHeaderRef::RecordBatch(batch) => {
-            out.push_str("{\"record_batch\":")?;
-            put_record_batch(out, batch)?;
+            out.put("{\"record_batch\":");
+            put_record_batch(out, batch);
         }
-        MessageHeaderRef::Tensor(_) => out.push_str("{\"tensor\":null")?,
-        MessageHeaderRef::SparseTensor(_) => out.push_str("{\"sparse_tensor\":null")?,
+        MessageHeaderRef::Tensor(_) => out.put("{\"tensor\":null"),
+        MessageHeaderRef::SparseTensor(_) => out.put("{\"sparse_tensor\":null"),
     }
-    out.push('}')?;
-    Ok(())
+    out.put("}");
 }
 
-fn put_footer(alloc: Global, out: &mut String, footer: &FooterRef<'_>) -> Result<(), Trouble> {
-    out.push_str("{\"dictionaries\":")?;
-    put_blocks(out, footer.dictionaries())?;
-    out.push_str(",\"metadata\":")?;
-    put_pairs(alloc, out, footer.custom_metadata())?;
-    out.push_str(",\"record_batches\":")?;
-    put_blocks(out, footer.record_batches())?;
-    out.push_str(",\"schema\":")?;
-    if let Some(schema) = told(out, footer.schema())? {
-        put_schema(alloc, out, &schema)?;
+fn put_footer(out: &mut Text, footer: &FooterRef<'_>) {
+    out.put("{\"dictionaries\":");
+    put_blocks(out, footer.dictionaries());
+    out.put(",\"metadata\":");
+    put_pairs(out, footer.custom_metadata());
+    out.put(",\"record_batches\":");
+    put_blocks(out, footer.record_batches());
+    out.put(",\"schema\":");
+    if let Some(schema) = told(out, footer.schema()) {
+        put_schema(out, &schema);
     }
-    out.push_str(",\"version\":")?;
-    put_name(out, footer.version())?;
-    out.push('}')?;
-    Ok(())
+    out.put(",\"version\":");
+    put_name(out, footer.version());
+    out.put("}");
 }
 
 // ---- batches
 
-fn put_dictionary_batch(out: &mut String, batch: &DictionaryBatchRef<'_>) -> Result<(), Trouble> {
-    out.push_str("{\"data\":")?;
-    if let Some(data) = told(out, batch.data())? {
-        put_record_batch(out, &data)?;
+fn put_dictionary_batch(out: &mut Text, batch: &DictionaryBatchRef<'_>) {
+    out.put("{\"data\":");
+    if let Some(data) = told(out, batch.data()) {
+        put_record_batch(out, &data);
     }
-    out.push_str(",\"id\":")?;
-    put_value(out, batch.id())?;
-    out.push_str(",\"is_delta\":")?;
-    put_value(out, batch.is_delta())?;
-    out.push('}')?;
-    Ok(())
+    out.put(",\"id\":");
+    put_value(out, batch.id());
+    out.put(",\"is_delta\":");
+    put_value(out, batch.is_delta());
+    out.put("}");
 }
 
-fn is_compressed(batch: &RecordBatchRef<'_>) -> Result<bool, TableFault> {
-    Ok(batch.compression()?.is_some())
-}
-
-fn put_record_batch(out: &mut String, batch: &RecordBatchRef<'_>) -> Result<(), Trouble> {
-    out.push_str("{\"buffers\":")?;
-    put_buffers(out, batch.buffers())?;
-    out.push_str(",\"compressed\":")?;
-    put_value(out, is_compressed(batch))?;
-    out.push_str(",\"length\":")?;
-    put_value(out, batch.length())?;
-    out.push_str(",\"nodes\":")?;
-    put_nodes(out, batch.nodes())?;
-    out.push('}')?;
-    Ok(())
+fn put_record_batch(out: &mut Text, batch: &RecordBatchRef<'_>) {
+    out.put("{\"buffers\":");
+    put_buffers(out, batch.buffers());
+    out.put(",\"compressed\":");
+    match batch.compression() {
+        Ok(compression) => out.show(&compression.is_some()),
+        Err(fault) => put_fault(out, fault),
+    }
+    out.put(",\"length\":");
+    put_value(out, batch.length());
+    out.put(",\"nodes\":");
+    put_nodes(out, batch.nodes());
+    out.put("}");
 }
 
 // ---- schemas
 
-fn put_schema(alloc: Global, out: &mut String, schema: &SchemaRef<'_>) -> Result<(), Trouble> {
-    out.push_str("{\"endianness\":")?;
-    put_name(out, schema.endianness())?;
-    out.push_str(",\"fields\":")?;
-    put_fields(alloc, out, schema.fields(), LEVELS)?;
-    out.push_str(",\"metadata\":")?;
-    put_pairs(alloc, out, schema.custom_metadata())?;
-    out.push('}')?;
-    Ok(())
+fn put_schema(out: &mut Text, schema: &SchemaRef<'_>) {
+    out.put("{\"endianness\":");
+    put_name(out, schema.endianness());
+    out.put(",\"fields\":");
+    put_fields(out, schema.fields(), LEVELS);
+    out.put(",\"metadata\":");
+    put_pairs(out, schema.custom_metadata());
+    out.put("}");
 }
 
 #[cycle(fields)]
 fn put_fields(
-    alloc: Global,
-    out: &mut String,
+    out: &mut Text,
     fields: Result<Option<Tables<'_, FieldTable>>, TableFault>,
     levels: usize,
-) -> Result<(), Trouble> {
-    let Some(fields) = told(out, fields)? else {
-        return Ok(());
+) {
+    let Some(fields) = told(out, fields) else {
+        return;
     };
-    out.push('[')?;
+    out.put("[");
     for index in 0..fields.len() {
-        if index != 0 {
-            out.push(',')?;
-        }
+        out.comma();
         match fields.get(index) {
-            Ok(field) => put_field(alloc, out, &field, levels)?,
-            Err(fault) => put_fault(out, fault)?,
+            Ok(field) => put_field(out, &field, levels),
+            Err(fault) => put_fault(out, fault),
         }
     }
-    out.push(']')?;
-    Ok(())
+    out.put("]");
 }
 
 #[cycle(fields)]
-fn put_field(
-    alloc: Global,
-    out: &mut String,
-    field: &FieldRef<'_>,
-    levels: usize,
-) -> Result<(), Trouble> {
+fn put_field(out: &mut Text, field: &FieldRef<'_>, levels: usize) {
     if levels == 0 {
-        return Err(Trouble::Row("levels"));
+        out.miss("levels");
+        return;
     }
-    out.push_str("{\"children\":")?;
-    put_fields(alloc, out, field.children(), levels - 1)?;
-    out.push_str(",\"dictionary\":")?;
-    put_dictionary(out, field.dictionary())?;
-    out.push_str(",\"metadata\":")?;
-    put_pairs(alloc, out, field.custom_metadata())?;
-    out.push_str(",\"name\":")?;
-    put_optional_text(alloc, out, field.name())?;
-    out.push_str(",\"nullable\":")?;
-    put_value(out, field.nullable())?;
-    out.push_str(",\"type\":")?;
-    types::put_type(alloc, out, field.type_())?;
-    out.push('}')?;
-    Ok(())
+    out.put("{\"children\":");
+    put_fields(out, field.children(), levels - 1);
+    out.put(",\"dictionary\":");
+    put_dictionary(out, field.dictionary());
+    out.put(",\"metadata\":");
+    put_pairs(out, field.custom_metadata());
+    out.put(",\"name\":");
+    put_optional_text(out, field.name());
+    out.put(",\"nullable\":");
+    put_value(out, field.nullable());
+    out.put(",\"type\":");
+    types::put_type(out, field.type_());
+    out.put("}");
 }
 
 fn put_dictionary(
-    out: &mut String,
+    out: &mut Text,
     dictionary: Result<Option<DictionaryEncodingRef<'_>>, TableFault>,
-) -> Result<(), Trouble> {
-    let Some(dictionary) = told(out, dictionary)? else {
-        return Ok(());
+) {
+    let Some(dictionary) = told(out, dictionary) else {
+        return;
     };
-    out.push_str("{\"id\":")?;
-    put_value(out, dictionary.id())?;
-    out.push_str(",\"index_type\":")?;
-    if let Some(keys) = told(out, dictionary.index_type())? {
-        types::put_int(out, &keys)?;
+    out.put("{\"id\":");
+    put_value(out, dictionary.id());
+    out.put(",\"index_type\":");
+    if let Some(keys) = told(out, dictionary.index_type()) {
+        types::put_int(out, &keys);
     }
-    out.push_str(",\"is_ordered\":")?;
-    put_value(out, dictionary.is_ordered())?;
-    out.push('}')?;
-    Ok(())
+    out.put(",\"is_ordered\":");
+    put_value(out, dictionary.is_ordered());
+    out.put("}");
 }

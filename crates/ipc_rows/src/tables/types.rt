@@ -6,7 +6,7 @@
 //! `["Timestamp", "Second", "UTC"]`, `["Interval", "DayTime"]`, `["Duration", "Second"]`. The ids of a union and the zone of a
 //! timestamp may be null.
 
-use crate::json::{int32, item, items, text, truth};
+use crate::json::{item, items, number, text, truth};
 use crate::trouble::Trouble;
 use ipc_tables::types::{
     Date, Decimal, Duration, FieldType, FixedSizeBinary, FixedSizeList, FloatingPoint, Int,
@@ -62,16 +62,16 @@ fn sized_type(parts: &[Value]) -> Result<FieldType, Trouble> {
     match text(item(parts, 0, "type")?, "type")? {
         "Int" => Ok(FieldType::Int(int(parts)?)),
         "Decimal" => Ok(FieldType::Decimal(Decimal {
-            precision: number(parts, 1)?,
-            scale: number(parts, 2)?,
-            bit_width: number(parts, 3)?,
+            precision: parameter(parts, 1)?,
+            scale: parameter(parts, 2)?,
+            bit_width: parameter(parts, 3)?,
         })),
         "FixedSizeBinary" => {
-            let byte_width = number(parts, 1)?;
+            let byte_width = parameter(parts, 1)?;
             Ok(FieldType::FixedSizeBinary(FixedSizeBinary { byte_width }))
         }
         "FixedSizeList" => {
-            let list_size = number(parts, 1)?;
+            let list_size = parameter(parts, 1)?;
             Ok(FieldType::FixedSizeList(FixedSizeList { list_size }))
         }
         "Map" => {
@@ -85,13 +85,13 @@ fn sized_type(parts: &[Value]) -> Result<FieldType, Trouble> {
 /// Integers: `["Int", BITS, SIGNED]`.
 pub fn int(parts: &[Value]) -> Result<Int, Trouble> {
     Ok(Int {
-        bit_width: number(parts, 1)?,
+        bit_width: parameter(parts, 1)?,
         is_signed: truth(item(parts, 2, "signed")?, "signed")?,
     })
 }
 
-fn number(parts: &[Value], index: usize) -> Result<i32, Trouble> {
-    int32(item(parts, index, "type")?, "type")
+fn parameter(parts: &[Value], index: usize) -> Result<i32, Trouble> {
+    number(item(parts, index, "type")?, "type")
 }
 
 // A type that has a unit.
@@ -107,7 +107,7 @@ fn unit_type(parts: &[Value]) -> Result<FieldType, Trouble> {
         }
         "Time" => {
             let unit = time_unit(parts)?;
-            let bit_width = number(parts, 2)?;
+            let bit_width = parameter(parts, 2)?;
             Ok(FieldType::Time(Time { unit, bit_width }))
         }
         "Interval" => {
@@ -187,7 +187,7 @@ fn union(alloc: Global, parts: &[Value]) -> Result<FieldType, Trouble> {
 fn type_ids(alloc: Global, ids: &[Value]) -> Result<Vec<i32>, Trouble> {
     let mut out = Vec::new(alloc);
     for id in ids {
-        out.push(int32(id, "ids")?)?;
+        out.push(number(id, "ids")?)?;
     }
     Ok(out)
 }

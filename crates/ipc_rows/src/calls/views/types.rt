@@ -1,137 +1,110 @@
 //! What the views say of types.
 
 use super::parts::{put_name, put_optional_text, put_value, told};
-use crate::trouble::Trouble;
-use ipc_views::{
-    DecimalRef, IntRef, TableFault, TimeRef, TimestampRef, TypeIds, TypeRef, UnionRef,
-};
-use std::alloc::Global;
-use std::fmt::{Debug, Display, Write};
+use crate::text::Text;
+use ipc_views::{IntRef, TableFault, TypeIds, TypeRef};
+use std::fmt::{Debug, Display};
 
-/// Appends a type.
-pub fn put_type(
-    alloc: Global,
-    out: &mut String,
-    type_: Result<Option<TypeRef<'_>>, TableFault>,
-) -> Result<(), Trouble> {
-    let Some(type_) = told(out, type_)? else {
-        return Ok(());
+/// Appends a type: its name, or a list of its name and its parameters.
+pub fn put_type(out: &mut Text, type_: Result<Option<TypeRef<'_>>, TableFault>) {
+    let Some(type_) = told(out, type_) else {
+        return;
     };
     match &type_ {
         TypeRef::Int(int) => put_int(out, int),
-        TypeRef::Decimal(decimal) => put_decimal(out, decimal),
-        TypeRef::Time(time) => put_time(out, time),
-        TypeRef::Timestamp(stamp) => put_timestamp(alloc, out, stamp),
-        TypeRef::Union(union) => put_union(out, union),
-        TypeRef::FloatingPoint(float) => put_unit(out, "FloatingPoint", float.precision()),
-        TypeRef::Date(date) => put_unit(out, "Date", date.unit()),
-        TypeRef::Interval(interval) => put_unit(out, "Interval", interval.unit()),
-        TypeRef::Duration(duration) => put_unit(out, "Duration", duration.unit()),
-        TypeRef::FixedSizeBinary(bytes) => put_size(out, "FixedSizeBinary", bytes.byte_width()),
-        TypeRef::FixedSizeList(list) => put_size(out, "FixedSizeList", list.list_size()),
-        TypeRef::Map(map) => put_size(out, "Map", map.keys_sorted()),
-        bare => Ok(write!(out, "\"{}\"", bare_name(bare))?),
-    }
-}
-
-// The name of a type that has no parameters.
-fn bare_name(type_: &TypeRef<'_>) -> &'static str {
-    match type_ {
-        TypeRef::Null(_) => "Null",
-        TypeRef::Binary(_) => "Binary",
-        TypeRef::Utf8(_) => "Utf8",
-        TypeRef::Bool(_) => "Bool",
-        TypeRef::List(_) => "List",
-        TypeRef::Struct(_) => "Struct",
-        TypeRef::LargeBinary(_) => "LargeBinary",
-        TypeRef::LargeUtf8(_) => "LargeUtf8",
-        TypeRef::LargeList(_) => "LargeList",
-        _ => "another",
+        TypeRef::Decimal(decimal) => {
+            put_first(out, "[\"Decimal\",", decimal.precision());
+            put_first(out, ",", decimal.scale());
+            put_last(out, decimal.bit_width());
+        }
+        TypeRef::Time(time) => {
+            put_unit(out, "[\"Time\",", time.unit());
+            put_last(out, time.bit_width());
+        }
+        TypeRef::Timestamp(stamp) => {
+            put_unit(out, "[\"Timestamp\",", stamp.unit());
+            out.put(",");
+            put_optional_text(out, stamp.timezone());
+            out.put("]");
+        }
+        TypeRef::Union(union) => {
+            put_unit(out, "[\"Union\",", union.mode());
+            out.put(",");
+            put_ids(out, union.type_ids());
+            out.put("]");
+        }
+        TypeRef::FloatingPoint(float) => put_one_unit(
+            out,
+            "[\"FloatingPoint\",",
+            float.precision(),
+        ),
+        TypeRef::Date(date) => put_one_unit(out, "[\"Date\",", date.unit()),
+        TypeRef::Interval(interval) => put_one_unit(out, "[\"Interval\",", interval.unit()),
+        TypeRef::Duration(duration) => put_one_unit(out, "[\"Duration\",", duration.unit()),
+        TypeRef::FixedSizeBinary(bytes) => put_size(
+            out,
+            "[\"FixedSizeBinary\",",
+            bytes.byte_width(),
+        ),
+        TypeRef::FixedSizeList(list) => put_size(out, "[\"FixedSizeList\",", list.list_size()),
+        TypeRef::Map(map) => put_size(out, "[\"Map\",", map.keys_sorted()),
+        TypeRef::Null(_) => out.put("\"Null\""),
+        TypeRef::Binary(_) => out.put("\"Binary\""),
+        TypeRef::Utf8(_) => out.put("\"Utf8\""),
+        TypeRef::Bool(_) => out.put("\"Bool\""),
+        TypeRef::List(_) => out.put("\"List\""),
+        TypeRef::Struct(_) => out.put("\"Struct\""),
+        TypeRef::LargeBinary(_) => out.put("\"LargeBinary\""),
+        TypeRef::LargeUtf8(_) => out.put("\"LargeUtf8\""),
+        TypeRef::LargeList(_) => out.put("\"LargeList\""),
     }
 }
 
 /// Appends a type of integers.
-pub fn put_int(out: &mut String, int: &IntRef<'_>) -> Result<(), Trouble> {
-    out.push_str("[\"Int\",")?;
-    put_value(out, int.bit_width())?;
-    out.push(',')?;
-    put_value(out, int.is_signed())?;
-    out.push(']')?;
-    Ok(())
+pub fn put_int(out: &mut Text, int: &IntRef<'_>) {
+    put_first(out, "[\"Int\",", int.bit_width());
+    put_last(out, int.is_signed());
 }
 
-fn put_decimal(out: &mut String, decimal: &DecimalRef<'_>) -> Result<(), Trouble> {
-    out.push_str("[\"Decimal\",")?;
-    put_value(out, decimal.precision())?;
-    out.push(',')?;
-    put_value(out, decimal.scale())?;
-    out.push(',')?;
-    put_value(out, decimal.bit_width())?;
-    out.push(']')?;
-    Ok(())
+// A parameter behind what stands before it.
+fn put_first<T: Display + Drop>(out: &mut Text, before: &str, answer: Result<T, TableFault>) {
+    out.put(before);
+    put_value(out, answer);
 }
 
-fn put_time(out: &mut String, time: &TimeRef<'_>) -> Result<(), Trouble> {
-    out.push_str("[\"Time\",")?;
-    put_name(out, time.unit())?;
-    out.push(',')?;
-    put_value(out, time.bit_width())?;
-    out.push(']')?;
-    Ok(())
+// The last parameter of several.
+fn put_last<T: Display + Drop>(out: &mut Text, answer: Result<T, TableFault>) {
+    out.put(",");
+    put_value(out, answer);
+    out.put("]");
 }
 
-fn put_timestamp(alloc: Global, out: &mut String, stamp: &TimestampRef<'_>) -> Result<(), Trouble> {
-    out.push_str("[\"Timestamp\",")?;
-    put_name(out, stamp.unit())?;
-    out.push(',')?;
-    put_optional_text(alloc, out, stamp.timezone())?;
-    out.push(']')?;
-    Ok(())
+// A unit or a mode behind what stands before it.
+fn put_unit<T: Debug + Drop>(out: &mut Text, before: &str, answer: Result<T, TableFault>) {
+    out.put(before);
+    put_name(out, answer);
 }
 
-fn put_union(out: &mut String, union: &UnionRef<'_>) -> Result<(), Trouble> {
-    out.push_str("[\"Union\",")?;
-    put_name(out, union.mode())?;
-    out.push(',')?;
-    if let Some(ids) = told(out, union.type_ids())? {
-        put_ids(out, &ids)?;
-    }
-    out.push(']')?;
-    Ok(())
+// A type that has a unit alone.
+fn put_one_unit<T: Debug + Drop>(out: &mut Text, before: &str, answer: Result<T, TableFault>) {
+    put_unit(out, before, answer);
+    out.put("]");
 }
 
-fn put_ids(out: &mut String, ids: &TypeIds<'_>) -> Result<(), Trouble> {
-    out.push('[')?;
+// A type that has a size alone, or says whether its keys are sorted.
+fn put_size<T: Display + Drop>(out: &mut Text, before: &str, answer: Result<T, TableFault>) {
+    put_first(out, before, answer);
+    out.put("]");
+}
+
+fn put_ids(out: &mut Text, ids: Result<Option<TypeIds<'_>>, TableFault>) {
+    let Some(ids) = told(out, ids) else {
+        return;
+    };
+    out.put("[");
     for index in 0..ids.len() {
-        if index != 0 {
-            out.push(',')?;
-        }
-        write!(out, "{}", ids.get(index))?;
+        out.comma();
+        out.show(&ids.get(index));
     }
-    out.push(']')?;
-    Ok(())
-}
-
-// A type and its unit.
-fn put_unit<T: Debug + Drop>(
-    out: &mut String,
-    name: &str,
-    unit: Result<T, TableFault>,
-) -> Result<(), Trouble> {
-    write!(out, "[\"{name}\",")?;
-    put_name(out, unit)?;
-    out.push(']')?;
-    Ok(())
-}
-
-// A type and its size, or whether its keys are sorted.
-fn put_size<T: Display + Drop>(
-    out: &mut String,
-    name: &str,
-    size: Result<T, TableFault>,
-) -> Result<(), Trouble> {
-    write!(out, "[\"{name}\",")?;
-    put_value(out, size)?;
-    out.push(']')?;
-    Ok(())
+    out.put("]");
 }

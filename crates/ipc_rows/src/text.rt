@@ -1,0 +1,127 @@
+//! Text that is built piece by piece.
+
+use crate::trouble::Trouble;
+use ipc_devices::fault::Fault;
+use serde_json::Value as Json;
+use std::alloc::Global;
+use std::fmt::{Debug, Display, Write};
+
+/// Text that is built piece by piece. Nothing but `finish` tells that a piece is missing, so that whoever builds a
+/// text has one way through.
+#[derive(Drop)]
+pub struct Text {
+    alloc: Global,
+    held: String,
+    // why a piece is missing
+    missing: Option<Missing>,
+}
+
+#[derive(Clone, Copy)]
+enum Missing {
+    Memory,
+    // what a row has no notation for
+    Part(&'static str),
+}
+
+impl Text {
+    pub fn new(alloc: Global) -> Text {
+        Text {
+            alloc,
+            held: String::new(alloc),
+            missing: None,
+        }
+    }
+
+    /// The text, where no piece is missing.
+    pub fn finish(self) -> Result<String, Trouble> {
+        match self.missing {
+            None => Ok(self.held),
+            Some(Missing::Memory) => Err(Trouble::Refused(Fault::Memory)),
+            Some(Missing::Part(part)) => Err(Trouble::Row(part)),
+        }
+    }
+
+    /// Appends a piece as it stands.
+    pub fn put(&mut self, piece: &str) {
+        if self.held.push_str(piece).is_err() {
+            self.missing = Some(Missing::Memory);
+        }
+    }
+
+    /// Appends a number, a truth, or whatever displays itself.
+    pub fn show<T: Display>(&mut self, value: &T) {
+        if write!(self.held, "{value}").is_err() {
+            self.missing = Some(Missing::Memory);
+        }
+    }
+
+    /// Appends a name in quotes, as Rust shows it.
+    pub fn name<T: Debug>(&mut self, value: &T) {
+        if write!(self.held, "\"{value:?}\"").is_err() {
+            self.missing = Some(Missing::Memory);
+        }
+    }
+
+    /// Appends a comma, but for the first item of a list.
+    pub fn comma(&mut self) {
+        if !self.held.as_str().ends_with('[') {
+            self.put(",");
+        }
+    }
+
+    /// Appends two numbers as a list.
+    pub fn pair<T: Display, U: Display>(&mut self, first: &T, second: &U) {
+        self.put("[");
+        self.show(first);
+        self.put(",");
+        self.show(second);
+        self.put("]");
+    }
+
+    /// Appends bytes as hex digits in quotes.
+    pub fn hex(&mut self, bytes: &[u8]) {
+        match hex::encode(self.alloc, bytes) {
+            Ok(digits) => self.in_quotes(digits.as_str()),
+            Err(_) => self.missing = Some(Missing::Memory),
+        }
+    }
+
+    fn in_quotes(&mut self, piece: &str) {
+        self.put("\"");
+        self.put(piece);
+        self.put("\"");
+    }
+
+    /// Appends a text in quotes, as JSON has it.
+    pub fn text(&mut self, text: &[u8]) {
+        match str::from_utf8(text) {
+            Ok(text) => self.quoted(text),
+            Err(_) => self.miss("a text that isn't UTF-8"),
+        }
+    }
+
+    /// The same of a text that is known to be one.
+    pub fn quoted(&mut self, text: &str) {
+        match json_of(self.alloc, text) {
+            Ok(quoted) => self.put(quoted.as_str()),
+            Err(_) => self.missing = Some(Missing::Memory),
+        }
+    }
+
+    /// Appends what Rust shows of a value, as a text in quotes.
+    pub fn shown<T: Debug>(&mut self, value: &T) {
+        match format!(in self.alloc; "{value:?}") {
+            Ok(shown) => self.quoted(shown.as_str()),
+            Err(_) => self.missing = Some(Missing::Memory),
+        }
+    }
+
+    /// Tells that a part can't be shown.
+    pub fn miss(&mut self, part: &'static str) {
+        self.missing = Some(Missing::Part(part));
+    }
+}
+
+fn json_of(alloc: Global, text: &str) -> Result<String, Trouble> {
+    Ok(Json::try_from_str(alloc, text)?.to_string(alloc)?)
+}
