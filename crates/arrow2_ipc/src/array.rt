@@ -1,7 +1,8 @@
-//! arrow2's `array`: the arrays of each kind and of any kind, and which of them are the same.
+//! arrow2's `array`: the arrays of each kind and of any kind, which of them are the same, and what stands in their slots.
 pub use lower_arrays::array::{
     AnyArray, AnyPrimitive, BinaryArray, BooleanArray, DictionaryArray, DictionaryKey,
     DictionaryKeys, FixedSizeBinaryArray, FixedSizeListArray, ListArray, ListOffsets, MapArray,
     NullArray, PrimitiveArray, StructArray, UnionArray, Utf8Array, is_dictionary,
 };
 pub use lower_equal::equal;
+pub use lower_equal::value::{Nesting, Scalar, Value, value_at};

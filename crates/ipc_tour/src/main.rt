@@ -5,8 +5,8 @@ use arrow2_ipc::array::{AnyArray, AnyPrimitive, PrimitiveArray};
 use arrow2_ipc::buffer::Buffer;
 use arrow2_ipc::chunk::Chunk;
 use arrow2_ipc::datatypes::{DataType, Field, Metadata, Schema};
-use arrow2_ipc::io::ipc::fault::{Fault, MemFile};
-use arrow2_ipc::io::ipc::read::{StreamReader, StreamState, read_stream_metadata};
+use arrow2_ipc::io::ipc::fault::Fault;
+use arrow2_ipc::io::ipc::read::read_stream;
 use arrow2_ipc::io::ipc::write::{StreamWriter, WriteOptions};
 use std::alloc::Global;
 
@@ -44,18 +44,15 @@ fn write(alloc: Global) -> Result<Vec<u8>, Fault> {
 fn main(rt: HostRuntime) -> Result<(), Fault> {
     let alloc = rt.alloc();
     let bytes = write(alloc)?;
-    let mut input = MemFile::new(bytes.as_slice());
-    let metadata = read_stream_metadata(alloc, &mut input)?;
-    for field in &metadata.schema.fields {
+    let stream = read_stream(alloc, &bytes)?;
+    for field in &stream.metadata.schema.fields {
         println!(rt; "{}", field.name)?;
     }
-    for state in StreamReader::new(alloc, input, metadata, None)?.take(10) {
-        match state? {
-            StreamState::Some(chunk) => {
-                println!(rt; "{} rows of {} columns", chunk.len(), chunk.arrays().len())?;
-            }
-            StreamState::Waiting => println!(rt; "the stream has no end mark yet")?,
-        }
+    for chunk in &stream.chunks {
+        println!(rt; "{} rows of {} columns", chunk.len(), chunk.arrays().len())?;
+    }
+    if !stream.is_finished {
+        println!(rt; "the stream has no end mark yet")?;
     }
     Ok(())
 }

@@ -1,10 +1,17 @@
-//! The tables of Arrow's metadata: views of bytes, and values that are built into bytes. The tables of
-//! types, and most enumerations, aren't among them, so that a `Field` can't be built from outside.
+//! The tables of Arrow's metadata: views of bytes (`..Ref`), and values that are built into bytes.
 pub use ipc_tables::file::Footer;
 pub use ipc_tables::message::{DictionaryBatch, Message, MessageHeader, RecordBatch};
 pub use ipc_tables::schema::{DictionaryEncoding, Field, KeyValue, Schema};
+pub use ipc_tables::types::{
+    Date, Decimal, Duration, FieldType, FixedSizeBinary, FixedSizeList, FloatingPoint, Int,
+    Interval, Map, Time, Timestamp, Union,
+};
 pub use ipc_views::{
-    Block, Blocks, Buffer, Buffers, DictionaryBatchRef, DictionaryEncodingRef, Endianness,
-    FieldNode, FieldRef, FooterRef, KeyValueRef, MessageHeaderRef, MessageRef, MetadataVersion,
-    Nodes, RecordBatchRef, SchemaRef, TableRef, Tables, TypeRef,
+    BinaryRef, Block, Blocks, BodyCompressionRef, BoolRef, Buffer, Buffers, DateRef, DateUnit,
+    DecimalRef, DictionaryBatchRef, DictionaryEncodingRef, DurationRef, Endianness, FieldNode,
+    FieldRef, FieldTable, FixedSizeBinaryRef, FixedSizeListRef, FloatingPointRef, FooterRef,
+    IntRef, IntervalRef, IntervalUnit, KeyValueRef, KeyValueTable, LargeBinaryRef, LargeListRef,
+    LargeUtf8Ref, ListRef, MapRef, MessageHeaderRef, MessageRef, MetadataVersion, Nodes, NullRef,
+    Precision, RecordBatchRef, SchemaRef, SparseTensorRef, StructRef, TableRef, Tables, TensorRef,
+    TimeRef, TimeUnit, TimestampRef, TypeIds, TypeRef, UnionMode, UnionRef, Utf8Ref,
 };

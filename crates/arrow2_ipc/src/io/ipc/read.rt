@@ -1,5 +1,7 @@
 //! Reading.
+pub use ipc_devices::OutOfSpecKind;
 pub use ipc_readers::read::stream::{
     StreamMetadata, StreamReader, StreamState, read_stream_metadata,
 };
+pub use ipc_round_trip::read::{WholeStream, read_stream};
 pub use ipc_schema::read::schema::deserialize_schema;
