@@ -1,0 +1,154 @@
+-- Sends that follow one another.
+use Rattle.std.proofs.Common.{◌≡◌, ℕ, ◌+◌, ◌<◌, ◌≤◌, ◌⊎◌, inl, inr, Bool, IsTrue, List, [], ◌∷◌, ◌++◌, length, take, drop, replicate, ◌-◌, refl, sym, ap, ◌∙◌, subst, append_assoc, append-nil, length-append, arith, add-zero, Result, Ok, Err}
+use Rattle.std.specs.Prelude.{map}
+use Rattle.std.specs.List.{flat_map}
+use Rattle.std.proofs.lemmas.List.{drop-drop, length-take-le, take_all, take-append-le, take-append-drop, replicate-append-replicate}
+use Rattle.std.proofs.Math.Seq.{take-append-add}
+use Rattle.ipc_devices.specs.Device.{Memory, WritesOver, Rises, before, after}
+use Rattle.ipc_devices.specs.Faults.{IsIo}
+use Rattle.ipc_devices.specs.declared.fault.Fault.{Fault}
+use Rattle.ipc_plan.specs.Sending.{WritesSome, DeviceSeen, Sends}
+
+writes_none : (m : Memory) → WritesOver m m []
+writes_none m = record {
+  added = sym (append-nil (before m));
+  rest = refl;
+  place = sym (add-zero m.place);
+  reaches = λ h. h;
+}
+
+writes_both : (m m' m'' : Memory) (a b : List ℕ) → WritesOver m m' a → WritesOver m' m'' b → WritesOver m m'' (a ++ b)
+writes_both m m' m'' a b f g = record {
+  added = g.added ∙ ap (λ l. l ++ b) f.added ∙ append_assoc (before m) a b;
+  rest = g.rest ∙ ap (drop (length b)) f.rest ∙ drop-drop (length b) (length a) (after m) ∙ ap (λ n. drop n (after m)) (sym (length-append a b));
+  place = g.place ∙ ap (λ n. n + length b) f.place ∙ omega (arith, length-append a b);
+  reaches = λ h. g.reaches (f.reaches h);
+}
+
+some_front : (m m' : Memory) (a b : List ℕ) → WritesSome m m' a → WritesSome m m' (a ++ b)
+some_front m m' a b f = record {
+  count = f.count;
+  most = omega (arith, length-append a b, f.most);
+  over = rw (take-append-le f.count a b f.most) f.over;
+}
+
+some_after : (m m' m'' : Memory) (a b : List ℕ) → WritesOver m m' a → WritesSome m' m'' b → WritesSome m m'' (a ++ b)
+some_after m m' m'' a b f g = record {
+  count = length a + g.count;
+  most = omega (arith, length-append a b, g.most);
+  over = rw (take-append-add a b g.count) (writes_both m m' m'' a (take g.count b) f g.over);
+}
+
+-- bytes that were sent
+abbrev pub Sent : (known grows : Bool) → DeviceSeen → DeviceSeen → List ℕ → Type 0
+Sent known grows d d' bytes = Sends {X = Unit {0}} known grows d d' (Ok tt) bytes
+
+pub sent_none : (known grows : Bool) (d : DeviceSeen) → Sent known grows d d []
+sent_none known grows d = record {
+  monotone = omega arith;
+  failed = tt;
+  only = tt;
+  memory = λ k. writes_none d.memory;
+  part = λ k. record { count = 0; most = omega arith; over = writes_none d.memory };
+  room = omega arith;
+}
+
+-- what is sent after other bytes
+pub sends_then : {X : Type 0} (known grows : Bool) (d d' d'' : DeviceSeen) (r : Result X Fault) (xs ys : List ℕ) → Sent known grows d d' xs → Sends known grows d' d'' r ys → Sends known grows d d'' r (xs ++ ys)
+sends_then known grows d d' d'' (Ok u) xs ys f g = record {
+  monotone = omega (arith, f.monotone, g.monotone);
+  failed = tt;
+  only = tt;
+  memory = λ k. writes_both d.memory d'.memory d''.memory xs ys (f.memory k) (g.memory k);
+  part = λ k. some_after d.memory d'.memory d''.memory xs ys (f.memory k) (g.part k);
+  room = omega (arith, f.room, g.room, length-append xs ys);
+}
+sends_then known grows d d' d'' (Err e) xs ys f g = record {
+  monotone = omega (arith, f.monotone, g.monotone);
+  failed = elim g.failed [
+    | inl rises ↦ inl (let a : d'.failures ≤ d''.failures = g.monotone in omega (arith, rises, f.monotone))
+    | inr full ↦ inr (full.0, omega (arith, full.1, f.room, length-append xs ys))
+  ];
+  only = g.only;
+  memory = λ k. tt;
+  part = λ k. some_after d.memory d'.memory d''.memory xs ys (f.memory k) (g.part k);
+  room = tt;
+}
+
+-- what fails on the way, before other bytes
+pub sends_stop : {X Y : Type 0} (known grows : Bool) (d d' : DeviceSeen) (e : Fault) (xs ys : List ℕ) → Sends {X = X} known grows d d' (Err e) xs → Sends {X = Y} known grows d d' (Err e) (xs ++ ys)
+sends_stop known grows d d' e xs ys f = record {
+  monotone = f.monotone;
+  failed = elim f.failed [ inl rises ↦ inl rises | inr full ↦ inr (full.0, omega (arith, full.1, length-append xs ys)) ];
+  only = f.only;
+  memory = λ k. tt;
+  part = λ k. some_front d.memory d'.memory xs ys (f.part k);
+  room = tt;
+}
+
+-- a loop that sends: what stands before `left` was sent
+pub record SentBefore (known grows : Bool) (d d' : DeviceSeen) (left bytes : List ℕ) : Type 0 where
+  pub front : List ℕ
+  pub parts : front ++ left ≡ bytes
+  pub sent : Sent known grows d d' front
+
+pub before_none : (known grows : Bool) (d : DeviceSeen) (left bytes : List ℕ) → left ≡ bytes → SentBefore known grows d d left bytes
+before_none known grows d left bytes e = record { front = []; parts = e; sent = sent_none known grows d }
+
+pub before_more : {X : Type 0} (known grows : Bool) (d d' d'' : DeviceSeen) (u : X) (left piece left' bytes : List ℕ) → SentBefore known grows d d' left bytes → left ≡ piece ++ left'
+    → Sends known grows d' d'' (Ok u) piece → SentBefore known grows d d'' left' bytes
+before_more known grows d d' d'' u left piece left' bytes b e s =
+    let all = sends_then known grows d d' d'' (Ok u) b.front piece b.sent s in
+    record {
+      front = b.front ++ piece;
+      parts = append_assoc b.front piece left' ∙ ap (λ xs. b.front ++ xs) (sym e) ∙ b.parts;
+      sent = record { monotone = all.monotone; failed = tt; only = tt; memory = all.memory; part = all.part; room = all.room };
+    }
+
+pub before_stop : {X Y : Type 0} (known grows : Bool) (d d' d'' : DeviceSeen) (e : Fault) (left piece left' bytes : List ℕ) → SentBefore known grows d d' left bytes → left ≡ piece ++ left'
+    → Sends {X = X} known grows d' d'' (Err e) piece → Sends {X = Y} known grows d d'' (Err e) bytes
+before_stop {X = X} {Y = Y} known grows d d' d'' e left piece left' bytes b parts s =
+    subst (λ (xs : List ℕ). Sends {X = Y} known grows d d'' (Err e) xs) (ap (λ xs. b.front ++ xs) (sym parts) ∙ b.parts)
+    (sends_then {X = Y} known grows d d' d'' (Err e) b.front (piece ++ left') b.sent (sends_stop {X = X} {Y = Y} known grows d' d'' e piece left' s))
+
+pub before_all : (known grows : Bool) (d d' : DeviceSeen) (left bytes : List ℕ) → SentBefore known grows d d' left bytes → left ≡ [] → Sent known grows d d' bytes
+before_all known grows d d' left bytes b e =
+    subst (λ (xs : List ℕ). Sent known grows d d' xs) (sym (append-nil b.front) ∙ ap (λ xs. b.front ++ xs) (sym e) ∙ b.parts) b.sent
+
+-- one write of a device
+pub one_write : (known grows : Bool) (d d' : DeviceSeen) (n : ℕ) (xs : List ℕ) → n ≤ length xs → d.failures ≤ d'.failures → (IsTrue known → WritesOver d.memory d'.memory (take n xs)) → d.room ≤ d'.room + n
+    → Sent known grows d d' (take n xs)
+one_write known grows d d' n xs h rises over room =
+    let count : length (take n xs) ≡ n = length-take-le n xs h in
+    record {
+      monotone = rises;
+      failed = tt;
+      only = tt;
+      memory = over;
+      part = λ k. record { count = n; most = omega (arith, count); over = subst (λ (ys : List ℕ). WritesOver d.memory d'.memory ys) (sym (take_all n (take n xs) (omega (arith, count)))) (over k) };
+      room = omega (arith, room, count);
+    }
+
+pub no_write : {X : Type 0} (known grows : Bool) (d d' : DeviceSeen) (e : Fault) (xs : List ℕ) → IsIo e → d.failures ≤ d'.failures → Rises d.failures d'.failures ⊎ (IsTrue grows × (d.room < length xs))
+    → (IsTrue known → d'.memory ≡ d.memory) → Sends {X = X} known grows d d' (Err e) xs
+no_write known grows d d' e xs io rises failed same = record {
+  monotone = rises;
+  failed = failed;
+  only = io;
+  memory = λ k. tt;
+  part = λ k. subst (λ (m : Memory). WritesSome d.memory m xs) (sym (same k)) (record { count = 0; most = omega arith; over = writes_none d.memory });
+  room = tt;
+}
+
+-- n bytes of those that are left
+pub split_drop : (at n : ℕ) (bytes part : List ℕ) → part ≡ drop at bytes → drop at bytes ≡ take n part ++ drop (at + n) bytes
+split_drop at n bytes part e = subst (λ (xs : List ℕ). drop at bytes ≡ take n xs ++ drop (at + n) bytes) (sym e) (sym (take-append-drop n (drop at bytes)) ∙ ap (λ xs. take n (drop at bytes) ++ xs) (drop-drop n at bytes))
+
+-- n zeros of those that are left
+pub zeros_split : (left n : ℕ) → n ≤ left → replicate {A = ℕ} left 0 ≡ replicate {A = ℕ} n 0 ++ replicate {A = ℕ} (left - n) 0
+zeros_split left n h = let zero_byte : ℕ = 0 in let e : left ≡ n + (left - n) = omega (arith, h) in ap (λ k. replicate k zero_byte) e ∙ sym (replicate-append-replicate n (left - n) zero_byte)
+
+-- bytes of numbers that a function gives
+pub spelt_map : {X Y : Type 0} (f : Y → List ℕ) (g : X → Y) (xs : List X) → flat_map f (map g xs) ≡ flat_map (λ x. f (g x)) xs
+spelt_map f g [] = refl
+spelt_map f g (x ∷ xs) = ap (λ ys. f (g x) ++ ys) (spelt_map f g xs)

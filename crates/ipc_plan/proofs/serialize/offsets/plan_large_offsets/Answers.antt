@@ -1,0 +1,32 @@
+use Rattle.std.proofs.Common.{arith, ◌≡◌, ◌+◌, ◌-◌, ℤ, List, pos, take, drop, length, ap, ◌∙◌}
+use Rattle.std.proofs.lemmas.List.{length-map}
+use Rattle.lower_flat.specs.Validities.{part}
+use Rattle.lower_flat.proofs.Cuts.{length-part}
+use Rattle.ipc_plan.proofs.Growing.{on_ok}
+use Rattle.ipc_plan.proofs.Offsets.{offsets_64, rising_part, stand_part}
+use Rattle.ipc_plan.proofs.serialize.offsets.plan_large_offsets.Goals as goal
+
+pub push_buffer-requires-clause-len : goal.push_buffer-requires-clause-len
+push_buffer-requires-clause-len c =
+    let o = c.args.offset in
+    let n = c.args.len + 1 in
+    let os = c.args.offsets.now in
+    let wide : o + c.args.len + 1 - o ≡ n = omega arith in
+    let is = c.len.ensures.offsets in
+    let count : length (part o n os) ≡ n = length-part o n os (omega arith) in
+    let same = stand_part c.as_slice.result.now os o n (o + c.args.len + 1 - o) c.as_slice.ensures.integers wide in
+    let are = offsets_64 c.args.plan.now.order (take (o + c.args.len + 1 - o) (drop o c.as_slice.result.now)) (part o n os) same (rising_part os o n is.rising (omega arith)) (omega (arith, count)) c.read_ranges.ensures in
+    let long : length (take (o + c.args.len + 1 - o) (drop o c.as_slice.result.now)) ≡ length (part o n os) = ap (λ (zs : List ℤ). length zs) same ∙ length-map (part o n os) pos in
+    omega (arith, are.count, long)
+
+pub returns-clause-grows : goal.returns-clause-grows
+returns-clause-grows c =
+    let o = c.args.offset in
+    let n = c.args.len + 1 in
+    let os = c.args.offsets.now in
+    let wide : o + c.args.len + 1 - o ≡ n = omega arith in
+    let is = c.len.ensures.offsets in
+    let count : length (part o n os) ≡ n = length-part o n os (omega arith) in
+    let same = stand_part c.as_slice.result.now os o n (o + c.args.len + 1 - o) c.as_slice.ensures.integers wide in
+    let are = offsets_64 c.args.plan.now.order (take (o + c.args.len + 1 - o) (drop o c.as_slice.result.now)) (part o n os) same (rising_part os o n is.rising (omega arith)) (omega (arith, count)) c.read_ranges.ensures in
+    on_ok c.push_buffer.result (λ g. record { bytes = _; are = are; grows = g }) c.push_buffer.ensures.grows

@@ -1,0 +1,13 @@
+use Rattle.std.proofs.Common.{map, refl}
+use Rattle.lower_arrays.specs.AnyLayouts.{layout_of}
+use Rattle.lower_arrays.proofs.Children.{arrays_are}
+use Rattle.ipc_plan.specs.declared.plan.Plan.{Plan}
+use Rattle.ipc_plan.proofs.Bodies.{plans_columns}
+use Rattle.ipc_plan.proofs.serialize.plan_columns.Goals as goal
+
+pub returns-clause-plans : goal.returns-clause-plans
+returns-clause-plans c =
+    let p : Plan = record { order = c.args.order; nodes = c.new.result; buffers = c.new-2.result; pieces = c.new-3.result; end = 0 } in
+    let xs = c.args.columns.now in
+    let done = c.in_ok-plan_whole.ensures in
+    plans_columns p c.plan_whole.new.plan (map layout_of xs) c.new.ensures.items c.new-2.ensures.items c.new-3.ensures.items refl (arrays_are xs done.arrays) done.grows

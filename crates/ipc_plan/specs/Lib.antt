@@ -1,0 +1,9 @@
+pub mod Levels
+pub mod Meaning
+pub mod Pieces
+pub mod Sending
+pub mod Plans
+pub mod OffsetViews
+pub mod Bodies
+pub mod Taking
+pub mod Batches

@@ -1,0 +1,74 @@
+//! The plan of a message: its nodes, its buffers, and the pieces of its body (Arrow columnar format,
+//! "RecordBatch message").
+ghost use Rattle.std.specs.Prelude.{◌≡◌, ◌^◌, ◌<◌, ◌≤◌, pos, [], ◌∷◌, length, OnOk};
+ghost use Rattle.ipc_plan.specs.Pieces.{piece_bytes};
+ghost use Rattle.ipc_plan.specs.Taking.{TakesBuffers, TakesLevel};
+ghost use Rattle.ipc_plan.specs.Plans.{Grows};
+
+use crate::pieces::Piece;
+use ipc_devices::{ArgFault, Fault};
+use ipc_views::{Buffer as Entry, FieldNode};
+use lower::types::Endianness;
+
+/// The nodes and the buffers of a message, and its body in pieces, which borrow the arrays.
+#[derive(Drop)]
+pub struct Plan<'a> {
+    /// The byte order of the numbers.
+    pub order: Endianness,
+    pub nodes: Vec<FieldNode>,
+    pub buffers: Vec<Entry>,
+    /// The body, at most two pieces a buffer.
+    pub pieces: Vec<Piece<'a>>,
+    /// Where the next buffer begins.
+    pub end: u64,
+}
+
+// Adds the node of `len` slots, of which `nulls` are null.
+//
+// Faults: `Argument(TooLong)` for more than `2^63 - 1` slots; `Memory`.
+pub(crate) fn push_node(plan: &mut Plan<'_>, len: usize, nulls: usize) -> Result<(), Fault>
+    requires small { plan.old.end < 2 ^ 63 }
+    requires few { nulls ≤ len }
+    ensures grows { OnOk result (Grows plan.old plan.new (record { length = pos len; null_count = pos nulls } ∷ []) []) }
+    ensures takes { TakesLevel result len [] plan.old.end plan.new.end }
+{
+    let Ok(length) = i64::try_from(len) else {
+        return Err(Fault::Argument(ArgFault::TooLong));
+    };
+    let Ok(null_count) = i64::try_from(nulls) else {
+        return Err(Fault::Argument(ArgFault::TooLong));
+    };
+    plan.nodes.push(FieldNode { length, null_count })?;
+    Ok(())
+}
+
+// Adds a buffer of `len` bytes: its entry, its piece, and zeros up to a multiple of 64 bytes.
+//
+// Faults: `Argument(TooLarge)` where it would end past `2^63 - 1`; `Memory`.
+pub(crate) fn push_buffer<'a>(
+    plan: &mut Plan<'a>,
+    piece: Piece<'a>,
+    len: usize,
+) -> Result<(), Fault>
+    requires small { plan.old.end < 2 ^ 63 }
+    requires len { len ≡ length (piece_bytes plan.old.order piece) }
+    ensures grows { OnOk result (Grows plan.old plan.new [] (piece_bytes plan.old.order piece.entry ∷ [])) }
+    ensures takes { TakesBuffers result (len ∷ []) plan.old.end plan.new.end }
+{
+    let Ok(length) = i64::try_from(len) else {
+        return Err(Fault::Argument(ArgFault::TooLarge));
+    };
+    let padded = len.next_multiple_of(64);
+    let end = plan.end + padded as u64;
+    if end >= 1 << 63 {
+        return Err(Fault::Argument(ArgFault::TooLarge));
+    }
+    plan.buffers.push(Entry {
+        offset: plan.end.cast_signed(),
+        length,
+    })?;
+    plan.pieces.push(piece)?;
+    plan.pieces.push(Piece::Zeros(padded - len))?;
+    plan.end = end;
+    Ok(())
+}

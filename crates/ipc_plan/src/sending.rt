@@ -1,0 +1,298 @@
+//! Sends bytes and the pieces of a body to a device.
+ghost use Rattle.std.specs.Prelude.{◌≡◌, ◌+◌, ◌*◌, ◌/◌, ◌%◌, ◌^◌, ◌<◌, ◌≤◌, length, map, min, replicate, pos, slice_index, slice_index_or};
+ghost use Rattle.std.specs.Int.{w32, w64, byte_len, cast_unsigned};
+ghost use Rattle.lower_types.specs.Numbers.{unsigned_bytes};
+ghost use Rattle.std.specs.List.{flat_map, range_with_len};
+ghost use Rattle.ipc_plan.specs.Sending.{Sends, seen_by};
+ghost use Rattle.ipc_model.specs.Entries.{bytes_for};
+ghost use Rattle.ipc_plan.specs.Pieces.{less, number_bytes, offset_bytes, packed, packed_byte, piece_bytes, pieces_bytes};
+
+use crate::pieces::{NumberSlice, Piece};
+use ipc_devices::{Fault, Writes};
+use lower::types::{Endianness, NativeType};
+
+// As many zeros as a padding can need.
+const ZEROS: [u8; 64] = [0; 64];
+
+/// Sends all of these bytes.
+///
+/// `Io` comes where the device failed, or where it is memory whose growth was refused; what went out by then
+/// are the first bytes.
+pub fn send_bytes<W: Writes>(writer: &mut W, bytes: &[u8]) -> Result<(), Fault>
+    ensures { Sends W.known W.grows (seen_by W.failures W.room W.memory writer.old)
+        (seen_by W.failures W.room W.memory writer.new) result bytes.now }
+{
+    let mut at = 0;
+    while at < bytes.len() {
+        at += writer.write(&bytes[at..])?;
+    }
+    Ok(())
+}
+
+/// `count` bytes 0, at most 64.
+pub fn zeros(count: usize) -> &'static [u8]
+    requires { count ≤ 64 }
+    ensures { result.now ≡ replicate count 0 }
+{
+    &ZEROS[..count]
+}
+
+// Sends so many bytes 0.
+fn send_zeros<W: Writes>(writer: &mut W, count: usize) -> Result<(), Fault>
+    ensures { Sends W.known W.grows (seen_by W.failures W.room W.memory writer.old)
+        (seen_by W.failures W.room W.memory writer.new) result (replicate count 0) }
+{
+    let mut left = count;
+    while left > 0 {
+        let part = left.min(64);
+        send_bytes(writer, zeros(part))?;
+        left -= part;
+    }
+    Ok(())
+}
+
+// Sends numbers through a block of 4,096 bytes.
+fn send_numbers<T: NativeType, W: Writes>(
+    writer: &mut W,
+    values: &[T],
+    order: Endianness,
+    block: &mut [u8],
+) -> Result<(), Fault>
+    requires { length block.old ≡ 4096 }
+    ensures sends { Sends W.known W.grows (seen_by W.failures W.room W.memory writer.old)
+        (seen_by W.failures W.room W.memory writer.new) result (flat_map (T.spelt order) values.now) }
+    ensures block { length block.new ≡ 4096 }
+{
+    let width = T::width();
+    let most = 4096 / width;
+    'pieces: for piece in values.chunks(most) {
+        let bytes = &mut block[..width * piece.len()];
+        T::put(piece, bytes, order);
+        send_bytes(writer, bytes)?;
+    }
+    Ok(())
+}
+
+// Each of these offsets less the first one, in `to`.
+fn lessen_small(offsets: &[i32], first: u32, to: &mut [u32])
+    requires { length to.old ≡ length offsets.now }
+    ensures { to.new ≡ map (less w32 (2 ^ 32) first) offsets.now }
+{
+    'each: for i in 0..offsets.len() {
+        to[i] = offsets[i].cast_unsigned().wrapping_sub(first);
+    }
+}
+
+// Sends offsets, each less the first one, through a block of 4,096 bytes.
+fn send_small_offsets<W: Writes>(
+    writer: &mut W,
+    offsets: &[i32],
+    first: u32,
+    order: Endianness,
+    block: &mut [u8],
+) -> Result<(), Fault>
+    requires { length block.old ≡ 4096 }
+    ensures sends { Sends W.known W.grows (seen_by W.failures W.room W.memory writer.old)
+        (seen_by W.failures W.room W.memory writer.new) result (flat_map (λ z. unsigned_bytes (byte_len w32) order (less w32 (2 ^ 32) first z)) offsets.now) }
+    ensures block { length block.new ≡ 4096 }
+{
+    let mut lessened = [0u32; 1024];
+    'pieces: for piece in offsets.chunks(1024) {
+        let values = &mut lessened[..piece.len()];
+        lessen_small(piece, first, values);
+        let bytes = &mut block[..4 * piece.len()];
+        u32::put(values, bytes, order);
+        send_bytes(writer, bytes)?;
+    }
+    Ok(())
+}
+
+// Each of these offsets less the first one, in `to`.
+fn lessen_large(offsets: &[i64], first: u64, to: &mut [u64])
+    requires { length to.old ≡ length offsets.now }
+    ensures { to.new ≡ map (less w64 (2 ^ 64) first) offsets.now }
+{
+    'each: for i in 0..offsets.len() {
+        to[i] = offsets[i].cast_unsigned().wrapping_sub(first);
+    }
+}
+
+// Sends offsets, each less the first one, through a block of 4,096 bytes.
+fn send_large_offsets<W: Writes>(
+    writer: &mut W,
+    offsets: &[i64],
+    first: u64,
+    order: Endianness,
+    block: &mut [u8],
+) -> Result<(), Fault>
+    requires { length block.old ≡ 4096 }
+    ensures sends { Sends W.known W.grows (seen_by W.failures W.room W.memory writer.old)
+        (seen_by W.failures W.room W.memory writer.new) result (flat_map (λ z. unsigned_bytes (byte_len w64) order (less w64 (2 ^ 64) first z)) offsets.now) }
+    ensures block { length block.new ≡ 4096 }
+{
+    let mut lessened = [0u64; 512];
+    'pieces: for piece in offsets.chunks(512) {
+        let values = &mut lessened[..piece.len()];
+        lessen_large(piece, first, values);
+        let bytes = &mut block[..8 * piece.len()];
+        u64::put(values, bytes, order);
+        send_bytes(writer, bytes)?;
+    }
+    Ok(())
+}
+
+// The bits of two neighbouring bytes from bit `shift` on.
+fn joined(low: u8, high: u8, shift: u32) -> u8
+    requires { shift < 8 }
+    ensures { result ≡ ((low + 256 * high) / 2 ^ shift) % 256 }
+{
+    let [byte, _] = (u16::from_le_bytes([low, high]) >> shift).to_le_bytes();
+    byte
+}
+
+// The byte at a place, 0 past the end.
+fn byte_or_zero(bytes: &[u8], at: usize) -> u8
+    ensures { result ≡ slice_index bytes.now at }
+{
+    bytes.get(at).copied().unwrap_or(0)
+}
+
+// The lowest bits of a byte.
+fn lowest(byte: u8, count: usize) -> u8
+    ensures { result ≡ byte % 2 ^ min 8 count }
+{
+    if count >= 8 {
+        byte
+    } else {
+        byte % (1 << count)
+    }
+}
+
+// Packs `count` bits anew, from bit `start` of the first byte on: their bytes from byte `at` on, in `to`.
+fn pack(bytes: &[u8], start: u32, count: usize, at: usize, to: &mut [u8])
+    requires start { start < 8 }
+    requires room { at + length to.old ≤ bytes_for count }
+    ensures { to.new ≡ map (packed_byte bytes.now start count) (range_with_len at (length to.old)) }
+{
+    // Here both bytes are there and all bits are wanted, so that no step has a branch.
+    let whole = (count / 8).min(bytes.len().saturating_sub(1));
+    let inner = whole.saturating_sub(at).min(to.len());
+    'inner: for k in 0..inner {
+        to[k] = joined(bytes[at + k], bytes[at + k + 1], start);
+    }
+    'rest: for k in inner..to.len() {
+        let byte = joined(
+            byte_or_zero(bytes, at + k),
+            byte_or_zero(bytes, at + k + 1),
+            start,
+        );
+        to[k] = lowest(byte, count - 8 * (at + k));
+    }
+}
+
+// Sends bits packed anew through a block of 4,096 bytes.
+fn send_bits<W: Writes>(
+    writer: &mut W,
+    bytes: &[u8],
+    start: u32,
+    count: usize,
+    block: &mut [u8],
+) -> Result<(), Fault>
+    requires start { start < 8 }
+    requires block { length block.old ≡ 4096 }
+    ensures sends { Sends W.known W.grows (seen_by W.failures W.room W.memory writer.old)
+        (seen_by W.failures W.room W.memory writer.new) result (packed bytes.now start count) }
+    ensures block { length block.new ≡ 4096 }
+{
+    let whole = count.div_ceil(8);
+    let mut done = 0;
+    while done < whole {
+        let n = (whole - done).min(4096);
+        let to = &mut block[..n];
+        pack(bytes, start, count, done, to);
+        send_bytes(writer, to)?;
+        done += n;
+    }
+    Ok(())
+}
+
+// The bits of the first offset, 0 where there is none.
+fn first_small(offsets: &[i32]) -> u32
+    ensures { result ≡ cast_unsigned w32 (slice_index_or offsets.now 0 (pos 0)) }
+{
+    match offsets.first() {
+        Some(first) => first.cast_unsigned(),
+        None => 0,
+    }
+}
+
+// The bits of the first offset, 0 where there is none.
+fn first_large(offsets: &[i64]) -> u64
+    ensures { result ≡ cast_unsigned w64 (slice_index_or offsets.now 0 (pos 0)) }
+{
+    match offsets.first() {
+        Some(first) => first.cast_unsigned(),
+        None => 0,
+    }
+}
+
+// Sends a piece through a block of 4,096 bytes.
+fn send_piece<W: Writes>(
+    writer: &mut W,
+    piece: &Piece<'_>,
+    order: Endianness,
+    block: &mut [u8],
+) -> Result<(), Fault>
+    requires { length block.old ≡ 4096 }
+    ensures sends { Sends W.known W.grows (seen_by W.failures W.room W.memory writer.old)
+        (seen_by W.failures W.room W.memory writer.new) result (piece_bytes order piece.now) }
+    ensures block { length block.new ≡ 4096 }
+{
+    match piece {
+        Piece::Bytes(bytes) => send_bytes(writer, bytes),
+        Piece::Numbers(NumberSlice::Int8(values)) => send_numbers(writer, values, order, block),
+        Piece::Numbers(NumberSlice::Int16(values)) => send_numbers(writer, values, order, block),
+        Piece::Numbers(NumberSlice::Int32(values)) => send_numbers(writer, values, order, block),
+        Piece::Numbers(NumberSlice::Int64(values)) => send_numbers(writer, values, order, block),
+        Piece::Numbers(NumberSlice::Int128(values)) => send_numbers(writer, values, order, block),
+        Piece::Numbers(NumberSlice::Int256(values)) => send_numbers(writer, values, order, block),
+        Piece::Numbers(NumberSlice::UInt8(values)) => send_numbers(writer, values, order, block),
+        Piece::Numbers(NumberSlice::UInt16(values)) => send_numbers(writer, values, order, block),
+        Piece::Numbers(NumberSlice::UInt32(values)) => send_numbers(writer, values, order, block),
+        Piece::Numbers(NumberSlice::UInt64(values)) => send_numbers(writer, values, order, block),
+        Piece::Numbers(NumberSlice::DaysMs(values)) => send_numbers(writer, values, order, block),
+        Piece::Numbers(NumberSlice::MonthDayNano(values)) => {
+            send_numbers(writer, values, order, block)
+        }
+        Piece::SmallOffsets(offsets) => {
+            send_small_offsets(writer, offsets, first_small(offsets), order, block)
+        }
+        Piece::LargeOffsets(offsets) => {
+            send_large_offsets(writer, offsets, first_large(offsets), order, block)
+        }
+        Piece::Bits(bytes, start, count) => {
+            send_bits(writer, bytes, (*start % 8) as u32, *count, block)
+        }
+        Piece::Zeros(count) => send_zeros(writer, *count),
+    }
+}
+
+/// Sends pieces one after the other, their numbers in this byte order, through a block of 4,096 bytes, which
+/// is no allocation. Bytes that stand somewhere as they are to be sent don't go through it.
+///
+/// `Io` comes where the device failed, or where it is memory whose growth was refused; what went out by then
+/// are the first bytes of the pieces.
+pub fn send_pieces<W: Writes>(
+    writer: &mut W,
+    pieces: &[Piece<'_>],
+    order: Endianness,
+) -> Result<(), Fault>
+    ensures { Sends W.known W.grows (seen_by W.failures W.room W.memory writer.old)
+        (seen_by W.failures W.room W.memory writer.new) result (pieces_bytes order pieces.now) }
+{
+    let mut block = [0u8; 4096];
+    for piece in pieces {
+        send_piece(writer, piece, order, &mut block)?;
+    }
+    Ok(())
+}
