@@ -16,8 +16,8 @@
 ghost use Rattle.std.specs.Prelude.{◌+◌, ◌≤◌, IfOk, IfSome};
 
 use crate::bytes::{bits, bytes};
-use crate::json::{count, items, member, text};
-use crate::numbers::{as_keys, numbers, type_of, validity, whole_numbers};
+use crate::json::{count, items, member, named, text};
+use crate::numbers::{Head, head_of, keys, numbers, type_of, whole_numbers};
 use crate::trouble::Trouble;
 use lower::buffer::Buffer;
 use lower::offset::{Offset, OffsetsBuffer};
@@ -55,41 +55,89 @@ pub fn cut_of(
     let Some(part) = value.get(name) else {
         return Ok(None);
     };
-    let [offset, len] = items(part, name)? else {
+    let [offset, len] = items(Some(part), name)? else {
         return Err(Trouble::Row(name));
     };
-    let (offset, len) = (count(offset, name)?, count(len, name)?);
+    let (offset, len) = (count(Some(offset), name)?, count(Some(len), name)?);
     if offset > slots || len > slots - offset {
         return Err(Trouble::Row(name));
     }
     Ok(Some((offset, len)))
 }
 
+// The kinds of arrays that have children.
+#[derive(Clone, Copy)]
+enum Nested {
+    OfChild(ListKind),
+    Struct,
+    Union,
+    Dictionary,
+}
+
+#[derive(Clone, Copy)]
+enum ListKind {
+    Small,
+    Large,
+    FixedSize,
+    Map,
+}
+
+const NESTED_KINDS: [(&str, Nested); 7] = [
+    ("list", Nested::OfChild(ListKind::Small)),
+    ("large_list", Nested::OfChild(ListKind::Large)),
+    ("fixed_size_list", Nested::OfChild(ListKind::FixedSize)),
+    ("map", Nested::OfChild(ListKind::Map)),
+    ("struct", Nested::Struct),
+    ("union", Nested::Union),
+    ("dictionary", Nested::Dictionary),
+];
+
+// The other kinds, but for numbers.
+#[derive(Clone, Copy)]
+enum Flat {
+    Null,
+    Boolean,
+    FixedSizeBinary,
+    Binary,
+    LargeBinary,
+    Utf8,
+    LargeUtf8,
+}
+
+const FLAT_KINDS: [(&str, Flat); 7] = [
+    ("null", Flat::Null),
+    ("boolean", Flat::Boolean),
+    ("fixed_size_binary", Flat::FixedSizeBinary),
+    ("binary", Flat::Binary),
+    ("large_binary", Flat::LargeBinary),
+    ("utf8", Flat::Utf8),
+    ("large_utf8", Flat::LargeUtf8),
+];
+
 #[cycle(arrays)]
 fn whole_array(alloc: Global, value: &Value, levels: usize) -> Result<AnyArray, Trouble> {
-    let kind = text(member(value, "array")?, "array")?;
     if levels == 0 {
         return Err(Trouble::Row("array"));
     }
-    match kind {
-        "list" | "large_list" | "fixed_size_list" | "map" => {
+    let kind = text(value.get("array"), "array")?;
+    match named(&NESTED_KINDS, kind) {
+        None => flat_array(alloc, value, kind),
+        Some(Nested::OfChild(kind)) => {
             let child = array(alloc, member(value, "child")?, levels - 1)?;
             array_of_child(alloc, value, kind, child)
         }
-        "struct" => record(
-            alloc,
-            value,
-            arrays(alloc, member(value, "children")?, levels - 1)?,
-        ),
-        "union" => {
+        Some(Nested::Struct) => {
+            let children = arrays(alloc, member(value, "children")?, levels - 1)?;
+            record(alloc, value, children)
+        }
+        Some(Nested::Union) => {
             let children = arrays(alloc, member(value, "children")?, levels - 1)?;
             union_array(alloc, value, children)
         }
-        "dictionary" => {
+        Some(Nested::Dictionary) => {
             let values = array(alloc, member(value, "values")?, levels - 1)?;
             dictionary(alloc, value, values)
         }
-        _ => flat_array(alloc, value, kind),
     }
 }
 
@@ -97,7 +145,7 @@ fn whole_array(alloc: Global, value: &Value, levels: usize) -> Result<AnyArray, 
 #[cycle(arrays)]
 pub fn arrays(alloc: Global, value: &Value, levels: usize) -> Result<Vec<AnyArray>, Trouble> {
     let mut out = Vec::new(alloc);
-    for value in items(value, "arrays")? {
+    for value in items(Some(value), "arrays")? {
         out.push(array(alloc, value, levels)?)?;
     }
     Ok(out)
@@ -105,28 +153,29 @@ pub fn arrays(alloc: Global, value: &Value, levels: usize) -> Result<Vec<AnyArra
 
 // An array without children.
 fn flat_array(alloc: Global, value: &Value, kind: &str) -> Result<AnyArray, Trouble> {
-    match kind {
-        "null" => null(alloc, value),
-        "boolean" => boolean(alloc, value),
-        "fixed_size_binary" => fixed_size_binary(alloc, value),
-        "binary" => Ok(AnyArray::Binary(binary(alloc, value, kind)?)),
-        "large_binary" => Ok(AnyArray::LargeBinary(binary(alloc, value, kind)?)),
-        "utf8" => Ok(AnyArray::Utf8(utf8(alloc, value, kind)?)),
-        "large_utf8" => Ok(AnyArray::LargeUtf8(utf8(alloc, value, kind)?)),
-        _ => Ok(AnyArray::Primitive(numbers(alloc, value, kind)?)),
+    match named(&FLAT_KINDS, kind) {
+        None => Ok(AnyArray::Primitive(numbers(alloc, value)?)),
+        Some(Flat::Null) => null(alloc, value),
+        Some(Flat::Boolean) => boolean(alloc, value),
+        Some(Flat::FixedSizeBinary) => fixed_size_binary(alloc, value),
+        Some(Flat::Binary) => Ok(AnyArray::Binary(binary(alloc, value)?)),
+        Some(Flat::LargeBinary) => Ok(AnyArray::LargeBinary(binary(alloc, value)?)),
+        Some(Flat::Utf8) => Ok(AnyArray::Utf8(utf8(alloc, value)?)),
+        Some(Flat::LargeUtf8) => Ok(AnyArray::LargeUtf8(utf8(alloc, value)?)),
     }
 }
 
 fn null(alloc: Global, value: &Value) -> Result<AnyArray, Trouble> {
-    let data_type = type_of(alloc, value, "null")?;
-    let len = count(member(value, "len")?, "len")?;
-    Ok(AnyArray::Null(NullArray::try_new(data_type, len)?))
+    let len = count(value.get("len"), "len")?;
+    Ok(AnyArray::Null(NullArray::try_new(type_of(alloc, value)?, len)?))
 }
 
 fn boolean(alloc: Global, value: &Value) -> Result<AnyArray, Trouble> {
-    let data_type = type_of(alloc, value, "boolean")?;
     let values = bits(alloc, member(value, "values")?)?;
-    let validity = validity(alloc, value)?;
+    let Head {
+        data_type,
+        validity,
+    } = head_of(alloc, value)?;
     Ok(AnyArray::Boolean(BooleanArray::try_new(data_type, values, validity)?))
 }
 
@@ -135,9 +184,11 @@ fn byte_values(alloc: Global, value: &Value) -> Result<Buffer<u8>, Trouble> {
 }
 
 fn fixed_size_binary(alloc: Global, value: &Value) -> Result<AnyArray, Trouble> {
-    let data_type = type_of(alloc, value, "")?;
     let values = byte_values(alloc, value)?;
-    let validity = validity(alloc, value)?;
+    let Head {
+        data_type,
+        validity,
+    } = head_of(alloc, value)?;
     let array = FixedSizeBinaryArray::try_new(data_type, values, validity)?;
     Ok(AnyArray::FixedSizeBinary(array))
 }
@@ -157,54 +208,55 @@ where
 fn binary<O: Offset + TryFrom<i128>>(
     alloc: Global,
     value: &Value,
-    kind: &str,
 ) -> Result<BinaryArray<O>, Trouble>
 where
     O::Error: Drop,
 {
-    let data_type = type_of(alloc, value, kind)?;
     let offsets = offsets(alloc, value)?;
     let values = byte_values(alloc, value)?;
-    Ok(BinaryArray::try_new(data_type, offsets, values, validity(alloc, value)?)?)
+    let Head {
+        data_type,
+        validity,
+    } = head_of(alloc, value)?;
+    Ok(BinaryArray::try_new(data_type, offsets, values, validity)?)
 }
 
-fn utf8<O: Offset + TryFrom<i128>>(
-    alloc: Global,
-    value: &Value,
-    kind: &str,
-) -> Result<Utf8Array<O>, Trouble>
+fn utf8<O: Offset + TryFrom<i128>>(alloc: Global, value: &Value) -> Result<Utf8Array<O>, Trouble>
 where
     O::Error: Drop,
 {
-    let data_type = type_of(alloc, value, kind)?;
     let offsets = offsets(alloc, value)?;
     let values = byte_values(alloc, value)?;
-    Ok(Utf8Array::try_new(data_type, offsets, values, validity(alloc, value)?)?)
+    let Head {
+        data_type,
+        validity,
+    } = head_of(alloc, value)?;
+    Ok(Utf8Array::try_new(data_type, offsets, values, validity)?)
 }
 
 // An array of lists.
 fn array_of_child(
     alloc: Global,
     value: &Value,
-    kind: &str,
+    kind: ListKind,
     child: AnyArray,
 ) -> Result<AnyArray, Trouble> {
     let child = Box::new(alloc, child)?;
     match kind {
-        "list" => list(
+        ListKind::Small => list(
             alloc,
             value,
             ListOffsets::Small(offsets(alloc, value)?),
             child,
         ),
-        "large_list" => list(
+        ListKind::Large => list(
             alloc,
             value,
             ListOffsets::Large(offsets(alloc, value)?),
             child,
         ),
-        "map" => map(alloc, value, child),
-        _ => fixed_size_list(alloc, value, child),
+        ListKind::Map => map(alloc, value, child),
+        ListKind::FixedSize => fixed_size_list(alloc, value, child),
     }
 }
 
@@ -214,8 +266,10 @@ fn list(
     offsets: ListOffsets,
     child: Box<AnyArray>,
 ) -> Result<AnyArray, Trouble> {
-    let data_type = type_of(alloc, value, "")?;
-    let validity = validity(alloc, value)?;
+    let Head {
+        data_type,
+        validity,
+    } = head_of(alloc, value)?;
     Ok(AnyArray::List(ListArray::try_new(data_type, offsets, child, validity)?))
 }
 
@@ -224,39 +278,43 @@ fn fixed_size_list(
     value: &Value,
     child: Box<AnyArray>,
 ) -> Result<AnyArray, Trouble> {
-    let data_type = type_of(alloc, value, "")?;
-    let validity = validity(alloc, value)?;
+    let Head {
+        data_type,
+        validity,
+    } = head_of(alloc, value)?;
     Ok(AnyArray::FixedSizeList(FixedSizeListArray::try_new(data_type, child, validity)?))
 }
 
 fn map(alloc: Global, value: &Value, entries: Box<AnyArray>) -> Result<AnyArray, Trouble> {
-    let data_type = type_of(alloc, value, "")?;
     let offsets = offsets(alloc, value)?;
-    let validity = validity(alloc, value)?;
+    let Head {
+        data_type,
+        validity,
+    } = head_of(alloc, value)?;
     Ok(AnyArray::Map(MapArray::try_new(data_type, offsets, entries, validity)?))
 }
 
 fn record(alloc: Global, value: &Value, children: Vec<AnyArray>) -> Result<AnyArray, Trouble> {
-    let data_type = type_of(alloc, value, "")?;
-    let validity = validity(alloc, value)?;
+    let Head {
+        data_type,
+        validity,
+    } = head_of(alloc, value)?;
     Ok(AnyArray::Struct(StructArray::try_new(data_type, children, validity)?))
 }
 
 fn union_array(alloc: Global, value: &Value, children: Vec<AnyArray>) -> Result<AnyArray, Trouble> {
-    let data_type = type_of(alloc, value, "")?;
     let types = whole_numbers(alloc, member(value, "types")?, "types")?;
     let offsets = match value.get("offsets") {
         None => None,
         Some(offsets) => Some(whole_numbers(alloc, offsets, "offsets")?),
     };
+    let data_type = type_of(alloc, value)?;
     Ok(AnyArray::Union(UnionArray::try_new(data_type, types, children, offsets)?))
 }
 
 fn dictionary(alloc: Global, value: &Value, values: AnyArray) -> Result<AnyArray, Trouble> {
-    let data_type = type_of(alloc, value, "")?;
-    let keys = member(value, "keys")?;
-    let kind = text(member(keys, "array")?, "array")?;
-    let keys = as_keys(numbers(alloc, keys, kind)?)?;
     let values = Rc::new(alloc, values)?;
+    let keys = keys(alloc, member(value, "keys")?)?;
+    let data_type = type_of(alloc, value)?;
     Ok(AnyArray::Dictionary(DictionaryArray::try_new(data_type, keys, values)?))
 }

@@ -8,7 +8,7 @@
 //! Bits are `"1011"`, the first slot's first, or `{"bytes": BYTES, "bits": 9}`: so many of some bytes, the lowest bit of a byte
 //! first.
 
-use crate::json::{count, item, items, member, text, whole};
+use crate::json::{count, items, member, text, whole};
 use crate::tables::{footer, message};
 use crate::trouble::Trouble;
 use lower::bitmap::Bitmap;
@@ -33,14 +33,14 @@ pub fn bytes(alloc: Global, value: &Value) -> Result<Vec<u8>, Trouble> {
 // Adds a part, or makes its change to what stands before it.
 fn put_part(alloc: Global, out: &mut Vec<u8>, part: &Value) -> Result<(), Trouble> {
     if let Some(length) = part.get("cut") {
-        return cut(out, count(length, "cut")?);
+        return cut(out, count(Some(length), "cut")?);
     }
     if let Some(changes) = part.get("set") {
-        return set(out, items(changes, "set")?);
+        return set(out, items(Some(changes), "set")?);
     }
     if let Some(parts) = part.get("repeat") {
-        let times = count(member(part, "times")?, "times")?;
-        return put_turns(alloc, out, items(parts, "repeat")?, times);
+        let times = count(part.get("times"), "times")?;
+        return put_turns(alloc, out, items(Some(parts), "repeat")?, times);
     }
     if let Some(table) = part.get("message") {
         return Ok(out.extend_from_slice(&message(alloc, table)?)?);
@@ -63,9 +63,9 @@ fn cut(out: &mut Vec<u8>, length: usize) -> Result<(), Trouble> {
 // Puts bytes at places: each change is a place and a byte.
 fn set(out: &mut Vec<u8>, changes: &[Value]) -> Result<(), Trouble> {
     for change in changes {
-        let change = items(change, "set")?;
-        let place = count(item(change, 0, "set")?, "set")?;
-        let byte = count(item(change, 1, "set")?, "set")?;
+        let change = items(Some(change), "set")?;
+        let place = count(change.get(0), "set")?;
+        let byte = count(change.get(1), "set")?;
         match (out.get_mut(place), u8::try_from(byte)) {
             (Some(at), Ok(byte)) => *at = byte,
             _ => return Err(Trouble::Row("set")),
@@ -102,25 +102,27 @@ fn put_plain_part(
     turn: usize,
 ) -> Result<(), Trouble> {
     if let Some(zeros) = part.get("zeros") {
-        return put_zeros(out, count(zeros, "zeros")?);
+        return put_zeros(out, count(Some(zeros), "zeros")?);
     }
     if let Some(characters) = part.get("text") {
-        out.extend_from_slice(text(characters, "text")?.as_bytes())?;
+        out.extend_from_slice(text(Some(characters), "text")?.as_bytes())?;
         return Ok(());
     }
     if let Some(first) = part.get("u32") {
         return put_u32(out, first, part, turn);
     }
-    put_hex(alloc, out, text(part, "bytes")?)
+    put_hex(alloc, out, text(Some(part), "bytes")?)
 }
 
 // Adds a number of 32 bits, its lowest byte first.
 fn put_u32(out: &mut Vec<u8>, first: &Value, part: &Value, turn: usize) -> Result<(), Trouble> {
     let step = match part.get("step") {
         None => 0,
-        Some(step) => whole(step, "step")?,
+        Some(step) => whole(Some(step), "step")?,
     };
-    match u32::try_from(whole(first, "u32")?.saturating_add(step.saturating_mul(turn as i128))) {
+    match u32::try_from(whole(Some(first), "u32")?.saturating_add(step.saturating_mul(
+        turn as i128,
+    ))) {
         Ok(number) => Ok(out.extend_from_slice(&number.to_le_bytes())?),
         Err(_) => Err(Trouble::Row("u32")),
     }
@@ -150,7 +152,7 @@ pub fn bits(alloc: Global, value: &Value) -> Result<Bitmap, Trouble> {
         Value::String(digits) => spelt_bits(alloc, digits.as_bytes()),
         _ => {
             let held = Buffer::new(bytes(alloc, member(value, "bytes")?)?)?;
-            Ok(Bitmap::try_new(held, count(member(value, "bits")?, "bits")?)?)
+            Ok(Bitmap::try_new(held, count(value.get("bits"), "bits")?)?)
         }
     }
 }

@@ -17,138 +17,224 @@ mod tools;
 mod types;
 mod views;
 
+use crate::json::named;
+use crate::text::Text;
 use crate::trouble::Trouble;
 use serde_json::Value;
 use std::alloc::Global;
 
 /// What comes out of the call of this name.
 pub fn called(alloc: Global, name: &str, parts: &Value) -> Result<String, Trouble> {
-    match name {
-        "slots_of" => arrays::slots_of(alloc, parts),
-        "parts_of" => arrays::parts_of(alloc, parts),
-        "are_same" => arrays::are_same(alloc, parts),
-        "is_same_as_clone" => arrays::is_same_as_clone(alloc, parts),
-        "is_dictionary" => arrays::is_dictionary_array(alloc, parts),
-        _ => called_of_buffers(alloc, name, parts),
+    let mut out = Text::new(alloc);
+    match named(&CALLS, name) {
+        Some(call) => put_called(alloc, &mut out, call, parts)?,
+        None => match named(&QUESTIONS, name) {
+            Some(question) => out.show(&is_so(alloc, question, parts)?),
+            None => return Err(Trouble::Row("a call")),
+        },
+    }
+    out.finish()
+}
+
+// The calls that give whether something is so.
+#[derive(Clone, Copy)]
+enum Question {
+    AreSame,
+    IsSameAsClone,
+    IsDictionary,
+    LogicalTypeIs,
+    KeyTypeIs,
+    IsDictionaryType,
+    AreSameFields,
+    IsWithinLevels,
+    AreSameSchemas,
+    IsNormal,
+    AreEqualRows,
+    Fits,
+    AreSameBytes,
+}
+
+const QUESTIONS: [(&str, Question); 13] = [
+    ("are_same", Question::AreSame),
+    ("is_same_as_clone", Question::IsSameAsClone),
+    ("is_dictionary", Question::IsDictionary),
+    ("logical_type_is", Question::LogicalTypeIs),
+    ("key_type_is", Question::KeyTypeIs),
+    ("is_dictionary_type", Question::IsDictionaryType),
+    ("are_same_fields", Question::AreSameFields),
+    ("is_within_levels", Question::IsWithinLevels),
+    ("are_same_schemas", Question::AreSameSchemas),
+    ("is_normal", Question::IsNormal),
+    ("are_equal_rows", Question::AreEqualRows),
+    ("fits", Question::Fits),
+    ("are_same_bytes", Question::AreSameBytes),
+];
+
+fn is_so(alloc: Global, question: Question, parts: &Value) -> Result<bool, Trouble> {
+    match question {
+        Question::AreSame => arrays::are_same(alloc, parts),
+        Question::IsSameAsClone => arrays::is_same_as_clone(alloc, parts),
+        Question::IsDictionary => arrays::is_dictionary_array(alloc, parts),
+        Question::LogicalTypeIs => types::logical_type_is(alloc, parts),
+        Question::KeyTypeIs => types::key_type_is(alloc, parts),
+        Question::IsDictionaryType => types::is_dictionary(alloc, parts),
+        Question::AreSameFields => types::are_same_fields(alloc, parts),
+        Question::IsWithinLevels => types::are_within_levels(alloc, parts),
+        Question::AreSameSchemas => schemas::are_same_schemas(alloc, parts),
+        Question::IsNormal => schemas::is_normal(alloc, parts),
+        Question::AreEqualRows => chunks::are_equal_rows(alloc, parts),
+        Question::Fits => chunks::fits_of(alloc, parts),
+        Question::AreSameBytes => streams::are_same_bytes(alloc, parts),
     }
 }
 
-fn called_of_buffers(alloc: Global, name: &str, parts: &Value) -> Result<String, Trouble> {
-    match name {
-        "bits_of" => buffers::bits_of(alloc, parts),
-        "offsets_of" => buffers::offsets_of(alloc, parts),
-        "offset_of_length" => buffers::offset_of_length(alloc, parts),
-        "bytes_of_numbers" => numbers::bytes_of_numbers(alloc, parts),
-        "numbers_of_bytes" => numbers::numbers_of_bytes(alloc, parts),
-        "numbers_back_of" => numbers::numbers_back_of(alloc, parts),
-        _ => called_of_types(alloc, name, parts),
-    }
+// The calls that append a value.
+#[derive(Clone, Copy)]
+enum Call {
+    SlotsOf,
+    PartsOf,
+    BitsOf,
+    OffsetsOf,
+    OffsetOfLength,
+    BytesOfNumbers,
+    NumbersOfBytes,
+    NumbersBackOf,
+    CountsOf,
+    PhysicalTypeOf,
+    AreSameTypes,
+    NormalOf,
+    SchemaOf,
+    SchemaBytesOf,
+    SchemaBackOf,
+    WeightOf,
+    PlainSchemaOf,
+    SchemaByBoth,
+    DamagedSchemasOf,
+    ViewsOf,
+    FooterViewsOf,
+    Framed,
+    ContinuationOf,
+    FramesOf,
+    RecordsOf,
+    ColumnsOf,
+    PlainColumnsOf,
+    ColumnsByBoth,
+    DamagedRecordsOf,
+    CutBodiesOf,
+    ChunkOf,
+    ClonedIdsOf,
+    ReadOf,
+    WrittenBy,
+    BytesBy,
+    HeadOf,
+    AnswersOf,
+    RoundTripOf,
+    WholeOf,
+    StreamByBoth,
+    CutStreamsOf,
+    DamagedStreamsOf,
+    DeviceBy,
+    Ipcat,
+    IpcatCut,
+    IpcatDamaged,
 }
 
-fn called_of_types(alloc: Global, name: &str, parts: &Value) -> Result<String, Trouble> {
-    match name {
-        "counts_of" => types::counts_of(alloc, parts),
-        "physical_type_of" => types::physical_type_of(alloc, parts),
-        "logical_type_is" => types::logical_type_is(alloc, parts),
-        "key_type_is" => types::key_type_is(alloc, parts),
-        "is_dictionary_type" => types::is_dictionary(alloc, parts),
-        _ => called_of_fields(alloc, name, parts),
-    }
-}
+const CALLS: [(&str, Call); 46] = [
+    ("slots_of", Call::SlotsOf),
+    ("parts_of", Call::PartsOf),
+    ("bits_of", Call::BitsOf),
+    ("offsets_of", Call::OffsetsOf),
+    ("offset_of_length", Call::OffsetOfLength),
+    ("bytes_of_numbers", Call::BytesOfNumbers),
+    ("numbers_of_bytes", Call::NumbersOfBytes),
+    ("numbers_back_of", Call::NumbersBackOf),
+    ("counts_of", Call::CountsOf),
+    ("physical_type_of", Call::PhysicalTypeOf),
+    ("are_same_types", Call::AreSameTypes),
+    ("normal_of", Call::NormalOf),
+    ("schema_of", Call::SchemaOf),
+    ("schema_bytes_of", Call::SchemaBytesOf),
+    ("schema_back_of", Call::SchemaBackOf),
+    ("weight_of", Call::WeightOf),
+    ("plain_schema_of", Call::PlainSchemaOf),
+    ("schema_by_both", Call::SchemaByBoth),
+    ("damaged_schemas_of", Call::DamagedSchemasOf),
+    ("views_of", Call::ViewsOf),
+    ("footer_views_of", Call::FooterViewsOf),
+    ("framed", Call::Framed),
+    ("continuation_of", Call::ContinuationOf),
+    ("frames_of", Call::FramesOf),
+    ("records_of", Call::RecordsOf),
+    ("columns_of", Call::ColumnsOf),
+    ("plain_columns_of", Call::PlainColumnsOf),
+    ("columns_by_both", Call::ColumnsByBoth),
+    ("damaged_records_of", Call::DamagedRecordsOf),
+    ("cut_bodies_of", Call::CutBodiesOf),
+    ("chunk_of", Call::ChunkOf),
+    ("cloned_ids_of", Call::ClonedIdsOf),
+    ("read_of", Call::ReadOf),
+    ("written_by", Call::WrittenBy),
+    ("bytes_by", Call::BytesBy),
+    ("head_of", Call::HeadOf),
+    ("answers_of", Call::AnswersOf),
+    ("round_trip_of", Call::RoundTripOf),
+    ("whole_of", Call::WholeOf),
+    ("stream_by_both", Call::StreamByBoth),
+    ("cut_streams_of", Call::CutStreamsOf),
+    ("damaged_streams_of", Call::DamagedStreamsOf),
+    ("device_by", Call::DeviceBy),
+    ("ipcat", Call::Ipcat),
+    ("ipcat_cut", Call::IpcatCut),
+    ("ipcat_damaged", Call::IpcatDamaged),
+];
 
-fn called_of_fields(alloc: Global, name: &str, parts: &Value) -> Result<String, Trouble> {
-    match name {
-        "are_same_types" => types::are_same_types(alloc, parts),
-        "are_same_fields" => types::are_same_fields(alloc, parts),
-        "is_within_levels" => types::are_within_levels(alloc, parts),
-        "are_same_schemas" => schemas::are_same_schemas(alloc, parts),
-        "normal_of" => schemas::normal_of(alloc, parts),
-        "is_normal" => schemas::is_normal(alloc, parts),
-        _ => called_of_schemas(alloc, name, parts),
-    }
-}
-
-fn called_of_schemas(alloc: Global, name: &str, parts: &Value) -> Result<String, Trouble> {
-    match name {
-        "schema_of" => schemas::schema_of(alloc, parts),
-        "schema_bytes_of" => schemas::schema_bytes_of(alloc, parts),
-        "schema_back_of" => schemas::schema_back_of(alloc, parts),
-        "weight_of" => schemas::weight_of(alloc, parts),
-        _ => called_of_plain_schemas(alloc, name, parts),
-    }
-}
-
-fn called_of_plain_schemas(alloc: Global, name: &str, parts: &Value) -> Result<String, Trouble> {
-    match name {
-        "plain_schema_of" => plain_schemas::plain_schema_of(alloc, parts),
-        "schema_by_both" => plain_schemas::schema_by_both(alloc, parts),
-        "damaged_schemas_of" => plain_schemas::damaged_schemas_of(alloc, parts),
-        _ => called_of_messages(alloc, name, parts),
-    }
-}
-
-fn called_of_messages(alloc: Global, name: &str, parts: &Value) -> Result<String, Trouble> {
-    match name {
-        "views_of" => views::views_of(alloc, parts),
-        "footer_views_of" => views::footer_views_of(alloc, parts),
-        "framed" => frames::framed(alloc, parts),
-        "continuation_of" => frames::continuation_of(alloc, parts),
-        "frames_of" => messages::frames_of(alloc, parts),
-        "records_of" => messages::records_of(alloc, parts),
-        _ => called_of_records(alloc, name, parts),
-    }
-}
-
-fn called_of_records(alloc: Global, name: &str, parts: &Value) -> Result<String, Trouble> {
-    match name {
-        "columns_of" => records::columns_of(alloc, parts),
-        "plain_columns_of" => records::plain_columns_of(alloc, parts),
-        "columns_by_both" => records::columns_by_both(alloc, parts),
-        "damaged_records_of" => records::damaged_records_of(alloc, parts),
-        "cut_bodies_of" => records::cut_bodies_of(alloc, parts),
-        _ => called_of_chunks(alloc, name, parts),
-    }
-}
-
-fn called_of_chunks(alloc: Global, name: &str, parts: &Value) -> Result<String, Trouble> {
-    match name {
-        "chunk_of" => chunks::chunk_of(alloc, parts),
-        "are_equal_rows" => chunks::are_equal_rows(alloc, parts),
-        "fits" => chunks::fits_of(alloc, parts),
-        "cloned_ids_of" => chunks::cloned_ids_of(alloc, parts),
-        _ => called_of_streams(alloc, name, parts),
-    }
-}
-
-fn called_of_streams(alloc: Global, name: &str, parts: &Value) -> Result<String, Trouble> {
-    match name {
-        "read_of" => streams::read_of(alloc, parts),
-        "written_by" => streams::written_by(alloc, parts),
-        "bytes_by" => streams::bytes_by(alloc, parts),
-        "are_same_bytes" => streams::are_same_bytes(alloc, parts),
-        "head_of" => streams::head_of(alloc, parts),
-        "answers_of" => streams::answers_of(alloc, parts),
-        _ => called_of_round_trips(alloc, name, parts),
-    }
-}
-
-fn called_of_round_trips(alloc: Global, name: &str, parts: &Value) -> Result<String, Trouble> {
-    match name {
-        "round_trip_of" => round_trips::round_trip_of(alloc, parts),
-        "whole_of" => round_trips::whole_of(alloc, parts),
-        "stream_by_both" => plain_streams::stream_by_both(alloc, parts),
-        "cut_streams_of" => plain_streams::cut_streams_of(alloc, parts),
-        "damaged_streams_of" => plain_streams::damaged_streams_of(alloc, parts),
-        _ => called_of_programs(alloc, name, parts),
-    }
-}
-
-fn called_of_programs(alloc: Global, name: &str, parts: &Value) -> Result<String, Trouble> {
-    match name {
-        "device_by" => devices::device_by(alloc, parts),
-        "ipcat" => tools::ipcat(alloc, parts),
-        "ipcat_cut" => tools::ipcat_cut(alloc, parts),
-        "ipcat_damaged" => tools::ipcat_damaged(alloc, parts),
-        _ => Err(Trouble::Row("a call")),
+fn put_called(alloc: Global, out: &mut Text, call: Call, parts: &Value) -> Result<(), Trouble> {
+    match call {
+        Call::SlotsOf => arrays::slots_of(alloc, out, parts),
+        Call::PartsOf => arrays::parts_of(alloc, out, parts),
+        Call::BitsOf => buffers::bits_of(alloc, out, parts),
+        Call::OffsetsOf => buffers::offsets_of(alloc, out, parts),
+        Call::OffsetOfLength => buffers::offset_of_length(out, parts),
+        Call::BytesOfNumbers => numbers::bytes_of_numbers(alloc, out, parts),
+        Call::NumbersOfBytes => numbers::numbers_of_bytes(alloc, out, parts),
+        Call::NumbersBackOf => numbers::numbers_back_of(alloc, out, parts),
+        Call::CountsOf => types::counts_of(alloc, out, parts),
+        Call::PhysicalTypeOf => types::physical_type_of(alloc, out, parts),
+        Call::AreSameTypes => types::are_same_types(alloc, out, parts),
+        Call::NormalOf => schemas::normal_of(alloc, out, parts),
+        Call::SchemaOf => schemas::schema_of(alloc, out, parts),
+        Call::SchemaBytesOf => schemas::schema_bytes_of(alloc, out, parts),
+        Call::SchemaBackOf => schemas::schema_back_of(alloc, out, parts),
+        Call::WeightOf => schemas::weight_of(alloc, out, parts),
+        Call::PlainSchemaOf => plain_schemas::plain_schema_of(alloc, out, parts),
+        Call::SchemaByBoth => plain_schemas::schema_by_both(alloc, out, parts),
+        Call::DamagedSchemasOf => plain_schemas::damaged_schemas_of(alloc, out, parts),
+        Call::ViewsOf => views::views_of(alloc, out, parts),
+        Call::FooterViewsOf => views::footer_views_of(alloc, out, parts),
+        Call::Framed => frames::framed(alloc, out, parts),
+        Call::ContinuationOf => frames::continuation_of(alloc, out, parts),
+        Call::FramesOf => messages::frames_of(alloc, out, parts),
+        Call::RecordsOf => messages::records_of(alloc, out, parts),
+        Call::ColumnsOf => records::columns_of(alloc, out, parts),
+        Call::PlainColumnsOf => records::plain_columns_of(alloc, out, parts),
+        Call::ColumnsByBoth => records::columns_by_both(alloc, out, parts),
+        Call::DamagedRecordsOf => records::damaged_records_of(alloc, out, parts),
+        Call::CutBodiesOf => records::cut_bodies_of(alloc, out, parts),
+        Call::ChunkOf => chunks::chunk_of(alloc, out, parts),
+        Call::ClonedIdsOf => chunks::cloned_ids_of(alloc, out, parts),
+        Call::ReadOf => streams::read_of(alloc, out, parts),
+        Call::WrittenBy => streams::written_by(alloc, out, parts),
+        Call::BytesBy => streams::bytes_by(alloc, out, parts),
+        Call::HeadOf => streams::head_of(alloc, out, parts),
+        Call::AnswersOf => streams::answers_of(alloc, out, parts),
+        Call::RoundTripOf => round_trips::round_trip_of(alloc, out, parts),
+        Call::WholeOf => round_trips::whole_of(alloc, out, parts),
+        Call::StreamByBoth => plain_streams::stream_by_both(alloc, out, parts),
+        Call::CutStreamsOf => plain_streams::cut_streams_of(alloc, out, parts),
+        Call::DamagedStreamsOf => plain_streams::damaged_streams_of(alloc, out, parts),
+        Call::DeviceBy => devices::device_by(alloc, out, parts),
+        Call::Ipcat => tools::ipcat(alloc, out, parts),
+        Call::IpcatCut => tools::ipcat_cut(alloc, out, parts),
+        Call::IpcatDamaged => tools::ipcat_damaged(alloc, out, parts),
     }
 }

@@ -3,12 +3,10 @@
 
 use crate::slots::put_slots;
 use crate::text::Text;
-use crate::trouble::Trouble;
 use crate::types::LEVELS;
 use ipc_base::chunk::Chunk;
 use lower::datatypes::Field;
 use lower_arrays::array::AnyArray;
-use std::alloc::Global;
 
 /// Appends the columns of a chunk that these fields are of, and how many rows it has.
 pub fn put_chunk(out: &mut Text, chunk: &Chunk<AnyArray>, fields: &[Field]) {
@@ -23,8 +21,10 @@ pub fn put_chunk(out: &mut Text, chunk: &Chunk<AnyArray>, fields: &[Field]) {
 }
 
 fn put_column(out: &mut Text, column: &AnyArray, field: Option<&Field>) {
-    if field.is_some_and(|field| field.data_type == *column.data_type()) {
-        return put_slots(out, column, LEVELS);
+    if let Some(field) = field {
+        if field.data_type == *column.data_type() {
+            return put_slots(out, column, LEVELS);
+        }
     }
     out.put("{\"slots\":");
     put_slots(out, column, LEVELS);
@@ -41,11 +41,4 @@ pub fn put_columns(out: &mut Text, columns: &[AnyArray]) {
         put_slots(out, column, LEVELS);
     }
     out.put("]");
-}
-
-/// The slots of columns, as text.
-pub fn shown_columns(alloc: Global, columns: &[AnyArray]) -> Result<String, Trouble> {
-    let mut out = Text::new(alloc);
-    put_columns(&mut out, columns);
-    out.finish()
 }

@@ -10,9 +10,9 @@ pub fn member<'v>(value: &'v Value, name: &'static str) -> Result<&'v Value, Tro
 }
 
 /// The items of a list, which is the part of this name.
-pub fn items<'v>(value: &'v Value, name: &'static str) -> Result<&'v [Value], Trouble> {
+pub fn items<'v>(value: Option<&'v Value>, name: &'static str) -> Result<&'v [Value], Trouble> {
     match value {
-        Value::Array(items) => Ok(items.as_slice()),
+        Some(Value::Array(items)) => Ok(items.as_slice()),
         _ => Err(Trouble::Row(name)),
     }
 }
@@ -26,34 +26,42 @@ pub fn item<'v>(
     items.get(index).ok_or(Trouble::Row(name))
 }
 
+/// The first two items of a list, which is the part of this name.
+pub fn both<'v>(value: &'v Value, name: &'static str) -> Result<(&'v Value, &'v Value), Trouble> {
+    match items(Some(value), name)? {
+        [first, second, ..] => Ok((first, second)),
+        _ => Err(Trouble::Row(name)),
+    }
+}
+
 /// A text, which is the part of this name.
-pub fn text<'v>(value: &'v Value, name: &'static str) -> Result<&'v str, Trouble> {
+pub fn text<'v>(value: Option<&'v Value>, name: &'static str) -> Result<&'v str, Trouble> {
     match value {
-        Value::String(text) => Ok(text.as_str()),
+        Some(Value::String(text)) => Ok(text.as_str()),
         _ => Err(Trouble::Row(name)),
     }
 }
 
 /// Whether it is so, which is the part of this name.
-pub fn truth(value: &Value, name: &'static str) -> Result<bool, Trouble> {
+pub fn truth(value: Option<&Value>, name: &'static str) -> Result<bool, Trouble> {
     match value {
-        Value::Bool(truth) => Ok(*truth),
+        Some(Value::Bool(truth)) => Ok(*truth),
         _ => Err(Trouble::Row(name)),
     }
 }
 
 /// A whole number, which is the part of this name. One that 64 bits don't hold is a text of digits.
-pub fn whole(value: &Value, name: &'static str) -> Result<i128, Trouble> {
+pub fn whole(value: Option<&Value>, name: &'static str) -> Result<i128, Trouble> {
     let number = match value {
-        Value::Number(number) => number.as_i128(),
-        Value::String(digits) => digits.as_str().parse().ok(),
+        Some(Value::Number(number)) => number.as_i128(),
+        Some(Value::String(digits)) => digits.as_str().parse().ok(),
         _ => None,
     };
     number.ok_or(Trouble::Row(name))
 }
 
 /// A whole number of some type, which is the part of this name.
-pub fn number<T: TryFrom<i128>>(value: &Value, name: &'static str) -> Result<T, Trouble>
+pub fn number<T: TryFrom<i128>>(value: Option<&Value>, name: &'static str) -> Result<T, Trouble>
 where
     T::Error: Drop,
 {
@@ -64,8 +72,30 @@ where
 }
 
 /// A count or a place, which is the part of this name.
-pub fn count(value: &Value, name: &'static str) -> Result<usize, Trouble> {
+pub fn count(value: Option<&Value>, name: &'static str) -> Result<usize, Trouble> {
     number(value, name)
+}
+
+/// What stands beside a name in a table, where the name stands in it.
+pub fn named<T: Copy>(names: &[(&'static str, T)], wanted: &str) -> Option<T> {
+    for (name, meant) in names {
+        if *name == wanted {
+            return Some(*meant);
+        }
+    }
+    None
+}
+
+/// One of the values that have a name in a table, which is the part of this name.
+pub fn choice<T: Copy>(
+    value: Option<&Value>,
+    names: &[(&'static str, T)],
+    part: &'static str,
+) -> Result<T, Trouble> {
+    match value {
+        Some(Value::String(wanted)) => named(names, wanted.as_str()).ok_or(Trouble::Row(part)),
+        _ => Err(Trouble::Row(part)),
+    }
 }
 
 /// A part of a row that is a list of values of this type.
@@ -81,7 +111,7 @@ pub fn values<T: Part + Drop>(
     name: &'static str,
 ) -> Result<Vec<T>, Trouble> {
     let mut out = Vec::new(alloc);
-    for item in items(value, name)? {
+    for item in items(Some(value), name)? {
         out.push(T::of(item, name)?)?;
     }
     Ok(out)

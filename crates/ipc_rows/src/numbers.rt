@@ -1,12 +1,12 @@
 //! Arrays of numbers. Whole numbers are a list, or `{"from": 0, "step": 3, "count": 1000}`.
 
 use crate::bytes::bits;
-use crate::json::{Part, count, items, member, number, text, values, whole};
+use crate::json::{Part, choice, count, items, member, number, text, values, whole};
 use crate::trouble::Trouble;
-use crate::types::{LEVELS, data_type, integer_named, plain_type};
+use crate::types::{LEVELS, data_type, plain_type};
 use lower::bitmap::Bitmap;
 use lower::buffer::Buffer;
-use lower::datatypes::{DataType, IntegerType};
+use lower::datatypes::DataType;
 use lower::types::{NativeType, days_ms, i256, months_days_ns};
 use lower_arrays::array::{AnyPrimitive, DictionaryKeys, PrimitiveArray};
 use serde_json::Value;
@@ -26,8 +26,8 @@ where
         put_steps(&mut out, value, name)?;
         return Ok(Buffer::new(out)?);
     }
-    for number in items(value, name)? {
-        put_whole(&mut out, whole(number, name)?, name)?;
+    for number in items(Some(value), name)? {
+        put_whole(&mut out, whole(Some(number), name)?, name)?;
     }
     Ok(Buffer::new(out)?)
 }
@@ -41,9 +41,9 @@ fn put_steps<T: Copy + Drop + TryFrom<i128>>(
 where
     T::Error: Drop,
 {
-    let mut number = whole(member(value, "from")?, "from")?;
-    let step = whole(member(value, "step")?, "step")?;
-    for _ in 0..count(member(value, "count")?, "count")? {
+    let mut number = whole(value.get("from"), "from")?;
+    let step = whole(value.get("step"), "step")?;
+    for _ in 0..count(value.get("count"), "count")? {
         put_whole(out, number, name)?;
         number = number.saturating_add(step);
     }
@@ -66,98 +66,127 @@ where
 }
 
 /// The type of an array that has one, else the type that its kind names.
-pub fn type_of(alloc: Global, array: &Value, kind: &str) -> Result<DataType, Trouble> {
+pub fn type_of(alloc: Global, array: &Value) -> Result<DataType, Trouble> {
     match array.get("type") {
         Some(value) => data_type(alloc, value, LEVELS),
-        None => plain_type(kind),
+        None => plain_type(array.get("array")),
     }
 }
 
-/// The validity of an array, where it has one.
-pub fn validity(alloc: Global, array: &Value) -> Result<Option<Bitmap>, Trouble> {
-    match array.get("validity") {
-        Some(value) => Ok(Some(bits(alloc, value)?)),
-        None => Ok(None),
-    }
+/// What most arrays have: a type, and which slots aren't null.
+#[derive(Drop)]
+pub struct Head {
+    pub data_type: DataType,
+    pub validity: Option<Bitmap>,
 }
 
-/// An array of numbers of this kind.
-pub fn numbers(alloc: Global, array: &Value, kind: &str) -> Result<AnyPrimitive, Trouble> {
-    match integer_named(kind) {
-        Some(integer) => numbers_of(alloc, array, kind, integer),
-        None => large_numbers(alloc, array, kind),
-    }
+/// What an array has of these.
+pub fn head_of(alloc: Global, array: &Value) -> Result<Head, Trouble> {
+    let validity = match array.get("validity") {
+        Some(value) => Some(bits(alloc, value)?),
+        None => None,
+    };
+    Ok(Head {
+        data_type: type_of(alloc, array)?,
+        validity,
+    })
 }
 
-fn numbers_of(
-    alloc: Global,
-    array: &Value,
-    kind: &str,
-    integer: IntegerType,
-) -> Result<AnyPrimitive, Trouble> {
-    match integer {
-        IntegerType::Int8 => Ok(AnyPrimitive::Int8(integers(alloc, array, kind)?)),
-        IntegerType::Int16 => Ok(AnyPrimitive::Int16(integers(alloc, array, kind)?)),
-        IntegerType::Int32 => Ok(AnyPrimitive::Int32(integers(alloc, array, kind)?)),
-        IntegerType::Int64 => Ok(AnyPrimitive::Int64(integers(alloc, array, kind)?)),
-        IntegerType::UInt8 => Ok(AnyPrimitive::UInt8(integers(alloc, array, kind)?)),
-        IntegerType::UInt16 => Ok(AnyPrimitive::UInt16(integers(alloc, array, kind)?)),
-        IntegerType::UInt32 => Ok(AnyPrimitive::UInt32(integers(alloc, array, kind)?)),
-        IntegerType::UInt64 => Ok(AnyPrimitive::UInt64(integers(alloc, array, kind)?)),
+/// What numbers an array has.
+#[derive(Clone, Copy)]
+pub enum NumberKind {
+    Int8,
+    Int16,
+    Int32,
+    Int64,
+    UInt8,
+    UInt16,
+    UInt32,
+    UInt64,
+    Int128,
+    Int256,
+    DaysMs,
+    MonthDayNano,
+}
+
+const NUMBER_KINDS: [(&str, NumberKind); 12] = [
+    ("int8", NumberKind::Int8),
+    ("int16", NumberKind::Int16),
+    ("int32", NumberKind::Int32),
+    ("int64", NumberKind::Int64),
+    ("uint8", NumberKind::UInt8),
+    ("uint16", NumberKind::UInt16),
+    ("uint32", NumberKind::UInt32),
+    ("uint64", NumberKind::UInt64),
+    ("int128", NumberKind::Int128),
+    ("int256", NumberKind::Int256),
+    ("days_ms", NumberKind::DaysMs),
+    ("months_days_ns", NumberKind::MonthDayNano),
+];
+
+/// What numbers an array of a row has.
+pub fn number_kind(array: &Value) -> Result<NumberKind, Trouble> {
+    choice(array.get("array"), &NUMBER_KINDS, "array")
+}
+
+/// An array of numbers.
+pub fn numbers(alloc: Global, array: &Value) -> Result<AnyPrimitive, Trouble> {
+    match number_kind(array)? {
+        NumberKind::Int8 => Ok(AnyPrimitive::Int8(integers(alloc, array)?)),
+        NumberKind::Int16 => Ok(AnyPrimitive::Int16(integers(alloc, array)?)),
+        NumberKind::Int32 => Ok(AnyPrimitive::Int32(integers(alloc, array)?)),
+        NumberKind::Int64 => Ok(AnyPrimitive::Int64(integers(alloc, array)?)),
+        NumberKind::UInt8 => Ok(AnyPrimitive::UInt8(integers(alloc, array)?)),
+        NumberKind::UInt16 => Ok(AnyPrimitive::UInt16(integers(alloc, array)?)),
+        NumberKind::UInt32 => Ok(AnyPrimitive::UInt32(integers(alloc, array)?)),
+        NumberKind::UInt64 => Ok(AnyPrimitive::UInt64(integers(alloc, array)?)),
+        NumberKind::Int128 => Ok(AnyPrimitive::Int128(integers(alloc, array)?)),
+        NumberKind::Int256 => Ok(AnyPrimitive::Int256(large_array(alloc, array)?)),
+        NumberKind::DaysMs => Ok(AnyPrimitive::DaysMs(large_array(alloc, array)?)),
+        NumberKind::MonthDayNano => Ok(AnyPrimitive::MonthDayNano(large_array(alloc, array)?)),
     }
 }
 
 fn integers<T: NativeType + TryFrom<i128>>(
     alloc: Global,
     array: &Value,
-    kind: &str,
 ) -> Result<PrimitiveArray<T>, Trouble>
 where
     T::Error: Drop,
 {
     let values = whole_numbers(alloc, member(array, "values")?, "values")?;
-    of_values(alloc, array, kind, values)
+    of_values(alloc, array, values)
+}
+
+fn large_array<T: NativeType + Part>(
+    alloc: Global,
+    array: &Value,
+) -> Result<PrimitiveArray<T>, Trouble> {
+    let values = values(alloc, member(array, "values")?, "values")?;
+    of_values(alloc, array, Buffer::new(values)?)
 }
 
 /// The array of a row of these numbers, with its type and validity.
 pub fn of_values<T: NativeType>(
     alloc: Global,
     array: &Value,
-    kind: &str,
     values: Buffer<T>,
 ) -> Result<PrimitiveArray<T>, Trouble> {
-    let data_type = type_of(alloc, array, kind)?;
-    Ok(PrimitiveArray::try_new(data_type, values, validity(alloc, array)?)?)
-}
-
-// Numbers of several parts, and those of more than 64 bits.
-fn large_numbers(alloc: Global, array: &Value, kind: &str) -> Result<AnyPrimitive, Trouble> {
-    match kind {
-        "int128" => Ok(AnyPrimitive::Int128(integers(alloc, array, kind)?)),
-        "int256" => Ok(AnyPrimitive::Int256(large_array(alloc, array, kind)?)),
-        "days_ms" => Ok(AnyPrimitive::DaysMs(large_array(alloc, array, kind)?)),
-        "months_days_ns" => Ok(AnyPrimitive::MonthDayNano(large_array(alloc, array, kind)?)),
-        _ => Err(Trouble::Row("array")),
-    }
-}
-
-fn large_array<T: NativeType + Part>(
-    alloc: Global,
-    array: &Value,
-    kind: &str,
-) -> Result<PrimitiveArray<T>, Trouble> {
-    let values = Buffer::new(values(alloc, member(array, "values")?, "values")?)?;
-    of_values(alloc, array, kind, values)
+    let Head {
+        data_type,
+        validity,
+    } = head_of(alloc, array)?;
+    Ok(PrimitiveArray::try_new(data_type, values, validity)?)
 }
 
 // The high and the low half, as texts of digits.
 impl Part for i256 {
     fn of(item: &Value, name: &'static str) -> Result<i256, Trouble> {
-        let [high, low] = items(item, name)? else {
+        let [high, low] = items(Some(item), name)? else {
             return Err(Trouble::Row(name));
         };
-        let high = whole(high, name)?;
-        match text(low, name)?.parse() {
+        let high = whole(Some(high), name)?;
+        match text(Some(low), name)?.parse() {
             Ok(low) => Ok(i256 { high, low }),
             Err(_) => Err(Trouble::Row(name)),
         }
@@ -167,12 +196,12 @@ impl Part for i256 {
 // The days and the milliseconds.
 impl Part for days_ms {
     fn of(item: &Value, name: &'static str) -> Result<days_ms, Trouble> {
-        let [days, milliseconds] = items(item, name)? else {
+        let [days, milliseconds] = items(Some(item), name)? else {
             return Err(Trouble::Row(name));
         };
         Ok(days_ms {
-            days: number(days, name)?,
-            milliseconds: number(milliseconds, name)?,
+            days: number(Some(days), name)?,
+            milliseconds: number(Some(milliseconds), name)?,
         })
     }
 }
@@ -180,20 +209,20 @@ impl Part for days_ms {
 // The months, the days and the nanoseconds.
 impl Part for months_days_ns {
     fn of(item: &Value, name: &'static str) -> Result<months_days_ns, Trouble> {
-        let [months, days, nanoseconds] = items(item, name)? else {
+        let [months, days, nanoseconds] = items(Some(item), name)? else {
             return Err(Trouble::Row(name));
         };
         Ok(months_days_ns {
-            months: number(months, name)?,
-            days: number(days, name)?,
-            nanoseconds: number(nanoseconds, name)?,
+            months: number(Some(months), name)?,
+            days: number(Some(days), name)?,
+            nanoseconds: number(Some(nanoseconds), name)?,
         })
     }
 }
 
-/// Such numbers as keys of a dictionary.
-pub fn as_keys(numbers: AnyPrimitive) -> Result<DictionaryKeys, Trouble> {
-    match numbers {
+/// The keys of a dictionary, of an array of integers.
+pub fn keys(alloc: Global, array: &Value) -> Result<DictionaryKeys, Trouble> {
+    match numbers(alloc, array)? {
         AnyPrimitive::Int8(keys) => Ok(DictionaryKeys::Int8(keys)),
         AnyPrimitive::Int16(keys) => Ok(DictionaryKeys::Int16(keys)),
         AnyPrimitive::Int32(keys) => Ok(DictionaryKeys::Int32(keys)),

@@ -100,16 +100,14 @@ fn integer_of(data_type: &DataType) -> Result<IntegerType, Trouble> {
 
 // ---- slots
 
-/// The slots of columns, as those of arrays are shown.
-pub fn shown_plain_columns(alloc: Global, columns: &[Vec<PlainSlot>]) -> Result<String, Trouble> {
-    let mut out = Text::new(alloc);
+/// Appends the slots of columns, as those of arrays are shown.
+pub fn put_plain_columns(out: &mut Text, columns: &[Vec<PlainSlot>]) {
     out.put("[");
     for column in columns {
         out.comma();
-        put_plain_slots(&mut out, column);
+        put_plain_slots(out, column);
     }
     out.put("]");
-    out.finish()
 }
 
 #[cycle(plain)]

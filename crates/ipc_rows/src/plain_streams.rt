@@ -96,9 +96,10 @@ fn head_at(alloc: Global, message: &[u8]) -> Result<Option<PlainHead>, Trouble> 
 /// The schema of a stream, and the messages behind it.
 pub fn plain_head(alloc: Global, bytes: &[u8]) -> Result<Option<(PlainHead, &[u8])>, Trouble> {
     match front_of(bytes) {
-        Front::Message { metadata, rest } => {
-            Ok(head_at(alloc, metadata)?.map(|head| (head, rest)))
-        }
+        Front::Message { metadata, rest } => match head_at(alloc, metadata)? {
+            Some(head) => Ok(Some((head, rest))),
+            None => Ok(None),
+        },
         _ => Ok(None),
     }
 }

@@ -56,7 +56,7 @@ pub fn record_of(alloc: Global, value: &Value) -> Result<Record, Trouble> {
 fn form(alloc: Global, value: &Value) -> Result<RecordForm, Trouble> {
     let limit = match value.get("limit") {
         None => None,
-        Some(limit) => Some(count(limit, "limit")?),
+        Some(limit) => Some(count(Some(limit), "limit")?),
     };
     Ok(RecordForm {
         fields: fields(alloc, member(value, "fields")?, LEVELS)?,
@@ -71,8 +71,8 @@ fn chosen(alloc: Global, value: &Value) -> Result<Option<Vec<usize>>, Trouble> {
         return Ok(None);
     };
     let mut out = Vec::new(alloc);
-    for column in items(columns, "chosen")? {
-        out.push(count(column, "chosen")?)?;
+    for column in items(Some(columns), "chosen")? {
+        out.push(count(Some(column), "chosen")?)?;
     }
     Ok(Some(out))
 }
@@ -100,13 +100,17 @@ impl RecordForm {
             fields: Vec::new(alloc),
             is_little_endian: self.is_little_endian,
         };
+        let chosen = match &self.chosen {
+            Some(chosen) => Some(chosen.as_slice()),
+            None => None,
+        };
         let dictionaries: Dictionaries = HashMap::new(alloc);
         Ok(read_record_batch(
             alloc,
             batch,
             &self.fields,
             &ids,
-            self.chosen.as_ref().map(|chosen| chosen.as_slice()),
+            chosen,
             self.limit,
             &dictionaries,
             MetadataVersion::V5,
@@ -140,8 +144,8 @@ impl RecordForm {
 
 // The record message that lists these nodes and buffers.
 fn message_of(alloc: Global, record: &Value) -> Result<Vec<u8>, Trouble> {
-    let nodes = items(member(record, "nodes")?, "nodes")?;
-    let buffers = items(member(record, "buffers")?, "buffers")?;
+    let nodes = items(record.get("nodes"), "nodes")?;
+    let buffers = items(record.get("buffers"), "buffers")?;
     let mut out = Vec::new(alloc);
     // The place of the message, its vtable, and the message: its header's place and tag, version V5.
     out.extend_from_slice(&[16, 0, 0, 0])?;
@@ -162,8 +166,8 @@ fn message_of(alloc: Global, record: &Value) -> Result<Vec<u8>, Trouble> {
 fn put_structs(out: &mut Vec<u8>, pairs: &[Value], name: &'static str) -> Result<(), Trouble> {
     put_u32(out, pairs.len())?;
     for pair in pairs {
-        for number in items(pair, name)? {
-            let number: i64 = json::number(number, name)?;
+        for number in items(Some(pair), name)? {
+            let number: i64 = json::number(Some(number), name)?;
             out.extend_from_slice(&number.to_le_bytes())?;
         }
     }

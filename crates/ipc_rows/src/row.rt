@@ -5,7 +5,7 @@
 
 use crate::calls::called;
 use crate::json::{member, text, truth};
-use crate::schemas::{shown_by_both, wanted_schema};
+use crate::schemas::put_wanted_schema;
 use crate::text::Text;
 use crate::trouble::Trouble;
 use ipc_devices::fault::Fault;
@@ -31,12 +31,13 @@ impl Answer {
 }
 
 /// Runs a row, to which the common parts of its call are added.
-pub fn run_row(alloc: Global, row: Value, common: &Value) -> Result<Answer, Trouble> {
-    let row = with_common(row, common)?;
-    let name = String::from_str(alloc, text(member(&row, "row")?, "row")?)?;
-    let wanted = wanted_of(alloc, member(&row, "gives")?)?;
-    let got = match made_call(alloc, &row) {
-        Err(Trouble::Refused(fault)) => shown_fault(alloc, &fault, member(&row, "gives")?)?,
+pub fn run_row(alloc: Global, row: &mut Value, common: &Value) -> Result<Answer, Trouble> {
+    add_common(row, common)?;
+    let gives = member(row, "gives")?;
+    let name = String::from_str(alloc, text(row.get("row"), "row")?)?;
+    let wanted = wanted_of(alloc, gives)?;
+    let got = match made_call(alloc, row) {
+        Err(Trouble::Refused(fault)) => shown_fault(alloc, &fault, gives)?,
         called => in_order(alloc, called?)?,
     };
     Ok(Answer { name, wanted, got })
@@ -80,38 +81,51 @@ fn made_call(alloc: Global, row: &Value) -> Result<String, Trouble> {
 
 // What a row wants, as text: what the plain program and a reader say each by itself.
 fn wanted_of(alloc: Global, value: &Value) -> Result<String, Trouble> {
-    let (Some(plain), Some(reader)) = (value.get("plain"), value.get("reader")) else {
-        return wanted_part(alloc, value);
-    };
-    let agree = truth(member(value, "agree")?, "agree")?;
-    let plain = wanted_part(alloc, plain)?;
-    shown_by_both(alloc, agree, &plain, &wanted_part(alloc, reader)?)
+    let mut out = Text::new(alloc);
+    match (value.get("plain"), value.get("reader")) {
+        (Some(plain), Some(reader)) => {
+            out.put("agree ");
+            out.show(&truth(value.get("agree"), "agree")?);
+            out.put(", plain ");
+            put_wanted(alloc, &mut out, plain)?;
+            out.put(", reader ");
+            put_wanted(alloc, &mut out, reader)?;
+        }
+        _ => put_wanted(alloc, &mut out, value)?,
+    }
+    out.finish()
 }
 
 // A schema as Rust shows one, anything else as it stands.
-fn wanted_part(alloc: Global, value: &Value) -> Result<String, Trouble> {
+fn put_wanted(alloc: Global, out: &mut Text, value: &Value) -> Result<(), Trouble> {
     if value.get("fields").is_some() {
-        return wanted_schema(alloc, value);
+        return put_wanted_schema(alloc, out, value);
     }
-    Ok(value.to_string(alloc)?)
+    out.json(value);
+    Ok(())
 }
 
-// The row with the common parts of its call that it doesn't have.
-fn with_common(mut row: Value, common: &Value) -> Result<Value, Trouble> {
+// Adds the common parts of its call that a row doesn't have.
+fn add_common(row: &mut Value, common: &Value) -> Result<(), Trouble> {
     let Some(Value::Object(calls)) = common.get("common") else {
-        return Ok(row);
+        return Ok(());
     };
     for (call, common_parts) in calls {
-        if let (Some(Value::Object(parts)), Value::Object(common_parts)) = (
-            row.get_mut(call.as_str()),
-            common_parts,
-        ) {
-            for (name, part) in common_parts {
-                if !parts.contains_key(name.as_str()) {
-                    parts.insert(name.clone()?, part.clone()?)?;
-                }
-            }
+        if let Some(parts) = row.get_mut(call.as_str()) {
+            add_parts(parts, common_parts)?;
         }
     }
-    Ok(row)
+    Ok(())
+}
+
+fn add_parts(parts: &mut Value, common: &Value) -> Result<(), Trouble> {
+    let (Value::Object(parts), Value::Object(common)) = (parts, common) else {
+        return Ok(());
+    };
+    for (name, part) in common {
+        if !parts.contains_key(name.as_str()) {
+            parts.insert(name.clone()?, part.clone()?)?;
+        }
+    }
+    Ok(())
 }

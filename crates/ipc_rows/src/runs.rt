@@ -7,48 +7,39 @@ use std::alloc::Global;
 /// Answers in their order.
 #[derive(Drop)]
 pub struct Runs {
-    // those that are over
-    shown: Text,
     last: String,
     count: u64,
 }
 
 impl Runs {
     pub fn new(alloc: Global) -> Runs {
-        let mut shown = Text::new(alloc);
-        shown.put("[");
         Runs {
-            shown,
             last: String::new(alloc),
             count: 0,
         }
     }
 
-    /// Adds an answer.
-    pub fn add(&mut self, answer: String) {
+    /// Adds an answer, and appends those before it where it is another one.
+    pub fn add(&mut self, out: &mut Text, answer: Text) -> Result<(), Trouble> {
+        let answer = answer.finish()?;
         if answer != self.last {
-            self.end_run();
+            self.end_run(out);
             self.last = answer;
         }
         self.count = self.count.saturating_add(1);
+        Ok(())
     }
 
-    fn end_run(&mut self) {
+    /// Appends the last answers.
+    pub fn end_run(&mut self, out: &mut Text) {
         if self.count != 0 {
-            self.shown.comma();
-            self.shown.put("[");
-            self.shown.put(self.last.as_str());
-            self.shown.put(",");
-            self.shown.show(&self.count);
-            self.shown.put("]");
+            out.comma();
+            out.put("[");
+            out.put(self.last.as_str());
+            out.put(",");
+            out.show(&self.count);
+            out.put("]");
         }
         self.count = 0;
-    }
-
-    /// All answers, as text.
-    pub fn finish(mut self) -> Result<String, Trouble> {
-        self.end_run();
-        self.shown.put("]");
-        self.shown.finish()
     }
 }

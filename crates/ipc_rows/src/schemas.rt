@@ -4,7 +4,8 @@
 //!
 //! An id is `{"id": 7, "children": [ID, ..]}`, where either may be left out.
 
-use crate::json::{items, member, number, text};
+use crate::json::{choice, items, member, number, text};
+use crate::text::Text;
 use crate::trouble::Trouble;
 use crate::types::{LEVELS, fields, metadata};
 use ipc_base::ipc::{IpcField, IpcSchema};
@@ -12,7 +13,6 @@ use ipc_schema_write::defaults::default_ipc_fields;
 use lower::datatypes::Schema;
 use serde_json::Value;
 use std::alloc::Global;
-use std::fmt::Write;
 
 /// The schema of a row.
 pub fn schema(alloc: Global, value: &Value) -> Result<Schema, Trouble> {
@@ -22,38 +22,38 @@ pub fn schema(alloc: Global, value: &Value) -> Result<Schema, Trouble> {
     })
 }
 
-/// The schema and what IPC adds to it, as text.
-pub fn wanted_schema(alloc: Global, value: &Value) -> Result<String, Trouble> {
+/// Appends the schema of a row and what IPC adds to it.
+pub fn put_wanted_schema(alloc: Global, out: &mut Text, value: &Value) -> Result<(), Trouble> {
     let schema = schema(alloc, value)?;
-    let mut wanted = shown_of_row(alloc, value, &schema)?;
+    put_schema_of_row(alloc, out, value, &schema)?;
     if let Some(version) = value.get("version") {
-        write!(wanted, " {}", text(version, "version")?)?;
+        out.put(" ");
+        out.put(text(Some(version), "version")?);
     }
-    Ok(wanted)
+    Ok(())
 }
 
-/// A schema, with the ids and the byte order of a row, as text.
-pub fn shown_of_row(alloc: Global, value: &Value, schema: &Schema) -> Result<String, Trouble> {
+/// Appends a schema, with the ids and the byte order of a row.
+pub fn put_schema_of_row(
+    alloc: Global,
+    out: &mut Text,
+    value: &Value,
+    schema: &Schema,
+) -> Result<(), Trouble> {
+    let is_little_endian = is_little_endian(value)?;
     let ids = IpcSchema {
         fields: ids_of(alloc, value, schema)?,
-        is_little_endian: is_little_endian(value)?,
+        is_little_endian,
     };
-    shown_schema(alloc, schema, &ids)
+    put_schema(out, schema, &ids);
+    Ok(())
 }
 
-/// A schema and what IPC adds to it, as rows show them.
-pub fn shown_schema(alloc: Global, schema: &Schema, ids: &IpcSchema) -> Result<String, Trouble> {
-    Ok(format!(in alloc; "{schema:?} {ids:?}")?)
-}
-
-/// What the plain program and the reader say of one message, as rows show it.
-pub fn shown_by_both(
-    alloc: Global,
-    agree: bool,
-    plain: &str,
-    reader: &str,
-) -> Result<String, Trouble> {
-    Ok(format!(in alloc; "agree {agree}, plain {plain}, reader {reader}")?)
+/// Appends a schema and what IPC adds to it, as rows show them.
+pub fn put_schema(out: &mut Text, schema: &Schema, ids: &IpcSchema) {
+    out.debug(schema);
+    out.put(" ");
+    out.debug(ids);
 }
 
 /// The ids of a schema, or those by default.
@@ -67,7 +67,7 @@ pub fn ids_of(alloc: Global, value: &Value, schema: &Schema) -> Result<Vec<IpcFi
 #[cycle(ids)]
 fn id_trees(alloc: Global, value: &Value, levels: usize) -> Result<Vec<IpcField>, Trouble> {
     let mut out = Vec::new(alloc);
-    for value in items(value, "ids")? {
+    for value in items(Some(value), "ids")? {
         out.push(id_tree(alloc, value, levels)?)?;
     }
     Ok(out)
@@ -80,7 +80,7 @@ fn id_tree(alloc: Global, value: &Value, levels: usize) -> Result<IpcField, Trou
     }
     let dictionary_id = match value.get("id") {
         None => None,
-        Some(id) => Some(number(id, "id")?),
+        Some(id) => Some(number(Some(id), "id")?),
     };
     let fields = match value.get("children") {
         None => Vec::new(alloc),
@@ -92,14 +92,13 @@ fn id_tree(alloc: Global, value: &Value, levels: usize) -> Result<IpcField, Trou
     })
 }
 
+// The orders of bytes, by whether the lowest one is first.
+const ORDERS: [(&str, bool); 2] = [("big", false), ("little", true)];
+
 /// Whether the lowest byte of numbers is first, which the member `order` says.
 pub fn is_little_endian(value: &Value) -> Result<bool, Trouble> {
     match value.get("order") {
         None => Ok(true),
-        Some(order) => match text(order, "order")? {
-            "big" => Ok(false),
-            "little" => Ok(true),
-            _ => Err(Trouble::Row("order")),
-        },
+        order => choice(order, &ORDERS, "order"),
     }
 }

@@ -13,9 +13,9 @@
 
 mod types;
 
-use crate::json::{Part, count, item, items, member, number, text, truth, values};
+use crate::json::{Part, choice, count, items, member, number, text, truth, values};
 use crate::trouble::Trouble;
-use crate::types::LEVELS;
+use crate::types::{LEVELS, nullable};
 use ipc_tables::file::Footer;
 use ipc_tables::message::{DictionaryBatch, Message, MessageHeader, RecordBatch};
 use ipc_tables::schema::{DictionaryEncoding, Field, KeyValue, Schema};
@@ -29,7 +29,7 @@ pub fn message(alloc: Global, value: &Value) -> Result<Vec<u8>, Trouble> {
     let version = version(value)?;
     let body_length = match value.get("body_length") {
         None => 0,
-        Some(length) => number(length, "body_length")?,
+        Some(length) => number(Some(length), "body_length")?,
     };
     let message = Message {
         version,
@@ -51,17 +51,18 @@ pub fn footer(alloc: Global, value: &Value) -> Result<Vec<u8>, Trouble> {
     Ok(footer.to_bytes(alloc)?)
 }
 
+const VERSIONS: [(&str, MetadataVersion); 5] = [
+    ("V1", MetadataVersion::V1),
+    ("V2", MetadataVersion::V2),
+    ("V3", MetadataVersion::V3),
+    ("V4", MetadataVersion::V4),
+    ("V5", MetadataVersion::V5),
+];
+
 fn version(value: &Value) -> Result<MetadataVersion, Trouble> {
-    let Some(version) = value.get("version") else {
-        return Ok(MetadataVersion::V5);
-    };
-    match text(version, "version")? {
-        "V1" => Ok(MetadataVersion::V1),
-        "V2" => Ok(MetadataVersion::V2),
-        "V3" => Ok(MetadataVersion::V3),
-        "V4" => Ok(MetadataVersion::V4),
-        "V5" => Ok(MetadataVersion::V5),
-        _ => Err(Trouble::Row("version")),
+    match value.get("version") {
+        None => Ok(MetadataVersion::V5),
+        version => choice(version, &VERSIONS, "version"),
     }
 }
 
@@ -74,8 +75,8 @@ fn header(alloc: Global, value: &Value) -> Result<MessageHeader, Trouble> {
     }
     let table = member(value, "dictionary_batch")?;
     Ok(MessageHeader::DictionaryBatch(DictionaryBatch {
-        id: number(member(table, "id")?, "id")?,
-        is_delta: truth(member(table, "is_delta")?, "is_delta")?,
+        id: number(table.get("id"), "id")?,
+        is_delta: truth(table.get("is_delta"), "is_delta")?,
         data_: record_batch(alloc, member(table, "data")?)?,
     }))
 }
@@ -84,7 +85,7 @@ fn header(alloc: Global, value: &Value) -> Result<MessageHeader, Trouble> {
 
 fn record_batch(alloc: Global, value: &Value) -> Result<RecordBatch, Trouble> {
     Ok(RecordBatch {
-        length: number(member(value, "length")?, "length")?,
+        length: number(value.get("length"), "length")?,
         nodes: values(alloc, member(value, "nodes")?, "nodes")?,
         buffers: values(alloc, member(value, "buffers")?, "buffers")?,
     })
@@ -92,37 +93,37 @@ fn record_batch(alloc: Global, value: &Value) -> Result<RecordBatch, Trouble> {
 
 impl Part for FieldNode {
     fn of(item: &Value, name: &'static str) -> Result<FieldNode, Trouble> {
-        let [length, null_count] = items(item, name)? else {
+        let [length, null_count] = items(Some(item), name)? else {
             return Err(Trouble::Row(name));
         };
         Ok(FieldNode {
-            length: number(length, name)?,
-            null_count: number(null_count, name)?,
+            length: number(Some(length), name)?,
+            null_count: number(Some(null_count), name)?,
         })
     }
 }
 
 impl Part for Buffer {
     fn of(item: &Value, name: &'static str) -> Result<Buffer, Trouble> {
-        let [offset, length] = items(item, name)? else {
+        let [offset, length] = items(Some(item), name)? else {
             return Err(Trouble::Row(name));
         };
         Ok(Buffer {
-            offset: number(offset, name)?,
-            length: number(length, name)?,
+            offset: number(Some(offset), name)?,
+            length: number(Some(length), name)?,
         })
     }
 }
 
 impl Part for Block {
     fn of(item: &Value, name: &'static str) -> Result<Block, Trouble> {
-        let [offset, metadata, body] = items(item, name)? else {
+        let [offset, metadata, body] = items(Some(item), name)? else {
             return Err(Trouble::Row(name));
         };
         Ok(Block {
-            offset: number(offset, name)?,
-            meta_data_length: number(metadata, name)?,
-            body_length: number(body, name)?,
+            offset: number(Some(offset), name)?,
+            meta_data_length: number(Some(metadata), name)?,
+            body_length: number(Some(body), name)?,
         })
     }
 }
@@ -137,14 +138,12 @@ fn schema(alloc: Global, value: &Value) -> Result<Schema, Trouble> {
     })
 }
 
+const ORDERS: [(&str, Endianness); 2] = [("Little", Endianness::Little), ("Big", Endianness::Big)];
+
 fn endianness(value: &Value) -> Result<Endianness, Trouble> {
-    let Some(endianness) = value.get("endianness") else {
-        return Ok(Endianness::Little);
-    };
-    match text(endianness, "endianness")? {
-        "Little" => Ok(Endianness::Little),
-        "Big" => Ok(Endianness::Big),
-        _ => Err(Trouble::Row("endianness")),
+    match value.get("endianness") {
+        None => Ok(Endianness::Little),
+        endianness => choice(endianness, &ORDERS, "endianness"),
     }
 }
 
@@ -154,15 +153,15 @@ fn pairs(alloc: Global, value: &Value) -> Result<Vec<KeyValue>, Trouble> {
     let Some(pairs) = value.get("metadata") else {
         return Ok(out);
     };
-    for pair in items(pairs, "metadata")? {
-        out.push(key_value(alloc, items(pair, "metadata")?)?)?;
+    for pair in items(Some(pairs), "metadata")? {
+        out.push(key_value(alloc, items(Some(pair), "metadata")?)?)?;
     }
     Ok(out)
 }
 
 fn key_value(alloc: Global, pair: &[Value]) -> Result<KeyValue, Trouble> {
-    let key = text(item(pair, 0, "metadata")?, "metadata")?;
-    let value = text(item(pair, 1, "metadata")?, "metadata")?;
+    let key = text(pair.get(0), "metadata")?;
+    let value = text(pair.get(1), "metadata")?;
     Ok(KeyValue {
         key: String::from_str(alloc, key)?,
         value: String::from_str(alloc, value)?,
@@ -172,7 +171,7 @@ fn key_value(alloc: Global, pair: &[Value]) -> Result<KeyValue, Trouble> {
 #[cycle(tables)]
 fn fields(alloc: Global, value: &Value, levels: usize) -> Result<Vec<Field>, Trouble> {
     let mut out = Vec::new(alloc);
-    for value in items(value, "fields")? {
+    for value in items(Some(value), "fields")? {
         let field = field(alloc, value, levels)?;
         out.push(in_lists(alloc, field, value)?)?;
     }
@@ -185,12 +184,9 @@ fn field(alloc: Global, value: &Value, levels: usize) -> Result<Field, Trouble> 
         return Err(Trouble::Row("fields"));
     }
     let dictionary = dictionary(value)?;
-    let nullable = match value.get("nullable") {
-        None => true,
-        Some(nullable) => truth(nullable, "nullable")?,
-    };
+    let nullable = nullable(value)?;
     Ok(Field {
-        name: String::from_str(alloc, text(member(value, "name")?, "name")?)?,
+        name: String::from_str(alloc, text(value.get("name"), "name")?)?,
         nullable,
         type_: types::field_type(alloc, member(value, "type")?)?,
         dictionary,
@@ -213,7 +209,7 @@ fn in_lists(alloc: Global, field: Field, value: &Value) -> Result<Field, Trouble
         return Ok(field);
     };
     let mut field = field;
-    for _ in 0..count(lists, "lists")? {
+    for _ in 0..count(Some(lists), "lists")? {
         field = list_of(alloc, field)?;
     }
     Ok(field)
@@ -237,8 +233,8 @@ fn dictionary(value: &Value) -> Result<Option<DictionaryEncoding>, Trouble> {
         return Ok(None);
     };
     Ok(Some(DictionaryEncoding {
-        id: number(member(value, "id")?, "id")?,
-        index_type: types::int(items(member(value, "index_type")?, "index_type")?)?,
-        is_ordered: truth(member(value, "is_ordered")?, "is_ordered")?,
+        id: number(value.get("id"), "id")?,
+        index_type: types::int(items(value.get("index_type"), "index_type")?)?,
+        is_ordered: truth(value.get("is_ordered"), "is_ordered")?,
     }))
 }

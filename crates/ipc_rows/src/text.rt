@@ -55,11 +55,26 @@ impl Text {
         }
     }
 
-    /// Appends a name in quotes, as Rust shows it.
-    pub fn name<T: Debug>(&mut self, value: &T) {
-        if write!(self.held, "\"{value:?}\"").is_err() {
+    /// Appends what Rust shows of a value, as it stands.
+    pub fn debug<T: Debug>(&mut self, value: &T) {
+        if write!(self.held, "{value:?}").is_err() {
             self.missing = Some(Missing::Memory);
         }
+    }
+
+    /// Appends a JSON value.
+    pub fn json(&mut self, value: &Json) {
+        match value.to_string(self.alloc) {
+            Ok(text) => self.put(text.as_str()),
+            Err(_) => self.missing = Some(Missing::Memory),
+        }
+    }
+
+    /// Appends a name in quotes, as Rust shows it.
+    pub fn name<T: Debug>(&mut self, value: &T) {
+        self.put("\"");
+        self.debug(value);
+        self.put("\"");
     }
 
     /// Appends a comma, but for the first item of a list.
@@ -81,15 +96,13 @@ impl Text {
     /// Appends bytes as hex digits in quotes.
     pub fn hex(&mut self, bytes: &[u8]) {
         match hex::encode(self.alloc, bytes) {
-            Ok(digits) => self.in_quotes(digits.as_str()),
+            Ok(digits) => {
+                self.put("\"");
+                self.put(digits.as_str());
+                self.put("\"");
+            }
             Err(_) => self.missing = Some(Missing::Memory),
         }
-    }
-
-    fn in_quotes(&mut self, piece: &str) {
-        self.put("\"");
-        self.put(piece);
-        self.put("\"");
     }
 
     /// Appends a text in quotes, as JSON has it.
@@ -102,8 +115,8 @@ impl Text {
 
     /// The same of a text that is known to be one.
     pub fn quoted(&mut self, text: &str) {
-        match json_of(self.alloc, text) {
-            Ok(quoted) => self.put(quoted.as_str()),
+        match Json::try_from_str(self.alloc, text) {
+            Ok(text) => self.json(&text),
             Err(_) => self.missing = Some(Missing::Memory),
         }
     }
@@ -120,8 +133,4 @@ impl Text {
     pub fn miss(&mut self, part: &'static str) {
         self.missing = Some(Missing::Part(part));
     }
-}
-
-fn json_of(alloc: Global, text: &str) -> Result<String, Trouble> {
-    Ok(Json::try_from_str(alloc, text)?.to_string(alloc)?)
 }

@@ -13,7 +13,7 @@
 //! A field is `{"name": "a", "type": TYPE, "nullable": false, "metadata": {"k": "v"}}`, or a type alone: a field without a
 //! name, whose slots may be null.
 
-use crate::json::{count, item, items, member, number, text, truth};
+use crate::json::{Part, choice, count, item, items, member, named, number, text, truth, values};
 use crate::trouble::Trouble;
 use lower::datatypes::{DataType, Field, IntegerType, IntervalUnit, Metadata, TimeUnit, UnionMode};
 use serde_json::Value;
@@ -26,275 +26,324 @@ pub const LEVELS: usize = 70;
 #[cycle(types)]
 pub fn data_type(alloc: Global, value: &Value, levels: usize) -> Result<DataType, Trouble> {
     match value {
-        Value::String(name) => plain_type(name.as_str()),
-        Value::Array(parts) if levels > 0 => {
-            let name = text(item(parts, 0, "type")?, "type")?;
-            match sized_type(alloc, name, parts)? {
-                Some(found) => Ok(found),
-                None => nested_type(alloc, name, parts, levels - 1),
-            }
-        }
-        _ => Err(Trouble::Row("type")),
+        Value::Array(parts) if levels > 0 => formed_type(alloc, parts, levels - 1),
+        _ => plain_type(Some(value)),
     }
 }
+
+/// The types of integers.
+pub const INTEGERS: [(&str, IntegerType); 8] = [
+    ("int8", IntegerType::Int8),
+    ("int16", IntegerType::Int16),
+    ("int32", IntegerType::Int32),
+    ("int64", IntegerType::Int64),
+    ("uint8", IntegerType::UInt8),
+    ("uint16", IntegerType::UInt16),
+    ("uint32", IntegerType::UInt32),
+    ("uint64", IntegerType::UInt64),
+];
+
+// The other types that have no parameters.
+#[derive(Clone, Copy)]
+enum PlainType {
+    Null,
+    Boolean,
+    Date32,
+    Date64,
+    Binary,
+    LargeBinary,
+    Utf8,
+    LargeUtf8,
+    Float16,
+    Float32,
+    Float64,
+}
+
+const PLAIN_TYPES: [(&str, PlainType); 11] = [
+    ("null", PlainType::Null),
+    ("boolean", PlainType::Boolean),
+    ("date32", PlainType::Date32),
+    ("date64", PlainType::Date64),
+    ("binary", PlainType::Binary),
+    ("large_binary", PlainType::LargeBinary),
+    ("utf8", PlainType::Utf8),
+    ("large_utf8", PlainType::LargeUtf8),
+    ("float16", PlainType::Float16),
+    ("float32", PlainType::Float32),
+    ("float64", PlainType::Float64),
+];
 
 /// A type that has no parameters.
-pub fn plain_type(name: &str) -> Result<DataType, Trouble> {
-    match integer_named(name) {
-        Some(integer) => Ok(DataType::from(integer)),
-        None => other_type(name),
+pub fn plain_type(value: Option<&Value>) -> Result<DataType, Trouble> {
+    if let Some(integer) = named(&INTEGERS, text(value, "type")?) {
+        return Ok(DataType::from(integer));
+    }
+    match choice(value, &PLAIN_TYPES, "type")? {
+        PlainType::Null => Ok(DataType::Null),
+        PlainType::Boolean => Ok(DataType::Boolean),
+        PlainType::Date32 => Ok(DataType::Date32),
+        PlainType::Date64 => Ok(DataType::Date64),
+        PlainType::Binary => Ok(DataType::Binary),
+        PlainType::LargeBinary => Ok(DataType::LargeBinary),
+        PlainType::Utf8 => Ok(DataType::Utf8),
+        PlainType::LargeUtf8 => Ok(DataType::LargeUtf8),
+        PlainType::Float16 => Ok(DataType::Float16),
+        PlainType::Float32 => Ok(DataType::Float32),
+        PlainType::Float64 => Ok(DataType::Float64),
     }
 }
 
-fn other_type(name: &str) -> Result<DataType, Trouble> {
-    match name {
-        "null" => Ok(DataType::Null),
-        "boolean" => Ok(DataType::Boolean),
-        "date32" => Ok(DataType::Date32),
-        "date64" => Ok(DataType::Date64),
-        _ => type_of_bytes(name),
-    }
+// The types with parameters, by what stands in them.
+#[derive(Clone, Copy)]
+enum Form {
+    Childless(ChildlessForm),
+    OfField(ListForm),
+    OfFields(GroupForm),
+    OfType(WrappedForm),
 }
 
-fn type_of_bytes(name: &str) -> Result<DataType, Trouble> {
-    match name {
-        "binary" => Ok(DataType::Binary),
-        "large_binary" => Ok(DataType::LargeBinary),
-        "utf8" => Ok(DataType::Utf8),
-        "large_utf8" => Ok(DataType::LargeUtf8),
-        _ => float_type(name),
-    }
+#[derive(Clone, Copy)]
+enum ChildlessForm {
+    FixedSizeBinary,
+    Decimal,
+    Decimal256,
+    Timestamp,
+    Time32,
+    Time64,
+    Duration,
+    Interval,
 }
 
-fn float_type(name: &str) -> Result<DataType, Trouble> {
-    match name {
-        "float16" => Ok(DataType::Float16),
-        "float32" => Ok(DataType::Float32),
-        "float64" => Ok(DataType::Float64),
-        _ => Err(Trouble::Row("type")),
-    }
-}
-
-// A type with parameters, and without children.
-fn sized_type(alloc: Global, name: &str, parts: &[Value]) -> Result<Option<DataType>, Trouble> {
-    Ok(Some(match name {
-        "fixed_size_binary" => DataType::FixedSizeBinary(count(item(parts, 1, "size")?, "size")?),
-        "decimal" => {
-            DataType::Decimal(count(item(parts, 1, "digits")?, "digits")?, scale(parts)?)
-        }
-        "decimal256" => {
-            DataType::Decimal256(count(item(parts, 1, "digits")?, "digits")?, scale(parts)?)
-        }
-        "timestamp" => DataType::Timestamp(unit(parts)?, optional_text(alloc, parts, 2)?),
-        "time32" => DataType::Time32(unit(parts)?),
-        "time64" => DataType::Time64(unit(parts)?),
-        "duration" => DataType::Duration(unit(parts)?),
-        "interval" => DataType::Interval(interval(parts)?),
-        _ => return Ok(None),
-    }))
-}
-
-fn scale(parts: &[Value]) -> Result<usize, Trouble> {
-    count(item(parts, 2, "scale")?, "scale")
-}
-
-fn unit(parts: &[Value]) -> Result<TimeUnit, Trouble> {
-    match text(item(parts, 1, "unit")?, "unit")? {
-        "s" => Ok(TimeUnit::Second),
-        "ms" => Ok(TimeUnit::Millisecond),
-        "us" => Ok(TimeUnit::Microsecond),
-        "ns" => Ok(TimeUnit::Nanosecond),
-        _ => Err(Trouble::Row("unit")),
-    }
-}
-
-fn interval(parts: &[Value]) -> Result<IntervalUnit, Trouble> {
-    match text(item(parts, 1, "unit")?, "unit")? {
-        "months" => Ok(IntervalUnit::YearMonth),
-        "days" => Ok(IntervalUnit::DayTime),
-        "nanoseconds" => Ok(IntervalUnit::MonthDayNano),
-        _ => Err(Trouble::Row("unit")),
-    }
-}
-
-fn optional_text(alloc: Global, parts: &[Value], index: usize) -> Result<Option<String>, Trouble> {
-    match parts.get(index) {
-        None => Ok(None),
-        Some(value) => Ok(Some(String::from_str(alloc, text(value, "text")?)?)),
-    }
-}
-
-// A type with children, of as many levels at most.
-#[cycle(types)]
-fn nested_type(
-    alloc: Global,
-    name: &str,
-    parts: &[Value],
-    levels: usize,
-) -> Result<DataType, Trouble> {
-    match name {
-        "list" | "large_list" | "fixed_size_list" | "map" => {
-            let form = list_form(name, parts)?;
-            let item = field(alloc, item(parts, 1, "type")?, levels)?;
-            Ok(list_type(form, Box::new(alloc, item)?))
-        }
-        "lists" => {
-            let inner = data_type(alloc, item(parts, 1, "type")?, levels)?;
-            let depth = count(item(parts, 2, "lists")?, "lists")?;
-            lists(alloc, inner, depth, parts.get(3))
-        }
-        "twins" => {
-            let inner = data_type(alloc, item(parts, 1, "type")?, levels)?;
-            twins(alloc, inner, count(item(parts, 2, "twins")?, "twins")?)
-        }
-        "struct" => Ok(DataType::Struct(fields(alloc, item(parts, 1, "fields")?, levels)?)),
-        "union" => {
-            let children = fields(alloc, item(parts, 2, "fields")?, levels)?;
-            union_type(alloc, parts, children)
-        }
-        "dictionary" | "extension" => {
-            let inner = data_type(alloc, item(parts, 2, "type")?, levels)?;
-            type_of_type(alloc, name, parts, inner)
-        }
-        _ => Err(Trouble::Row("type")),
-    }
-}
-
-// The types of lists, with what they take beside a field.
 #[derive(Clone, Copy)]
 enum ListForm {
     Small,
     Large,
-    Fixed(usize),
-    Map { is_sorted: bool },
+    Fixed,
+    Map,
 }
 
-fn list_form(name: &str, parts: &[Value]) -> Result<ListForm, Trouble> {
-    match name {
-        "list" => Ok(ListForm::Small),
-        "large_list" => Ok(ListForm::Large),
-        "fixed_size_list" => Ok(ListForm::Fixed(count(item(parts, 2, "size")?, "size")?)),
-        _ => {
-            let is_sorted = truth(item(parts, 2, "sorted")?, "sorted")?;
-            Ok(ListForm::Map { is_sorted })
+#[derive(Clone, Copy)]
+enum GroupForm {
+    Struct,
+    Union,
+}
+
+#[derive(Clone, Copy)]
+enum WrappedForm {
+    Lists,
+    Twins,
+    Dictionary,
+    Extension,
+}
+
+// Each with the place of what stands in it.
+const FORMS: [(&str, (Form, usize)); 18] = [
+    (
+        "fixed_size_binary",
+        (Form::Childless(ChildlessForm::FixedSizeBinary), 0),
+    ),
+    ("decimal", (Form::Childless(ChildlessForm::Decimal), 0)),
+    (
+        "decimal256",
+        (Form::Childless(ChildlessForm::Decimal256), 0),
+    ),
+    ("timestamp", (Form::Childless(ChildlessForm::Timestamp), 0)),
+    ("time32", (Form::Childless(ChildlessForm::Time32), 0)),
+    ("time64", (Form::Childless(ChildlessForm::Time64), 0)),
+    ("duration", (Form::Childless(ChildlessForm::Duration), 0)),
+    ("interval", (Form::Childless(ChildlessForm::Interval), 0)),
+    ("list", (Form::OfField(ListForm::Small), 1)),
+    ("large_list", (Form::OfField(ListForm::Large), 1)),
+    ("fixed_size_list", (Form::OfField(ListForm::Fixed), 1)),
+    ("map", (Form::OfField(ListForm::Map), 1)),
+    ("struct", (Form::OfFields(GroupForm::Struct), 1)),
+    ("union", (Form::OfFields(GroupForm::Union), 2)),
+    ("lists", (Form::OfType(WrappedForm::Lists), 1)),
+    ("twins", (Form::OfType(WrappedForm::Twins), 1)),
+    ("dictionary", (Form::OfType(WrappedForm::Dictionary), 2)),
+    ("extension", (Form::OfType(WrappedForm::Extension), 2)),
+];
+
+// A type with parameters, of as many levels at most.
+#[cycle(types)]
+fn formed_type(alloc: Global, parts: &[Value], levels: usize) -> Result<DataType, Trouble> {
+    let (form, place) = choice(parts.get(0), &FORMS, "type")?;
+    let child = item(parts, place, "type")?;
+    match form {
+        Form::Childless(form) => childless_type(alloc, form, parts),
+        Form::OfField(form) => list_type(alloc, form, parts, field(alloc, child, levels)?),
+        Form::OfFields(form) => group_type(alloc, form, parts, fields(alloc, child, levels)?),
+        Form::OfType(form) => wrapped_type(alloc, form, parts, data_type(alloc, child, levels)?),
+    }
+}
+
+fn childless_type(
+    alloc: Global,
+    form: ChildlessForm,
+    parts: &[Value],
+) -> Result<DataType, Trouble> {
+    match form {
+        ChildlessForm::FixedSizeBinary => {
+            Ok(DataType::FixedSizeBinary(count(parts.get(1), "size")?))
+        }
+        ChildlessForm::Decimal => {
+            let (digits, scale) = digits(parts)?;
+            Ok(DataType::Decimal(digits, scale))
+        }
+        ChildlessForm::Decimal256 => {
+            let (digits, scale) = digits(parts)?;
+            Ok(DataType::Decimal256(digits, scale))
+        }
+        ChildlessForm::Timestamp => {
+            Ok(DataType::Timestamp(unit(parts)?, optional_text(alloc, parts.get(2))?))
+        }
+        ChildlessForm::Time32 => Ok(DataType::Time32(unit(parts)?)),
+        ChildlessForm::Time64 => Ok(DataType::Time64(unit(parts)?)),
+        ChildlessForm::Duration => Ok(DataType::Duration(unit(parts)?)),
+        ChildlessForm::Interval => {
+            Ok(DataType::Interval(choice(parts.get(1), &INTERVALS, "unit")?))
         }
     }
 }
 
-fn list_type(form: ListForm, item: Box<Field>) -> DataType {
-    match form {
-        ListForm::Small => DataType::List(item),
-        ListForm::Large => DataType::LargeList(item),
-        ListForm::Fixed(size) => DataType::FixedSizeList(item, size),
-        ListForm::Map { is_sorted } => DataType::Map(item, is_sorted),
+fn digits(parts: &[Value]) -> Result<(usize, usize), Trouble> {
+    Ok((
+        count(parts.get(1), "digits")?,
+        count(parts.get(2), "scale")?,
+    ))
+}
+
+const UNITS: [(&str, TimeUnit); 4] = [
+    ("s", TimeUnit::Second),
+    ("ms", TimeUnit::Millisecond),
+    ("us", TimeUnit::Microsecond),
+    ("ns", TimeUnit::Nanosecond),
+];
+
+fn unit(parts: &[Value]) -> Result<TimeUnit, Trouble> {
+    choice(parts.get(1), &UNITS, "unit")
+}
+
+const INTERVALS: [(&str, IntervalUnit); 3] = [
+    ("months", IntervalUnit::YearMonth),
+    ("days", IntervalUnit::DayTime),
+    ("nanoseconds", IntervalUnit::MonthDayNano),
+];
+
+/// A text that may be left out.
+pub fn optional_text(alloc: Global, value: Option<&Value>) -> Result<Option<String>, Trouble> {
+    match value {
+        None => Ok(None),
+        Some(_) => Ok(Some(String::from_str(alloc, text(value, "text")?)?)),
     }
 }
 
+// A type of lists of this field.
+fn list_type(
+    alloc: Global,
+    form: ListForm,
+    parts: &[Value],
+    item: Field,
+) -> Result<DataType, Trouble> {
+    let item = Box::new(alloc, item)?;
+    match form {
+        ListForm::Small => Ok(DataType::List(item)),
+        ListForm::Large => Ok(DataType::LargeList(item)),
+        ListForm::Fixed => Ok(DataType::FixedSizeList(item, count(parts.get(2), "size")?)),
+        ListForm::Map => Ok(DataType::Map(item, truth(parts.get(2), "sorted")?)),
+    }
+}
+
+// A type of records of these fields, or of variants.
+fn group_type(
+    alloc: Global,
+    form: GroupForm,
+    parts: &[Value],
+    children: Vec<Field>,
+) -> Result<DataType, Trouble> {
+    match form {
+        GroupForm::Struct => Ok(DataType::Struct(children)),
+        GroupForm::Union => {
+            let mode = choice(parts.get(1), &MODES, "mode")?;
+            Ok(DataType::Union(children, optional_ids(alloc, parts.get(3))?, mode))
+        }
+    }
+}
+
+const MODES: [(&str, UnionMode); 2] = [("dense", UnionMode::Dense), ("sparse", UnionMode::Sparse)];
+
+/// The ids of a union, which may be left out.
+pub fn optional_ids(alloc: Global, ids: Option<&Value>) -> Result<Option<Vec<i32>>, Trouble> {
+    match ids {
+        None => Ok(None),
+        Some(ids) => Ok(Some(values(alloc, ids, "ids")?)),
+    }
+}
+
+// Lists or twins of this type, a dictionary of such values, or an extension that is stored so.
+fn wrapped_type(
+    alloc: Global,
+    form: WrappedForm,
+    parts: &[Value],
+    inner: DataType,
+) -> Result<DataType, Trouble> {
+    match form {
+        WrappedForm::Lists => lists(alloc, parts, inner),
+        WrappedForm::Twins => twins(alloc, parts, inner),
+        WrappedForm::Dictionary => {
+            let key = choice(parts.get(1), &INTEGERS, "key")?;
+            let is_ordered = truth(parts.get(3), "ordered")?;
+            Ok(DataType::Dictionary(key, Box::new(alloc, inner)?, is_ordered))
+        }
+        WrappedForm::Extension => extension(alloc, parts, inner),
+    }
+}
+
+fn extension(alloc: Global, parts: &[Value], inner: DataType) -> Result<DataType, Trouble> {
+    let storage = Box::new(alloc, inner)?;
+    let name = String::from_str(alloc, text(parts.get(1), "name")?)?;
+    Ok(DataType::Extension(name, storage, optional_text(alloc, parts.get(3))?))
+}
+
 // Structs of two fields of this type, without names and without nulls, so many in one another.
-fn twins(alloc: Global, inner: DataType, count: usize) -> Result<DataType, Trouble> {
+fn twins(alloc: Global, parts: &[Value], inner: DataType) -> Result<DataType, Trouble> {
     let mut data_type = inner;
-    for _ in 0..count {
-        let first = twin(alloc, data_type.clone()?)?;
-        let second = twin(alloc, data_type)?;
+    for _ in 0..count(parts.get(2), "twins")? {
+        let first = unnamed(alloc, data_type.clone()?, false);
+        let second = unnamed(alloc, data_type, false);
         data_type = DataType::Struct(vec![in alloc; first, second]?);
     }
     Ok(data_type)
 }
 
-fn twin(alloc: Global, data_type: DataType) -> Result<Field, Trouble> {
-    Ok(Field {
+// A field without a name.
+fn unnamed(alloc: Global, data_type: DataType, is_nullable: bool) -> Field {
+    Field {
         name: String::new(alloc),
         data_type,
-        is_nullable: false,
+        is_nullable,
         metadata: Metadata::new(alloc),
-    })
+    }
 }
 
 // So many lists in one another, of this type.
-fn lists(
-    alloc: Global,
-    inner: DataType,
-    count: usize,
-    like: Option<&Value>,
-) -> Result<DataType, Trouble> {
-    let (name, is_nullable) = match like {
+fn lists(alloc: Global, parts: &[Value], inner: DataType) -> Result<DataType, Trouble> {
+    let (name, is_nullable) = match parts.get(3) {
         None => ("item", true),
-        Some(like) => (text(member(like, "name")?, "name")?, nullable(like)?),
+        Some(like) => (text(like.get("name"), "name")?, nullable(like)?),
     };
     let mut data_type = inner;
-    for _ in 0..count {
-        let item = Field {
-            name: String::from_str(alloc, name)?,
-            data_type,
-            is_nullable,
-            metadata: Metadata::new(alloc),
-        };
+    for _ in 0..count(parts.get(2), "lists")? {
+        let mut item = unnamed(alloc, data_type, is_nullable);
+        item.name.push_str(name)?;
         data_type = DataType::List(Box::new(alloc, item)?);
     }
     Ok(data_type)
 }
 
-fn union_type(alloc: Global, parts: &[Value], children: Vec<Field>) -> Result<DataType, Trouble> {
-    let mode = match text(item(parts, 1, "mode")?, "mode")? {
-        "dense" => UnionMode::Dense,
-        "sparse" => UnionMode::Sparse,
-        _ => return Err(Trouble::Row("mode")),
-    };
-    let ids = match parts.get(3) {
-        None => None,
-        Some(ids) => Some(union_ids(alloc, items(ids, "ids")?)?),
-    };
-    Ok(DataType::Union(children, ids, mode))
-}
-
-fn union_ids(alloc: Global, ids: &[Value]) -> Result<Vec<i32>, Trouble> {
-    let mut out = Vec::new(alloc);
-    for id in ids {
-        out.push(number(id, "ids")?)?;
-    }
-    Ok(out)
-}
-
-// A dictionary of these values, or an extension that is stored so.
-fn type_of_type(
-    alloc: Global,
-    name: &str,
-    parts: &[Value],
-    inner: DataType,
-) -> Result<DataType, Trouble> {
-    let boxed = Box::new(alloc, inner)?;
-    let first = text(item(parts, 1, "name")?, "name")?;
-    if name == "dictionary" {
-        let is_ordered = truth(item(parts, 3, "ordered")?, "ordered")?;
-        return Ok(DataType::Dictionary(integer_type(first)?, boxed, is_ordered));
-    }
-    let metadata = optional_text(alloc, parts, 3)?;
-    Ok(DataType::Extension(String::from_str(alloc, first)?, boxed, metadata))
-}
-
-/// The type of a dictionary's keys.
-pub fn integer_type(name: &str) -> Result<IntegerType, Trouble> {
-    integer_named(name).ok_or(Trouble::Row("key"))
-}
-
-/// The type of integers of this name, where there is one.
-pub fn integer_named(name: &str) -> Option<IntegerType> {
-    match name {
-        "int8" => Some(IntegerType::Int8),
-        "int16" => Some(IntegerType::Int16),
-        "int32" => Some(IntegerType::Int32),
-        "int64" => Some(IntegerType::Int64),
-        _ => unsigned_named(name),
-    }
-}
-
-fn unsigned_named(name: &str) -> Option<IntegerType> {
-    match name {
-        "uint8" => Some(IntegerType::UInt8),
-        "uint16" => Some(IntegerType::UInt16),
-        "uint32" => Some(IntegerType::UInt32),
-        "uint64" => Some(IntegerType::UInt64),
-        _ => None,
+impl Part for i32 {
+    fn of(item: &Value, name: &'static str) -> Result<i32, Trouble> {
+        number(Some(item), name)
     }
 }
 
@@ -302,7 +351,7 @@ fn unsigned_named(name: &str) -> Option<IntegerType> {
 #[cycle(types)]
 pub fn fields(alloc: Global, value: &Value, levels: usize) -> Result<Vec<Field>, Trouble> {
     let mut out = Vec::new(alloc);
-    for value in items(value, "fields")? {
+    for value in items(Some(value), "fields")? {
         out.push(field(alloc, value, levels)?)?;
     }
     Ok(out)
@@ -312,25 +361,21 @@ pub fn fields(alloc: Global, value: &Value, levels: usize) -> Result<Vec<Field>,
 #[cycle(types)]
 pub fn field(alloc: Global, value: &Value, levels: usize) -> Result<Field, Trouble> {
     if !value.is_object() {
-        return Ok(Field {
-            name: String::new(alloc),
-            data_type: data_type(alloc, value, levels)?,
-            is_nullable: true,
-            metadata: Metadata::new(alloc),
-        });
+        return Ok(unnamed(alloc, data_type(alloc, value, levels)?, true));
     }
     Ok(Field {
-        name: String::from_str(alloc, text(member(value, "name")?, "name")?)?,
+        name: String::from_str(alloc, text(value.get("name"), "name")?)?,
         data_type: data_type(alloc, member(value, "type")?, levels)?,
         is_nullable: nullable(value)?,
         metadata: metadata(alloc, value)?,
     })
 }
 
-fn nullable(value: &Value) -> Result<bool, Trouble> {
-    match value.get("nullable") {
+/// Whether slots of a field may be null, which its member `nullable` says.
+pub fn nullable(field: &Value) -> Result<bool, Trouble> {
+    match field.get("nullable") {
         None => Ok(true),
-        Some(value) => truth(value, "nullable"),
+        nullable => truth(nullable, "nullable"),
     }
 }
 
@@ -344,7 +389,7 @@ pub fn metadata(alloc: Global, value: &Value) -> Result<Metadata, Trouble> {
         return Err(Trouble::Row("metadata"));
     };
     for (key, value) in pairs {
-        let value = String::from_str(alloc, text(value, "metadata")?)?;
+        let value = String::from_str(alloc, text(Some(value), "metadata")?)?;
         out.insert(key.clone()?, value)?;
     }
     Ok(out)

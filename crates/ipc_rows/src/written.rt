@@ -3,7 +3,7 @@
 
 use crate::arrays::arrays;
 use crate::bytes::bytes;
-use crate::json::{items, member};
+use crate::json::items;
 use crate::schemas::schema;
 use crate::text::Text;
 use crate::trouble::Trouble;
@@ -20,7 +20,7 @@ pub fn stream(alloc: Global, value: &Value) -> Result<Vec<u8>, Trouble> {
     let Value::Array(parts) = value else {
         return part(alloc, value);
     };
-    if !parts.iter().any(is_written) {
+    if !has_written(parts) {
         return bytes(alloc, value);
     }
     let mut out = Vec::new(alloc);
@@ -28,6 +28,15 @@ pub fn stream(alloc: Global, value: &Value) -> Result<Vec<u8>, Trouble> {
         out.extend_from_slice(&part(alloc, value)?)?;
     }
     Ok(out)
+}
+
+fn has_written(parts: &[Value]) -> bool {
+    for part in parts {
+        if is_written(part) {
+            return true;
+        }
+    }
+    false
 }
 
 fn is_written(value: &Value) -> bool {
@@ -46,7 +55,7 @@ pub fn write(alloc: Global, answers: &mut Text, value: &Value) -> Result<Vec<u8>
     let schema = schema(alloc, value)?;
     let mut writer = StreamWriter::new(alloc, Vec::new(alloc), WriteOptions::default());
     answers.put("[");
-    for call in items(member(value, "calls")?, "calls")? {
+    for call in items(value.get("calls"), "calls")? {
         answers.comma();
         match run_call(alloc, &mut writer, &schema, call) {
             Ok(()) => answers.put("\"ok\""),

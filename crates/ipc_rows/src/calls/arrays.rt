@@ -3,7 +3,7 @@
 //! `"is_dictionary": ARRAY` whether it is a dictionary.
 
 use crate::arrays::array;
-use crate::json::{item, items};
+use crate::json::both;
 use crate::parts::put_parts;
 use crate::slots::put_slots;
 use crate::text::Text;
@@ -15,26 +15,27 @@ use serde_json::Value;
 use std::alloc::Global;
 
 /// How many slots of an array are null, and its slots, by way of a clone.
-pub fn slots_of(alloc: Global, value: &Value) -> Result<String, Trouble> {
+pub fn slots_of(alloc: Global, out: &mut Text, value: &Value) -> Result<(), Trouble> {
     let array = array(alloc, value, LEVELS)?;
-    let mut out = Text::new(alloc);
     out.put("{\"nulls\":");
     out.show(&array.null_count());
     out.put(",\"slots\":");
-    put_slots(&mut out, &array.clone()?, LEVELS);
+    put_slots(out, &array.clone()?, LEVELS);
     out.put("}");
-    out.finish()
+    Ok(())
 }
 
 /// The parts of an array, and those of its clone where they are others.
-pub fn parts_of(alloc: Global, value: &Value) -> Result<String, Trouble> {
+pub fn parts_of(alloc: Global, out: &mut Text, value: &Value) -> Result<(), Trouble> {
     let array = array(alloc, value, LEVELS)?;
     let own = shown_parts(alloc, &array)?;
     let copied = shown_parts(alloc, &array.clone()?)?;
-    if own == copied {
-        return Ok(own);
+    out.put(own.as_str());
+    if own != copied {
+        out.put(", and of its clone ");
+        out.put(copied.as_str());
     }
-    Ok(format!(in alloc; "{own}, and of its clone {copied}")?)
+    Ok(())
 }
 
 fn shown_parts(alloc: Global, array: &AnyArray) -> Result<String, Trouble> {
@@ -44,21 +45,21 @@ fn shown_parts(alloc: Global, array: &AnyArray) -> Result<String, Trouble> {
 }
 
 /// Whether two arrays are the same.
-pub fn are_same(alloc: Global, value: &Value) -> Result<String, Trouble> {
-    let both = items(value, "are_same")?;
-    let first = array(alloc, item(both, 0, "are_same")?, LEVELS)?;
-    let second = array(alloc, item(both, 1, "are_same")?, LEVELS)?;
-    Ok(equal(&first, &second).to_string(alloc)?)
+pub fn are_same(alloc: Global, value: &Value) -> Result<bool, Trouble> {
+    let (first, second) = both(value, "are_same")?;
+    let first = array(alloc, first, LEVELS)?;
+    let second = array(alloc, second, LEVELS)?;
+    Ok(equal(&first, &second))
 }
 
 /// Whether an array is the same as its clone.
-pub fn is_same_as_clone(alloc: Global, value: &Value) -> Result<String, Trouble> {
+pub fn is_same_as_clone(alloc: Global, value: &Value) -> Result<bool, Trouble> {
     let array = array(alloc, value, LEVELS)?;
-    Ok(equal(&array, &array.clone()?).to_string(alloc)?)
+    Ok(equal(&array, &array.clone()?))
 }
 
 /// Whether an array is a dictionary.
-pub fn is_dictionary_array(alloc: Global, value: &Value) -> Result<String, Trouble> {
+pub fn is_dictionary_array(alloc: Global, value: &Value) -> Result<bool, Trouble> {
     let array = array(alloc, value, LEVELS)?;
-    Ok(is_dictionary(&array).to_string(alloc)?)
+    Ok(is_dictionary(&array))
 }

@@ -4,7 +4,7 @@
 
 use crate::arrays::{cut_of, offsets};
 use crate::bytes::bits;
-use crate::json::{count, item, items, member, text};
+use crate::json::{choice, count, items, member};
 use crate::parts::{put_bits, put_each_offset};
 use crate::text::Text;
 use crate::trouble::Trouble;
@@ -14,20 +14,19 @@ use serde_json::Value;
 use std::alloc::Global;
 
 /// Bits, and how bytes hold them.
-pub fn bits_of(alloc: Global, value: &Value) -> Result<String, Trouble> {
+pub fn bits_of(alloc: Global, out: &mut Text, value: &Value) -> Result<(), Trouble> {
     let bits = part_of_bits(bits(alloc, member(value, "bits")?)?, value)?.clone()?;
     let (held, start, len) = bits.as_slice();
-    let mut out = Text::new(alloc);
     out.put("{\"len\":");
     out.show(&len);
     out.put(",\"bits\":");
-    put_bits(&mut out, &bits);
+    put_bits(out, &bits);
     out.put(",\"start\":");
     out.show(&start);
     out.put(",\"bytes\":");
     out.hex(held);
     out.put("}");
-    out.finish()
+    Ok(())
 }
 
 fn part_of_bits(bits: Bitmap, value: &Value) -> Result<Bitmap, Trouble> {
@@ -38,15 +37,14 @@ fn part_of_bits(bits: Bitmap, value: &Value) -> Result<Bitmap, Trouble> {
 }
 
 /// Offsets, and the last one.
-pub fn offsets_of(alloc: Global, value: &Value) -> Result<String, Trouble> {
+pub fn offsets_of(alloc: Global, out: &mut Text, value: &Value) -> Result<(), Trouble> {
     let offsets = part_of_offsets(offsets(alloc, value)?, value)?;
-    let mut out = Text::new(alloc);
     out.put("{\"offsets\":[");
-    put_each_offset(&mut out, &offsets);
+    put_each_offset(out, &offsets);
     out.put("],\"last\":");
     out.show(&offsets.last());
     out.put("}");
-    out.finish()
+    Ok(())
 }
 
 fn part_of_offsets(
@@ -60,17 +58,24 @@ fn part_of_offsets(
     }
 }
 
+// The types of offsets, by whether they have 64 bits.
+const OFFSET_TYPES: [(&str, bool); 2] = [("int32", false), ("int64", true)];
+
 /// The offset for so many slots or bytes, where its type has it.
-pub fn offset_of_length(alloc: Global, value: &Value) -> Result<String, Trouble> {
-    let parts = items(value, "offset_of_length")?;
-    let length = count(item(parts, 1, "length")?, "length")?;
-    let offset = match text(item(parts, 0, "type")?, "type")? {
-        "int32" => i32::from_usize(length).map(i64::from),
-        "int64" => i64::from_usize(length),
-        _ => return Err(Trouble::Row("type")),
+pub fn offset_of_length(out: &mut Text, value: &Value) -> Result<(), Trouble> {
+    let parts = items(Some(value), "offset_of_length")?;
+    let length = count(parts.get(1), "length")?;
+    let offset = if choice(parts.get(0), &OFFSET_TYPES, "type")? {
+        i64::from_usize(length)
+    } else {
+        match i32::from_usize(length) {
+            Some(offset) => Some(i64::from(offset)),
+            None => None,
+        }
     };
     match offset {
-        Some(offset) => Ok(offset.to_string(alloc)?),
-        None => Ok(String::from_str(alloc, "null")?),
+        Some(offset) => out.show(&offset),
+        None => out.put("null"),
     }
+    Ok(())
 }

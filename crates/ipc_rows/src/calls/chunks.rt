@@ -6,7 +6,7 @@
 
 use crate::arrays::arrays;
 use crate::chunks::put_columns;
-use crate::schemas::{ids_of, is_little_endian, schema, shown_schema};
+use crate::schemas::{ids_of, is_little_endian, put_schema, schema};
 use crate::text::Text;
 use crate::trouble::Trouble;
 use crate::types::LEVELS;
@@ -18,11 +18,10 @@ use serde_json::Value;
 use std::alloc::Global;
 
 /// What a chunk shows, and what it is moved to.
-pub fn chunk_of(alloc: Global, value: &Value) -> Result<String, Trouble> {
+pub fn chunk_of(alloc: Global, out: &mut Text, value: &Value) -> Result<(), Trouble> {
     let chunk = Chunk::try_new(arrays(alloc, value, LEVELS)?)?;
     let copy = chunk.clone()?;
-    let mut out = Text::new(alloc);
-    put_both(&mut out, &chunk, &copy);
+    put_both(out, &chunk, &copy);
     let rows = chunk.len();
     let first = Chunk::new(chunk.into_arrays()).into_arrays().len();
     let second: Vec<_> = copy.into();
@@ -31,7 +30,7 @@ pub fn chunk_of(alloc: Global, value: &Value) -> Result<String, Trouble> {
     out.put(",\"rows\":");
     out.show(&rows);
     out.put("}");
-    out.finish()
+    Ok(())
 }
 
 fn put_both(out: &mut Text, chunk: &Chunk<AnyArray>, copy: &Chunk<AnyArray>) {
@@ -46,29 +45,38 @@ fn put_both(out: &mut Text, chunk: &Chunk<AnyArray>, copy: &Chunk<AnyArray>) {
 }
 
 fn are_same(columns: &[AnyArray], others: &[AnyArray]) -> bool {
-    columns.len() == others.len() && columns.iter().zip(others).all(|(a, b)| equal(a, b))
+    if columns.len() != others.len() {
+        return false;
+    }
+    for (column, other) in columns.iter().zip(others) {
+        if !equal(column, other) {
+            return false;
+        }
+    }
+    true
 }
 
 /// Whether columns have the same number of rows.
-pub fn are_equal_rows(alloc: Global, value: &Value) -> Result<String, Trouble> {
+pub fn are_equal_rows(alloc: Global, value: &Value) -> Result<bool, Trouble> {
     let columns = arrays(alloc, value, LEVELS)?;
-    Ok(equal_rows(&columns).to_string(alloc)?)
+    Ok(equal_rows(&columns))
 }
 
 /// Whether ids belong to fields.
-pub fn fits_of(alloc: Global, value: &Value) -> Result<String, Trouble> {
+pub fn fits_of(alloc: Global, value: &Value) -> Result<bool, Trouble> {
     let schema = schema(alloc, value)?;
     let ids = ids_of(alloc, value, &schema)?;
-    Ok(fits(&schema.fields, &ids).to_string(alloc)?)
+    Ok(fits(&schema.fields, &ids))
 }
 
 /// A schema with clones of its ids.
-pub fn cloned_ids_of(alloc: Global, value: &Value) -> Result<String, Trouble> {
+pub fn cloned_ids_of(alloc: Global, out: &mut Text, value: &Value) -> Result<(), Trouble> {
     let schema = schema(alloc, value)?;
     let ids = ids_of(alloc, value, &schema)?;
     let cloned = IpcSchema {
         fields: clone_ipc_fields(&ids)?,
         is_little_endian: is_little_endian(value)?,
     };
-    shown_schema(alloc, &schema, &cloned.clone()?)
+    put_schema(out, &schema, &cloned.clone()?);
+    Ok(())
 }

@@ -15,22 +15,21 @@ use std::alloc::Global;
 use std::io::Cursor;
 
 /// What the calls of a device answer, and its bytes behind them.
-pub fn device_by(alloc: Global, value: &Value) -> Result<String, Trouble> {
+pub fn device_by(alloc: Global, out: &mut Text, value: &Value) -> Result<(), Trouble> {
     let held = bytes(alloc, member(value, "bytes")?)?;
-    let calls = items(member(value, "calls")?, "calls")?;
-    let mut out = Text::new(alloc);
+    let calls = items(value.get("calls"), "calls")?;
     out.put("{\"answers\":[");
-    let held = match text(member(value, "device")?, "device")? {
-        "memory" => by_memory(alloc, &mut out, held, calls)?,
-        "lent" => by_borrow(alloc, &mut out, held, calls)?,
-        "watched" => by_standard(alloc, &mut out, held, calls)?,
-        "vector" => by_vector(alloc, &mut out, held, calls)?,
+    let held = match text(value.get("device"), "device")? {
+        "memory" => by_memory(alloc, out, held, calls)?,
+        "lent" => by_borrow(alloc, out, held, calls)?,
+        "watched" => by_standard(alloc, out, held, calls)?,
+        "vector" => by_vector(alloc, out, held, calls)?,
         _ => return Err(Trouble::Row("device")),
     };
     out.put("],\"bytes\":");
     out.hex(&held);
     out.put("}");
-    out.finish()
+    Ok(())
 }
 
 fn by_memory(
@@ -121,24 +120,24 @@ fn put_move<D: Reads + Writes + Seeks>(
     call: &Value,
 ) -> Result<(), Trouble> {
     if let Some(place) = call.get("seek") {
-        device.seek_to(count(place, "seek")? as u64)?;
+        device.seek_to(count(Some(place), "seek")? as u64)?;
         out.put("\"ok\"");
         return Ok(());
     }
     if let Some(passed) = call.get("skip") {
-        device.skip(count(passed, "skip")?)?;
+        device.skip(count(Some(passed), "skip")?)?;
         out.put("\"ok\"");
         return Ok(());
     }
     if let Some(wanted) = call.get("ahead") {
-        match device.ahead(count(wanted, "ahead")?) {
+        match device.ahead(count(Some(wanted), "ahead")?) {
             Some(bytes) => out.hex(bytes),
             None => out.put("null"),
         }
         return Ok(());
     }
     if let Some(wanted) = call.get("read") {
-        let wanted = count(wanted, "read")?.min(MOST);
+        let wanted = count(Some(wanted), "read")?.min(MOST);
         out.hex(&read_bytes(alloc, device, wanted)?);
         return Ok(());
     }

@@ -12,32 +12,30 @@ use serde_json::Value;
 use std::alloc::Global;
 
 /// A message and its body, with their padding.
-pub fn framed(alloc: Global, value: &Value) -> Result<String, Trouble> {
+pub fn framed(alloc: Global, out: &mut Text, value: &Value) -> Result<(), Trouble> {
     let encoded = EncodedData {
         ipc_message: bytes(alloc, member(value, "message")?)?,
         arrow_data: bytes(alloc, member(value, "body")?)?,
     };
     let mut sent: Vec<u8> = Vec::new(alloc);
     let (head, body) = write_message(&mut sent, &encoded)?;
-    let mut out = Text::new(alloc);
     out.put("{\"bytes\":");
     out.hex(&sent);
     out.put(",\"lengths\":");
     out.pair(&head, &body);
     out.put("}");
-    out.finish()
+    Ok(())
 }
 
 /// What stands before a message.
-pub fn continuation_of(alloc: Global, value: &Value) -> Result<String, Trouble> {
-    let length = number(value, "continuation_of")?;
+pub fn continuation_of(alloc: Global, out: &mut Text, value: &Value) -> Result<(), Trouble> {
+    let length = number(Some(value), "continuation_of")?;
     let mut sent: Vec<u8> = Vec::new(alloc);
     let sent_length = write_continuation(&mut sent, length)?;
-    let mut out = Text::new(alloc);
     out.put("{\"bytes\":");
     out.hex(&sent);
     out.put(",\"length\":");
     out.show(&sent_length);
     out.put("}");
-    out.finish()
+    Ok(())
 }

@@ -19,15 +19,14 @@ use serde_json::Value;
 use std::alloc::Global;
 
 /// The frames of pieces of a stream.
-pub fn frames_of(alloc: Global, value: &Value) -> Result<String, Trouble> {
+pub fn frames_of(alloc: Global, out: &mut Text, value: &Value) -> Result<(), Trouble> {
     let mut begun = Begun::new();
-    let mut out = Text::new(alloc);
     out.put("[");
-    for piece in items(value, "frames_of")? {
-        put_frames(alloc, &mut out, &mut begun, &bytes(alloc, piece)?)?;
+    for piece in items(Some(value), "frames_of")? {
+        put_frames(alloc, out, &mut begun, &bytes(alloc, piece)?)?;
     }
     out.put("]");
-    out.finish()
+    Ok(())
 }
 
 // The frames of a piece, up to where it waits. Each other has bytes.
@@ -60,7 +59,7 @@ fn put_frame(out: &mut Text, frame: Frame, metadata: &[u8]) {
 }
 
 /// The messages of a stream behind the first one.
-pub fn records_of(alloc: Global, value: &Value) -> Result<String, Trouble> {
+pub fn records_of(alloc: Global, out: &mut Text, value: &Value) -> Result<(), Trouble> {
     let stream = stream(alloc, value)?;
     let mut input = MemFile::new(stream.as_slice());
     let mut metadata = Vec::new(alloc);
@@ -68,7 +67,6 @@ pub fn records_of(alloc: Global, value: &Value) -> Result<String, Trouble> {
     if first != Frame::Message {
         return Err(Trouble::Row("a stream"));
     }
-    let mut out = Text::new(alloc);
     out.put("{\"records\":[");
     let mut end = first;
     for _ in 0..stream.len() {
@@ -77,12 +75,12 @@ pub fn records_of(alloc: Global, value: &Value) -> Result<String, Trouble> {
             break;
         }
         out.comma();
-        put_record(alloc, &mut out, &mut input, &metadata)?;
+        put_record(alloc, out, &mut input, &metadata)?;
     }
     out.put("],\"end\":");
     out.name(&end);
     out.put("}");
-    out.finish()
+    Ok(())
 }
 
 fn put_record(

@@ -5,15 +5,14 @@
 //! numbers are the same.
 
 use crate::bytes::bytes;
-use crate::json::{member, text};
-use crate::numbers::{numbers, of_values};
+use crate::json::member;
+use crate::numbers::{NumberKind, number_kind, numbers, of_values};
 use crate::schemas::is_little_endian;
 use crate::slots::put_slots;
 use crate::text::Text;
 use crate::trouble::Trouble;
-use crate::types::{LEVELS, integer_named};
+use crate::types::LEVELS;
 use lower::buffer::Buffer;
-use lower::datatypes::IntegerType;
 use lower::types::{Endianness, NativeType, PrimitiveType, append_bytes, numbers_from_bytes};
 use lower_arrays::array::{AnyArray, AnyPrimitive, PrimitiveArray};
 use lower_equal::equal;
@@ -21,11 +20,10 @@ use serde_json::Value;
 use std::alloc::Global;
 
 /// The name of the type of some numbers, how many bytes each takes, and the bytes.
-pub fn bytes_of_numbers(alloc: Global, value: &Value) -> Result<String, Trouble> {
-    let numbers = numbers(alloc, value, kind_of(value)?)?;
+pub fn bytes_of_numbers(alloc: Global, out: &mut Text, value: &Value) -> Result<(), Trouble> {
+    let numbers = numbers(alloc, value)?;
     let mut bytes = Vec::new(alloc);
     let (name, width) = spell(&mut bytes, &numbers, order_of(value)?)?;
-    let mut out = Text::new(alloc);
     out.put("{\"type\":");
     out.name(&name);
     out.put(",\"width\":");
@@ -33,21 +31,20 @@ pub fn bytes_of_numbers(alloc: Global, value: &Value) -> Result<String, Trouble>
     out.put(",\"bytes\":");
     out.hex(&bytes);
     out.put("}");
-    out.finish()
+    Ok(())
 }
 
 /// The numbers that some bytes are.
-pub fn numbers_of_bytes(alloc: Global, value: &Value) -> Result<String, Trouble> {
+pub fn numbers_of_bytes(alloc: Global, out: &mut Text, value: &Value) -> Result<(), Trouble> {
     let bytes = bytes(alloc, member(value, "bytes")?)?;
     let numbers = AnyArray::Primitive(read(alloc, value, &bytes)?);
-    let mut out = Text::new(alloc);
-    put_slots(&mut out, &numbers, LEVELS);
-    out.finish()
+    put_slots(out, &numbers, LEVELS);
+    Ok(())
 }
 
 /// How many bytes numbers and those in front take, and whether they are the same when they are read again.
-pub fn numbers_back_of(alloc: Global, value: &Value) -> Result<String, Trouble> {
-    let numbers = numbers(alloc, value, kind_of(value)?)?;
+pub fn numbers_back_of(alloc: Global, out: &mut Text, value: &Value) -> Result<(), Trouble> {
+    let numbers = numbers(alloc, value)?;
     let mut all = bytes(alloc, member(value, "front")?)?;
     let front = all.len();
     spell(&mut all, &numbers, order_of(value)?)?;
@@ -58,11 +55,12 @@ pub fn numbers_back_of(alloc: Global, value: &Value) -> Result<String, Trouble> 
     }
     let again = AnyArray::Primitive(read(alloc, value, &all[front..])?);
     let are_same = equal(&AnyArray::Primitive(numbers), &again);
-    Ok(format!(in alloc; "{{\"bytes\":{count},\"are_same\":{are_same}}}")?)
-}
-
-fn kind_of(value: &Value) -> Result<&str, Trouble> {
-    text(member(value, "array")?, "array")
+    out.put("{\"bytes\":");
+    out.show(&count);
+    out.put(",\"are_same\":");
+    out.show(&are_same);
+    out.put("}");
+    Ok(())
 }
 
 fn order_of(value: &Value) -> Result<Endianness, Trouble> {
@@ -105,43 +103,19 @@ fn spell_each<T: NativeType>(
 
 // The numbers of a row's kind that these bytes are.
 fn read(alloc: Global, row: &Value, bytes: &[u8]) -> Result<AnyPrimitive, Trouble> {
-    let kind = kind_of(row)?;
-    match integer_named(kind) {
-        Some(integer) => read_integers(alloc, row, integer, bytes),
-        None => read_large(alloc, row, kind, bytes),
-    }
-}
-
-fn read_integers(
-    alloc: Global,
-    row: &Value,
-    integer: IntegerType,
-    bytes: &[u8],
-) -> Result<AnyPrimitive, Trouble> {
-    match integer {
-        IntegerType::Int8 => Ok(AnyPrimitive::Int8(read_each(alloc, row, bytes)?)),
-        IntegerType::Int16 => Ok(AnyPrimitive::Int16(read_each(alloc, row, bytes)?)),
-        IntegerType::Int32 => Ok(AnyPrimitive::Int32(read_each(alloc, row, bytes)?)),
-        IntegerType::Int64 => Ok(AnyPrimitive::Int64(read_each(alloc, row, bytes)?)),
-        IntegerType::UInt8 => Ok(AnyPrimitive::UInt8(read_each(alloc, row, bytes)?)),
-        IntegerType::UInt16 => Ok(AnyPrimitive::UInt16(read_each(alloc, row, bytes)?)),
-        IntegerType::UInt32 => Ok(AnyPrimitive::UInt32(read_each(alloc, row, bytes)?)),
-        IntegerType::UInt64 => Ok(AnyPrimitive::UInt64(read_each(alloc, row, bytes)?)),
-    }
-}
-
-fn read_large(
-    alloc: Global,
-    row: &Value,
-    kind: &str,
-    bytes: &[u8],
-) -> Result<AnyPrimitive, Trouble> {
-    match kind {
-        "int128" => Ok(AnyPrimitive::Int128(read_each(alloc, row, bytes)?)),
-        "int256" => Ok(AnyPrimitive::Int256(read_each(alloc, row, bytes)?)),
-        "days_ms" => Ok(AnyPrimitive::DaysMs(read_each(alloc, row, bytes)?)),
-        "months_days_ns" => Ok(AnyPrimitive::MonthDayNano(read_each(alloc, row, bytes)?)),
-        _ => Err(Trouble::Row("array")),
+    match number_kind(row)? {
+        NumberKind::Int8 => Ok(AnyPrimitive::Int8(read_each(alloc, row, bytes)?)),
+        NumberKind::Int16 => Ok(AnyPrimitive::Int16(read_each(alloc, row, bytes)?)),
+        NumberKind::Int32 => Ok(AnyPrimitive::Int32(read_each(alloc, row, bytes)?)),
+        NumberKind::Int64 => Ok(AnyPrimitive::Int64(read_each(alloc, row, bytes)?)),
+        NumberKind::UInt8 => Ok(AnyPrimitive::UInt8(read_each(alloc, row, bytes)?)),
+        NumberKind::UInt16 => Ok(AnyPrimitive::UInt16(read_each(alloc, row, bytes)?)),
+        NumberKind::UInt32 => Ok(AnyPrimitive::UInt32(read_each(alloc, row, bytes)?)),
+        NumberKind::UInt64 => Ok(AnyPrimitive::UInt64(read_each(alloc, row, bytes)?)),
+        NumberKind::Int128 => Ok(AnyPrimitive::Int128(read_each(alloc, row, bytes)?)),
+        NumberKind::Int256 => Ok(AnyPrimitive::Int256(read_each(alloc, row, bytes)?)),
+        NumberKind::DaysMs => Ok(AnyPrimitive::DaysMs(read_each(alloc, row, bytes)?)),
+        NumberKind::MonthDayNano => Ok(AnyPrimitive::MonthDayNano(read_each(alloc, row, bytes)?)),
     }
 }
 
@@ -150,6 +124,6 @@ fn read_each<T: NativeType>(
     row: &Value,
     bytes: &[u8],
 ) -> Result<PrimitiveArray<T>, Trouble> {
-    let values = Buffer::new(numbers_from_bytes(alloc, bytes, order_of(row)?)?)?;
-    of_values(alloc, row, kind_of(row)?, values)
+    let values = numbers_from_bytes(alloc, bytes, order_of(row)?)?;
+    of_values(alloc, row, Buffer::new(values)?)
 }

@@ -6,9 +6,9 @@
 
 use crate::bytes::bytes;
 use crate::damages::{Damage, Tried, cuts, damaged, damages};
-use crate::json::{items, member, text};
+use crate::json::{choice, items, member};
 use crate::same_schemas::{are_plain, is_same_schema};
-use crate::schemas::{shown_by_both, shown_schema};
+use crate::schemas::put_schema;
 use crate::text::Text;
 use crate::trouble::Trouble;
 use ipc_base::ipc::IpcSchema;
@@ -25,19 +25,26 @@ use std::alloc::Global;
 type Read = Result<(Schema, IpcSchema), Fault>;
 
 /// What the plain program says of a message.
-pub fn plain_schema_of(alloc: Global, value: &Value) -> Result<String, Trouble> {
+pub fn plain_schema_of(alloc: Global, out: &mut Text, value: &Value) -> Result<(), Trouble> {
     let message = bytes(alloc, value)?;
-    shown_plain(alloc, &plain_schema(alloc, &message)?)
+    put_plain(alloc, out, &plain_schema(alloc, &message)?)
 }
 
 /// What both say of a message, and whether they agree.
-pub fn schema_by_both(alloc: Global, value: &Value) -> Result<String, Trouble> {
+pub fn schema_by_both(alloc: Global, out: &mut Text, value: &Value) -> Result<(), Trouble> {
     let message = bytes(alloc, value)?;
     let read = read(alloc, &message)?;
     let plain = plain_schema(alloc, &message)?;
-    let agree = judged(&plain, &read) != Kind::Differ;
-    let plain = shown_plain(alloc, &plain)?;
-    shown_by_both(alloc, agree, &plain, &shown_read(alloc, &read)?)
+    out.put("agree ");
+    out.show(&!matches!(judged(&plain, &read), Kind::Differ));
+    out.put(", plain ");
+    put_plain(alloc, out, &plain)?;
+    out.put(", reader ");
+    match &read {
+        Ok((schema, ids)) => put_schema(out, schema, ids),
+        Err(fault) => out.shown(fault),
+    }
+    Ok(())
 }
 
 // What the reader answers. Memory that is refused is no answer.
@@ -48,28 +55,18 @@ fn read(alloc: Global, message: &[u8]) -> Result<Read, Trouble> {
     }
 }
 
-fn shown_read(alloc: Global, read: &Read) -> Result<String, Trouble> {
-    match read {
-        Ok((schema, ids)) => shown_schema(alloc, schema, ids),
-        Err(fault) => {
-            let mut named = Text::new(alloc);
-            named.shown(fault);
-            named.finish()
-        }
-    }
-}
-
 // ---- the plain program's schema as a reader's
 
-fn shown_plain(alloc: Global, answer: &PlainAnswer) -> Result<String, Trouble> {
+fn put_plain(alloc: Global, out: &mut Text, answer: &PlainAnswer) -> Result<(), Trouble> {
     match answer {
-        PlainAnswer::NoSchema => Ok(String::from_str(alloc, "\"NoSchema\"")?),
-        PlainAnswer::Other => Ok(String::from_str(alloc, "\"Other\"")?),
-        PlainAnswer::Plain(plain) => shown_plain_schema(alloc, plain),
+        PlainAnswer::NoSchema => out.put("\"NoSchema\""),
+        PlainAnswer::Other => out.put("\"Other\""),
+        PlainAnswer::Plain(plain) => return put_plain_schema(alloc, out, plain),
     }
+    Ok(())
 }
 
-fn shown_plain_schema(alloc: Global, plain: &PlainSchema) -> Result<String, Trouble> {
+fn put_plain_schema(alloc: Global, out: &mut Text, plain: &PlainSchema) -> Result<(), Trouble> {
     let schema = Schema {
         fields: fields_of(alloc, &plain.fields)?,
         metadata: plain.metadata.clone()?,
@@ -78,7 +75,8 @@ fn shown_plain_schema(alloc: Global, plain: &PlainSchema) -> Result<String, Trou
         fields: default_ipc_fields(alloc, &schema.fields)?,
         is_little_endian: plain.order == Endianness::Little,
     };
-    shown_schema(alloc, &schema, &ids)
+    put_schema(out, &schema, &ids);
+    Ok(())
 }
 
 /// The fields that a reader has for these.
@@ -127,7 +125,7 @@ fn integers_of(form: IntegerType) -> DataType {
 // ---- whether both agree
 
 // What both answer.
-#[derive(Clone, Copy, PartialEq, Eq)]
+#[derive(Clone, Copy)]
 enum Kind {
     NoSchema,
     Other,
@@ -167,31 +165,36 @@ impl Kinds {
         }
     }
 
-    // Whether answers of the kind of this name came.
-    fn has(&self, name: &str) -> Result<bool, Trouble> {
-        match name {
-            "NoSchema" => Ok(self.no_schema),
-            "Other" => Ok(self.other),
-            "Plain" => Ok(self.plain),
-            _ => Err(Trouble::Row("kinds")),
+    // Whether answers of this kind came.
+    fn has(&self, kind: Kind) -> bool {
+        match kind {
+            Kind::NoSchema => self.no_schema,
+            Kind::Other => self.other,
+            Kind::Plain => self.plain,
+            Kind::Differ => false,
         }
     }
 }
 
+const KIND_NAMES: [(&str, Kind); 3] = [
+    ("NoSchema", Kind::NoSchema),
+    ("Other", Kind::Other),
+    ("Plain", Kind::Plain),
+];
+
 /// What both say of a message with each damage.
-pub fn damaged_schemas_of(alloc: Global, value: &Value) -> Result<String, Trouble> {
+pub fn damaged_schemas_of(alloc: Global, out: &mut Text, value: &Value) -> Result<(), Trouble> {
     let message = bytes(alloc, member(value, "bytes")?)?;
     let damages = match value.get("only_cuts") {
         None => damages(alloc, message.len())?,
         Some(_) => cuts(alloc, message.len())?,
     };
-    let mut out = Text::new(alloc);
     out.put("{");
-    let kinds = put_tried(alloc, &mut out, &message, &damages)?;
+    let kinds = put_tried(alloc, out, &message, &damages)?;
     out.put(",\"kinds\":[");
-    put_kinds(&mut out, kinds, items(member(value, "kinds")?, "kinds")?)?;
+    put_kinds(out, kinds, items(value.get("kinds"), "kinds")?)?;
     out.put("]}");
-    out.finish()
+    Ok(())
 }
 
 // Tries each damage, and appends how many there are and those at which both differ.
@@ -209,7 +212,7 @@ fn put_tried(
     };
     for damage in damages {
         let kind = kind_of(alloc, &damaged(alloc, message, *damage)?)?;
-        tried.add(*damage, kind == Kind::Differ);
+        tried.add(*damage, matches!(kind, Kind::Differ));
         kinds.add(kind);
     }
     tried.put_cuts(out);
@@ -225,10 +228,9 @@ fn kind_of(alloc: Global, message: &[u8]) -> Result<Kind, Trouble> {
 // Those of these kinds of answers that came.
 fn put_kinds(out: &mut Text, came: Kinds, kinds: &[Value]) -> Result<(), Trouble> {
     for kind in kinds {
-        let name = text(kind, "kinds")?;
-        if came.has(name)? {
+        if came.has(choice(Some(kind), &KIND_NAMES, "kinds")?) {
             out.comma();
-            out.quoted(name);
+            out.json(kind);
         }
     }
     Ok(())

@@ -7,7 +7,7 @@
 use crate::bytes::bytes;
 use crate::calls::records::are_same;
 use crate::damages::{Damage, Tried, damaged};
-use crate::json::{count, item, items, member};
+use crate::json::{both, count, items, member};
 use crate::plain_streams::{Item, PlainHead, item_of, plain_head};
 use crate::runs::Runs;
 use crate::same_schemas::is_same_schema;
@@ -122,63 +122,69 @@ fn answer_of(alloc: Global, bytes: &[u8]) -> Result<Answer, Trouble> {
     compare_messages(alloc, &head, rest, &mut reader)
 }
 
-fn shown_answer(alloc: Global, answer: Answer) -> Result<String, Trouble> {
+fn put_answer(out: &mut Text, answer: Answer) {
     match answer {
-        Answer::NoStream => Ok(String::from_str(alloc, "\"NoStream\"")?),
-        Answer::Differ => Ok(String::from_str(alloc, "\"Differ\"")?),
+        Answer::NoStream => out.put("\"NoStream\""),
+        Answer::Differ => out.put("\"Differ\""),
         Answer::Chunks(chunks, end) => {
-            let end = match end {
-                End::Mark => "Mark",
-                End::Waiting => "Waiting",
-                End::Fault => "Fault",
-            };
-            Ok(format!(in alloc; "{{\"chunks\":{chunks},\"end\":\"{end}\"}}")?)
+            out.put("{\"chunks\":");
+            out.show(&chunks);
+            out.put(match end {
+                End::Mark => ",\"end\":\"Mark\"}",
+                End::Waiting => ",\"end\":\"Waiting\"}",
+                End::Fault => ",\"end\":\"Fault\"}",
+            });
         }
     }
 }
 
 /// How the answers of the reader and the plain programs stand to each other.
-pub fn stream_by_both(alloc: Global, value: &Value) -> Result<String, Trouble> {
+pub fn stream_by_both(alloc: Global, out: &mut Text, value: &Value) -> Result<(), Trouble> {
     let stream = stream(alloc, value)?;
-    shown_answer(alloc, answer_of(alloc, &stream)?)
+    put_answer(out, answer_of(alloc, &stream)?);
+    Ok(())
 }
 
 // ---- damages
 
 /// What both answer on a stream cut to each length.
-pub fn cut_streams_of(alloc: Global, value: &Value) -> Result<String, Trouble> {
+pub fn cut_streams_of(alloc: Global, out: &mut Text, value: &Value) -> Result<(), Trouble> {
     let stream = stream(alloc, value)?;
     let mut runs = Runs::new(alloc);
+    out.put("[");
     for length in 0..stream.len() {
         let answer = answer_of(alloc, &stream[..length])?;
-        runs.add(shown_answer(alloc, answer)?);
+        let mut shown = Text::new(alloc);
+        put_answer(&mut shown, answer);
+        runs.add(out, shown)?;
     }
-    runs.finish()
+    runs.end_run(out);
+    out.put("]");
+    Ok(())
 }
 
 /// How many damages of a stream were tried, and those at which both differ.
-pub fn damaged_streams_of(alloc: Global, value: &Value) -> Result<String, Trouble> {
+pub fn damaged_streams_of(alloc: Global, out: &mut Text, value: &Value) -> Result<(), Trouble> {
     let stream = stream(alloc, member(value, "stream")?)?;
     let mut tried = Tried::new(alloc);
     for damage in sets_of(alloc, value)? {
         let answer = answer_of(alloc, &damaged(alloc, &stream, damage)?)?;
         tried.add(damage, matches!(answer, Answer::Differ));
     }
-    let mut out = Text::new(alloc);
     out.put("{");
-    tried.put(&mut out)?;
+    tried.put(out)?;
     out.put("}");
-    out.finish()
+    Ok(())
 }
 
 // Each byte of the ranges set to each of the bytes.
 fn sets_of(alloc: Global, value: &Value) -> Result<Vec<Damage>, Trouble> {
     let mut all = Vec::new(alloc);
     let set = bytes(alloc, member(value, "bytes")?)?;
-    for range in items(member(value, "places")?, "places")? {
-        let range = items(range, "places")?;
-        let from = count(item(range, 0, "places")?, "places")?;
-        let len = count(item(range, 1, "places")?, "places")?;
+    for range in items(value.get("places"), "places")? {
+        let (from, len) = both(range, "places")?;
+        let from = count(Some(from), "places")?;
+        let len = count(Some(len), "places")?;
         for place in from..from.saturating_add(len) {
             put_sets(&mut all, place, &set)?;
         }

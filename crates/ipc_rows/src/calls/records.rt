@@ -7,9 +7,9 @@
 //! how many damages were tried, and those at which they differ. `"cut_bodies_of": RECORD` makes them read the body cut to each
 //! length, 0 first, and gives the answers as `runs.rt` shows them.
 
-use crate::chunks::{put_chunk, shown_columns};
+use crate::chunks::{put_chunk, put_columns};
 use crate::damages::{Tried, damaged, damages};
-use crate::plain::{PlainColumns, PlainForm, shown_plain_columns};
+use crate::plain::{PlainColumns, PlainForm, put_plain_columns};
 use crate::records::{Record, RecordForm, batch_of, record_of};
 use crate::runs::Runs;
 use crate::text::Text;
@@ -22,30 +22,30 @@ use serde_json::Value;
 use std::alloc::Global;
 
 /// The columns that are read of a record message.
-pub fn columns_of(alloc: Global, value: &Value) -> Result<String, Trouble> {
+pub fn columns_of(alloc: Global, out: &mut Text, value: &Value) -> Result<(), Trouble> {
     let record = record_of(alloc, value)?;
     let batch = batch_of(&record.message).ok_or(Trouble::Row("record"))?;
     let chunk = record.form.read(alloc, batch, &record.body)?;
-    let mut out = Text::new(alloc);
-    put_chunk(&mut out, &chunk, &record.form.fields);
-    out.finish()
+    put_chunk(out, &chunk, &record.form.fields);
+    Ok(())
 }
 
 /// The columns that a record message means by the plain program.
-pub fn plain_columns_of(alloc: Global, value: &Value) -> Result<String, Trouble> {
+pub fn plain_columns_of(alloc: Global, out: &mut Text, value: &Value) -> Result<(), Trouble> {
     let record = record_of(alloc, value)?;
     let batch = batch_of(&record.message).ok_or(Trouble::Row("record"))?;
     let plain = record.form.plain(alloc)?;
     match plain.columns(alloc, &batch, &record.body)? {
-        Some(columns) => shown_plain_columns(alloc, &columns),
-        None => Ok(String::from_str(alloc, "null")?),
+        Some(columns) => put_plain_columns(out, &columns),
+        None => out.put("null"),
     }
+    Ok(())
 }
 
 // ---- by both
 
 // What both answer.
-#[derive(Clone, Copy, PartialEq, Eq)]
+#[derive(Clone, Copy)]
 enum Answer {
     NoBatch,
     NoColumns,
@@ -56,25 +56,25 @@ enum Answer {
 }
 
 /// How the answers of the reader and the plain program stand to each other.
-pub fn columns_by_both(alloc: Global, value: &Value) -> Result<String, Trouble> {
+pub fn columns_by_both(alloc: Global, out: &mut Text, value: &Value) -> Result<(), Trouble> {
     let Record {
         message,
         body,
         form,
     } = record_of(alloc, value)?;
     let plain = form.plain(alloc)?;
-    shown_answer(alloc, answer_of(alloc, &form, &plain, &message, &body)?)
+    put_answer(out, answer_of(alloc, &form, &plain, &message, &body)?);
+    Ok(())
 }
 
-fn shown_answer(alloc: Global, answer: Answer) -> Result<String, Trouble> {
-    let name = match answer {
+fn put_answer(out: &mut Text, answer: Answer) {
+    out.put(match answer {
         Answer::NoBatch => "\"NoBatch\"",
         Answer::NoColumns => "\"NoColumns\"",
         Answer::Columns => "\"Columns\"",
         Answer::Nulls => "\"Nulls\"",
         Answer::Differ => "\"Differ\"",
-    };
-    Ok(String::from_str(alloc, name)?)
+    });
 }
 
 fn answer_of(
@@ -135,32 +135,34 @@ pub fn are_same(
     plain: &PlainColumns,
     read: &Chunk<AnyArray>,
 ) -> Result<bool, Trouble> {
-    let wanted = shown_plain_columns(alloc, plain)?;
-    Ok(wanted == shown_columns(alloc, read.arrays())?)
+    let mut wanted = Text::new(alloc);
+    put_plain_columns(&mut wanted, plain);
+    let mut got = Text::new(alloc);
+    put_columns(&mut got, read.arrays());
+    Ok(wanted.finish()? == got.finish()?)
 }
 
 // ---- damages
 
 /// How many damages of a record message were tried, and those at which both differ.
-pub fn damaged_records_of(alloc: Global, value: &Value) -> Result<String, Trouble> {
+pub fn damaged_records_of(alloc: Global, out: &mut Text, value: &Value) -> Result<(), Trouble> {
     let record = record_of(alloc, value)?;
     let plain = record.form.plain(alloc)?;
     let mut tried = Tried::new(alloc);
     for damage in damages(alloc, record.message.len())? {
         let message = damaged(alloc, &record.message, damage)?;
         let answer = answer_of(alloc, &record.form, &plain, &message, &record.body)?;
-        tried.add(damage, answer == Answer::Differ);
+        tried.add(damage, matches!(answer, Answer::Differ));
     }
-    let mut out = Text::new(alloc);
     out.put("{");
-    tried.put_cuts(&mut out);
-    tried.put(&mut out)?;
+    tried.put_cuts(out);
+    tried.put(out)?;
     out.put("}");
-    out.finish()
+    Ok(())
 }
 
 /// What both answer on the body of a record cut to each length.
-pub fn cut_bodies_of(alloc: Global, value: &Value) -> Result<String, Trouble> {
+pub fn cut_bodies_of(alloc: Global, out: &mut Text, value: &Value) -> Result<(), Trouble> {
     let Record {
         message,
         body,
@@ -168,9 +170,14 @@ pub fn cut_bodies_of(alloc: Global, value: &Value) -> Result<String, Trouble> {
     } = record_of(alloc, value)?;
     let plain = form.plain(alloc)?;
     let mut runs = Runs::new(alloc);
+    out.put("[");
     for length in 0..body.len() {
         let answer = answer_of(alloc, &form, &plain, &message, &body[..length])?;
-        runs.add(shown_answer(alloc, answer)?);
+        let mut shown = Text::new(alloc);
+        put_answer(&mut shown, answer);
+        runs.add(out, shown)?;
     }
-    runs.finish()
+    runs.end_run(out);
+    out.put("]");
+    Ok(())
 }

@@ -4,7 +4,7 @@
 
 use crate::arrays::arrays;
 use crate::chunks::put_chunk;
-use crate::json::{items, member};
+use crate::json::items;
 use crate::schemas::schema;
 use crate::text::Text;
 use crate::trouble::Trouble;
@@ -40,7 +40,7 @@ fn call_of(alloc: Global, value: &Value) -> Result<Call, Trouble> {
 
 fn calls_of(alloc: Global, value: &Value) -> Result<Vec<Call>, Trouble> {
     let mut calls = Vec::new(alloc);
-    for call in items(member(value, "calls")?, "calls")? {
+    for call in items(value.get("calls"), "calls")? {
         calls.push(call_of(alloc, call)?)?;
     }
     Ok(calls)
@@ -60,22 +60,21 @@ fn borrowed<'a>(alloc: Global, calls: &'a [Call]) -> Result<Vec<StreamCall<'a>>,
 }
 
 /// What comes back of the calls of a writer.
-pub fn round_trip_of(alloc: Global, value: &Value) -> Result<String, Trouble> {
+pub fn round_trip_of(alloc: Global, out: &mut Text, value: &Value) -> Result<(), Trouble> {
     let schema = schema(alloc, value)?;
     let calls = calls_of(alloc, value)?;
     let trip = round_trip(alloc, &schema, &borrowed(alloc, &calls)?)?;
-    let mut out = Text::new(alloc);
     out.put("{\"answers\":[");
     for answer in &trip.answers {
         out.comma();
         out.show(answer);
     }
     out.put("],");
-    put_whole_stream(&mut out, &trip.stream, &schema.fields);
+    put_whole_stream(out, &trip.stream, &schema.fields);
     out.put(",\"is_schema_same\":");
     out.show(&(trip.stream.metadata.schema == schema));
     out.put("}");
-    out.finish()
+    Ok(())
 }
 
 fn put_whole_stream(out: &mut Text, stream: &WholeStream, fields: &[Field]) {
@@ -89,11 +88,10 @@ fn put_whole_stream(out: &mut Text, stream: &WholeStream, fields: &[Field]) {
 }
 
 /// All chunks of a stream, and whether it ends by its mark.
-pub fn whole_of(alloc: Global, value: &Value) -> Result<String, Trouble> {
+pub fn whole_of(alloc: Global, out: &mut Text, value: &Value) -> Result<(), Trouble> {
     let whole = read_stream(alloc, &stream(alloc, value)?)?;
-    let mut out = Text::new(alloc);
     out.put("{");
-    put_whole_stream(&mut out, &whole, &whole.metadata.schema.fields);
+    put_whole_stream(out, &whole, &whole.metadata.schema.fields);
     out.put("}");
-    out.finish()
+    Ok(())
 }

@@ -5,8 +5,8 @@
 //! `"are_same_schemas": [SCHEMA, SCHEMA]` whether a clone of the first and the second are the same.
 
 use crate::bytes::bytes;
-use crate::json::{item, items};
-use crate::schemas::{ids_of, schema, shown_of_row, shown_schema};
+use crate::json::both;
+use crate::schemas::{ids_of, put_schema, put_schema_of_row, schema};
 use crate::text::Text;
 use crate::trouble::Trouble;
 use ipc_schema::read::schema::deserialize_schema;
@@ -17,13 +17,14 @@ use serde_json::Value;
 use std::alloc::Global;
 
 /// The schema that a message means.
-pub fn schema_of(alloc: Global, value: &Value) -> Result<String, Trouble> {
-    shown_message(alloc, &bytes(alloc, value)?)
+pub fn schema_of(alloc: Global, out: &mut Text, value: &Value) -> Result<(), Trouble> {
+    put_message(alloc, out, &bytes(alloc, value)?)
 }
 
-fn shown_message(alloc: Global, message: &[u8]) -> Result<String, Trouble> {
+fn put_message(alloc: Global, out: &mut Text, message: &[u8]) -> Result<(), Trouble> {
     let (schema, ids) = deserialize_schema(alloc, message)?;
-    shown_schema(alloc, &schema, &ids)
+    put_schema(out, &schema, &ids);
+    Ok(())
 }
 
 fn message_of(alloc: Global, value: &Value) -> Result<Vec<u8>, Trouble> {
@@ -33,44 +34,44 @@ fn message_of(alloc: Global, value: &Value) -> Result<Vec<u8>, Trouble> {
 }
 
 /// The bytes of a schema's message.
-pub fn schema_bytes_of(alloc: Global, value: &Value) -> Result<String, Trouble> {
-    let mut out = Text::new(alloc);
+pub fn schema_bytes_of(alloc: Global, out: &mut Text, value: &Value) -> Result<(), Trouble> {
     out.hex(&message_of(alloc, value)?);
-    out.finish()
+    Ok(())
 }
 
 /// The schema that such a message means.
-pub fn schema_back_of(alloc: Global, value: &Value) -> Result<String, Trouble> {
-    shown_message(alloc, &message_of(alloc, value)?)
+pub fn schema_back_of(alloc: Global, out: &mut Text, value: &Value) -> Result<(), Trouble> {
+    put_message(alloc, out, &message_of(alloc, value)?)
 }
 
 /// The normal form of a schema, with the ids by default.
-pub fn normal_of(alloc: Global, value: &Value) -> Result<String, Trouble> {
+pub fn normal_of(alloc: Global, out: &mut Text, value: &Value) -> Result<(), Trouble> {
     let normal = schema(alloc, value)?.normal()?;
-    shown_of_row(alloc, value, &normal)
+    put_schema_of_row(alloc, out, value, &normal)
 }
 
 /// Whether a schema is its own normal form.
-pub fn is_normal(alloc: Global, value: &Value) -> Result<String, Trouble> {
+pub fn is_normal(alloc: Global, value: &Value) -> Result<bool, Trouble> {
     let schema = schema(alloc, value)?;
-    Ok(is_same_schema(&schema.normal()?, &schema).to_string(alloc)?)
+    Ok(is_same_schema(&schema.normal()?, &schema))
 }
 
 /// Whether a clone of a schema and another schema are the same.
-pub fn are_same_schemas(alloc: Global, value: &Value) -> Result<String, Trouble> {
-    let both = items(value, "schemas")?;
-    let first = schema(alloc, item(both, 0, "schemas")?)?.clone()?;
-    let second = schema(alloc, item(both, 1, "schemas")?)?;
-    Ok(is_same_schema(&first, &second).to_string(alloc)?)
+pub fn are_same_schemas(alloc: Global, value: &Value) -> Result<bool, Trouble> {
+    let (first, second) = both(value, "schemas")?;
+    let first = schema(alloc, first)?.clone()?;
+    let second = schema(alloc, second)?;
+    Ok(is_same_schema(&first, &second))
 }
 
 /// What the tables of a schema weigh, or null where 64 bits don't hold it.
-pub fn weight_of(alloc: Global, value: &Value) -> Result<String, Trouble> {
+pub fn weight_of(alloc: Global, out: &mut Text, value: &Value) -> Result<(), Trouble> {
     let schema = schema(alloc, value)?;
     let ids = ids_of(alloc, value, &schema)?;
     let tables = serialize_schema(alloc, &schema, &ids)?;
     match weigh_schema(&tables) {
-        None => Ok(String::from_str(alloc, "null")?),
-        Some(weight) => Ok(weight.to_string(alloc)?),
+        None => out.put("null"),
+        Some(weight) => out.show(&weight),
     }
+    Ok(())
 }

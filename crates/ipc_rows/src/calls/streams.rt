@@ -10,8 +10,8 @@
 //! is a chunk, `"waiting"`, null or a fault, whether the reader is finished then, and what it says of the schema behind them.
 
 use crate::chunks::put_chunk;
-use crate::json::{count, item, items, member};
-use crate::schemas::{schema, shown_schema};
+use crate::json::{both, count, member};
+use crate::schemas::{put_schema, schema};
 use crate::text::Text;
 use crate::trouble::Trouble;
 use crate::written::{stream, write};
@@ -33,15 +33,14 @@ fn opened(alloc: Global, stream: &[u8]) -> Result<Reader<'_>, Trouble> {
 }
 
 /// The chunks of a stream, and how it ends.
-pub fn read_of(alloc: Global, value: &Value) -> Result<String, Trouble> {
+pub fn read_of(alloc: Global, out: &mut Text, value: &Value) -> Result<(), Trouble> {
     let stream = stream(alloc, value)?;
     let mut reader = opened(alloc, &stream)?;
     let fields = reader.metadata().clone()?.schema.fields;
-    let mut out = Text::new(alloc);
     out.put("{");
-    put_stream(&mut out, &mut reader, &fields);
+    put_stream(out, &mut reader, &fields);
     out.put("}");
-    out.finish()
+    Ok(())
 }
 
 fn put_stream(out: &mut Text, reader: &mut Reader<'_>, fields: &[Field]) {
@@ -88,64 +87,63 @@ fn put_chunks(out: &mut Text, reader: &mut Reader<'_>, fields: &[Field]) -> Opti
 }
 
 /// What each call of a writer answers, and what is read back.
-pub fn written_by(alloc: Global, value: &Value) -> Result<String, Trouble> {
+pub fn written_by(alloc: Global, out: &mut Text, value: &Value) -> Result<(), Trouble> {
     let wanted = schema(alloc, value)?;
-    let mut out = Text::new(alloc);
     out.put("{\"answers\":");
-    let stream = write(alloc, &mut out, value)?;
+    let stream = write(alloc, out, value)?;
     out.put(",");
     let mut reader = opened(alloc, &stream)?;
-    put_stream(&mut out, &mut reader, &wanted.fields);
+    put_stream(out, &mut reader, &wanted.fields);
     out.put("}");
-    out.finish()
+    Ok(())
 }
 
 /// What each call of a writer answers, and the bytes.
-pub fn bytes_by(alloc: Global, value: &Value) -> Result<String, Trouble> {
-    let mut out = Text::new(alloc);
+pub fn bytes_by(alloc: Global, out: &mut Text, value: &Value) -> Result<(), Trouble> {
     out.put("{\"answers\":");
-    let stream = write(alloc, &mut out, value)?;
+    let stream = write(alloc, out, value)?;
     out.put(",\"bytes\":");
     out.hex(&stream);
     out.put("}");
-    out.finish()
+    Ok(())
 }
 
 /// Whether two streams have the same bytes.
-pub fn are_same_bytes(alloc: Global, value: &Value) -> Result<String, Trouble> {
-    let both = items(value, "are_same_bytes")?;
-    let first = stream(alloc, item(both, 0, "are_same_bytes")?)?;
-    let second = stream(alloc, item(both, 1, "are_same_bytes")?)?;
-    Ok((first == second).to_string(alloc)?)
+pub fn are_same_bytes(alloc: Global, value: &Value) -> Result<bool, Trouble> {
+    let (first, second) = both(value, "are_same_bytes")?;
+    let first = stream(alloc, first)?;
+    let second = stream(alloc, second)?;
+    Ok(first == second)
 }
 
 // ---- the calls of a reader
 
 /// What the schema message of a stream says.
-pub fn head_of(alloc: Global, value: &Value) -> Result<String, Trouble> {
+pub fn head_of(alloc: Global, out: &mut Text, value: &Value) -> Result<(), Trouble> {
     let stream = stream(alloc, value)?;
     let head = read_stream_metadata(alloc, &mut MemFile::new(stream.as_slice()))?;
-    let shown = shown_schema(alloc, &head.schema, &head.ipc_schema)?;
-    Ok(format!(in alloc; "{shown} {:?}", head.version)?)
+    put_schema(out, &head.schema, &head.ipc_schema);
+    out.put(" ");
+    out.debug(&head.version);
+    Ok(())
 }
 
 /// What so many calls of a reader answer.
-pub fn answers_of(alloc: Global, value: &Value) -> Result<String, Trouble> {
+pub fn answers_of(alloc: Global, out: &mut Text, value: &Value) -> Result<(), Trouble> {
     let stream = stream(alloc, member(value, "stream")?)?;
     let mut reader = opened(alloc, &stream)?;
     let fields = reader.schema().clone()?.fields;
-    let mut out = Text::new(alloc);
     out.put("{\"answers\":[");
-    for _ in 0..count(member(value, "calls")?, "calls")? {
+    for _ in 0..count(value.get("calls"), "calls")? {
         out.comma();
-        put_answer(&mut out, &mut reader, &fields);
+        put_answer(out, &mut reader, &fields);
     }
     out.put("],\"columns\":[");
-    put_columns(alloc, &mut out, &reader.schema().fields)?;
+    put_columns(alloc, out, &reader.schema().fields)?;
     out.put("],");
-    put_head(&mut out, reader.metadata());
+    put_head(out, reader.metadata());
     out.put("}");
-    out.finish()
+    Ok(())
 }
 
 fn put_answer(out: &mut Text, reader: &mut Reader<'_>, fields: &[Field]) {

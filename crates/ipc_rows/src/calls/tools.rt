@@ -40,8 +40,8 @@ fn run_of(alloc: Global, words: &[String], input: &[u8]) -> Run {
 
 fn words_of(alloc: Global, value: &Value) -> Result<Vec<String>, Trouble> {
     let mut words = Vec::new(alloc);
-    for word in items(member(value, "words")?, "words")? {
-        words.push(text(word, "words")?.to_string(alloc)?)?;
+    for word in items(value.get("words"), "words")? {
+        words.push(text(Some(word), "words")?.to_string(alloc)?)?;
     }
     Ok(words)
 }
@@ -62,22 +62,18 @@ fn demo(alloc: Global) -> Result<Vec<u8>, Trouble> {
 }
 
 /// What a run of ipcat answers.
-pub fn ipcat(alloc: Global, value: &Value) -> Result<String, Trouble> {
+pub fn ipcat(alloc: Global, out: &mut Text, value: &Value) -> Result<(), Trouble> {
     let words = words_of(alloc, value)?;
     let input = input_of(alloc, value)?;
-    shown_run(alloc, &run_of(alloc, &words, &input))
-}
-
-fn shown_run(alloc: Global, run: &Run) -> Result<String, Trouble> {
-    let mut out = Text::new(alloc);
+    let run = run_of(alloc, &words, &input);
     out.put("{\"err\":");
-    put_printed(&mut out, &run.err);
+    put_printed(out, &run.err);
     out.put(",\"out\":");
-    put_printed(&mut out, &run.out);
+    put_printed(out, &run.out);
     out.put(",\"status\":");
     out.show(&run.status);
     out.put("}");
-    out.finish()
+    Ok(())
 }
 
 // A text, or how many bytes there are where they are none.
@@ -93,7 +89,7 @@ fn put_printed(out: &mut Text, printed: &[u8]) {
 }
 
 // How a run ends on an input that was cut or damaged.
-#[derive(Clone, Copy, PartialEq, Eq)]
+#[derive(Clone, Copy)]
 enum Ending {
     Waiting,
     Ended,
@@ -101,32 +97,69 @@ enum Ending {
     Other,
 }
 
-/// How ipcat ends on each beginning of an input.
-pub fn ipcat_cut(alloc: Global, value: &Value) -> Result<String, Trouble> {
-    let words = words_of(alloc, value)?;
-    let input = input_of(alloc, value)?;
-    let endings = endings_of_cuts(alloc, &words, &input)?;
-    let mut out = Text::new(alloc);
-    out.put("{\"cuts\":");
-    out.show(&endings.len());
-    out.put(",\"ended\":");
-    out.show(&count(&endings, Ending::Ended));
-    out.put(",\"other\":");
-    put_places(&mut out, &endings, Ending::Other);
-    out.put(",\"waiting\":");
-    put_places(&mut out, &endings, Ending::Waiting);
-    out.put("}");
-    out.finish()
+// How many runs ended so, or the places of the cuts and damages that did.
+#[derive(Drop)]
+struct Endings {
+    ended: u64,
+    answered: u64,
+    other: Text,
+    waiting: Text,
 }
 
-fn endings_of_cuts(alloc: Global, words: &[String], input: &[u8]) -> Result<Vec<Ending>, Trouble> {
+impl Endings {
+    fn new(alloc: Global) -> Endings {
+        let mut other = Text::new(alloc);
+        other.put("[");
+        let mut waiting = Text::new(alloc);
+        waiting.put("[");
+        Endings {
+            ended: 0,
+            answered: 0,
+            other,
+            waiting,
+        }
+    }
+
+    fn add(&mut self, place: usize, ending: Ending) {
+        match ending {
+            Ending::Ended => self.ended = self.ended.saturating_add(1),
+            Ending::Answered => self.answered = self.answered.saturating_add(1),
+            Ending::Other => put_place(&mut self.other, place),
+            Ending::Waiting => put_place(&mut self.waiting, place),
+        }
+    }
+}
+
+fn put_place(places: &mut Text, place: usize) {
+    places.comma();
+    places.show(&place);
+}
+
+/// How ipcat ends on each beginning of an input.
+pub fn ipcat_cut(alloc: Global, out: &mut Text, value: &Value) -> Result<(), Trouble> {
+    let words = words_of(alloc, value)?;
+    let input = input_of(alloc, value)?;
+    let endings = endings_of_cuts(alloc, &words, &input);
+    out.put("{\"cuts\":");
+    out.show(&input.len());
+    out.put(",\"ended\":");
+    out.show(&endings.ended);
+    out.put(",\"other\":");
+    out.put(endings.other.finish()?.as_str());
+    out.put("],\"waiting\":");
+    out.put(endings.waiting.finish()?.as_str());
+    out.put("]}");
+    Ok(())
+}
+
+fn endings_of_cuts(alloc: Global, words: &[String], input: &[u8]) -> Endings {
     let whole = run_of(alloc, words, input);
-    let mut endings = Vec::new(alloc);
+    let mut endings = Endings::new(alloc);
     for cut in 0..input.len() {
         let run = run_of(alloc, words, &input[..cut]);
-        endings.push(ending_of_cut(&run, &whole))?;
+        endings.add(cut, ending_of_cut(&run, &whole));
     }
-    Ok(endings)
+    endings
 }
 
 // What is printed first has to be a beginning of what the whole input prints.
@@ -146,17 +179,16 @@ fn ending_of_cut(run: &Run, whole: &Run) -> Ending {
 }
 
 /// How ipcat ends on an input in which one byte is another one.
-pub fn ipcat_damaged(alloc: Global, value: &Value) -> Result<String, Trouble> {
+pub fn ipcat_damaged(alloc: Global, out: &mut Text, value: &Value) -> Result<(), Trouble> {
     let words = words_of(alloc, value)?;
     let input = input_of(alloc, value)?;
     let endings = endings_of_damages(alloc, &words, &input, value)?;
-    let mut out = Text::new(alloc);
     out.put("{\"answered\":");
-    out.show(&count(&endings, Ending::Answered));
+    out.show(&endings.answered);
     out.put(",\"other\":");
-    put_places(&mut out, &endings, Ending::Other);
-    out.put("}");
-    out.finish()
+    out.put(endings.other.finish()?.as_str());
+    out.put("]}");
+    Ok(())
 }
 
 fn endings_of_damages(
@@ -164,14 +196,14 @@ fn endings_of_damages(
     words: &[String],
     input: &[u8],
     value: &Value,
-) -> Result<Vec<Ending>, Trouble> {
+) -> Result<Endings, Trouble> {
     let byte = byte_of(alloc, value)?;
-    let classes = items(member(value, "classes")?, "classes")?;
-    let mut endings = Vec::new(alloc);
+    let classes = items(value.get("classes"), "classes")?;
+    let mut endings = Endings::new(alloc);
     for place in 0..input.len() {
         let damaged = with_byte(alloc, input, place, byte)?;
         let run = run_of(alloc, words, &damaged);
-        endings.push(ending_of_damage(&run, classes))?;
+        endings.add(place, ending_of_damage(&run, classes));
     }
     Ok(endings)
 }
@@ -194,15 +226,10 @@ fn with_byte(alloc: Global, input: &[u8], place: usize, byte: u8) -> Result<Vec<
 
 // What comes of it is shown, or refused by its class.
 fn ending_of_damage(run: &Run, classes: &[Value]) -> Ending {
-    let is_answered = match run.status {
-        0 => run.err.is_empty(),
-        1 => is_class(&run.err, classes),
-        _ => false,
-    };
-    if is_answered {
-        Ending::Answered
-    } else {
-        Ending::Other
+    match run.status {
+        0 if run.err.is_empty() => Ending::Answered,
+        1 if is_class(&run.err, classes) => Ending::Answered,
+        _ => Ending::Other,
     }
 }
 
@@ -214,21 +241,12 @@ fn is_class(line: &[u8], classes: &[Value]) -> bool {
     let Some(class) = class.strip_suffix(b"\n") else {
         return false;
     };
-    classes.iter().any(|known| known.as_str().map(|name| name.as_bytes()) == Some(class))
-}
-
-fn count(endings: &[Ending], wanted: Ending) -> usize {
-    endings.iter().filter(|ending| **ending == wanted).count()
-}
-
-// Appends the places where this is the ending.
-fn put_places(out: &mut Text, endings: &[Ending], wanted: Ending) {
-    out.put("[");
-    for (place, ending) in endings.iter().enumerate() {
-        if *ending == wanted {
-            out.comma();
-            out.show(&place);
+    for known in classes {
+        if let Value::String(name) = known {
+            if name.as_bytes() == class {
+                return true;
+            }
         }
     }
-    out.put("]");
+    false
 }

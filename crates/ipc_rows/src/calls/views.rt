@@ -21,25 +21,23 @@ use serde_json::Value;
 use std::alloc::Global;
 
 /// What the views say of a message.
-pub fn views_of(alloc: Global, value: &Value) -> Result<String, Trouble> {
+pub fn views_of(alloc: Global, out: &mut Text, value: &Value) -> Result<(), Trouble> {
     let message = bytes(alloc, value)?;
-    let mut out = Text::new(alloc);
     match MessageRef::read_as_root(&message) {
-        Ok(message) => put_message(&mut out, &message),
-        Err(fault) => put_fault(&mut out, fault),
+        Ok(message) => put_message(out, &message),
+        Err(fault) => put_fault(out, fault),
     }
-    out.finish()
+    Ok(())
 }
 
 /// What the views say of a file's footer.
-pub fn footer_views_of(alloc: Global, value: &Value) -> Result<String, Trouble> {
+pub fn footer_views_of(alloc: Global, out: &mut Text, value: &Value) -> Result<(), Trouble> {
     let footer = bytes(alloc, value)?;
-    let mut out = Text::new(alloc);
     match FooterRef::read_as_root(&footer) {
-        Ok(footer) => put_footer(&mut out, &footer),
-        Err(fault) => put_fault(&mut out, fault),
+        Ok(footer) => put_footer(out, &footer),
+        Err(fault) => put_fault(out, fault),
     }
-    out.finish()
+    Ok(())
 }
 
 /// Appends what the views say of a message.

@@ -6,8 +6,9 @@
 //! `["Timestamp", "Second", "UTC"]`, `["Interval", "DayTime"]`, `["Duration", "Second"]`. The ids of a union and the zone of a
 //! timestamp may be null.
 
-use crate::json::{item, items, number, text, truth};
+use crate::json::{choice, item, number, truth};
 use crate::trouble::Trouble;
+use crate::types::{optional_ids, optional_text};
 use ipc_tables::types::{
     Date, Decimal, Duration, FieldType, FixedSizeBinary, FixedSizeList, FloatingPoint, Int,
     Interval, Map, Time, Timestamp, Union,
@@ -18,67 +19,120 @@ use std::alloc::Global;
 
 /// A type.
 pub fn field_type(alloc: Global, value: &Value) -> Result<FieldType, Trouble> {
-    if let Value::String(name) = value {
-        return plain_type(name.as_str());
-    }
-    let parts = items(value, "type")?;
-    match text(item(parts, 0, "type")?, "type")? {
-        "Timestamp" => timestamp(alloc, parts),
-        "Union" => union(alloc, parts),
-        "FloatingPoint" | "Date" | "Time" | "Interval" | "Duration" => unit_type(parts),
-        _ => sized_type(parts),
-    }
-}
-
-fn plain_type(name: &str) -> Result<FieldType, Trouble> {
-    match name {
-        "Null" => Ok(FieldType::Null),
-        "Binary" => Ok(FieldType::Binary),
-        "Utf8" => Ok(FieldType::Utf8),
-        "Bool" => Ok(FieldType::Bool),
-        _ => nested_type(name),
+    let Value::Array(parts) = value else {
+        return plain_type(value);
+    };
+    match choice(parts.get(0), &FORMS, "type")? {
+        Form::Timestamp => timestamp(alloc, parts),
+        Form::Union => union(alloc, parts),
+        Form::OfUnit(form) => unit_type(form, parts),
+        Form::Sized(form) => sized_type(form, parts),
     }
 }
 
-fn nested_type(name: &str) -> Result<FieldType, Trouble> {
-    match name {
-        "List" => Ok(FieldType::List),
-        "Struct" => Ok(FieldType::Struct),
-        "LargeList" => Ok(FieldType::LargeList),
-        _ => large_type(name),
+// The types that have no parameters.
+#[derive(Clone, Copy)]
+enum Plain {
+    Null,
+    Binary,
+    Utf8,
+    Bool,
+    List,
+    Struct,
+    LargeBinary,
+    LargeUtf8,
+    LargeList,
+}
+
+const PLAIN_TYPES: [(&str, Plain); 9] = [
+    ("Null", Plain::Null),
+    ("Binary", Plain::Binary),
+    ("Utf8", Plain::Utf8),
+    ("Bool", Plain::Bool),
+    ("List", Plain::List),
+    ("Struct", Plain::Struct),
+    ("LargeBinary", Plain::LargeBinary),
+    ("LargeUtf8", Plain::LargeUtf8),
+    ("LargeList", Plain::LargeList),
+];
+
+fn plain_type(value: &Value) -> Result<FieldType, Trouble> {
+    match choice(Some(value), &PLAIN_TYPES, "type")? {
+        Plain::Null => Ok(FieldType::Null),
+        Plain::Binary => Ok(FieldType::Binary),
+        Plain::Utf8 => Ok(FieldType::Utf8),
+        Plain::Bool => Ok(FieldType::Bool),
+        Plain::List => Ok(FieldType::List),
+        Plain::Struct => Ok(FieldType::Struct),
+        Plain::LargeBinary => Ok(FieldType::LargeBinary),
+        Plain::LargeUtf8 => Ok(FieldType::LargeUtf8),
+        Plain::LargeList => Ok(FieldType::LargeList),
     }
 }
 
-fn large_type(name: &str) -> Result<FieldType, Trouble> {
-    match name {
-        "LargeBinary" => Ok(FieldType::LargeBinary),
-        "LargeUtf8" => Ok(FieldType::LargeUtf8),
-        _ => Err(Trouble::Row("type")),
-    }
+// The types with parameters, by what these are.
+#[derive(Clone, Copy)]
+enum Form {
+    Sized(SizedForm),
+    OfUnit(UnitForm),
+    Timestamp,
+    Union,
 }
+
+#[derive(Clone, Copy)]
+enum SizedForm {
+    Int,
+    Decimal,
+    FixedSizeBinary,
+    FixedSizeList,
+    Map,
+}
+
+#[derive(Clone, Copy)]
+enum UnitForm {
+    FloatingPoint,
+    Date,
+    Time,
+    Interval,
+    Duration,
+}
+
+const FORMS: [(&str, Form); 12] = [
+    ("Int", Form::Sized(SizedForm::Int)),
+    ("Decimal", Form::Sized(SizedForm::Decimal)),
+    ("FixedSizeBinary", Form::Sized(SizedForm::FixedSizeBinary)),
+    ("FixedSizeList", Form::Sized(SizedForm::FixedSizeList)),
+    ("Map", Form::Sized(SizedForm::Map)),
+    ("FloatingPoint", Form::OfUnit(UnitForm::FloatingPoint)),
+    ("Date", Form::OfUnit(UnitForm::Date)),
+    ("Time", Form::OfUnit(UnitForm::Time)),
+    ("Interval", Form::OfUnit(UnitForm::Interval)),
+    ("Duration", Form::OfUnit(UnitForm::Duration)),
+    ("Timestamp", Form::Timestamp),
+    ("Union", Form::Union),
+];
 
 // A type of numbers alone, and whether keys are sorted.
-fn sized_type(parts: &[Value]) -> Result<FieldType, Trouble> {
-    match text(item(parts, 0, "type")?, "type")? {
-        "Int" => Ok(FieldType::Int(int(parts)?)),
-        "Decimal" => Ok(FieldType::Decimal(Decimal {
+fn sized_type(form: SizedForm, parts: &[Value]) -> Result<FieldType, Trouble> {
+    match form {
+        SizedForm::Int => Ok(FieldType::Int(int(parts)?)),
+        SizedForm::Decimal => Ok(FieldType::Decimal(Decimal {
             precision: parameter(parts, 1)?,
             scale: parameter(parts, 2)?,
             bit_width: parameter(parts, 3)?,
         })),
-        "FixedSizeBinary" => {
+        SizedForm::FixedSizeBinary => {
             let byte_width = parameter(parts, 1)?;
             Ok(FieldType::FixedSizeBinary(FixedSizeBinary { byte_width }))
         }
-        "FixedSizeList" => {
+        SizedForm::FixedSizeList => {
             let list_size = parameter(parts, 1)?;
             Ok(FieldType::FixedSizeList(FixedSizeList { list_size }))
         }
-        "Map" => {
-            let keys_sorted = truth(item(parts, 1, "sorted")?, "sorted")?;
+        SizedForm::Map => {
+            let keys_sorted = truth(parts.get(1), "sorted")?;
             Ok(FieldType::Map(Map { keys_sorted }))
         }
-        _ => Err(Trouble::Row("type")),
     }
 }
 
@@ -86,108 +140,84 @@ fn sized_type(parts: &[Value]) -> Result<FieldType, Trouble> {
 pub fn int(parts: &[Value]) -> Result<Int, Trouble> {
     Ok(Int {
         bit_width: parameter(parts, 1)?,
-        is_signed: truth(item(parts, 2, "signed")?, "signed")?,
+        is_signed: truth(parts.get(2), "signed")?,
     })
 }
 
 fn parameter(parts: &[Value], index: usize) -> Result<i32, Trouble> {
-    number(item(parts, index, "type")?, "type")
+    number(parts.get(index), "type")
 }
 
+const PRECISIONS: [(&str, Precision); 3] = [
+    ("Half", Precision::Half),
+    ("Single", Precision::Single),
+    ("Double", Precision::Double),
+];
+
+const DATE_UNITS: [(&str, DateUnit); 2] = [
+    ("Day", DateUnit::Day),
+    ("Millisecond", DateUnit::Millisecond),
+];
+
+const TIME_UNITS: [(&str, TimeUnit); 4] = [
+    ("Second", TimeUnit::Second),
+    ("Millisecond", TimeUnit::Millisecond),
+    ("Microsecond", TimeUnit::Microsecond),
+    ("Nanosecond", TimeUnit::Nanosecond),
+];
+
+const INTERVAL_UNITS: [(&str, IntervalUnit); 3] = [
+    ("YearMonth", IntervalUnit::YearMonth),
+    ("DayTime", IntervalUnit::DayTime),
+    ("MonthDayNano", IntervalUnit::MonthDayNano),
+];
+
+const MODES: [(&str, UnionMode); 2] = [("Dense", UnionMode::Dense), ("Sparse", UnionMode::Sparse)];
+
 // A type that has a unit.
-fn unit_type(parts: &[Value]) -> Result<FieldType, Trouble> {
-    match text(item(parts, 0, "type")?, "type")? {
-        "FloatingPoint" => {
-            let precision = precision(parts)?;
+fn unit_type(form: UnitForm, parts: &[Value]) -> Result<FieldType, Trouble> {
+    let unit = parts.get(1);
+    match form {
+        UnitForm::FloatingPoint => {
+            let precision = choice(unit, &PRECISIONS, "unit")?;
             Ok(FieldType::FloatingPoint(FloatingPoint { precision }))
         }
-        "Date" => {
-            let unit = date_unit(parts)?;
+        UnitForm::Date => {
+            let unit = choice(unit, &DATE_UNITS, "unit")?;
             Ok(FieldType::Date(Date { unit }))
         }
-        "Time" => {
-            let unit = time_unit(parts)?;
+        UnitForm::Time => {
+            let unit = choice(unit, &TIME_UNITS, "unit")?;
             let bit_width = parameter(parts, 2)?;
             Ok(FieldType::Time(Time { unit, bit_width }))
         }
-        "Interval" => {
-            let unit = interval_unit(parts)?;
+        UnitForm::Interval => {
+            let unit = choice(unit, &INTERVAL_UNITS, "unit")?;
             Ok(FieldType::Interval(Interval { unit }))
         }
-        _ => {
-            let unit = time_unit(parts)?;
+        UnitForm::Duration => {
+            let unit = choice(unit, &TIME_UNITS, "unit")?;
             Ok(FieldType::Duration(Duration { unit }))
         }
     }
 }
 
-// The name of the unit.
-fn unit(parts: &[Value]) -> Result<&str, Trouble> {
-    text(item(parts, 1, "unit")?, "unit")
-}
-
-fn precision(parts: &[Value]) -> Result<Precision, Trouble> {
-    match unit(parts)? {
-        "Half" => Ok(Precision::Half),
-        "Single" => Ok(Precision::Single),
-        "Double" => Ok(Precision::Double),
-        _ => Err(Trouble::Row("unit")),
-    }
-}
-
-fn date_unit(parts: &[Value]) -> Result<DateUnit, Trouble> {
-    match unit(parts)? {
-        "Day" => Ok(DateUnit::Day),
-        "Millisecond" => Ok(DateUnit::Millisecond),
-        _ => Err(Trouble::Row("unit")),
-    }
-}
-
-fn time_unit(parts: &[Value]) -> Result<TimeUnit, Trouble> {
-    match unit(parts)? {
-        "Second" => Ok(TimeUnit::Second),
-        "Millisecond" => Ok(TimeUnit::Millisecond),
-        "Microsecond" => Ok(TimeUnit::Microsecond),
-        "Nanosecond" => Ok(TimeUnit::Nanosecond),
-        _ => Err(Trouble::Row("unit")),
-    }
-}
-
-fn interval_unit(parts: &[Value]) -> Result<IntervalUnit, Trouble> {
-    match unit(parts)? {
-        "YearMonth" => Ok(IntervalUnit::YearMonth),
-        "DayTime" => Ok(IntervalUnit::DayTime),
-        "MonthDayNano" => Ok(IntervalUnit::MonthDayNano),
-        _ => Err(Trouble::Row("unit")),
-    }
-}
-
 fn timestamp(alloc: Global, parts: &[Value]) -> Result<FieldType, Trouble> {
-    let unit = time_unit(parts)?;
-    let timezone = match item(parts, 2, "zone")? {
-        Value::Null => None,
-        zone => Some(String::from_str(alloc, text(zone, "zone")?)?),
-    };
+    let unit = choice(parts.get(1), &TIME_UNITS, "unit")?;
+    let timezone = optional_text(alloc, stated(parts)?)?;
     Ok(FieldType::Timestamp(Timestamp { unit, timezone }))
 }
 
 fn union(alloc: Global, parts: &[Value]) -> Result<FieldType, Trouble> {
-    let mode = match text(item(parts, 1, "mode")?, "mode")? {
-        "Dense" => UnionMode::Dense,
-        "Sparse" => UnionMode::Sparse,
-        _ => return Err(Trouble::Row("mode")),
-    };
-    let type_ids = match item(parts, 2, "ids")? {
-        Value::Null => None,
-        ids => Some(type_ids(alloc, items(ids, "ids")?)?),
-    };
+    let mode = choice(parts.get(1), &MODES, "mode")?;
+    let type_ids = optional_ids(alloc, stated(parts)?)?;
     Ok(FieldType::Union(Union { mode, type_ids }))
 }
 
-fn type_ids(alloc: Global, ids: &[Value]) -> Result<Vec<i32>, Trouble> {
-    let mut out = Vec::new(alloc);
-    for id in ids {
-        out.push(number(id, "ids")?)?;
+// The last parameter, but for null.
+fn stated(parts: &[Value]) -> Result<Option<&Value>, Trouble> {
+    match item(parts, 2, "type")? {
+        Value::Null => Ok(None),
+        stated => Ok(Some(stated)),
     }
-    Ok(out)
 }
