@@ -1,12 +1,10 @@
 -- How each call of a stream's writer moves what its bytes mean.
 use Rattle.std.proofs.Common.{arith, ◌≡◌, ℕ, pos, ◌%◌, ◌^◌, ◌<◌, ◌⊎◌, inl, inr, Bool, IsTrue, List, [], ◌∷◌, ◌++◌, map, length, take, Some, Result, Ok, Err, refl, sym, ap, ◌∙◌, subst, append_assoc, append-nil}
 use Rattle.std.specs.Prelude.{OnOk}
-use Rattle.std.specs.Int.{next_multiple_of}
 use Rattle.lower.specs.Normal.{norm, norm_fields}
 use Rattle.lower.specs.TypeTrees.{TypeTree, FieldTrees, no_fields, more_fields, field}
 use Rattle.lower_arrays.specs.declared.array.AnyArray.{AnyArray}
 use Rattle.ipc_devices.specs.Device.{Memory, WritesOver, before}
-use Rattle.ipc_devices.specs.Faults.{OnIo, OnRefused}
 use Rattle.ipc_devices.specs.declared.fault.Fault.{Fault}
 use Rattle.ipc_devices.specs.declared.fault.Fault.TheVariants.{Io}
 use Rattle.ipc_model.proofs.CarriedSteps.{carried_finish, carried_start, carried_write}
@@ -19,26 +17,15 @@ use Rattle.ipc_model.specs.WrittenLaws.{prefix}
 use Rattle.ipc_model.specs.Writers.{IsStarted}
 use Rattle.ipc_views.specs.Tables.{number_at}
 use Rattle.ipc_write.specs.Agreement.{Agrees, Appends, Begins, BreaksOff, IsClosed, IsFresh, IsOpen, Remains, StreamIs}
-use Rattle.ipc_write.specs.Framing.{head_bytes, message_bytes, padded, prefix_bytes}
+use Rattle.ipc_write.specs.Framing.{message_bytes, prefix_bytes}
 use Rattle.ipc_write.specs.Meaning.{HeadHas, MeansColumns, chunk_written, field_types, normal_type}
-use Rattle.ipc_write.specs.Sending.{WritesSome}
-use Rattle.ipc_write.specs.Writers.{HaveTypes, WriterSeen, normal_types}
+use Rattle.ipc_plan.specs.Sending.{WritesSome}
+use Rattle.ipc_write.specs.Writers.{HaveTypes, SendStep, WriterSeen, normal_types}
 use Rattle.ipc_write.specs.declared.stream.WriterState.{WriterState}
 use Rattle.ipc_write.specs.declared.stream.WriterState.TheVariants.{New, Started, Finished, Failed}
-use Rattle.ipc_write.proofs.RecordMeanings.{padded_whole}
+use Rattle.ipc_write.proofs.Messages.{message_whole}
 
 -- ---- bytes
-
--- a message whose parts end at their multiples has no padding
-message_whole : (metadata body : List ℕ) → length metadata % 8 ≡ 0 → length body % 64 ≡ 0 → message_bytes metadata body ≡ prefix (length metadata) ++ (metadata ++ body)
-unfolding message_bytes head_bytes prefix_bytes
-message_whole metadata body whole whole_body =
-    let same : next_multiple_of (length metadata) 8 ≡ length metadata = omega (arith, whole) in
-    let same_body : next_multiple_of (length body) 64 ≡ length body = omega (arith, whole_body) in
-    ap (λ n. (prefix n ++ padded metadata 8) ++ padded body 64) same
-    ∙ ap (λ bs. (prefix (length metadata) ++ bs) ++ padded body 64) (padded_whole metadata 8 (omega arith) whole same)
-    ∙ ap (λ bs. (prefix (length metadata) ++ metadata) ++ bs) (padded_whole body 64 (omega arith) whole_body same_body)
-    ∙ append_assoc (prefix (length metadata)) metadata body
 
 mark_is : prefix_bytes (pos 0) ≡ prefix 0
 unfolding prefix_bytes
@@ -113,22 +100,20 @@ appended memory a b metadata body columns was is types whole whole_body means sa
     }
 
 -- a chunk was handed to the device
-pub sent_chunk : {W : Type 0} (known : Bool) (memory : W → Memory) (a b : WriterSeen W) (r : Result (Unit {0}) Fault) (metadata body : List ℕ) (columns : List AnyArray) (P Q : Type 0) → a.state ≡ Started → b.types ≡ a.types
-    → length metadata % 8 ≡ 0 → length body % 64 ≡ 0 → MeansColumns metadata body columns → map normal_type columns ≡ a.types
-    → OnOk r (b.state ≡ a.state) → OnRefused r ((b.device ≡ a.device) × (b.state ≡ a.state) × P) → OnIo r ((b.state ≡ Failed) × Q)
-    → (IsTrue known → OnOk r (WritesOver (memory a.device) (memory b.device) (message_bytes metadata body))) → (IsTrue known → WritesSome (memory a.device) (memory b.device) (message_bytes metadata body))
-    → Appends known memory a r b (chunk_written columns)
-sent_chunk known memory a b (Ok x) metadata body columns P Q was types whole whole_body means same ok refused io over some = record {
-  appended = λ k base head chunks h. appended memory a b metadata body columns was (ok ∙ was) types whole whole_body means same (over k) base head chunks h;
+pub sent_chunk : {W : Type 0} (known grows : Bool) (failures room : W → ℕ) (memory : W → Memory) (a b : WriterSeen W) (r : Result (Unit {0}) Fault) (metadata body : List ℕ) (columns : List AnyArray) (count : ℕ)
+    → a.state ≡ Started → b.types ≡ a.types → length metadata % 8 ≡ 0 → length body % 64 ≡ 0 → MeansColumns metadata body columns → map normal_type columns ≡ a.types
+    → OnOk r (b.state ≡ a.state) → SendStep known grows failures room memory a r b (message_bytes metadata body) count → Appends known memory a r b (chunk_written columns)
+sent_chunk known grows failures room memory a b (Ok x) metadata body columns count was types whole whole_body means same ok step = record {
+  appended = λ k base head chunks h. appended memory a b metadata body columns was (ok ∙ was) types whole whole_body means same (step.all_sent k) base head chunks h;
   kept = λ k base head chunks h. tt;
 }
-sent_chunk known memory a b (Err (Io e)) metadata body columns P Q was types whole whole_body means same ok refused io over some = record {
+sent_chunk known grows failures room memory a b (Err (Io e)) metadata body columns count was types whole whole_body means same ok step = record {
   appended = λ k base head chunks h. tt;
-  kept = λ k base head chunks h. broken memory a b (message_bytes metadata body) base head chunks (inr was) io.0 (some k) h;
+  kept = λ k base head chunks h. broken memory a b (message_bytes metadata body) base head chunks (inr was) step.io.0 (step.some_sent k) h;
 }
-sent_chunk known memory a b (Err _) metadata body columns P Q was types whole whole_body means same ok refused io over some = record {
+sent_chunk known grows failures room memory a b (Err _) metadata body columns count was types whole whole_body means same ok step = record {
   appended = λ k base head chunks h. tt;
-  kept = λ k base head chunks h. same_agrees memory a b base head chunks refused.0 refused.1 types h;
+  kept = λ k base head chunks h. same_agrees memory a b base head chunks step.refused.device step.refused.state types h;
 }
 
 -- ---- start
@@ -173,16 +158,15 @@ sent_schema known memory a b metadata head was is whole short headed has over x 
 }
 
 -- a schema wasn't sent whole
-pub unsent_schema : {W : Type 0} (known : Bool) (memory : W → Memory) (a b : WriterSeen W) (e : Fault) (bytes : List ℕ) (head : Head) (P Q : Type 0) → a.state ≡ New → b.types ≡ a.types
-    → OnRefused {X = Unit {0}} (Err e) ((b.device ≡ a.device) × (b.state ≡ a.state) × P) → OnIo {X = Unit {0}} (Err e) ((b.state ≡ Failed) × Q)
-    → (IsTrue known → WritesSome (memory a.device) (memory b.device) bytes) → Begins known memory a (Err e) b head
-unsent_schema known memory a b (Io x) bytes head P Q was types refused io some = record {
+pub unsent_schema : {W : Type 0} (known grows : Bool) (failures room : W → ℕ) (memory : W → Memory) (a b : WriterSeen W) (e : Fault) (bytes : List ℕ) (count : ℕ) (head : Head) → a.state ≡ New → b.types ≡ a.types
+    → SendStep known grows failures room memory a (Err e) b bytes count → Begins known memory a (Err e) b head
+unsent_schema known grows failures room memory a b (Io x) bytes count head was types step = record {
   begun = λ k base chunks h. tt;
-  kept = λ k base other chunks h. broken memory a b bytes base other chunks (inl was) io.0 (some k) h;
+  kept = λ k base other chunks h. broken memory a b bytes base other chunks (inl was) step.io.0 (step.some_sent k) h;
 }
-unsent_schema known memory a b _ bytes head P Q was types refused io some = record {
+unsent_schema known grows failures room memory a b _ bytes count head was types step = record {
   begun = λ k base chunks h. tt;
-  kept = λ k base other chunks h. same_agrees memory a b base other chunks refused.0 refused.1 types h;
+  kept = λ k base other chunks h. same_agrees memory a b base other chunks step.refused.device step.refused.state types h;
 }
 
 -- ---- finish

@@ -1,23 +1,126 @@
 -- The message of a chunk.
-use Rattle.std.proofs.Common.{◌≡◌, ℕ, ℤ, pos, ◌≤◌, ◌^◌, ◌≤ℤ◌, List, [], ◌∷◌, map, Any, refl, arith}
-use Rattle.std.proofs.Math.Facts.{yes_leb}
+use Rattle.std.proofs.Common.{◌≡◌, ℕ, ℤ, ◌⊎◌, inl, inr, Result, Ok, Err, IfErr, IfOk, ◌%◌, pos, ◌<◌, ◌≤◌, ◌^◌, List, [], ◌∷◌, ◌++◌, length, map, sym, ap, ◌∙◌, subst, arith}
+use Rattle.std.proofs.lemmas.List.Concat.{flat_map-cons}
+use Rattle.std.specs.Int.{next_multiple_of}
+use Rattle.std.specs.Prelude.{Vec}
+use Rattle.std.specs.declared.alloc.Global.{Global}
+use Rattle.lower_types.specs.declared.Endianness.TheVariants.{Little}
+use Rattle.lower_arrays.specs.AnyLayouts.{layout_of}
+use Rattle.lower_arrays.specs.Layouts.{Layout, layout, layouts, Level, len_of}
+use Rattle.lower_arrays.specs.Slots.{AreArrays}
+use Rattle.lower_arrays.specs.declared.array.AnyArray.{AnyArray}
+use Rattle.ipc_devices.specs.declared.fault.Fault.{Fault}
+use Rattle.ipc_devices.specs.declared.fault.Fault.TheVariants.{Argument, Memory}
+use Rattle.ipc_devices.specs.declared.fault.ArgFault.TheVariants.{TooLarge, TooLong}
 use Rattle.ipc_parts.specs.Encodes.{IsEncoding}
+use Rattle.ipc_parts.specs.Sizes.{message_size}
+use Rattle.ipc_parts.specs.Tree.{Slots}
+use Rattle.ipc_tables.specs.Messages.{message_slots}
+use Rattle.ipc_tables.specs.declared.message.Message.{Message}
+use Rattle.ipc_tables.specs.declared.message.MessageHeader.TheVariants.{RecordBatch as a_record_batch}
 use Rattle.ipc_views.specs.declared.message.FieldNode.{FieldNode}
 use Rattle.ipc_views.specs.declared.schema.Buffer.{Buffer}
-use Rattle.lower_arrays.specs.Layouts.{len_of}
-use Rattle.lower_arrays.specs.AnyLayouts.{layout_of}
-use Rattle.lower_arrays.specs.declared.array.AnyArray.{AnyArray}
-use Rattle.ipc_write.specs.Batches.{chunk_slots, message_of, rows_of}
-use Rattle.ipc_write.specs.Columns.{all_buffers_of, end_of_all, node_of}
+use Rattle.ipc_views.specs.declared.schema.MetadataVersion.TheVariants.{V5}
+use Rattle.ipc_model.specs.Offers.{whole_levels}
+use Rattle.ipc_plan.specs.Levels.{joined, node_of}
+use Rattle.ipc_plan.specs.Pieces.{pieces_bytes}
+use Rattle.ipc_plan.specs.Plans.{entries_from}
+use Rattle.ipc_plan.specs.Bodies.{PlansColumns}
+use Rattle.ipc_plan.specs.Taking.{AnswersColumns, AreShort}
+use Rattle.ipc_plan.specs.declared.plan.Plan.{Plan}
+use Rattle.ipc_write.specs.Batches.{HasLongMetadata, IsChunkMessage, IsPlanMessage, PlansChunk, RefusesChunk, chunk_slots, message_of, rows_of}
+use Rattle.ipc_write.specs.Columns.{levels_of}
+use Rattle.ipc_write.proofs.Messages.{body_whole}
 
--- Bytes of a message with the parts of a chunk are those of the chunk.
-pub encodes_chunk : (columns : List AnyArray) (bytes : List ℕ) (rows len : ℤ) (nodes : List FieldNode) (buffers : List Buffer)
-    → IsEncoding bytes (message_of rows nodes buffers len)
-    → rows ≡ pos (rows_of columns) → nodes ≡ map node_of columns → buffers ≡ all_buffers_of (pos 0) columns → len ≡ end_of_all (pos 0) columns
-    → IsEncoding bytes (chunk_slots columns)
-encodes_chunk columns bytes rows len nodes buffers h e f g k = rw (e, f, g, k) at h
+-- a record batch with what a plan lists
+pub plan_message : (p : Plan) (m : Message) (rows given end : ℤ) (nodes : Vec FieldNode Global) (buffers : Vec Buffer Global)
+    → m ≡ record { version = V5; header = a_record_batch (record { length = given; nodes = nodes; buffers = buffers }); body_length = end }
+    → message_slots m ≡ message_of given nodes.items buffers.items end → given ≡ rows → nodes.items ≡ p.nodes.items → buffers.items ≡ p.buffers.items → end ≡ pos p.end → IsPlanMessage m rows p
+plan_message p m rows given end nodes buffers value slots same ns bs es = record {
+  listed = record { length = given; nodes = nodes; buffers = buffers };
+  end = end;
+  value = value;
+  end_is = es;
+  length = same;
+  nodes = ns;
+  buffers = bs;
+  slots =
+      slots
+      ∙ ap (λ z. message_of z nodes.items buffers.items end) same
+      ∙ ap (λ xs. message_of rows xs buffers.items end) ns
+      ∙ ap (λ xs. message_of rows p.nodes.items xs end) bs
+      ∙ ap (λ z. message_of rows p.nodes.items p.buffers.items z) es;
+}
 
--- A chunk with too many rows has a column that is too long.
-pub too_long : (columns : List AnyArray) → 2 ^ 63 ≤ rows_of columns → Any (λ a. pos (2 ^ 63) ≤ℤ pos (len_of (layout_of a))) columns
-too_long [] h = absurd (omega (arith, h))
-too_long (a ∷ columns) h = (0, a, omega arith, refl, record { le = yes_leb h })
+-- the message of a plan is that of its columns
+plan_slots : (columns : List AnyArray) (p : Plan) (rows : ℤ) (m : Message) (h : PlansChunk columns p) → IsPlanMessage m rows p → rows ≡ pos (rows_of columns)
+    → message_slots m ≡ chunk_slots columns (joined h.plans.buffers)
+plan_slots columns p rows m h is e =
+    let bs = joined h.plans.buffers in
+    is.slots
+    ∙ ap (λ n. message_of n p.nodes.items p.buffers.items (pos p.end)) e
+    ∙ ap (λ ns. message_of (pos (rows_of columns)) ns p.buffers.items (pos p.end)) h.plans.nodes_are
+    ∙ ap (λ es. message_of (pos (rows_of columns)) (map node_of (levels_of columns)) es (pos p.end)) h.plans.entries_are
+    ∙ ap (λ n. message_of (pos (rows_of columns)) (map node_of (levels_of columns)) (entries_from 0 bs) (pos n)) h.plans.end_is
+
+-- the bytes of a plan's message, with the plan's pieces
+pub chunk_message : (columns : List AnyArray) (p q : Plan) (rows : ℤ) (m : Message) (metadata : List ℕ) → PlansChunk columns p → IsPlanMessage m rows p → rows ≡ pos (rows_of columns)
+    → IsEncoding metadata (message_slots m) → q.pieces.items ≡ p.pieces.items → IsChunkMessage metadata (pieces_bytes Little q.pieces.items) columns
+chunk_message columns p q rows m metadata h is e encodes same = record {
+  buffers = h.plans.buffers;
+  have = h.plans.have;
+  metadata_is = subst (λ (s : Slots). IsEncoding metadata s) (plan_slots columns p rows m h is e) encodes;
+  body_is = ap (λ ps. pieces_bytes Little ps) same ∙ h.plans.body_is;
+}
+
+-- why a message is too large
+pub long_message : (columns : List AnyArray) (p : Plan) (rows : ℤ) (m : Message) → PlansChunk columns p → IsPlanMessage m rows p → rows ≡ pos (rows_of columns) → 2 ^ 31 ≤ message_size (message_slots m)
+    → HasLongMetadata columns
+long_message columns p rows m h is e long =
+    let far : 2 ^ 31 ≤ message_size (chunk_slots columns (joined h.plans.buffers)) =
+    subst (λ (s : Slots). 2 ^ 31 ≤ message_size s) (plan_slots columns p rows m h is e) long in
+    record { buffers = h.plans.buffers; have = h.plans.have; long = omega (arith, far) }
+
+pub long_metadata : (columns : List AnyArray) (metadata sent : List ℕ) → IsChunkMessage metadata sent columns → 2 ^ 31 ≤ next_multiple_of (length metadata) 8 → HasLongMetadata columns
+long_metadata columns metadata sent is long = record {
+  buffers = is.buffers;
+  have = is.have;
+  long = subst (λ (n : ℕ). 2 ^ 31 ≤ next_multiple_of n 8) is.metadata_is.size long;
+}
+
+-- the body of a chunk ends at a multiple of 64
+pub body_ends : (columns : List AnyArray) (metadata sent : List ℕ) → IsChunkMessage metadata sent columns → length sent % 64 ≡ 0
+body_ends columns metadata sent is = subst (λ (xs : List ℕ). length xs % 64 ≡ 0) (sym is.body_is) (body_whole (joined is.buffers))
+
+-- ---- what is planned
+
+pub planned : (columns : List AnyArray) (r : Result Plan Fault) → AreArrays (layouts (map layout_of columns)) → IfOk r (λ p. PlansColumns Little (map layout_of columns) p) → AnswersColumns r (levels_of columns)
+    → IfOk r (λ p. PlansChunk columns p)
+planned columns (Ok p) arrays plans takes = record { arrays = arrays; plans = plans; short = takes.0; small = takes.2 }
+planned columns (Err e) arrays plans takes = tt
+
+pub refused_plan : (columns : List AnyArray) (r : Result Plan Fault) → AnswersColumns r (levels_of columns) → IfErr r (RefusesChunk columns)
+refused_plan columns (Ok p) takes = tt
+refused_plan columns (Err (Argument TooLong)) takes = takes
+refused_plan columns (Err (Argument TooLarge)) takes = inl takes
+refused_plan columns (Err Memory) takes = tt
+refused_plan columns (Err _) takes = absurd takes
+
+-- why a message isn't made
+pub refused_message : (columns : List AnyArray) (p : Plan) (rows : ℤ) (m : Message) (e : Fault) → PlansChunk columns p → IsPlanMessage m rows p → rows ≡ pos (rows_of columns)
+    → (e ≡ Memory) ⊎ ((e ≡ Argument TooLarge) × (2 ^ 31 ≤ message_size (message_slots m))) → RefusesChunk columns e
+refused_message columns p rows m e h is same (inl none) = subst (λ (f : Fault). RefusesChunk columns f) (sym none) tt
+refused_message columns p rows m e h is same (inr far) = subst (λ (f : Fault). RefusesChunk columns f) (sym far.0) (inr (long_message columns p rows m h is same far.1))
+
+-- ---- rows
+
+first_short : (l : Layout) (hs : List Level) → AreShort (whole_levels l ++ hs) → len_of l < 2 ^ 63
+first_short (layout h cs) hs short = short.0
+
+-- a chunk with too many rows has a column that is too long
+pub too_long : (columns : List AnyArray) → 2 ^ 63 ≤ rows_of columns → AreShort (levels_of columns) → ⊥
+too_long [] h short = omega (arith, h)
+too_long (a ∷ columns) h short =
+    let more = flat_map-cons whole_levels (layout_of a) (map layout_of columns) in
+    let few = first_short (layout_of a) (levels_of columns) (subst (λ (hs : List Level). AreShort hs) more short) in
+    omega (arith, h, few)

@@ -1,11 +1,9 @@
 pub mod Agreements
+pub mod CarriedColumns
 pub mod CarriedHeads
 pub mod BatchMessages
 pub mod CallLists
-pub mod ColumnLists
-pub mod ColumnMeanings
 pub mod Messages
-pub mod NumberSlots
 pub mod RecordMeanings
 pub mod SameIds
 pub mod Sends

@@ -1,82 +1,95 @@
--- The parts of a message, sent one after another.
-use Rattle.std.proofs.Common.{arith, ◌≡◌, ℕ, ℤ, pos, ◌+◌, ◌-◌, List, [], ◌∷◌, ◌++◌, length, drop, replicate, refl, ap}
+-- The parts of a message: how long they are, and how they are sent one after another.
+use Rattle.std.proofs.Common.{arith, ◌≡◌, ℕ, ℤ, Bool, Result, Ok, Err, subst, pos, ◌+◌, ◌-◌, ◌%◌, List, [], ◌∷◌, ◌++◌, length, replicate, refl, sym, ap, ◌∙◌, append-nil, append_assoc, length-append}
+use Rattle.std.proofs.lemmas.List.{length-replicate}
 use Rattle.std.specs.Int.{next_multiple_of}
-use Rattle.ipc_devices.specs.Device.{Memory, WritesOver}
-use Rattle.lower_arrays.specs.declared.array.AnyArray.{AnyArray}
-use Rattle.lower_arrays.specs.declared.array.AnyArray.TheVariants.{Primitive}
-use Rattle.lower_keys.specs.declared.numbers.AnyPrimitive.{AnyPrimitive}
-use Rattle.lower_types.specs.declared.Endianness.TheVariants.{Little}
-use Rattle.ipc_write.specs.Columns.{array_bytes, body_of}
-use Rattle.ipc_write.specs.Framing.{head_bytes, message_bytes, padded, prefix_bytes}
-use Rattle.ipc_write.specs.Sending.{WritesSome}
-use Rattle.ipc_write.proofs.RecordMeanings.{body_whole, length_padded, padded_whole}
-use Rattle.ipc_write.proofs.Sends.{writes_both, writes_none, some_after, some_front}
+use Rattle.ipc_model.specs.WrittenBatches as written
+use Rattle.ipc_model.specs.WrittenLaws.{prefix}
+use Rattle.ipc_devices.specs.declared.fault.Fault.{Fault}
+use Rattle.ipc_plan.specs.Plans.{body}
+use Rattle.ipc_plan.specs.Sending.{DeviceSeen, Sends}
+use Rattle.ipc_plan.proofs.Sends.{sends_stop}
+use Rattle.ipc_write.specs.Framing.{head_bytes, head_len, message_bytes, message_len, padded, prefix_bytes}
+use Rattle.ipc_write.proofs.Sends.{both_sent}
 
--- Bytes were sent, and their padding was begun.
-pub padding_some : (m m' m'' : Memory) (bytes : List ℕ) (multiple : ℕ) → WritesOver m m' bytes → WritesSome m' m'' (replicate (next_multiple_of (length bytes) multiple - length bytes) 0)
-    → WritesSome m m'' (padded bytes multiple)
+-- ---- padding
+
+pub length_padded : (xs : List ℕ) → length (written.padded xs) ≡ next_multiple_of (length xs) 64
+length_padded xs =
+    let zero_byte : ℕ = 0 in
+    let n = next_multiple_of (length xs) 64 - length xs in
+    omega (arith, length-append xs (replicate n zero_byte), length-replicate n zero_byte)
+
+length_padded_to : (xs : List ℕ) (m n : ℕ) → next_multiple_of (length xs) m ≡ length xs + n → length (padded xs m) ≡ next_multiple_of (length xs) m
 unfolding padded
-padding_some m m' m'' bytes multiple f g = some_after m m' m'' bytes (replicate (next_multiple_of (length bytes) multiple - length bytes) 0) f g
+length_padded_to xs m n e =
+    let zero_byte : ℕ = 0 in
+    let k = next_multiple_of (length xs) m - length xs in
+    omega (arith, e, length-append xs (replicate k zero_byte), length-replicate k zero_byte)
 
--- ---- what stands before a body
+-- bytes that end at a multiple need no padding
+pub padded_whole : (xs : List ℕ) (m : ℕ) → next_multiple_of (length xs) m ≡ length xs → padded xs m ≡ xs
+unfolding padded
+padded_whole xs m same =
+    let none : next_multiple_of (length xs) m - length xs ≡ 0 = omega (arith, same) in
+    ap (λ n. xs ++ replicate n 0) none ∙ append-nil xs
 
--- The prefix was begun.
-pub prefix_some : (m m' : Memory) (metadata : List ℕ) (n : ℤ) → n ≡ pos (next_multiple_of (length metadata) 8)
-    → WritesSome m m' (prefix_bytes n) → WritesSome m m' (head_bytes metadata)
+-- the buffers of a body, each padded, end at a multiple of 64
+pub body_whole : (bs : List (List ℕ)) → length (body bs) % 64 ≡ 0
+body_whole [] = refl
+body_whole (x ∷ bs) =
+    let rest = body_whole bs in
+    omega (arith, length-append (written.padded x) (body bs), length_padded x, rest)
+
+-- ---- messages
+
+pub length_prefix : (n : ℤ) → length (prefix_bytes n) ≡ 8
+unfolding prefix_bytes
+length_prefix n = refl
+
+length_head : (metadata : List ℕ) → length (head_bytes metadata) ≡ head_len metadata
 unfolding head_bytes
-prefix_some m m' metadata n e f = some_front m m' (prefix_bytes (pos (next_multiple_of (length metadata) 8))) (padded metadata 8) (rw e at f)
+length_head metadata =
+    let n = next_multiple_of (length metadata) 8 in
+    omega (arith, length-append (prefix_bytes (pos n)) (padded metadata 8), length_prefix (pos n), length_padded_to metadata 8 (n - length metadata) (omega arith))
 
--- The metadata was begun.
-pub metadata_some : (m m' m'' : Memory) (metadata : List ℕ) (n : ℤ) → n ≡ pos (next_multiple_of (length metadata) 8)
-    → WritesOver m m' (prefix_bytes n) → WritesSome m' m'' (padded metadata 8) → WritesSome m m'' (head_bytes metadata)
+pub length_message : (metadata bytes : List ℕ) → length (message_bytes metadata bytes) ≡ message_len metadata bytes
+unfolding message_bytes
+length_message metadata bytes =
+    let n = next_multiple_of (length bytes) 64 in
+    omega (arith, length-append (head_bytes metadata) (padded bytes 64), length_head metadata, length_padded_to bytes 64 (n - length bytes) (omega arith))
+
+-- a message whose body ends at its multiple
+pub message_whole_body : (metadata bytes : List ℕ) → length bytes % 64 ≡ 0 → head_bytes metadata ++ bytes ≡ message_bytes metadata bytes
+unfolding message_bytes
+message_whole_body metadata bytes whole =
+    let same : next_multiple_of (length bytes) 64 ≡ length bytes = omega (arith, whole) in
+    sym (ap (λ xs. head_bytes metadata ++ xs) (padded_whole bytes 64 same))
+
+-- a message whose metadata and body end at their multiples has no padding
+pub message_whole : (metadata bytes : List ℕ) → length metadata % 8 ≡ 0 → length bytes % 64 ≡ 0 → message_bytes metadata bytes ≡ prefix (length metadata) ++ (metadata ++ bytes)
+unfolding message_bytes head_bytes prefix_bytes
+message_whole metadata bytes whole whole_body =
+    let same : next_multiple_of (length metadata) 8 ≡ length metadata = omega (arith, whole) in
+    let same_body : next_multiple_of (length bytes) 64 ≡ length bytes = omega (arith, whole_body) in
+    ap (λ n. (prefix n ++ padded metadata 8) ++ padded bytes 64) same
+    ∙ ap (λ bs. (prefix (length metadata) ++ bs) ++ padded bytes 64) (padded_whole metadata 8 same)
+    ∙ ap (λ bs. (prefix (length metadata) ++ metadata) ++ bs) (padded_whole bytes 64 same_body)
+    ∙ append_assoc (prefix (length metadata)) metadata bytes
+
+-- ---- sending
+
+-- the prefix wasn't sent whole
+pub prefix_stop : {X Y : Type 0} (known grows : Bool) (d d' : DeviceSeen) (e : Fault) (metadata : List ℕ) (n : ℤ) → n ≡ pos (next_multiple_of (length metadata) 8)
+    → Sends {X = X} known grows d d' (Err e) (prefix_bytes n) → Sends {X = Y} known grows d d' (Err e) (head_bytes metadata)
 unfolding head_bytes
-metadata_some m m' m'' metadata n e f g = some_after m m' m'' (prefix_bytes (pos (next_multiple_of (length metadata) 8))) (padded metadata 8) (rw e at f) g
+prefix_stop {X = X} {Y = Y} known grows d d' e metadata n same f =
+    sends_stop {X = X} {Y = Y} known grows d d' e (prefix_bytes (pos (next_multiple_of (length metadata) 8))) (padded metadata 8)
+    (subst (λ (z : ℤ). Sends {X = X} known grows d d' (Err e) (prefix_bytes z)) same f)
 
-pub head_over : (m m' m'' : Memory) (metadata : List ℕ) (n : ℤ) → n ≡ pos (next_multiple_of (length metadata) 8)
-    → WritesOver m m' (prefix_bytes n) → WritesOver m' m'' (padded metadata 8) → WritesOver m m'' (head_bytes metadata)
+-- the prefix was sent, and then the metadata
+pub head_sent : {X Y : Type 0} (known grows : Bool) (d d' d'' : DeviceSeen) (x : X) (r : Result Y Fault) (metadata : List ℕ) (n : ℤ) → n ≡ pos (next_multiple_of (length metadata) 8)
+    → Sends {X = X} known grows d d' (Ok x) (prefix_bytes n) → Sends {X = Y} known grows d' d'' r (padded metadata 8) → Sends {X = Y} known grows d d'' r (head_bytes metadata)
 unfolding head_bytes
-head_over m m' m'' metadata n e f g = writes_both m m' m'' (prefix_bytes (pos (next_multiple_of (length metadata) 8))) (padded metadata 8) (rw e at f) g
-
--- ---- a message
-
--- What stands before the body was begun.
-pub head_some : (m m' : Memory) (metadata body : List ℕ) → WritesSome m m' (head_bytes metadata) → WritesSome m m' (message_bytes metadata body)
-unfolding message_bytes
-head_some m m' metadata body f = some_front m m' (head_bytes metadata) (padded body 64) f
-
--- The body was begun.
-pub body_some : (m m' m'' : Memory) (metadata body : List ℕ) → WritesOver m m' (head_bytes metadata) → WritesSome m' m'' (padded body 64) → WritesSome m m'' (message_bytes metadata body)
-unfolding message_bytes
-body_some m m' m'' metadata body f g = some_after m m' m'' (head_bytes metadata) (padded body 64) f g
-
-pub message_over : (m m' m'' : Memory) (metadata body : List ℕ) → WritesOver m m' (head_bytes metadata) → WritesOver m' m'' (padded body 64) → WritesOver m m'' (message_bytes metadata body)
-unfolding message_bytes
-message_over m m' m'' metadata body f g = writes_both m m' m'' (head_bytes metadata) (padded body 64) f g
-
--- ---- columns
-
--- Nothing is sent of what has no bytes.
-pub nothing_sent : (m : Memory) → WritesOver m m (padded [] 64)
-unfolding padded
-nothing_sent m = writes_none m
-
--- a column of another kind than numbers has no bytes
-pub no_bytes : (a : AnyArray) → ((x : AnyPrimitive) → a ≡ Primitive x → ⊥) → array_bytes Little a ≡ []
-no_bytes (Primitive x) h = absurd (h x refl)
-no_bytes _ h = refl
-
-pub padded_long : (bytes : List ℕ) → length (padded bytes 64) ≡ next_multiple_of (length bytes) 64
-unfolding padded
-padded_long bytes = length_padded bytes
-
--- the bytes of the columns from one on
-pub body_from : (columns : List AnyArray) (i : ℕ) (a : AnyArray) → drop i columns ≡ a ∷ drop (i + 1) columns
-    → body_of (drop i columns) ≡ padded (array_bytes Little a) 64 ++ body_of (drop (i + 1) columns)
-unfolding padded
-body_from columns i a e = ap body_of e
-
--- The body of columns ends at its multiple.
-pub body_padded : (columns : List AnyArray) → padded (body_of columns) 64 ≡ body_of columns
-body_padded columns =
-    let whole = body_whole columns in
-    padded_whole (body_of columns) 64 (omega arith) whole (omega (arith, whole))
+head_sent {X = X} {Y = Y} known grows d d' d'' x r metadata n same f g =
+    both_sent {X = X} {Y = Y} known grows d d' d'' x r (prefix_bytes (pos (next_multiple_of (length metadata) 8))) (padded metadata 8)
+    (subst (λ (z : ℤ). Sends {X = X} known grows d d' (Ok x) (prefix_bytes z)) same f) g

@@ -1,162 +1,100 @@
 -- The metadata and the body of a record batch mean its columns.
-use Rattle.std.proofs.Common.{arith, ◌≡◌, ℕ, ℤ, pos, ◌+◌, ◌-◌, ◌%◌, ◌^◌, ◌<◌, List, [], ◌∷◌, ◌++◌, map, length, replicate, Some, None, Ok, refl, sym, ap, ◌∙◌, subst, All, SFits, to_z, of_z, length-append, append-nil}
-use Rattle.std.proofs.lemmas.Int.{to_z-of_z}
-use Rattle.std.proofs.lemmas.List.{length-replicate}
-use Rattle.std.proofs.lemmas.List.Elements.{All-cons, All-head, All-nil, All-tail, All-take}
+use Rattle.std.proofs.Common.{arith, ◌≡◌, ℕ, ℤ, pos, ◌+◌, ◌^◌, ◌<◌, List, [], ◌∷◌, map, length, Some, None, Ok, refl, sym, ap, ◌∙◌, subst, All, SFits, length-append}
+use Rattle.std.proofs.lemmas.List.Elements.{All-cons, All-nil, All-take}
 use Rattle.std.specs.Int.{w64, next_multiple_of}
 use Rattle.std.specs.Option.{option_and_then}
 use Rattle.lower.specs.Counts.{fields_nodes}
+use Rattle.lower_types.specs.declared.Endianness.{Endianness}
 use Rattle.lower_types.specs.declared.Endianness.TheVariants.{Little}
-use Rattle.lower_arrays.specs.Layouts.{len_of}
+use Rattle.lower_arrays.specs.Layouts.{layouts, len_of}
+use Rattle.lower_arrays.specs.Slots.{AreArrays}
 use Rattle.lower_arrays.specs.AnyLayouts.{layout_of}
 use Rattle.lower_arrays.specs.declared.array.AnyArray.{AnyArray}
 use Rattle.ipc_base.specs.Chunks.{AreEqualRows}
 use Rattle.ipc_views.specs.declared.message.FieldNode.{FieldNode}
+use Rattle.ipc_views.specs.declared.schema.Buffer.{Buffer}
 use Rattle.ipc_views.specs.declared.schema.MetadataVersion.{MetadataVersion}
+use Rattle.ipc_views.specs.declared.schema.MetadataVersion.TheVariants.{V5}
 use Rattle.ipc_tables.specs.Reads.{HaveRoot, IsMessage, kept_buffer, kept_node}
+use Rattle.ipc_tables.specs.declared.message.Message.{Message}
 use Rattle.ipc_tables.specs.declared.message.MessageHeader.TheVariants.{RecordBatch as a_record_batch}
 use Rattle.ipc_tables.specs.declared.message.RecordBatch.{RecordBatch}
 use Rattle.ipc_tables.proofs.Kept.{BufferFits, NodeFits, kept-buffers, kept-nodes, kept64-is}
-use Rattle.ipc_model.proofs.WrittenNumbers.{written_batch}
-use Rattle.ipc_model.specs.Batches.{Schema, batch, entries_of, lists_of, record_meaning}
+use Rattle.ipc_model.specs.Batches.{Lists, Schema, batch, entries_of, lists_of, record_meaning}
 use Rattle.ipc_model.specs.CarriedStreams.{IsCarriedLists}
-use Rattle.ipc_model.specs.Entries.{size}
 use Rattle.ipc_model.specs.Streams.{header_of, whole}
 use Rattle.ipc_model.specs.WrittenBatches as written
-use Rattle.ipc_write.specs.Batches.{rows_of}
-use Rattle.ipc_write.specs.Columns.{IsCarried, IsSound, all_buffers_of, array_bytes, body_of, end_of_all, node_of, numbers_of}
-use Rattle.ipc_write.specs.Framing.{padded}
+use Rattle.ipc_plan.proofs.Batches.{columns_batch_law}
+use Rattle.ipc_plan.specs.Batches.{body_of_plan, lists_of_plan}
+use Rattle.ipc_plan.specs.Bodies.{PlansColumns}
+use Rattle.ipc_plan.specs.Levels.{joined}
+use Rattle.ipc_plan.specs.Pieces.{pieces_bytes}
+use Rattle.ipc_plan.specs.Plans.{body, entries_from}
+use Rattle.ipc_plan.specs.declared.plan.Plan.{Plan}
+use Rattle.ipc_write.specs.Batches.{IsPlanMessage, PlansChunk, rows_of}
+use Rattle.ipc_write.specs.Columns.{IsCarried}
 use Rattle.ipc_write.specs.Meaning.{IsRecord, MeansColumns, chunk_written, field_types, normal_type}
-use Rattle.ipc_write.proofs.ColumnMeanings.{are_numbers, numbers_seen}
-
--- the nodes of columns are those of their numbers
-nodes_are : (columns : List AnyArray) → map node_of columns ≡ map written.node_of (map numbers_of columns)
-nodes_are [] = refl
-nodes_are (a ∷ columns) = ap (λ (ns : List FieldNode). node_of a ∷ ns) (nodes_are columns)
-
--- none of them has nulls
-abbrev HasNoNulls : FieldNode → Type 0
-HasNoNulls n = size n.null_count ≡ 0
-
-no_nulls_in : (columns : List AnyArray) → All HasNoNulls (map node_of columns)
-no_nulls_in [] = All-nil HasNoNulls
-no_nulls_in (a ∷ columns) = All-cons HasNoNulls (node_of a) (map node_of columns) refl (no_nulls_in columns)
-
--- ---- lengths
-
-pub length_padded : (xs : List ℕ) → length (written.padded xs) ≡ next_multiple_of (length xs) 64
-length_padded xs =
-    let zero_byte : ℕ = 0 in
-    let n = next_multiple_of (length xs) 64 - length xs in
-    omega (arith, length-append xs (replicate n zero_byte), length-replicate n zero_byte)
-
--- the columns end where their bodies do
-end_is : (n : ℕ) (columns : List AnyArray) → end_of_all (pos n) columns ≡ pos (n + length (body_of columns))
-end_is n [] = ap pos (omega arith)
-end_is n (a ∷ columns) =
-    let bytes = array_bytes Little a in
-    end_is (n + next_multiple_of (length bytes) 64) columns
-    ∙ ap pos (omega (arith, length-append (written.padded bytes) (body_of columns), length_padded bytes))
-
-pub body_whole : (columns : List AnyArray) → length (body_of columns) % 64 ≡ 0
-body_whole [] = refl
-body_whole (a ∷ columns) =
-    let bytes = array_bytes Little a in
-    let rest = body_whole columns in
-    omega (arith, length-append (written.padded bytes) (body_of columns), length_padded bytes, rest)
-
--- bytes that end at a multiple need no padding
-pub padded_whole : (xs : List ℕ) (m : ℕ) → 0 < m → length xs % m ≡ 0 → next_multiple_of (length xs) m ≡ length xs → padded xs m ≡ xs
-unfolding padded
-padded_whole xs m some whole same =
-    let none : next_multiple_of (length xs) m - length xs ≡ 0 = omega (arith, same) in
-    ap (λ n. xs ++ replicate n 0) none ∙ append-nil xs
+use Rattle.ipc_write.proofs.CarriedColumns.{HasNoNulls, all_known, are_like, fits_long, have_rows, named_so, no_nulls_in, nodes_fit}
+use Rattle.ipc_write.proofs.Messages.{length_padded}
 
 -- ---- numbers that fit
 
-fits_long : (n : ℕ) → n < 2 ^ 63 → SFits w64 (pos n)
-fits_long n h = record { sfits = h }
-
-nodes_fit : (k : ℕ) (columns : List AnyArray) → k < 2 ^ 63 → All (λ a. len_of (layout_of a) ≡ k) columns → All NodeFits (map node_of columns)
-nodes_fit k [] h rows = All-nil NodeFits
-nodes_fit k (a ∷ columns) h rows =
-    let here : len_of (layout_of a) ≡ k = All-head (λ b. len_of (layout_of b) ≡ k) a columns rows in
-    All-cons NodeFits (node_of a) (map node_of columns)
-    (fits_long (len_of (layout_of a)) (omega (arith, here, h)), fits_long 0 (omega arith))
-    (nodes_fit k columns h (All-tail (λ b. len_of (layout_of b) ≡ k) a columns rows))
-
-buffers_fit : (n : ℕ) (columns : List AnyArray) → n + length (body_of columns) < 2 ^ 63 → All BufferFits (all_buffers_of (pos n) columns)
-buffers_fit n [] h = All-nil BufferFits
-buffers_fit n (a ∷ columns) h =
-    let bytes = array_bytes Little a in
-    let next = n + next_multiple_of (length bytes) 64 in
-    let long = length-append (written.padded bytes) (body_of columns) in
-    let part = length_padded bytes in
-    let rest = all_buffers_of (pos next) columns in
-    All-cons BufferFits (written.entry (pos n) 0) (written.entry (pos n) (length bytes) ∷ rest)
-    (fits_long n (omega (arith, h, long, part)), fits_long 0 (omega arith))
-    (All-cons BufferFits (written.entry (pos n) (length bytes)) rest
-    (fits_long n (omega (arith, h, long, part)), fits_long (length bytes) (omega (arith, h, long, part)))
-    (buffers_fit next columns (omega (arith, h, long, part))))
+pub buffers_fit : (o : ℕ) (bs : List (List ℕ)) → o + length (body bs) < 2 ^ 63 → All BufferFits (entries_from o bs)
+buffers_fit o [] h = All-nil BufferFits
+buffers_fit o (x ∷ bs) h =
+    let next = o + next_multiple_of (length x) 64 in
+    let long = length-append (written.padded x) (body bs) in
+    let part = length_padded x in
+    All-cons BufferFits (written.entry (pos o) (length x)) (entries_from next bs)
+    (fits_long o (omega (arith, h, long, part)), fits_long (length x) (omega (arith, h, long, part)))
+    (buffers_fit next bs (omega (arith, h, long, part)))
 
 -- ---- the metadata
 
 -- the message of a record batch is read as one
-pub record_read : (bytes : List ℕ) (version : MetadataVersion) (b : RecordBatch) (len : ℤ) (columns : List AnyArray)
+pub record_read : (bytes : List ℕ) (version : MetadataVersion) (b : RecordBatch) (len : ℤ) (listed : Lists) (count : ℕ)
     → HaveRoot bytes (IsMessage 0) (record { version = version; header = a_record_batch b; body_length = len })
-    → b.nodes.items ≡ map node_of columns → b.buffers.items ≡ all_buffers_of (pos 0) columns → len ≡ end_of_all (pos 0) columns → SFits w64 len
-    → rows_of columns < 2 ^ 63 → AreEqualRows (λ a. len_of (layout_of a)) columns → IsRecord bytes columns
+    → b.nodes.items ≡ listed.nodes → b.buffers.items ≡ listed.buffers → len ≡ pos count → count < 2 ^ 63
+    → All NodeFits listed.nodes → All BufferFits listed.buffers → IsRecord bytes listed count
 unfolding header_of lists_of
-record_read bytes version b len columns root nodes buffers end fits few rows =
+record_read bytes version b len listed count root nodes buffers end short nodes_fit_so buffers_fit_so =
     let message = root.reads in
     let table = message.header.0 in
     let batch_is = message.header.2 in
-    let length_is : len ≡ pos (length (body_of columns)) = end ∙ end_is 0 columns ∙ ap pos (omega arith) in
-    let body_fits : SFits w64 (pos (length (body_of columns))) = subst (λ z. SFits w64 z) length_is fits in
-    let short : 0 + length (body_of columns) < 2 ^ 63 = let s = body_fits.sfits in omega (arith, s) in
-    let nodes_kept = ap (λ ns. map kept_node ns) nodes ∙ kept-nodes (map node_of columns) (nodes_fit (rows_of columns) columns few rows) in
-    let buffers_kept = ap (λ bs. map kept_buffer bs) buffers ∙ kept-buffers (all_buffers_of (pos 0) columns) (buffers_fit 0 columns short) in
-    let body_length = message.body_length ∙ ap Ok (kept64-is len fits ∙ length_is) in
+    let fits : SFits w64 len = subst (λ z. SFits w64 z) (sym end) (fits_long count short) in
+    let nodes_kept = ap (λ ns. map kept_node ns) nodes ∙ kept-nodes listed.nodes nodes_fit_so in
+    let buffers_kept = ap (λ bs. map kept_buffer bs) buffers ∙ kept-buffers listed.buffers buffers_fit_so in
+    let body_length = message.body_length ∙ ap Ok (kept64-is len fits ∙ end) in
     let opened = root.opened in
     let header = message.header.1 in
     let listed_nodes = batch_is.nodes ∙ ap (λ ns. Ok (Some ns)) nodes_kept in
     let listed_buffers = batch_is.buffers ∙ ap (λ bs. Ok (Some bs)) buffers_kept in
     let uncompressed = batch_is.uncompressed in
     record {
-      header = record { tag = 3; table = table; body = length (body_of columns) };
+      header = record { tag = 3; table = table; body = count };
       headed = rw (opened, header, body_length) refl;
       tag = refl;
       long = refl;
       lists = rw (uncompressed, listed_nodes, listed_buffers) refl;
     }
 
--- what is listed, with a body, means the columns
-lists_mean : (schema : Schema) (extra : ℕ) (columns : List AnyArray) → All IsSound columns → All IsCarried columns → AreEqualRows (λ a. len_of (layout_of a)) columns → schema.order ≡ Little
-    → field_types schema.fields ≡ map normal_type columns
-    → batch (entries_of (record { nodes = map node_of columns; buffers = all_buffers_of (pos 0) columns }) (whole (body_of columns)) schema.order extra []) (length (body_of columns)) schema None None
-    ≡ Some (chunk_written columns)
-lists_mean schema extra columns sound carried rows order types =
-    let cs = map numbers_of columns in
-    let numbers = are_numbers (rows_of columns) columns schema.fields schema.ids sound carried rows types in
-    ap (λ ns. batch (entries_of (record { nodes = ns; buffers = all_buffers_of (pos 0) columns }) (whole (body_of columns)) schema.order extra []) (length (body_of columns)) schema None None) (nodes_are columns)
-    ∙ written_batch (rows_of columns) cs schema extra [] numbers
-    ∙ ap (λ o. Some (written.numbers_chunk o schema.fields cs)) order
-    ∙ ap Some (numbers_seen columns schema.fields sound carried types)
-
--- a number that was made of a count says that the count is small
-pub few_rows : (z : ℤ) (n : ℕ) → SFits w64 z → to_z w64 (of_z w64 z) ≡ pos n → n < 2 ^ 63
-few_rows z n fits e =
-    let counted : SFits w64 (pos n) = subst (λ y. SFits w64 y) (sym (to_z-of_z w64 z fits) ∙ e) fits in
-    counted.sfits
-
-pub fits_kept : (z : ℤ) → SFits w64 z → SFits w64 (to_z w64 (of_z w64 z))
-fits_kept z fits = subst (λ y. SFits w64 y) (sym (to_z-of_z w64 z fits)) fits
+-- what a plan lists, with its body, means the columns
+lists_mean : (schema : Schema) (extra : ℕ) (p : Plan) (columns : List AnyArray) → PlansColumns Little (map layout_of columns) p → AreArrays (layouts (map layout_of columns)) → All IsCarried columns
+    → AreEqualRows (λ a. len_of (layout_of a)) columns → schema.order ≡ Little → extra ≡ 0 → field_types schema.fields ≡ map normal_type columns
+    → batch (entries_of (lists_of_plan p) (whole (body_of_plan p)) schema.order extra []) (length (body_of_plan p)) schema None None ≡ Some (chunk_written columns)
+lists_mean schema extra p columns plans arrays carried rows order none types =
+    let bytes = body_of_plan p in
+    let s = entries_of (lists_of_plan p) (whole bytes) schema.order 0 [] in
+    ap (λ n. batch (entries_of (lists_of_plan p) (whole bytes) schema.order n []) (length bytes) schema None None) none
+    ∙ columns_batch_law schema p (map layout_of columns) (rows_of columns) [] (subst (λ (o : Endianness). PlansColumns o (map layout_of columns) p) (sym order) plans) arrays
+    (are_like columns schema.fields types) (have_rows (rows_of columns) columns rows) (all_known s columns schema.ids carried)
+    ∙ ap Some (named_so columns schema.fields types)
 
 -- the metadata and the body mean the columns
-pub means_columns : (metadata : List ℕ) (columns : List AnyArray) → 0 < length metadata → length metadata < 2 ^ 31 → IsRecord metadata columns → All IsSound columns → All IsCarried columns
-    → AreEqualRows (λ a. len_of (layout_of a)) columns → MeansColumns metadata (body_of columns) columns
+pub means_columns : (metadata : List ℕ) (p : Plan) (columns : List AnyArray) → 0 < length metadata → length metadata < 2 ^ 31 → IsRecord metadata (lists_of_plan p) (length (body_of_plan p))
+    → PlansColumns Little (map layout_of columns) p → AreArrays (layouts (map layout_of columns)) → All IsCarried columns → AreEqualRows (λ a. len_of (layout_of a)) columns → MeansColumns metadata (body_of_plan p) columns
 unfolding record_meaning
-means_columns metadata columns some short r sound carried rows = record {
+means_columns metadata p columns some short r plans arrays carried rows = record {
   written = λ head has. record {
     some = some;
     short = short;
@@ -165,11 +103,28 @@ means_columns metadata columns some short r sound carried rows = record {
     tag = r.tag;
     long = r.long;
     means =
-        ap (λ o. option_and_then (λ lists. batch (entries_of lists (whole (body_of columns)) head.schema.order head.extra []) (length (body_of columns)) head.schema None None) o) r.lists
-        ∙ lists_mean head.schema head.extra columns sound carried rows has.order has.types_are;
+        ap (λ o. option_and_then (λ lists. batch (entries_of lists (whole (body_of_plan p)) head.schema.order head.extra []) (length (body_of_plan p)) head.schema None None) o) r.lists
+        ∙ lists_mean head.schema head.extra p columns plans arrays carried rows has.order has.extra has.types_are;
   };
   carried = λ head has. subst (IsCarriedLists head.schema) (sym r.lists) (record {
     carried = has.carried;
-    no_nulls = All-take HasNoNulls (fields_nodes head.schema.fields) (map node_of columns) (no_nulls_in columns);
+    no_nulls = All-take HasNoNulls (fields_nodes head.schema.fields) p.nodes.items
+        (subst (λ (ns : List FieldNode). All HasNoNulls ns) (sym plans.nodes_are) (no_nulls_in columns carried));
   });
 }
+
+-- the message of a plan, with the plan's pieces, means the columns
+pub plan_means : (columns : List AnyArray) (p q : Plan) (rows : ℤ) (m : Message) (metadata : List ℕ) → PlansChunk columns p → IsPlanMessage m rows p → All IsCarried columns
+    → AreEqualRows (λ a. len_of (layout_of a)) columns → 0 < length metadata → length metadata < 2 ^ 31 → HaveRoot metadata (IsMessage 0) m → q.pieces.items ≡ p.pieces.items
+    → MeansColumns metadata (pieces_bytes Little q.pieces.items) columns
+plan_means columns p q rows m metadata h is carried equal some short root same =
+    let bs = joined h.plans.buffers in
+    let little : body_of_plan p ≡ pieces_bytes Little p.pieces.items = ap (λ (o : Endianness). pieces_bytes o p.pieces.items) h.plans.order_is in
+    let long : p.end ≡ length (body_of_plan p) = h.plans.end_is ∙ ap (λ (xs : List ℕ). length xs) (sym (little ∙ h.plans.body_is)) in
+    let fit_nodes : All NodeFits p.nodes.items = subst (λ (ns : List FieldNode). All NodeFits ns) (sym h.plans.nodes_are) (nodes_fit columns carried h.short) in
+    let fit_buffers : All BufferFits p.buffers.items =
+    subst (λ (es : List Buffer). All BufferFits es) (sym h.plans.entries_are) (buffers_fit 0 bs (omega (arith, h.plans.end_is, h.small))) in
+    let read = record_read metadata V5 is.listed is.end (lists_of_plan p) (length (body_of_plan p)) (subst (λ (n : Message). HaveRoot metadata (IsMessage 0) n) is.value root)
+    is.nodes is.buffers (is.end_is ∙ ap pos long) (omega (arith, long, h.small)) fit_nodes fit_buffers in
+    subst (λ (xs : List ℕ). MeansColumns metadata xs columns) (little ∙ ap (λ ps. pieces_bytes Little ps) (sym same))
+    (means_columns metadata p columns some short read h.plans h.arrays carried equal)

@@ -1,6 +1,6 @@
 -- What columns that are written mean, in the words of `ipc_model`.
 -- (Arrow columnar format, "RecordBatch message" and "Schema message".)
-use Rattle.std.specs.Prelude.{◌≡◌, ℕ, pos, List, [], ◌∷◌, length, map, Some}
+use Rattle.std.specs.Prelude.{◌≡◌, ℕ, List, [], ◌∷◌, map, Some}
 use Rattle.lower.specs.Normal.{norm}
 use Rattle.lower.specs.TypeTrees.{TypeTree, FieldTrees, no_fields, more_fields}
 use Rattle.lower_types.specs.declared.Endianness.TheVariants.{Little}
@@ -8,12 +8,11 @@ use Rattle.lower_arrays.specs.Layouts.{type_of}
 use Rattle.lower_arrays.specs.AnyLayouts.{layout_of}
 use Rattle.lower_arrays.specs.Slots.{slots}
 use Rattle.lower_arrays.specs.declared.array.AnyArray.{AnyArray}
-use Rattle.ipc_model.specs.Batches.{Column, Chunk, field_type, lists_of}
+use Rattle.ipc_model.specs.Batches.{Column, Chunk, Lists, field_type, lists_of}
 use Rattle.ipc_model.specs.Carried.{IsCarried as IsCarriedSchema}
 use Rattle.ipc_model.specs.CarriedStreams.{IsCarriedLists}
 use Rattle.ipc_model.specs.Streams.{Head, Header, header_of, nothing_known}
 use Rattle.ipc_model.specs.WrittenLaws.{IsWritten}
-use Rattle.ipc_write.specs.Columns.{all_buffers_of, body_of, node_of}
 
 -- the type of a column in its normal form, as the schema that is written has it
 abbrev pub normal_type : AnyArray → TypeTree
@@ -31,19 +30,21 @@ abbrev pub field_types : FieldTrees → List TypeTree
 field_types no_fields = []
 field_types (more_fields f fs) = field_type f ∷ field_types fs
 
--- numbers have their lowest byte first, columns of these types are those of the fields, and the schema is carried
+-- numbers have their lowest byte first, no buffer stands in front of a union's own, columns of these types are those of the fields, and the
+-- schema is carried
 pub record HeadHas (head : Head) (types : List TypeTree) : Type 0 where
   pub order : head.schema.order ≡ Little
+  pub extra : head.extra ≡ 0
   pub types_are : field_types head.schema.fields ≡ types
   pub carried : IsCarriedSchema head.schema
 
--- the metadata of a record batch of these columns: RecordBatch, whose body is that of the columns
-pub record IsRecord (metadata : List ℕ) (columns : List AnyArray) : Type 0 where
+-- the metadata of a record batch that lists these, and whose body has so many bytes
+pub record IsRecord (metadata : List ℕ) (listed : Lists) (size : ℕ) : Type 0 where
   pub header : Header
   pub headed : header_of metadata ≡ Some header
   pub tag : header.tag ≡ 3
-  pub long : header.body ≡ length (body_of columns)
-  pub lists : lists_of header.table ≡ Some (record { nodes = map node_of columns; buffers = all_buffers_of (pos 0) columns })
+  pub long : header.body ≡ size
+  pub lists : lists_of header.table ≡ Some listed
 
 -- the metadata and the body mean these columns in each stream whose schema has their types, and are carried there
 pub record MeansColumns (metadata body : List ℕ) (columns : List AnyArray) : Type 0 where

@@ -1,5 +1,5 @@
 -- What the calls of a stream's writer do.
-use Rattle.std.specs.Prelude.{◌≡◌, ◌==◌, ◌&&◌, ℕ, ◌≤◌, ◌^◌, Bool, true, IsTrue, List, [], ◌∷◌, Vec, length, map, All, Option, Some, None, IfSome, Result, OnOk}
+use Rattle.std.specs.Prelude.{◌≡◌, ◌==◌, ◌&&◌, ℕ, ◌≤◌, ◌^◌, Bool, true, IsTrue, List, [], ◌∷◌, Vec, length, map, All, Option, Some, None, IfSome, Result, Ok, Err, OnOk}
 use Rattle.std.specs.List.{AllZip}
 use Rattle.std.specs.Borrow.{Bor}
 use Rattle.std.specs.declared.alloc.Global.{Global}
@@ -22,11 +22,12 @@ use Rattle.ipc_model.specs.Schemas.{head_of}
 use Rattle.ipc_model.specs.Writable.{IsWritable}
 use Rattle.ipc_schema_write.specs.WriterAnswers.{RefusesSchema, written_head}
 use Rattle.lower_arrays.specs.declared.array.AnyArray.{AnyArray}
-use Rattle.ipc_parts.specs.Encodes.{IsEncoding}
-use Rattle.ipc_write.specs.Batches.{RefusesChunk, chunk_slots}
+use Rattle.ipc_plan.specs.Sending.{WritesSome}
+use Rattle.ipc_write.specs.Batches.{IsChunkMessage, RefusesChunk}
 use Rattle.ipc_write.specs.Columns.{IsCarried}
+use Rattle.ipc_write.specs.Framing.{message_bytes, message_len}
 use Rattle.ipc_write.specs.Meaning.{normal_type}
-use Rattle.ipc_write.specs.Sending.{FailsOrIsFull, WritesSome}
+use Rattle.ipc_write.specs.Sending.{FailsOrIsFull, OnSent}
 use Rattle.ipc_write.specs.declared.stream.StreamWriter.{StreamWriter}
 use Rattle.ipc_write.specs.declared.stream.WriterState.{WriterState}
 use Rattle.ipc_write.specs.declared.stream.WriterState.TheVariants.{New, Started, Finished, Failed}
@@ -92,6 +93,18 @@ pub record SendStep {W : Type 0} (known grows : Bool) (failures room : W → ℕ
   pub all_sent : IsTrue known → OnOk r (WritesOver (memory a.device) (memory b.device) bytes)
   pub some_sent : IsTrue known → WritesSome (memory a.device) (memory b.device) bytes
 
+-- where a call that sends left the writer
+abbrev pub LeavesState : Result Unit Fault → WriterState → WriterState → Type 0
+LeavesState (Ok x) s s' = s' ≡ s
+LeavesState (Err (Io e)) s s' = s' ≡ Failed
+LeavesState (Err _) s s' = s' ≡ s
+
+-- A call that sends the message of these columns: the writer's metadata and a body, which are a chunk's message where anything was sent.
+pub record SendsChunk {W : Type 0} (known grows : Bool) (failures room : W → ℕ) (memory : W → Memory) (a : WriterSeen W) (r : Result Unit Fault) (b : WriterSeen W) (columns : List AnyArray) : Type 0 where
+  pub body : List ℕ
+  pub is : OnSent r (IsChunkMessage b.metadata body columns)
+  pub step : SendStep known grows failures room memory a r b (message_bytes b.metadata body) (message_len b.metadata body)
+
 -- why a writer refuses a chunk with these ids
 abbrev pub RefusesWrite : {W : Type 0} → WriterSeen W → List AnyArray → Option IdTrees → Fault → Type 0
 RefusesWrite w columns ids (State e) = RefusesState w.state (State e)
@@ -106,7 +119,7 @@ RefusesWrite w columns ids NoMemory = Unit {0}
 RefusesWrite w columns ids (Io e) = Unit {0}
 RefusesWrite w columns ids _ = ⊥
 
--- A chunk was taken: the metadata that was sent is that of the chunk.
+-- A chunk was taken.
 pub record TakesChunk {W : Type 0} (a b : WriterSeen W) (columns : List AnyArray) (ids : Option IdTrees) : Type 0 where
   pub was : a.state ≡ Started
   pub is : b.state ≡ Started
@@ -115,7 +128,6 @@ pub record TakesChunk {W : Type 0} (a b : WriterSeen W) (columns : List AnyArray
   pub ids_same : IfSome ids (λ given. given ≡ a.ids)
   pub fits : HaveTypes columns a.types
   pub carried : All IsCarried columns
-  pub metadata : IsEncoding b.metadata (chunk_slots columns)
 
 -- the ids that are handed in, where any are
 abbrev pub seen_ids : Option (Bor (List IpcField)) → Option IdTrees

@@ -1,20 +1,30 @@
 //! What is written.
-ghost use Rattle.std.specs.Prelude.{◌≡◌, ◌%◌, [], length, All, IfErr, IfOk, OnOk};
-ghost use Rattle.ipc_parts.specs.Encodes.{IsEncoding};
+ghost use Rattle.std.specs.Prelude.{◌≡◌, ◌↔◌, ◌%◌, ◌^◌, ◌<◌, [], length, All, IfErr, IfOk, IsTrue, OnOk};
+ghost use Rattle.lower.specs.TypeViews.{type_view};
+ghost use Rattle.lower_arrays.specs.AnyLayouts.{layout_of};
+ghost use Rattle.lower_arrays.specs.Slots.{IsArray};
+ghost use Rattle.lower_types.specs.declared.Endianness.TheVariants.{Little};
+ghost use Rattle.ipc_devices.specs.declared.fault.Fault.TheVariants.{NotYetImplemented};
+ghost use Rattle.ipc_devices.specs.declared.fault.Nyi.TheVariants.{Pending};
+ghost use Rattle.ipc_plan.specs.Pieces.{pieces_bytes};
 ghost use Rattle.ipc_tables.specs.Messages.{message_slots};
-ghost use Rattle.ipc_write.specs.Batches.{RefusesChunk, chunk_slots, message_of};
-ghost use Rattle.ipc_write.specs.Columns.{IsCarried, body_of};
-ghost use Rattle.ipc_write.specs.Meaning.{MeansColumns};
 ghost use Rattle.ipc_tables.specs.declared.message.MessageHeader.TheVariants.{RecordBatch as a_record_batch};
 ghost use Rattle.ipc_views.specs.declared.schema.MetadataVersion.TheVariants.{V5};
+ghost use Rattle.ipc_write.specs.Batches.{IsChunkMessage, IsPlanMessage, PlansChunk, RefusesChunk, message_of};
+ghost use Rattle.ipc_write.specs.Columns.{AreIntegers, HasIntegers, IsCarried, is_extension};
+ghost use Rattle.ipc_write.specs.Meaning.{MeansColumns};
 
-use crate::serialize::plan_columns;
 use ipc_base::chunk::Chunk;
-use ipc_devices::{ArgFault, Fault};
+use ipc_devices::{ArgFault, Fault, Nyi};
+use ipc_plan::plan::Plan;
+use ipc_plan::serialize::plan_columns;
 use ipc_tables::message::{Message, MessageHeader, RecordBatch};
 use ipc_views::{Buffer, FieldNode, MetadataVersion};
-use lower_arrays::array::AnyArray;
+use lower::datatypes::DataType;
+use lower::types::Endianness;
+use lower_arrays::array::{AnyArray, AnyPrimitive};
 use std::alloc::Global;
+use std::mem::replace;
 
 /// How a writer writes. There is nothing to choose yet.
 #[derive(Clone, Copy, Debug, Default, PartialEq, Eq, Hash)]
@@ -68,25 +78,112 @@ fn record_message(
     }
 }
 
-/// Encodes a chunk as the metadata of a record batch, whose body is that of its columns. No byte of the
-/// columns is moved.
+// Whether it is a column of integers of 8 to 64 bits.
+fn has_integers(array: &AnyArray) -> bool
+    ensures { IsTrue result ↔ HasIntegers array.now }
+{
+    match array {
+        AnyArray::Primitive(numbers) => are_integers(numbers),
+        _ => false,
+    }
+}
+
+// Whether the numbers are integers of 8 to 64 bits.
+fn are_integers(numbers: &AnyPrimitive) -> bool
+    ensures { IsTrue result ↔ AreIntegers numbers.now }
+{
+    match numbers {
+        AnyPrimitive::Int8(_)
+        | AnyPrimitive::Int16(_)
+        | AnyPrimitive::Int32(_)
+        | AnyPrimitive::Int64(_)
+        | AnyPrimitive::UInt8(_)
+        | AnyPrimitive::UInt16(_)
+        | AnyPrimitive::UInt32(_)
+        | AnyPrimitive::UInt64(_) => true,
+        _ => false,
+    }
+}
+
+fn is_extension(data_type: &DataType) -> bool
+    ensures { result ≡ is_extension (type_view data_type.now) }
+{
+    match data_type {
+        DataType::Extension(..) => true,
+        _ => false,
+    }
+}
+
+// Refuses a column that isn't written yet: one with a validity, of another kind than integers of 8 to 64
+// bits, or whose type is an extension.
+fn check_column(array: &AnyArray) -> Result<(), Fault>
+    ensures ok { OnOk result (IsCarried array.now) }
+    ensures valid { IsArray (layout_of array.now) }
+    ensures only { IfErr result (λ e. (e ≡ NotYetImplemented Pending) × ¬ IsCarried array.now) }
+{
+    if array.validity().is_some() || !has_integers(array) || is_extension(array.data_type()) {
+        return Err(Fault::NotYetImplemented(Nyi::Pending));
+    }
+    Ok(())
+}
+
+// Refuses columns of which one isn't written yet.
+fn check_columns(columns: &[AnyArray]) -> Result<(), Fault>
+    ensures ok { OnOk result (All IsCarried columns.now) }
+    ensures valid { OnOk result (All (λ array. IsArray (layout_of array)) columns.now) }
+    ensures only { IfErr result (λ e. (e ≡ NotYetImplemented Pending) × ¬ All IsCarried columns.now) }
+{
+    for column in columns {
+        check_column(column)?;
+    }
+    Ok(())
+}
+
+/// Plans a chunk, little-endian. No byte of the columns is moved.
 ///
-/// Faults: `NotYetImplemented(Pending)` for a column with a validity, or whose type is an extension;
-/// `Argument(TooLong)` where a column has more than `2^63 - 1` slots; `Argument(TooLarge)` where the
-/// body would end past `2^63 - 1`, or the metadata would have more than `2^31 - 1` bytes; `Memory`.
-pub(crate) fn chunk_to_metadata(alloc: Global, chunk: &Chunk<AnyArray>) -> Result<Vec<u8>, Fault>
+/// Faults: `NotYetImplemented(Pending)` for a column with a validity, of another kind than integers of 8
+/// to 64 bits, or whose type is an extension; `Argument(TooLong)` where an array has more than `2^63 - 1`
+/// slots; `Argument(TooLarge)` where the body would end past `2^63 - 1`; `Memory`.
+pub(crate) fn plan_chunk<'a>(alloc: Global, chunk: &'a Chunk<AnyArray>) -> Result<Plan<'a>, Fault>
     ensures carried { OnOk result (All IsCarried chunk.now) }
-    ensures metadata { IfOk result (λ metadata. IsEncoding metadata.items (chunk_slots chunk.now)) }
+    ensures plans { IfOk result (λ plan. PlansChunk chunk.now plan) }
     ensures only { IfErr result (RefusesChunk chunk.now) }
-    ensures means { IfOk result (λ metadata. MeansColumns metadata.items (body_of chunk.now) chunk.now) }
+{
+    check_columns(chunk.arrays())?;
+    plan_columns(alloc, chunk.arrays(), Endianness::Little)
+}
+
+// The message of a record batch that lists what a plan does. The plan has its pieces left.
+fn plan_to_message(alloc: Global, plan: &mut Plan<'_>, length: i64) -> Message
+    requires { plan.old.end < 2 ^ 63 }
+    ensures value { IsPlanMessage result length plan.old }
+    ensures order { plan.new.order ≡ plan.old.order }
+    ensures pieces { plan.new.pieces.items ≡ plan.old.pieces.items }
+{
+    let nodes = replace(&mut plan.nodes, Vec::new(alloc));
+    let buffers = replace(&mut plan.buffers, Vec::new(alloc));
+    record_message(length, nodes, buffers, plan.end.cast_signed())
+}
+
+/// Encodes the nodes and the buffers of a chunk's plan as the metadata of a record batch, whose body is
+/// the plan's pieces. The plan has its pieces left.
+///
+/// Faults: `Argument(TooLarge)` where the metadata would have more than `2^31 - 1` bytes; `Memory`.
+pub(crate) fn chunk_to_metadata(
+    alloc: Global,
+    chunk: &Chunk<AnyArray>,
+    plan: &mut Plan<'_>,
+) -> Result<Vec<u8>, Fault>
+    requires carried { All IsCarried chunk.now }
+    requires plans { PlansChunk chunk.now plan.old }
+    ensures message { IfOk result (λ metadata. IsChunkMessage metadata.items (pieces_bytes Little plan.new.pieces.items) chunk.now) }
+    ensures only { IfErr result (RefusesChunk chunk.now) }
+    ensures means { IfOk result (λ metadata. MeansColumns metadata.items (pieces_bytes Little plan.new.pieces.items) chunk.now) }
     ensures whole { IfOk result (λ metadata. length metadata.items % 8 ≡ 0) }
 {
     let Ok(length) = i64::try_from(chunk.len()) else {
         return Err(Fault::Argument(ArgFault::TooLong));
     };
-    let mut nodes = Vec::new(alloc);
-    let mut buffers = Vec::new(alloc);
-    let body_length = plan_columns(chunk.arrays(), &mut buffers, &mut nodes, &mut 0)?;
-    let message = record_message(length, nodes, buffers, body_length);
+    let message = plan_to_message(alloc, plan, length);
     Ok(message.to_bytes(alloc)?)
 }

@@ -1,47 +1,28 @@
 //! Sends messages to a device.
-ghost use Rattle.std.specs.Prelude.{◌≡◌, ◌+◌, ◌-◌, ◌%◌, ◌^◌, ◌<◌, ◌≤◌, length, replicate, IfErr, IfOk, IsTrue, OnErr, OnOk};
+ghost use Rattle.std.specs.Prelude.{◌≡◌, ◌+◌, ◌-◌, ◌^◌, ◌<◌, ◌≤◌, ◌++◌, length, IfOk, OnOk};
 ghost use Rattle.std.specs.Int.{next_multiple_of};
-ghost use Rattle.ipc_devices.specs.Device.{WritesOver};
-ghost use Rattle.ipc_devices.specs.Faults.{IsIo, OnRefused, OnIo};
-ghost use Rattle.ipc_devices.specs.declared.fault.Fault.TheVariants.{Argument};
-ghost use Rattle.ipc_devices.specs.declared.fault.ArgFault.TheVariants.{TooLarge};
-ghost use Rattle.ipc_write.specs.Framing.{head_bytes, head_len, message_bytes, message_len, padded, prefix_bytes};
-ghost use Rattle.ipc_write.specs.Sending.{FailsOrIsFull, IsIoOr, WritesSome};
+ghost use Rattle.lower_types.specs.declared.Endianness.TheVariants.{Little};
+ghost use Rattle.ipc_plan.specs.Pieces.{pieces_bytes};
+ghost use Rattle.ipc_plan.specs.Sending.{Sends, seen_by};
+ghost use Rattle.ipc_write.specs.Framing.{head_bytes, head_len, message_bytes, padded, prefix_bytes};
+ghost use Rattle.ipc_write.specs.Sending.{SendsOrRefuses};
 
 use crate::common::EncodedData;
 use ipc_devices::{ArgFault, Fault, Writes};
-
-// As many zeros as a padding can need.
-const ZEROS: [u8; 64] = [0; 64];
+use ipc_plan::pieces::Piece;
+use ipc_plan::sending::{send_bytes, send_pieces, zeros};
+use lower::types::Endianness;
 
 /// Sends all of these bytes. Where that fails, those that went out are the first ones.
 pub fn write_all<W: Writes>(writer: &mut W, bytes: &[u8]) -> Result<(), Fault>
-    ensures monotone { W.failures writer.old ≤ W.failures writer.new }
-    ensures failed { OnErr result (FailsOrIsFull W.grows (W.failures writer.old) (W.failures writer.new)
-        (W.room writer.old) (length bytes.now)) }
-    ensures only { IfErr result (λ e. IsIo e) }
-    ensures memory { IsTrue W.known
-        → OnOk result (WritesOver (W.memory writer.old) (W.memory writer.new) bytes.now) }
-    ensures part { IsTrue W.known → WritesSome (W.memory writer.old) (W.memory writer.new) bytes.now }
-    ensures room { OnOk result (W.room writer.old ≤ W.room writer.new + length bytes.now) }
+    ensures sends { Sends W.known W.grows (seen_by W.failures W.room W.memory writer.old)
+        (seen_by W.failures W.room W.memory writer.new) result bytes.now }
 {
-    let mut at = 0;
-    while at < bytes.len() {
-        at += writer.write(&bytes[at..])?;
-    }
-    Ok(())
-}
-
-// So many zeros.
-pub(crate) fn zeros(count: usize) -> &'static [u8]
-    requires { count ≤ 64 }
-    ensures { result.now ≡ replicate count 0 }
-{
-    &ZEROS[..count]
+    send_bytes(writer, bytes)
 }
 
 // How many bytes are missing up to the next multiple.
-pub(crate) fn padding(len: usize, multiple: usize) -> usize
+fn padding(len: usize, multiple: usize) -> usize
     requires { 0 < multiple }
     ensures value { result ≡ next_multiple_of len multiple - len }
     ensures most { result < multiple }
@@ -50,23 +31,14 @@ pub(crate) fn padding(len: usize, multiple: usize) -> usize
 }
 
 // Sends these bytes, and zeros up to the next multiple.
-#[tactic(auto, unfolding(crate::specs::Framing::padded))]
 fn write_padded<W: Writes>(writer: &mut W, bytes: &[u8], multiple: usize) -> Result<(), Fault>
     requires positive { 0 < multiple }
     requires most { multiple ≤ 64 }
-    ensures monotone { W.failures writer.old ≤ W.failures writer.new }
-    ensures failed { OnErr result (FailsOrIsFull W.grows (W.failures writer.old) (W.failures writer.new)
-        (W.room writer.old) (next_multiple_of (length bytes.now) multiple)) }
-    ensures only { IfErr result (λ e. IsIo e) }
-    ensures memory { IsTrue W.known → OnOk result
-        (WritesOver (W.memory writer.old) (W.memory writer.new) (padded bytes.now multiple)) }
-    ensures part { IsTrue W.known
-        → WritesSome (W.memory writer.old) (W.memory writer.new) (padded bytes.now multiple) }
-    ensures room { OnOk result
-        (W.room writer.old ≤ W.room writer.new + next_multiple_of (length bytes.now) multiple) }
+    ensures sends { Sends W.known W.grows (seen_by W.failures W.room W.memory writer.old)
+        (seen_by W.failures W.room W.memory writer.new) result (padded bytes.now multiple) }
 {
-    write_all(writer, bytes)?;
-    write_all(writer, zeros(padding(bytes.len(), multiple)))
+    send_bytes(writer, bytes)?;
+    send_bytes(writer, zeros(padding(bytes.len(), multiple)))
 }
 
 /// Sends the continuation marker FF FF FF FF and a length: Arrow columnar format, "Encapsulated
@@ -76,19 +48,12 @@ fn write_padded<W: Writes>(writer: &mut W, bytes: &[u8], multiple: usize) -> Res
 #[tactic(auto, unfolding(crate::specs::Framing::prefix_bytes))]
 pub fn write_continuation<W: Writes>(writer: &mut W, total_len: i32) -> Result<usize, Fault>
     ensures answer { IfOk result (λ n. n ≡ 8) }
-    ensures monotone { W.failures writer.old ≤ W.failures writer.new }
-    ensures failed { OnErr result (FailsOrIsFull W.grows (W.failures writer.old) (W.failures writer.new)
-        (W.room writer.old) 8) }
-    ensures only { IfErr result (λ e. IsIo e) }
-    ensures memory { IsTrue W.known → OnOk result
-        (WritesOver (W.memory writer.old) (W.memory writer.new) (prefix_bytes total_len)) }
-    ensures part { IsTrue W.known
-        → WritesSome (W.memory writer.old) (W.memory writer.new) (prefix_bytes total_len) }
-    ensures room { OnOk result (W.room writer.old ≤ W.room writer.new + 8) }
+    ensures sends { Sends W.known W.grows (seen_by W.failures W.room W.memory writer.old)
+        (seen_by W.failures W.room W.memory writer.new) result (prefix_bytes total_len) }
 {
     let mut prefix = [0xff; 8];
     prefix[4..].copy_from_slice(&total_len.to_le_bytes());
-    write_all(writer, &prefix)?;
+    send_bytes(writer, &prefix)?;
     Ok(8)
 }
 
@@ -97,20 +62,11 @@ pub fn write_continuation<W: Writes>(writer: &mut W, total_len: i32) -> Result<u
 //
 // `Argument(TooLarge)` comes where the padded metadata has more than `2^31 - 1` bytes; nothing was
 // sent then.
-pub(crate) fn write_metadata<W: Writes>(writer: &mut W, metadata: &[u8]) -> Result<usize, Fault>
+fn write_metadata<W: Writes>(writer: &mut W, metadata: &[u8]) -> Result<usize, Fault>
     ensures len { IfOk result (λ len. len ≡ head_len metadata.now) }
     ensures ok { OnOk result (next_multiple_of (length metadata.now) 8 < 2 ^ 31) }
-    ensures only { IfErr result (λ e. IsIoOr (Argument TooLarge) e) }
-    ensures refused { OnRefused result ((writer.new ≡ writer.old)
-        × (2 ^ 31 ≤ next_multiple_of (length metadata.now) 8)) }
-    ensures monotone { W.failures writer.old ≤ W.failures writer.new }
-    ensures failed { OnIo result (FailsOrIsFull W.grows (W.failures writer.old) (W.failures writer.new)
-        (W.room writer.old) (head_len metadata.now)) }
-    ensures memory { IsTrue W.known → OnOk result
-        (WritesOver (W.memory writer.old) (W.memory writer.new) (head_bytes metadata.now)) }
-    ensures part { IsTrue W.known
-        → WritesSome (W.memory writer.old) (W.memory writer.new) (head_bytes metadata.now) }
-    ensures room { OnOk result (W.room writer.old ≤ W.room writer.new + head_len metadata.now) }
+    ensures sends { SendsOrRefuses W.known W.grows W.failures W.room W.memory writer.old result writer.new
+        (head_bytes metadata.now) (2 ^ 31 ≤ next_multiple_of (length metadata.now) 8) }
 {
     let padded_len = metadata.len().next_multiple_of(8);
     let Ok(total_len) = i32::try_from(padded_len) else {
@@ -136,21 +92,28 @@ pub fn write_message<W: Writes>(
         (lens.0 ≡ 8 + next_multiple_of (length encoded.now.ipc_message.items) 8)
         × (lens.1 ≡ next_multiple_of (length encoded.now.arrow_data.items) 64)) }
     ensures ok { OnOk result (next_multiple_of (length encoded.now.ipc_message.items) 8 < 2 ^ 31) }
-    ensures only { IfErr result (λ e. IsIoOr (Argument TooLarge) e) }
-    ensures refused { OnRefused result ((writer.new ≡ writer.old)
-        × (2 ^ 31 ≤ next_multiple_of (length encoded.now.ipc_message.items) 8)) }
-    ensures monotone { W.failures writer.old ≤ W.failures writer.new }
-    ensures failed { OnIo result (FailsOrIsFull W.grows (W.failures writer.old) (W.failures writer.new)
-        (W.room writer.old) (message_len encoded.now.ipc_message.items encoded.now.arrow_data.items)) }
-    ensures memory { IsTrue W.known → OnOk result
-        (WritesOver (W.memory writer.old) (W.memory writer.new)
-        (message_bytes encoded.now.ipc_message.items encoded.now.arrow_data.items)) }
-    ensures part { IsTrue W.known → WritesSome (W.memory writer.old) (W.memory writer.new)
-        (message_bytes encoded.now.ipc_message.items encoded.now.arrow_data.items) }
-    ensures room { OnOk result (W.room writer.old ≤ W.room writer.new
-        + message_len encoded.now.ipc_message.items encoded.now.arrow_data.items) }
+    ensures sends { SendsOrRefuses W.known W.grows W.failures W.room W.memory writer.old result writer.new
+        (message_bytes encoded.now.ipc_message.items encoded.now.arrow_data.items)
+        (2 ^ 31 ≤ next_multiple_of (length encoded.now.ipc_message.items) 8) }
 {
     let head_len = write_metadata(writer, &encoded.ipc_message)?;
     write_padded(writer, &encoded.arrow_data, 64)?;
     Ok((head_len, encoded.arrow_data.len().next_multiple_of(64)))
+}
+
+/// Sends a message whose body is in pieces: what [`write_message`] sends before a body, and the pieces,
+/// little-endian. Of no pieces it is a message without a body.
+///
+/// Faults as of [`write_message`].
+pub(crate) fn write_pieces<W: Writes>(
+    writer: &mut W,
+    metadata: &[u8],
+    pieces: &[Piece<'_>],
+) -> Result<(), Fault>
+    ensures sends { SendsOrRefuses W.known W.grows W.failures W.room W.memory writer.old result writer.new
+        (head_bytes metadata.now ++ pieces_bytes Little pieces.now)
+        (2 ^ 31 ≤ next_multiple_of (length metadata.now) 8) }
+{
+    write_metadata(writer, metadata)?;
+    send_pieces(writer, pieces, Endianness::Little)
 }

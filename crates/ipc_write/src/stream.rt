@@ -1,29 +1,28 @@
 //! Writes streams: Arrow columnar format, "IPC Streaming Format".
-ghost use Rattle.std.specs.Prelude.{◌≡◌, ◌↔◌, ◌≤◌, ◌^◌, [], pos, length, map, IfErr, IfOk, IfSome, IsSomeAnd, IsTrue, OnOk};
+ghost use Rattle.std.specs.Prelude.{◌≡◌, ◌↔◌, ◌≤◌, ◌^◌, ◌++◌, [], pos, length, map, IfErr, IfOk, IfSome, IsSomeAnd, IsTrue, OnOk};
 ghost use Rattle.std.specs.Int.{next_multiple_of};
 ghost use Rattle.lower.specs.TypeViews.{fields_view, pairs_of, type_view};
 ghost use Rattle.ipc_base.specs.IdTrees.{all_ids_view, ids_view};
-ghost use Rattle.ipc_devices.specs.Device.{WritesOver};
-ghost use Rattle.ipc_devices.specs.Faults.{OnIo, OnRefused};
 ghost use Rattle.ipc_devices.specs.declared.fault.Fault.TheVariants.{Argument, NotYetImplemented};
 ghost use Rattle.ipc_devices.specs.declared.fault.Nyi.TheVariants.{Pending};
 ghost use Rattle.ipc_devices.specs.declared.fault.ArgFault.TheVariants.{FieldsDiffer, TooLarge};
-ghost use Rattle.ipc_write.specs.Columns.{body_of};
-ghost use Rattle.ipc_write.specs.Framing.{message_bytes, message_len, prefix_bytes};
-ghost use Rattle.ipc_write.specs.Sending.{FailsOrIsFull, IsIoOr, WritesSome};
+ghost use Rattle.ipc_write.specs.Framing.{head_bytes, message_bytes, message_len, prefix_bytes};
+ghost use Rattle.ipc_plan.specs.Pieces.{pieces_bytes};
+ghost use Rattle.lower_types.specs.declared.Endianness.TheVariants.{Little};
+ghost use Rattle.ipc_write.specs.Sending.{SendsOrRefuses};
 ghost use Rattle.ipc_write.specs.declared.stream.WriterState.TheVariants.{Failed, Finished, New, Started};
 ghost use Rattle.ipc_write.specs.Agreement.{Appends, Begins, IsFresh, Remains};
 ghost use Rattle.ipc_write.specs.Meaning.{chunk_written};
-ghost use Rattle.ipc_write.specs.Writers.{HasType, HaveTypes, IsCarriedSchema, RefusesFinish, RefusesNew, RefusesStart, RefusesState, RefusesTypes, RefusesWrite, SendStep, StartsWith, TakesChunk, are_carried, chosen_ids, normal_types, seen, seen_ids};
+ghost use Rattle.ipc_write.specs.Writers.{HasType, HaveTypes, IsCarriedSchema, RefusesFinish, RefusesNew, RefusesStart, RefusesState, RefusesTypes, RefusesWrite, LeavesState, SendStep, SendsChunk, StartsWith, TakesChunk, are_carried, chosen_ids, normal_types, seen, seen_ids};
 ghost use Rattle.ipc_model.specs.Carried.{is_whole_type};
 ghost use Rattle.ipc_schema_write.specs.WriterAnswers.{written_head};
 
-use crate::bodies::write_batch;
-use crate::common::{WriteOptions, chunk_to_metadata};
-use crate::common_sync::write_continuation;
+use crate::common::{WriteOptions, chunk_to_metadata, plan_chunk};
+use crate::common_sync::{write_continuation, write_pieces};
 use ipc_base::chunk::Chunk;
 use ipc_base::ipc::IpcField;
 use ipc_devices::{ArgFault, Fault, Nyi, StateFault, Writes};
+use ipc_plan::pieces::Piece;
 use ipc_schema_write::defaults::default_ipc_fields;
 use ipc_schema_write::schema::schema_to_bytes;
 use lower::datatypes::equal::is_same_type;
@@ -86,28 +85,19 @@ fn check_types(columns: &[AnyArray], types: &[DataType]) -> Result<(), Fault>
     Ok(())
 }
 
-// Sends the message of these columns. After a failure nothing more is sent.
+// Sends a message whose body is in pieces. After a failure nothing more is sent.
 fn send<W: Writes>(
     writer: &mut W,
     state: &mut WriterState,
     metadata: &[u8],
-    columns: &[AnyArray],
+    pieces: &[Piece<'_>],
 ) -> Result<(), Fault>
-    ensures monotone { W.failures writer.old ≤ W.failures writer.new }
-    ensures ok { OnOk result (state.new ≡ state.old) }
-    ensures only { IfErr result (IsIoOr (Argument TooLarge)) }
-    ensures refused { OnRefused result ((writer.new ≡ writer.old) × (state.new ≡ state.old)
-        × (2 ^ 31 ≤ next_multiple_of (length metadata.now) 8)) }
-    ensures io { OnIo result ((state.new ≡ Failed) × FailsOrIsFull W.grows (W.failures writer.old)
-        (W.failures writer.new) (W.room writer.old)
-        (message_len metadata.now (body_of columns.now))) }
-    ensures memory { IsTrue W.known → OnOk result
-        (WritesOver (W.memory writer.old) (W.memory writer.new)
-        (message_bytes metadata.now (body_of columns.now))) }
-    ensures part { IsTrue W.known → WritesSome (W.memory writer.old) (W.memory writer.new)
-        (message_bytes metadata.now (body_of columns.now)) }
+    ensures sends { SendsOrRefuses W.known W.grows W.failures W.room W.memory writer.old result writer.new
+        (head_bytes metadata.now ++ pieces_bytes Little pieces.now)
+        (2 ^ 31 ≤ next_multiple_of (length metadata.now) 8) }
+    ensures state { LeavesState result state.old state.new }
 {
-    match write_batch(writer, metadata, columns) {
+    match write_pieces(writer, metadata, pieces) {
         Ok(()) => Ok(()),
         Err(Fault::Io(error)) => {
             *state = WriterState::Failed;
@@ -318,9 +308,7 @@ impl<W: Writes + Drop> StreamWriter<W> {
         columns: &Chunk<AnyArray>,
         ipc_fields: Option<&[IpcField]>,
     ) -> Result<(), Fault>
-        ensures step { SendStep W.known W.grows W.failures W.room W.memory (seen self.old) result (seen self.new)
-            (message_bytes (seen self.new).metadata (body_of columns.now))
-            (message_len (seen self.new).metadata (body_of columns.now)) }
+        ensures step { SendsChunk W.known W.grows W.failures W.room W.memory (seen self.old) result (seen self.new) columns.now }
         ensures ok { OnOk result (TakesChunk (seen self.old) (seen self.new) columns.now (seen_ids ipc_fields.entry)) }
         ensures only { IfErr result (RefusesWrite (seen self.old) columns.now (seen_ids ipc_fields.entry)) }
         ensures means { Appends W.known W.memory (seen self.old) result (seen self.new) (chunk_written columns.now) }
@@ -328,12 +316,13 @@ impl<W: Writes + Drop> StreamWriter<W> {
         self.check_started()?;
         self.check_ids(ipc_fields)?;
         check_types(columns.arrays(), &self.types)?;
-        self.metadata = chunk_to_metadata(self.alloc, columns)?;
+        let mut plan = plan_chunk(self.alloc, columns)?;
+        self.metadata = chunk_to_metadata(self.alloc, columns, &mut plan)?;
         send(
             &mut self.writer,
             &mut self.state,
             &self.metadata,
-            columns.arrays(),
+            &plan.pieces,
         )
     }
 

@@ -1,13 +1,19 @@
-use Rattle.std.proofs.Common.{rules}
+use Rattle.std.proofs.Common.{rules, ◌≡◌, Err}
 use Rattle.ipc_write.specs.Framing.{padded}
-use Rattle.ipc_write.proofs.Sends.{writes_both, some_after}
+use Rattle.ipc_plan.proofs.Sends.{sends_stop}
+use Rattle.ipc_write.proofs.Sends.{both_sent}
 use Rattle.ipc_write.proofs.common_sync.write_padded.Goals as goal
 
-pub returns-clause-memory : goal.returns-clause-memory
+pub returns-in_err-send_bytes : goal.returns-in_err-send_bytes
 unfolding padded
-returns-clause-memory g c = search (rules, writes_both)
+returns-in_err-send_bytes g c =
+    let e : c.from_residual.result ≡ Err c.in_err-send_bytes.field-0.0 = search rules in
+    record { sends = rw e (sends_stop {X = Unit {0}} {Y = Unit {0}} _ _ _ _ _ c.args.bytes.now _ c.in_err-send_bytes.ensures) }
 
-pub returns-clause-part : goal.returns-clause-part
-returns-clause-part g c = λ k.
-    let part = c.write_all-2.ensures.part k in
-    unfold padded in some_after _ _ _ c.args.bytes.now _ (c.in_ok-write_all.ensures.memory k) (rw (← c.padding.ensures.value, ← c.zeros.ensures) part)
+pub returns : goal.returns
+unfolding padded
+returns g c =
+    record {
+      sends = both_sent {X = Unit {0}} {Y = Unit {0}} _ _ _ _ _ _ _ c.args.bytes.now _ c.in_ok-send_bytes.ensures
+          (rw (← c.padding.ensures.value, ← c.zeros.ensures) c.send_bytes-2.ensures);
+    }

@@ -1,31 +1,80 @@
-use Rattle.std.proofs.Common.{rules, map, refl}
+use Rattle.std.proofs.Common.{rules, ◌≤◌, ◌^◌, length, map, refl}
+use Rattle.std.specs.Int.{next_multiple_of}
 use Rattle.std.proofs.lemmas.Result.{err_from_is_err_and}
 use Rattle.lower.specs.TypeViews.{type_view}
+use Rattle.lower_types.specs.declared.Endianness.TheVariants.{Little}
+use Rattle.ipc_plan.specs.Pieces.{pieces_bytes}
+use Rattle.ipc_write.specs.Batches.{IsChunkMessage}
 use Rattle.ipc_write.specs.Writers.{HaveTypes, seen}
 use Rattle.ipc_write.proofs.Agreements.{sent_chunk, types_zipped}
-use Rattle.ipc_write.proofs.RecordMeanings.{body_whole}
-use Rattle.ipc_write.proofs.WriterSteps.{chunk_not_io, refused_step, refuses_ids}
+use Rattle.ipc_write.proofs.BatchMessages.{body_ends}
+use Rattle.ipc_write.proofs.WriterSteps.{chunk_handed, chunk_not_io, ids_not_io, on_sent, refused_chunk, refuses_ids, state_kept, state_not_io, types_not_io}
 use Rattle.ipc_write.proofs.stream.StreamWriter.write.Goals as goal
+
+-- ---- refused
+
+pub returns-in_err-check_started-clause-step : goal.returns-in_err-check_started-clause-step
+returns-in_err-check_started-clause-step g c =
+    let p = err_from_is_err_and c.from_residual.result c.from_residual.ensures.1 in
+    rw (p.1, p.2) (refused_chunk _ _ _ _ _ _ _ _ _ (record { device = refl; state = refl; types = refl; ids = refl })
+    (state_not_io c.args.self.now.state _ c.in_err-check_started.ensures.only))
+
+pub returns-in_err-check_ids-clause-step : goal.returns-in_err-check_ids-clause-step
+returns-in_err-check_ids-clause-step g c =
+    let p = err_from_is_err_and c.from_residual-in_err-check_ids.result c.from_residual-in_err-check_ids.ensures.1 in
+    rw (p.1, p.2) (refused_chunk _ _ _ _ _ _ _ _ _ (record { device = refl; state = refl; types = refl; ids = refl })
+    (ids_not_io _ c.in_err-check_ids.ensures.only.0))
 
 pub returns-in_err-check_ids-clause-only : goal.returns-in_err-check_ids-clause-only
 returns-in_err-check_ids-clause-only g c =
     let p = err_from_is_err_and c.from_residual-in_err-check_ids.result c.from_residual-in_err-check_ids.ensures.1 in
     rw (p.1, p.2) (refuses_ids (seen c.args.self.now) c.args.columns.now _ _ c.in_err-check_ids.ensures.only)
 
+pub returns-in_err-check_types-clause-step : goal.returns-in_err-check_types-clause-step
+returns-in_err-check_types-clause-step g c =
+    let p = err_from_is_err_and c.from_residual-in_err-check_types.result c.from_residual-in_err-check_types.ensures.1 in
+    rw (p.1, p.2) (refused_chunk _ _ _ _ _ _ _ _ _ (record { device = refl; state = refl; types = refl; ids = refl })
+    (types_not_io c.arrays.result.now (map type_view c.deref.result.now) _ c.in_err-check_types.ensures.only))
+
+pub returns-in_err-plan-clause-step : goal.returns-in_err-plan-clause-step
+returns-in_err-plan-clause-step g c =
+    let p = err_from_is_err_and c.from_residual-in_err-plan.result c.from_residual-in_err-plan.ensures.1 in
+    rw (p.1, p.2) (refused_chunk _ _ _ _ _ _ _ _ _ (record { device = refl; state = refl; types = refl; ids = refl })
+    (chunk_not_io c.args.columns.now _ c.in_err-plan.ensures.only))
+
 pub returns-in_err-self-clause-step : goal.returns-in_err-self-clause-step
 returns-in_err-self-clause-step g c =
-    let refused = c.from_residual-in_err-self in
-    let p = err_from_is_err_and refused.result refused.ensures.1 in
-    rw (p.1, p.2) (refused_step _ _ _ _ _ _ _ _ _ _ (record { device = refl; state = refl; types = refl; ids = refl })
+    let p = err_from_is_err_and c.from_residual-in_err-self.result c.from_residual-in_err-self.ensures.1 in
+    rw (p.1, p.2) (refused_chunk _ _ _ _ _ _ _ _ _ (record { device = refl; state = refl; types = refl; ids = refl })
     (chunk_not_io c.args.columns.now _ c.in_err-self.ensures.only))
+
+-- ---- sent
+
+pub returns-clause-step : goal.returns-clause-step
+returns-clause-step g c =
+    let made = c.in_ok-self.ensures in
+    let columns = c.args.columns.now in
+    let metadata = c.in_ok-self.field-0.items in
+    let body = pieces_bytes Little c.chunk_to_metadata.new.plan.pieces.items in
+    record {
+      body = body;
+      is = on_sent c.send.result (IsChunkMessage metadata body columns) made.message;
+      step = chunk_handed g.W.Failures.known g.W.Writes.grows g.W.Failures.failures g.W.Writes.room g.W.Failures.memory (seen c.args.self.now) _ c.send.result c.deref-2.result.now metadata body (2 ^ 31 ≤ next_multiple_of (length c.deref-2.result.now) 8)
+          c.deref-2.ensures.value (body_ends columns metadata body made.message)
+          (rw c.deref-3.ensures.value at c.send.ensures.sends) c.send.ensures.state refl refl;
+    }
 
 pub returns-clause-means : goal.returns-clause-means
 returns-clause-means g c =
     let made = c.in_ok-self.ensures in
     let columns = c.args.columns.now in
+    let metadata = c.in_ok-self.field-0.items in
+    let body = pieces_bytes Little c.chunk_to_metadata.new.plan.pieces.items in
+    let whole = body_ends columns metadata body made.message in
     let types = map type_view c.args.self.now.types.items in
     let have : HaveTypes columns types = search rules in
-    sent_chunk _ _ _ _ _ _ _ columns _ _ c.in_ok-check_started.ensures.ok refl made.whole (body_whole columns) made.means (types_zipped columns types have)
-    c.send.ensures.ok c.send.ensures.refused c.send.ensures.io
-    (λ k. rw (c.deref-2.ensures.value, c.arrays-2.ensures.columns) at (c.send.ensures.memory k))
-    (λ k. rw (c.deref-2.ensures.value, c.arrays-2.ensures.columns) at (c.send.ensures.part k))
+    sent_chunk g.W.Failures.known g.W.Writes.grows g.W.Failures.failures g.W.Writes.room g.W.Failures.memory (seen c.args.self.now) _ c.send.result metadata body columns _ c.in_ok-check_started.ensures.ok refl made.whole whole made.means (types_zipped columns types have)
+    (state_kept c.send.result _ _ c.send.ensures.state)
+    (chunk_handed g.W.Failures.known g.W.Writes.grows g.W.Failures.failures g.W.Writes.room g.W.Failures.memory (seen c.args.self.now) _ c.send.result c.deref-2.result.now metadata body (2 ^ 31 ≤ next_multiple_of (length c.deref-2.result.now) 8)
+    c.deref-2.ensures.value whole
+    (rw c.deref-3.ensures.value at c.send.ensures.sends) c.send.ensures.state refl refl)

@@ -1,6 +1,0 @@
-use Rattle.std.proofs.Common.{take, All}
-use Rattle.ipc_write.proofs.serialize.read_ranges.Given as goal
-
--- The numbers so far are in the range of their type.
-abbrev pub invariant-loop-value : goal.invariant-loop-value
-invariant-loop-value g l = All g.T.NativeType.fits (take l.value-index l.values)
