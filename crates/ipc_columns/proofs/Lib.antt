@@ -1,0 +1,13 @@
+pub mod Pieces
+pub mod Fetches
+pub mod Refusals
+pub mod Heads
+pub mod FlatLevels
+pub mod OffsetLists
+pub mod SpanLevels
+pub mod ListLevels
+pub mod ColumnLevels
+pub mod Tops
+pub mod Records
+pub mod StructReads
+pub mod Plain

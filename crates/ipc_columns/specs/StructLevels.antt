@@ -1,0 +1,35 @@
+-- Arrays of records, by their columns.
+use Rattle.std.specs.Prelude.{◌≡◌, ℕ, ◌+◌, List, [], ◌∷◌}
+use Rattle.lower.specs.TypeTrees.{TypeTree, FieldTrees}
+use Rattle.lower_flat.specs.Validities.{Validity}
+use Rattle.lower_arrays.specs.Layouts.{records, Layout, layout, Layouts, more_layouts, layouts}
+use Rattle.ipc_model.specs.Kinds.{Kinds, all_nodes, all_buffers}
+use Rattle.ipc_model.specs.Entries.{Entries, Limit}
+use Rattle.ipc_model.specs.Columns.{AllHaveRows}
+use Rattle.ipc_model.specs.ReadArrays.{arrays_at}
+use Rattle.ipc_columns.specs.Bodies.{no_values}
+use Rattle.ipc_columns.specs.Kinds.{AreRead}
+use Rattle.ipc_columns.specs.declared.read.body.Place.{Place}
+
+-- n records of the columns cs
+abbrev pub records_layout : TypeTree → ℕ → Validity → List Layout → Layout
+records_layout u n v cs = layout (record { type = u; len = n; validity = v; parts = records }) (layouts cs)
+
+-- some arrays before others
+abbrev pub over : List Layout → Layouts → Layouts
+over [] ls = ls
+over (x ∷ xs) ls = more_layouts x (over xs ls)
+
+-- of all columns, which begin at one place, the rest begins at another one
+pub record Left (extra : ℕ) (all rest : Kinds) (start p : Place) : Type 0 where
+  pub node : p.node + all_nodes rest ≡ start.node + all_nodes all
+  pub buffer : p.buffer + all_buffers extra rest ≡ start.buffer + all_buffers extra all
+
+abbrev pub HaveRows : Entries → Kinds → Place → Limit → ℕ → Type 0
+HaveRows s ts p limit k = AreRead ts × AllHaveRows s ts p.node p.buffer limit k
+
+-- xs are the arrays of the columns before the rest, which are well formed
+pub record SoFar (s : Entries) (all rest : Kinds) (fs gs : FieldTrees) (start p : Place) (limit : Limit) (k : ℕ) (xs : List Layout) : Type 0 where
+  pub on : HaveRows s all start limit k → HaveRows s rest p limit k
+  pub back : HaveRows s rest p limit k → HaveRows s all start limit k
+  pub same : over xs (arrays_at s no_values rest gs p.node p.buffer limit) ≡ arrays_at s no_values all fs start.node start.buffer limit

@@ -1,0 +1,10 @@
+//! Reads columns, a file for each physical type.
+pub mod binary;
+pub mod boolean;
+pub mod dictionary;
+pub mod fixed_size_binary;
+pub mod list;
+pub mod null;
+pub mod primitive;
+pub mod struct_;
+pub mod utf8;

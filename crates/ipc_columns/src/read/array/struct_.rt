@@ -1,0 +1,45 @@
+//! Makes the arrays of columns of records.
+ghost use Rattle.std.specs.Prelude.{◌≡◌, map, IfErr};
+ghost use Rattle.ipc_devices.specs.Faults.{OnIo, OwnFault, Answers};
+ghost use Rattle.lower.specs.TypeViews.{type_view};
+ghost use Rattle.lower.specs.Physical.{physical};
+ghost use Rattle.lower.specs.declared.datatypes.physical_type.PhysicalType.TheVariants.{Struct};
+ghost use Rattle.lower_flat.specs.Validities.{ValidityFits};
+ghost use Rattle.lower_arrays.specs.Layouts.{layouts};
+ghost use Rattle.lower_arrays.specs.Children.{child_fields, ChildTypes, HasChild, AllHave};
+ghost use Rattle.lower_arrays.specs.AnyLayouts.{layout_of};
+ghost use Rattle.ipc_columns.specs.StructLevels.{records_layout};
+ghost use Rattle.ipc_columns.specs.Refusals.{IsColumnFault};
+
+use crate::read::read_basic::Head;
+use ipc_devices::fault::Fault;
+use lower::datatypes::DataType;
+use lower::error::{Error, Rule};
+use lower_arrays::array::{AnyArray, StructArray};
+
+/// The array of records of some columns (Arrow columnar format, "Struct Layout"). `NoChild` where there is no
+/// column, `ChildLength` where one hasn't as many slots as the head says, `ChildCount` and `ChildType` where
+/// they aren't those of its fields. `Memory` comes too, and no other.
+#[tactic(auto, using(crate::proofs::Records::records))]
+pub fn make_struct(own: &DataType, head: Head, columns: Vec<AnyArray>) -> Result<AnyArray, Fault>
+    requires lies { physical (type_view own.now) ≡ Struct }
+    requires fits { ValidityFits head.validity head.rows }
+    ensures own { OnIo result ⊥ }
+    ensures only { IfErr result (λ e. OwnFault e (IsColumnFault e)) }
+    ensures exact { let u = type_view own.now in let cs = map layout_of columns.items in
+        Answers result (HasChild (layouts cs) × ChildTypes (child_fields u) (layouts cs) × AllHave head.rows (layouts cs))
+        (λ array. layout_of array ≡ records_layout u head.rows head.validity cs) }
+{
+    let len = match columns.first() {
+        None => return Err(Fault::Lower(Error::OutOfSpec(Rule::NoChild))),
+        Some(first) => first.len(),
+    };
+    if len != head.rows {
+        return Err(Fault::Lower(Error::OutOfSpec(Rule::ChildLength)));
+    }
+    let own = own.clone()?;
+    match StructArray::try_new(own, columns, head.validity) {
+        Ok(array) => Ok(AnyArray::Struct(array)),
+        Err(e) => Err(Fault::Lower(e)),
+    }
+}

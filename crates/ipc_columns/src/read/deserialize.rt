@@ -1,0 +1,384 @@
+//! Reads a column by its type.
+ghost use Rattle.std.specs.Prelude.{◌≡◌, ◌+◌, map, IsTrue, IfOk, IfErr};
+ghost use Rattle.ipc_devices.specs.Faults.{OwnFault, Answers};
+ghost use Rattle.lower.specs.TypeTrees.{no_fields, more_fields};
+ghost use Rattle.lower.specs.TypeViews.{type_view, field_view, fields_view};
+ghost use Rattle.lower.specs.Physical.{physical};
+ghost use Rattle.lower.specs.declared.datatypes.physical_type.PhysicalType.TheVariants.{Struct};
+ghost use Rattle.lower_flat.specs.FixedBinaries.{byte_size};
+ghost use Rattle.lower_keys.specs.Fields.{child_fields};
+ghost use Rattle.lower_keys.specs.ListTypes.{list_with};
+ghost use Rattle.lower_arrays.specs.Layouts.{layouts};
+ghost use Rattle.lower_arrays.specs.AnyLayouts.{layout_of};
+ghost use Rattle.ipc_base.specs.IdTrees.{all_ids_view};
+ghost use Rattle.ipc_model.specs.Kinds.{list_kind, struct_kind, nodes, all_nodes, buffers, all_buffers};
+ghost use Rattle.ipc_model.specs.TypeKinds.{first_ids, field_kind, kinds_of, kind_of};
+ghost use Rattle.ipc_model.specs.Columns.{IsWell, AllHaveRows};
+ghost use Rattle.ipc_model.specs.ReadArrays.{array_at, arrays_at, offset_type};
+ghost use Rattle.ipc_columns.specs.Bodies.{Stands, HasRoom, entries, no_values};
+ghost use Rattle.ipc_columns.specs.FlatKinds.{IsPlain, IsFlat, flat_kind};
+ghost use Rattle.ipc_columns.specs.Kinds.{IsStored, Follows, AllFollow, IsRead, AreRead, form_of, listed_in, all_listed};
+ghost use Rattle.ipc_columns.specs.ReadColumns.{IsColumn};
+ghost use Rattle.ipc_columns.specs.Refusals.{IsColumnFault, IsFaultOf};
+ghost use Rattle.ipc_columns.specs.Steps.{Step};
+
+use crate::read::array::binary::read_binary;
+use crate::read::array::boolean::read_boolean;
+use crate::read::array::dictionary::unknown_dictionary;
+use crate::read::array::fixed_size_binary::{get_size, read_fixed_size_binary};
+use crate::read::array::list::{make_list, read_list_head};
+use crate::read::array::null::read_null;
+use crate::read::array::primitive::read_any_primitive;
+use crate::read::array::struct_::make_struct;
+use crate::read::array::utf8::read_utf8;
+use crate::read::body::{Body, Place};
+use crate::read::ids::{child_of, others_of};
+use crate::read::read_basic::read_head;
+use ipc_base::ipc::IpcField;
+use ipc_devices::fault::{Fault, Nyi};
+use ipc_devices::{Reads, Seeks};
+use lower::datatypes::{DataType, Field, PhysicalType};
+use lower::error::{Error, Rule};
+use lower_arrays::array::AnyArray;
+use std::alloc::Global;
+
+// The column of a type without children at a place, by how it lies in memory.
+fn read_flat<R: Reads + Seeks>(
+    alloc: Global,
+    physical_type: PhysicalType,
+    data_type: &DataType,
+    reader: &mut R,
+    body: &Body<R>,
+    place: Place,
+    limit: Option<usize>,
+) -> Result<AnyArray, Fault>
+    requires lies { physical (type_view data_type.now) ≡ physical_type }
+    requires flat { IsFlat physical_type }
+    requires room { let t = flat_kind physical_type (byte_size (type_view data_type.now)) in HasRoom body.now place (nodes t) (buffers body.now.extra t) }
+    requires stands { Stands R.still R.memory reader.old body.now }
+    ensures only { let t = flat_kind physical_type (byte_size (type_view data_type.now)) in IfErr result (λ e. OwnFault e (IsFaultOf t e)) }
+    ensures step { let t = flat_kind physical_type (byte_size (type_view data_type.now)) in
+        Step R.still R.memory R.failures R.given body.now (listed_in (entries R.memory body.now) body.now.extra t place.buffer) reader.old result reader.new }
+    ensures memory { IsTrue R.known → let s = entries R.memory body.now in
+        let t = flat_kind physical_type (byte_size (type_view data_type.now)) in
+        Answers result (IsWell s t place.node place.buffer limit)
+        (λ array. layout_of array ≡ array_at s no_values t (type_view data_type.now) place.node place.buffer limit) }
+{
+    match physical_type {
+        PhysicalType::Null => Ok(AnyArray::Null(read_null(data_type, body, place, limit)?)),
+        PhysicalType::Boolean => {
+            let array = read_boolean(alloc, data_type, reader, body, place, limit)?;
+            Ok(AnyArray::Boolean(array))
+        }
+        PhysicalType::Primitive(primitive) => {
+            let array = read_any_primitive(
+                alloc, primitive, data_type, reader, body, place, limit,
+            )?;
+            Ok(AnyArray::Primitive(array))
+        }
+        PhysicalType::FixedSizeBinary => {
+            let size = get_size(data_type);
+            let array = read_fixed_size_binary(alloc, data_type, size, reader, body, place, limit)?;
+            Ok(AnyArray::FixedSizeBinary(array))
+        }
+        PhysicalType::Binary => {
+            let array = read_binary(alloc, data_type, reader, body, place, limit)?;
+            Ok(AnyArray::Binary(array))
+        }
+        PhysicalType::LargeBinary => {
+            let array = read_binary(alloc, data_type, reader, body, place, limit)?;
+            Ok(AnyArray::LargeBinary(array))
+        }
+        PhysicalType::Utf8 => {
+            let array = read_utf8(alloc, data_type, reader, body, place, limit)?;
+            Ok(AnyArray::Utf8(array))
+        }
+        PhysicalType::LargeUtf8 => {
+            let array = read_utf8(alloc, data_type, reader, body, place, limit)?;
+            Ok(AnyArray::LargeUtf8(array))
+        }
+        PhysicalType::List
+        | PhysicalType::LargeList
+        | PhysicalType::FixedSizeList
+        | PhysicalType::Struct
+        | PhysicalType::Union
+        | PhysicalType::Map
+        | PhysicalType::Dictionary(_) => Err(Fault::NotYetImplemented(Nyi::Pending)),
+    }
+}
+
+// The place behind a column without children.
+fn flat_after<R>(
+    physical_type: PhysicalType,
+    data_type: &DataType,
+    body: &Body<R>,
+    place: Place,
+) -> Place
+    requires flat { IsFlat physical_type }
+    requires room { let t = flat_kind physical_type (byte_size (type_view data_type.now)) in HasRoom body.now place (nodes t) (buffers body.now.extra t) }
+    ensures next { Follows body.now.extra (flat_kind physical_type (byte_size (type_view data_type.now))) place result }
+{
+    let buffers = match physical_type {
+        PhysicalType::Null => 0,
+        PhysicalType::Binary
+        | PhysicalType::LargeBinary
+        | PhysicalType::Utf8
+        | PhysicalType::LargeUtf8 => 3,
+        _ => 2,
+    };
+    Place {
+        node: place.node + 1,
+        buffer: place.buffer + buffers,
+    }
+}
+
+// The column of a type without children at a place as an array of the type `own`, which is stored as this
+// one, and the place behind it.
+fn read_plain<R: Reads + Seeks>(
+    alloc: Global,
+    data_type: &DataType,
+    own: &DataType,
+    id: Option<i64>,
+    ids: &[IpcField],
+    reader: &mut R,
+    body: &Body<R>,
+    place: Place,
+    limit: Option<usize>,
+) -> Result<(AnyArray, Place), Fault>
+    requires plain { IsPlain (type_view data_type.now) }
+    requires stored { IsStored (type_view own.now) (type_view data_type.now) }
+    requires room { let t = kind_of (type_view data_type.now) id (all_ids_view ids.now) in HasRoom body.now place (nodes t) (buffers body.now.extra t) }
+    requires stands { Stands R.still R.memory reader.old body.now }
+    ensures only { let t = kind_of (type_view data_type.now) id (all_ids_view ids.now) in IfErr result (λ e. OwnFault e (IsFaultOf t e)) }
+    ensures step { let t = kind_of (type_view data_type.now) id (all_ids_view ids.now) in
+        Step R.still R.memory R.failures R.given body.now (listed_in (entries R.memory body.now) body.now.extra t place.buffer) reader.old result reader.new }
+    ensures next { IfOk result (λ r. Follows body.now.extra (kind_of (type_view data_type.now) id (all_ids_view ids.now)) place r.1) }
+    ensures memory { IsTrue R.known → let s = entries R.memory body.now in let t = kind_of (type_view data_type.now) id (all_ids_view ids.now) in
+        Answers result (IsRead t × IsWell s t place.node place.buffer limit)
+        (λ r. layout_of r.0 ≡ array_at s no_values t (type_view own.now) place.node place.buffer limit) }
+{
+    let physical_type = own.to_physical_type();
+    let array = read_flat(alloc, physical_type, own, reader, body, place, limit)?;
+    let after = flat_after(physical_type, own, body, place);
+    Ok((array, after))
+}
+
+// The column of a type at a place as an array of the type `own`, which is stored as this one, and the place
+// behind it.
+#[cycle(columns)]
+#[tactic(auto, using(crate::proofs::ColumnLevels::columns))]
+fn read_as<R: Reads + Seeks>(
+    alloc: Global,
+    data_type: &DataType,
+    own: &DataType,
+    id: Option<i64>,
+    ids: &[IpcField],
+    reader: &mut R,
+    body: &Body<R>,
+    place: Place,
+    limit: Option<usize>,
+) -> Result<(AnyArray, Place), Fault>
+    requires stored { IsStored (type_view own.now) (type_view data_type.now) }
+    requires room { let t = kind_of (type_view data_type.now) id (all_ids_view ids.now) in HasRoom body.now place (nodes t) (buffers body.now.extra t) }
+    requires stands { Stands R.still R.memory reader.old body.now }
+    ensures only { let t = kind_of (type_view data_type.now) id (all_ids_view ids.now) in IfErr result (λ e. OwnFault e (IsFaultOf t e)) }
+    ensures step { let t = kind_of (type_view data_type.now) id (all_ids_view ids.now) in
+        Step R.still R.memory R.failures R.given body.now (listed_in (entries R.memory body.now) body.now.extra t place.buffer) reader.old result reader.new }
+    ensures next { IfOk result (λ r. Follows body.now.extra (kind_of (type_view data_type.now) id (all_ids_view ids.now)) place r.1) }
+    ensures memory { IsTrue R.known → let s = entries R.memory body.now in let t = kind_of (type_view data_type.now) id (all_ids_view ids.now) in
+        Answers result (IsRead t × IsWell s t place.node place.buffer limit)
+        (λ r. layout_of r.0 ≡ array_at s no_values t (type_view own.now) place.node place.buffer limit) }
+{
+    match data_type {
+        DataType::Extension(_, inner, _) => read_as(
+            alloc, inner, own, id, ids, reader, body, place, limit,
+        ),
+        DataType::List(field) => read_list(
+            alloc, field, own, ids, reader, body, place, limit, false,
+        ),
+        DataType::LargeList(field) => read_list(
+            alloc, field, own, ids, reader, body, place, limit, true,
+        ),
+        DataType::Dictionary(keys, values, _) => Err(unknown_dictionary(
+            *keys, values, id, body, place, limit,
+        )),
+        DataType::Struct(fields) => read_struct(
+            alloc, fields, own, ids, reader, body, place, limit,
+        ),
+        DataType::FixedSizeList(_, _) | DataType::Map(_, _) | DataType::Union(_, _, _) => {
+            Err(Fault::NotYetImplemented(Nyi::Pending))
+        }
+        DataType::Float16 | DataType::Float32 | DataType::Float64 => Err(Fault::NotYetImplemented(
+            Nyi::Float,
+        )),
+        _ => read_plain(alloc, data_type, own, id, ids, reader, body, place, limit),
+    }
+}
+
+// The column of lists at a place, and the place behind it.
+#[cycle(columns)]
+#[tactic(auto, using(crate::proofs::ColumnLevels::columns, crate::proofs::Refusals::child_faults))]
+fn read_list<R: Reads + Seeks>(
+    alloc: Global,
+    field: &Field,
+    own: &DataType,
+    ids: &[IpcField],
+    reader: &mut R,
+    body: &Body<R>,
+    place: Place,
+    limit: Option<usize>,
+    is_large: bool,
+) -> Result<(AnyArray, Place), Fault>
+    requires lies { physical (type_view own.now) ≡ list_with (offset_type (form_of is_large)) }
+    requires fields { child_fields (type_view own.now) ≡ more_fields (field_view field.now) no_fields }
+    requires room { let t = list_kind (form_of is_large) (field_kind (field_view field.now) (first_ids (all_ids_view ids.now))) in
+        HasRoom body.now place (nodes t) (buffers body.now.extra t) }
+    requires stands { Stands R.still R.memory reader.old body.now }
+    ensures only { IfErr result (λ e. OwnFault e (IsColumnFault e)) }
+    ensures step { let t = list_kind (form_of is_large) (field_kind (field_view field.now) (first_ids (all_ids_view ids.now))) in
+        Step R.still R.memory R.failures R.given body.now (listed_in (entries R.memory body.now) body.now.extra t place.buffer) reader.old result reader.new }
+    ensures next { IfOk result (λ r. Follows body.now.extra (list_kind (form_of is_large) (field_kind (field_view field.now) (first_ids (all_ids_view ids.now)))) place r.1) }
+    ensures memory { IsTrue R.known → let s = entries R.memory body.now in
+        let t = list_kind (form_of is_large) (field_kind (field_view field.now) (first_ids (all_ids_view ids.now))) in
+        Answers result (IsRead t × IsWell s t place.node place.buffer limit)
+        (λ r. layout_of r.0 ≡ array_at s no_values t (type_view own.now) place.node place.buffer limit) }
+{
+    let head = read_list_head(alloc, reader, body, place, limit, is_large)?;
+    let (child_id, child_ids) = child_of(field, ids);
+    let below = Place {
+        node: place.node + 1,
+        buffer: place.buffer + 2,
+    };
+    let (child, after) = read_as(
+        alloc,
+        &field.data_type,
+        &field.data_type,
+        child_id,
+        child_ids,
+        reader,
+        body,
+        below,
+        Some(head.last),
+    )?;
+    let array = make_list(alloc, own, head, child)?;
+    Ok((array, after))
+}
+
+// The column of records at a place, and the place behind it.
+#[cycle(columns)]
+#[tactic(auto, using(crate::proofs::ColumnLevels::columns, crate::proofs::Refusals::child_faults))]
+fn read_struct<R: Reads + Seeks>(
+    alloc: Global,
+    fields: &[Field],
+    own: &DataType,
+    ids: &[IpcField],
+    reader: &mut R,
+    body: &Body<R>,
+    place: Place,
+    limit: Option<usize>,
+) -> Result<(AnyArray, Place), Fault>
+    requires lies { physical (type_view own.now) ≡ Struct }
+    requires fields { child_fields (type_view own.now) ≡ fields_view fields.now }
+    requires room { let t = struct_kind (kinds_of (fields_view fields.now) (all_ids_view ids.now)) in HasRoom body.now place (nodes t) (buffers body.now.extra t) }
+    requires stands { Stands R.still R.memory reader.old body.now }
+    ensures only { IfErr result (λ e. OwnFault e (IsColumnFault e)) }
+    ensures step { let t = struct_kind (kinds_of (fields_view fields.now) (all_ids_view ids.now)) in
+        Step R.still R.memory R.failures R.given body.now (listed_in (entries R.memory body.now) body.now.extra t place.buffer) reader.old result reader.new }
+    ensures next { IfOk result (λ r. Follows body.now.extra (struct_kind (kinds_of (fields_view fields.now) (all_ids_view ids.now))) place r.1) }
+    ensures memory { IsTrue R.known → let s = entries R.memory body.now in let t = struct_kind (kinds_of (fields_view fields.now) (all_ids_view ids.now)) in
+        Answers result (IsRead t × IsWell s t place.node place.buffer limit)
+        (λ r. layout_of r.0 ≡ array_at s no_values t (type_view own.now) place.node place.buffer limit) }
+{
+    let head = read_head(alloc, reader, body, place, limit)?;
+    let below = Place {
+        node: place.node + 1,
+        buffer: place.buffer + 1,
+    };
+    let (columns, after) = read_fields(alloc, fields, ids, reader, body, below, limit, head.rows)?;
+    let array = make_struct(own, head, columns)?;
+    Ok((array, after))
+}
+
+// The columns of some fields, one behind the other from a place on, each of so many slots, and the place behind them.
+#[cycle(columns)]
+#[tactic(auto, using(crate::proofs::ColumnLevels::columns, crate::proofs::Refusals::child_faults))]
+fn read_fields<R: Reads + Seeks>(
+    alloc: Global,
+    fields: &[Field],
+    ids: &[IpcField],
+    reader: &mut R,
+    body: &Body<R>,
+    start: Place,
+    limit: Option<usize>,
+    rows: usize,
+) -> Result<(Vec<AnyArray>, Place), Fault>
+    requires room { let ts = kinds_of (fields_view fields.now) (all_ids_view ids.now) in HasRoom body.now start (all_nodes ts) (all_buffers body.now.extra ts) }
+    requires stands { Stands R.still R.memory reader.old body.now }
+    ensures only { IfErr result (λ e. OwnFault e (IsColumnFault e)) }
+    ensures step { let ts = kinds_of (fields_view fields.now) (all_ids_view ids.now) in
+        Step R.still R.memory R.failures R.given body.now (all_listed (entries R.memory body.now) body.now.extra ts start.buffer) reader.old result reader.new }
+    ensures next { IfOk result (λ r. AllFollow body.now.extra (kinds_of (fields_view fields.now) (all_ids_view ids.now)) start r.1) }
+    ensures memory { IsTrue R.known → let s = entries R.memory body.now in let ts = kinds_of (fields_view fields.now) (all_ids_view ids.now) in
+        Answers result (AreRead ts × AllHaveRows s ts start.node start.buffer limit rows)
+        (λ r. layouts (map layout_of r.0.items) ≡ arrays_at s no_values ts (fields_view fields.now) start.node start.buffer limit) }
+{
+    let mut columns = Vec::new(alloc);
+    let mut place = start;
+    let mut left = ids;
+    for field in fields {
+        let (child_id, child_ids) = child_of(field, left);
+        let (column, next) = read_as(
+            alloc,
+            &field.data_type,
+            &field.data_type,
+            child_id,
+            child_ids,
+            reader,
+            body,
+            place,
+            limit,
+        )?;
+        if column.len() != rows {
+            return Err(Fault::Lower(Error::OutOfSpec(Rule::ChildLength)));
+        }
+        columns.push(column)?;
+        place = next;
+        left = others_of(left);
+    }
+    Ok((columns, place))
+}
+
+/// The column of a type at a place, and the place behind it (Arrow columnar format, "RecordBatch message": nodes
+/// and buffers stand in pre-order). The id is that of the field whose type this is, and the others are those of
+/// its child fields. At most `limit` slots are read. Its entries have to be there, by the counts of its type.
+///
+/// `Float` for floats, `Pending` for lists of a fixed size, maps and unions, `InvalidId` for dictionaries, of
+/// which none is known; `NegativeFooterLength` where a length, or the offset of a buffer that is used, is below 0,
+/// `InvalidBuffer` where such a buffer is too short, `Ended` where the device is, `InvalidDataType` for bytes of
+/// the fixed size 0; where parts break a rule of their array `FallingOffset`, `Utf8`, `NoChild`, `ChildLength`
+/// and the others of [`lower::error::Rule`]. `Io` and `Memory` come too, and no other.
+#[tactic(auto, using(crate::proofs::ColumnLevels::same_stored))]
+pub fn read<R: Reads + Seeks>(
+    alloc: Global,
+    data_type: &DataType,
+    id: Option<i64>,
+    ids: &[IpcField],
+    reader: &mut R,
+    body: &Body<R>,
+    place: Place,
+    limit: Option<usize>,
+) -> Result<(AnyArray, Place), Fault>
+    requires room { let t = kind_of (type_view data_type.now) id (all_ids_view ids.now) in HasRoom body.now place (nodes t) (buffers body.now.extra t) }
+    requires stands { Stands R.still R.memory reader.old body.now }
+    ensures only { let t = kind_of (type_view data_type.now) id (all_ids_view ids.now) in IfErr result (λ e. OwnFault e (IsFaultOf t e)) }
+    ensures step { let t = kind_of (type_view data_type.now) id (all_ids_view ids.now) in
+        Step R.still R.memory R.failures R.given body.now (listed_in (entries R.memory body.now) body.now.extra t place.buffer) reader.old result reader.new }
+    ensures next { IfOk result (λ r. Follows body.now.extra (kind_of (type_view data_type.now) id (all_ids_view ids.now)) place r.1) }
+    ensures memory { IsTrue R.known → let s = entries R.memory body.now in let t = kind_of (type_view data_type.now) id (all_ids_view ids.now) in
+        Answers result (IsRead t × IsWell s t place.node place.buffer limit)
+        (λ r. IsColumn s t (type_view data_type.now) place.node place.buffer limit (layout_of r.0)) }
+{
+    read_as(
+        alloc, data_type, data_type, id, ids, reader, body, place, limit,
+    )
+}
