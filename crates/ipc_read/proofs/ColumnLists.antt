@@ -7,7 +7,7 @@ use Rattle.lower.specs.TypeViews.{type_view}
 use Rattle.lower.specs.declared.datatypes.Field.{Field}
 use Rattle.lower_arrays.specs.declared.array.AnyArray.{AnyArray}
 use Rattle.ipc_model.specs.Entries.{Entries}
-use Rattle.ipc_read.specs.Carried.{integer_of_type, HasColumn, IsColumn}
+use Rattle.ipc_read.specs.Carried.{HasColumn, IsColumn}
 use Rattle.ipc_read.specs.Columns.{HasColumns, AreColumns}
 
 pub no_columns : (s : Entries) (fs : List Field) → HasColumns s fs 0
@@ -25,21 +25,21 @@ at_field s fs P i k f d h e at p =
 
 pub has_more :
     (s : Entries) (fs : List Field) (i : ℕ) (f : Field) → i < length fs → f ≡ get_or fs i f → HasColumns s fs i
-    → HasColumn s (integer_of_type (type_view f.data_type)) i (2 * i) → HasColumns s fs (i + 1)
+    → HasColumn s (type_view f.data_type) i (2 * i) → HasColumns s fs (i + 1)
 has_more s fs i f h e has here = record {
   each = λ k d l.
       elim (cases_lt k i) [
         | inl below ↦ has.each k d below
         | inr past ↦
-            at_field s fs (λ g j. HasColumn s (integer_of_type (type_view g.data_type)) j (2 * j)) i k f d h e (omega (arith, l, past)) here
+            at_field s fs (λ g j. HasColumn s (type_view g.data_type) j (2 * j)) i k f d h e (omega (arith, l, past)) here
       ];
 }
 
 pub has_one :
     (s : Entries) (fs : List Field) (n i : ℕ) (f : Field) → i < n → f ≡ get_or fs i f → HasColumns s fs n
-    → HasColumn s (integer_of_type (type_view f.data_type)) i (2 * i)
+    → HasColumn s (type_view f.data_type) i (2 * i)
 has_one s fs n i f h e has =
-    subst (λ (g : Field). HasColumn s (integer_of_type (type_view g.data_type)) i (2 * i)) (sym e) (has.each i f h)
+    subst (λ (g : Field). HasColumn s (type_view g.data_type) i (2 * i)) (sym e) (has.each i f h)
 
 pub are_more :
     (s : Entries) (fs : List Field) (i : ℕ) (f : Field) (xs ys : List AnyArray) (x : AnyArray) → i < length fs → f ≡ get_or fs i f

@@ -1,6 +1,6 @@
 -- Fields of whole numbers, and where their columns stand.
 use Rattle.std.specs.Prelude.{string_bytes}
-use Rattle.std.proofs.Common.{arith, All, sym, ◌≡◌, ℕ, zero, suc, ◌+◌, ◌*◌, ◌<◌, ◌&&◌, true, false, Bool, List, [], ◌∷◌, length, get_or, ℤ, Option, Some, IsTrue, refl, ap, ◌∙◌}
+use Rattle.std.proofs.Common.{arith, All, sym, ◌≡◌, ℕ, zero, suc, ◌+◌, ◌*◌, ◌<◌, ◌&&◌, true, false, Bool, List, [], ◌∷◌, length, get_or, ℤ, Option, None, IsTrue, refl, ap, ◌∙◌}
 use Rattle.std.proofs.lemmas.List.Elements.{All-cons}
 use Rattle.lower.specs.TypeTrees.{Plain, int8, int16, int32, int64, uint8, uint16, uint32, uint64, TypeTree, plain, FieldTree, field, FieldTrees, no_fields, more_fields}
 use Rattle.lower.specs.TypeViews.{type_step, field_step, type_view, field_view, fields_view, pairs_of}
@@ -8,12 +8,11 @@ use Rattle.lower.specs.declared.datatypes.Field.{Field}
 use Rattle.lower.specs.declared.datatypes.DataType.TheFolds.{fold_out-Field}
 use Rattle.lower_types.specs.declared.PrimitiveType.{PrimitiveType}
 use Rattle.lower_types.specs.declared.PrimitiveType.TheVariants as Numbers
-use Rattle.ipc_base.specs.IdTrees.{IdTree, ids, IdTrees}
+use Rattle.ipc_base.specs.IdTrees.{IdTree, ids, IdTrees, no_ids}
 use Rattle.ipc_model.specs.Batches.{field_type, kind_at, type_at, nodes_before, buffers_before}
 use Rattle.ipc_model.specs.Carried.{is_whole, is_whole_type, is_whole_field, are_whole}
 use Rattle.ipc_model.specs.Kinds.{number_kind, count, nodes, all_nodes, buffers, all_buffers}
 use Rattle.ipc_model.specs.TypeKinds.{plain_kind, first_ids, other_ids, kind_of, field_kind, kinds_of}
-use Rattle.ipc_read.specs.Carried.{plain_integer, integer_of_type}
 
 pub both_true : (a b : Bool) → IsTrue (a && b) → IsTrue a × IsTrue b
 both_true true b h = (refl, h)
@@ -21,24 +20,25 @@ both_true false b h = absurd cc
 
 -- ---- one field
 
-whole_plain : (p : Plain) → IsTrue (is_whole p) → (f : PrimitiveType) × (plain_integer p ≡ Some f) × (plain_kind p ≡ number_kind f)
-whole_plain int8 h = (Numbers.Int8, refl, refl)
-whole_plain int16 h = (Numbers.Int16, refl, refl)
-whole_plain int32 h = (Numbers.Int32, refl, refl)
-whole_plain int64 h = (Numbers.Int64, refl, refl)
-whole_plain uint8 h = (Numbers.UInt8, refl, refl)
-whole_plain uint16 h = (Numbers.UInt16, refl, refl)
-whole_plain uint32 h = (Numbers.UInt32, refl, refl)
-whole_plain uint64 h = (Numbers.UInt64, refl, refl)
+whole_plain : (p : Plain) → IsTrue (is_whole p) → (f : PrimitiveType) × (plain_kind p ≡ number_kind f)
+whole_plain int8 h = (Numbers.Int8, refl)
+whole_plain int16 h = (Numbers.Int16, refl)
+whole_plain int32 h = (Numbers.Int32, refl)
+whole_plain int64 h = (Numbers.Int64, refl)
+whole_plain uint8 h = (Numbers.UInt8, refl)
+whole_plain uint16 h = (Numbers.UInt16, refl)
+whole_plain uint32 h = (Numbers.UInt32, refl)
+whole_plain uint64 h = (Numbers.UInt64, refl)
 whole_plain _ h = absurd cc
 
+-- a type of whole numbers has one kind, whatever ids stand beside it
 pub whole_type : (t : TypeTree) (id : Option ℤ) (is : IdTrees) → IsTrue (is_whole_type t)
-    → (f : PrimitiveType) × (integer_of_type t ≡ Some f) × (kind_of t id is ≡ number_kind f)
-whole_type (plain p) id is h = whole_plain p h
+    → (f : PrimitiveType) × (kind_of t None no_ids ≡ number_kind f) × (kind_of t id is ≡ number_kind f)
+whole_type (plain p) id is h = let one = whole_plain p h in (one.0, one.1, one.1)
 whole_type _ id is h = absurd cc
 
 whole_field : (f : FieldTree) (i : IdTree) → IsTrue (is_whole_field f)
-    → (p : PrimitiveType) × (integer_of_type (field_type f) ≡ Some p) × (field_kind f i ≡ number_kind p)
+    → (p : PrimitiveType) × (kind_of (field_type f) None no_ids ≡ number_kind p) × (field_kind f i ≡ number_kind p)
 whole_field (field name t nullable metadata) (ids id is) h = whole_type t id is h
 
 -- ---- fields one by one
@@ -46,7 +46,7 @@ whole_field (field name t nullable metadata) (ids id is) h = whole_type t id is 
 -- The column of field j is one of numbers, at node j and buffer 2 j.
 pub record AtField (extra : ℕ) (fs : FieldTrees) (is : IdTrees) (j : ℕ) : Type 0 where
   pub form : PrimitiveType
-  pub integer : integer_of_type (type_at fs j) ≡ Some form
+  pub own : kind_of (type_at fs j) None no_ids ≡ number_kind form
   pub kind_is : kind_at (kinds_of fs is) j ≡ number_kind form
   pub node_place : nodes_before (kinds_of fs is) j ≡ j
   pub buffer_place : buffers_before extra (kinds_of fs is) j ≡ 2 * j
@@ -55,7 +55,7 @@ pub at_field : (extra : ℕ) (fs : FieldTrees) (is : IdTrees) (j : ℕ) → IsTr
 at_field extra no_fields is j w h = absurd (omega (arith, h))
 at_field extra (more_fields f fs) is zero w h =
     let one = whole_field f (first_ids is) (both_true (is_whole_field f) (are_whole fs) w).0 in
-    record { form = one.0; integer = one.1; kind_is = one.2; node_place = refl; buffer_place = refl }
+    record { form = one.0; own = one.1; kind_is = one.2; node_place = refl; buffer_place = refl }
 at_field extra (more_fields f fs) is (suc j) w h =
     let all = both_true (is_whole_field f) (are_whole fs) w in
     let one = whole_field f (first_ids is) all.0 in
@@ -64,7 +64,7 @@ at_field extra (more_fields f fs) is (suc j) w h =
     let buffers_two = ap (buffers extra) one.2 in
     record {
       form = rest.form;
-      integer = rest.integer;
+      own = rest.own;
       kind_is = rest.kind_is;
       node_place = omega (arith, node_one, rest.node_place);
       buffer_place = omega (arith, buffers_two, rest.buffer_place);

@@ -1,7 +1,5 @@
-pub mod Pieces
-pub mod Fetches
-pub mod NumberColumns
 pub mod SizeLemmas
+pub mod WholeColumns
 pub mod ColumnLists
 pub mod Batches
 pub mod Fields

@@ -33,17 +33,14 @@ use Rattle.ipc_model.specs.Columns.{WithRows, IsWell, column}
 use Rattle.ipc_model.specs.Entries.{Entries, Part, IsSize, size, part_at, node, Dictionaries, rows}
 use Rattle.ipc_model.specs.Kinds.{Kind, number_kind, Kinds, count, nodes}
 use Rattle.ipc_model.specs.TypeKinds.{kind_of, kinds_of}
-use Rattle.ipc_read.specs.Carried.{integer_of_type, HasNumbers, HasColumn, IsColumn}
+use Rattle.ipc_read.specs.Carried.{HasColumn, IsColumn}
 use Rattle.ipc_read.specs.Chunks.{column_seen, chunk_seen, IsCarriedLists, HasMeaning, GivesBatch, order_of}
 use Rattle.ipc_read.specs.Columns.{HasColumns, AreColumns}
 use Rattle.ipc_read.specs.Sizes.{AreSizes, total_of}
-use Rattle.ipc_read.proofs.Fetches.{denies_through}
-use Rattle.ipc_read.proofs.Fields.{whole_type, AtField, at_field, node_total, buffer_total, field_count, type_is, each_whole, AreWhole}
+use Rattle.ipc_columns.proofs.Fetches.{denies_through}
+use Rattle.ipc_read.proofs.Fields.{AtField, at_field, node_total, buffer_total, field_count, type_is, each_whole, AreWhole}
 
 -- ---- options
-
-pub some_inj : {X : Type 0} (x y : X) → Some x ≡ Some y → x ≡ y
-some_inj x y e = cc
 
 -- what is there
 pub some_of : {X : Type 0} (o : Option X) → IsSome o → (x : X) × (o ≡ Some x)
@@ -112,26 +109,23 @@ total_from w base n (b ∷ bs) = total_from w base (n + size b.length) bs
 
 -- ---- one source under all dictionaries
 
-numbers_same :
+known_well :
     (lists : Lists) (b : Body) (order : Endianness) (extra : ℕ) (known : Dictionaries) (p : PrimitiveType) (i j : ℕ)
-    → HasNumbers (entries_of lists b order extra known) p i j → HasNumbers (entries_of lists b Little 0 []) p i j
+    → IsWell (entries_of lists b order extra known) (number_kind p) i j None → IsWell (entries_of lists b order extra []) (number_kind p) i j None
 unfolding entries_of
-numbers_same lists b order extra known p i j h = record {
-  well = (record { length_is = h.well.0.length_is; validity = h.well.0.validity }, h.well.1);
-  whole = h.whole;
-}
+known_well lists b order extra known p i j h = (record { length_is = h.0.length_is; validity = h.0.validity }, h.1)
 
-same_well :
+well_known :
     (lists : Lists) (b : Body) (order : Endianness) (extra : ℕ) (known : Dictionaries) (p : PrimitiveType) (i j : ℕ)
-    → HasNumbers (entries_of lists b Little 0 []) p i j → IsWell (entries_of lists b order extra known) (number_kind p) i j None
+    → IsWell (entries_of lists b order extra []) (number_kind p) i j None → IsWell (entries_of lists b order extra known) (number_kind p) i j None
 unfolding entries_of
-same_well lists b order extra known p i j h = (record { length_is = h.well.0.length_is; validity = h.well.0.validity }, h.well.1)
+well_known lists b order extra known p i j h = (record { length_is = h.0.length_is; validity = h.0.validity }, h.1)
 
 same_column :
-    (lists : Lists) (b : Body) (order : Endianness) (extra : ℕ) (known : Dictionaries) (p : PrimitiveType) (i j : ℕ) → order ≡ Little
-    → column (entries_of lists b order extra known) (number_kind p) i j None ≡ column (entries_of lists b Little 0 []) (number_kind p) i j None
+    (lists : Lists) (b : Body) (order : Endianness) (extra : ℕ) (known : Dictionaries) (p : PrimitiveType) (i j : ℕ)
+    → column (entries_of lists b order extra known) (number_kind p) i j None ≡ column (entries_of lists b order extra []) (number_kind p) i j None
 unfolding entries_of
-same_column lists b order extra known p i j e = λ k. column (entries_of lists b (e k) 0 []) (number_kind p) i j None
+same_column lists b order extra known p i j = refl
 
 -- ---- what is judged of a batch
 
@@ -152,20 +146,20 @@ read_range s ts k n each a zero h = tt
 read_range s ts k n each a (suc m) h = (each a (omega (arith, h)), read_range s ts k n each (a + 1) m (omega (arith, h)))
 
 -- the batch can be read: k rows in each column
-pub record Judged (fs : List Field) (lists : Lists) (b : Body) (k : ℕ) : Type 0 where
+pub record Judged (fs : List Field) (lists : Lists) (b : Body) (order : Endianness) (extra : ℕ) (k : ℕ) : Type 0 where
   pub sizes : AreSizes lists.buffers
   pub total : total_of lists.buffers ≤ b.size
   pub nodes : length fs ≤ length lists.nodes
   pub buffers : 2 * length fs ≤ length lists.buffers
-  pub has : HasColumns (entries_of lists b Little 0 []) fs (length fs)
-  pub rows : (j : ℕ) → j < length fs → size (node (entries_of lists b Little 0 []) j).length ≡ k
+  pub has : HasColumns (entries_of lists b order extra []) fs (length fs)
+  pub rows : (j : ℕ) → j < length fs → size (node (entries_of lists b order extra []) j).length ≡ k
 
 -- what the model judges as carried and well formed can be read
 judged_batch :
     (fs : List Field) (is : IdTrees) (lists : Lists) (b : Body) (order : Endianness) (extra : ℕ) (known : Dictionaries)
     → IsTrue (are_whole (fields_view fs)) → All (λ (n : FieldNode). size n.null_count ≡ 0) (take (fields_nodes (fields_view fs)) lists.nodes)
     → IsBatch (entries_of lists b order extra known) b.size (kinds_of (fields_view fs) is) (range_with_len 0 (count (kinds_of (fields_view fs) is))) None
-    → (k : ℕ) × Judged fs lists b k
+    → (k : ℕ) × Judged fs lists b order extra k
 unfolding entries_of
 judged_batch fs is lists b order extra known w none v =
     let s = entries_of lists b order extra known in
@@ -192,11 +186,13 @@ judged_batch fs is lists b order extra known w none v =
         buffers = omega (arith, v.buffers_listed, buffer_total extra (fields_view fs) is w, counted, length-map lists.buffers (part_at b.source b.base));
         has = record {
           each = λ j d h.
-              let form : integer_of_type (type_view (get_or fs j d).data_type) ≡ Some (at j h).form =
-              sym (ap integer_of_type (type_is fs j d h)) ∙ (at j h).integer in
-              subst (λ (o : Option PrimitiveType). HasColumn (entries_of lists b Little 0 []) o j (2 * j)) (sym form)
-              (numbers_same lists b order extra known (at j h).form j (2 * j)
-              (record { well = column_well s (fields_view fs) is j (at j h) (each j h).0; whole = whole j h }));
+              let own : kind_of (type_view (get_or fs j d).data_type) None no_ids ≡ number_kind (at j h).form =
+              sym (ap (λ (u : TypeTree). kind_of u None no_ids) (type_is fs j d h)) ∙ (at j h).own in
+              let numbers = known_well lists b order extra known (at j h).form j (2 * j) (column_well s (fields_view fs) is j (at j h) (each j h).0) in
+              record {
+                well = subst (λ (q : Kind). IsWell (entries_of lists b order extra []) q j (2 * j) None) (sym own) numbers;
+                whole = whole j h;
+              };
         };
         rows = λ j h. sym (column_rows s (fields_view fs) is j (at j h)) ∙ (each j h).1;
       },
@@ -248,29 +244,26 @@ record ReadColumn (s : Entries) (fs : FieldTrees) (is : IdTrees) (j k : ℕ) (x 
 
 read_column :
     (fs : List Field) (is : IdTrees) (lists : Lists) (b : Body) (order : Endianness) (extra : ℕ) (known : Dictionaries) (j k : ℕ) (d : Field) (x : AnyArray)
-    → order ≡ Little → IsTrue (are_whole (fields_view fs)) → j < length fs
-    → HasColumn (entries_of lists b Little 0 []) (integer_of_type (type_view (get_or fs j d).data_type)) j (2 * j)
-    → IsColumn (entries_of lists b Little 0 []) (type_view (get_or fs j d).data_type) j (2 * j) x → any_rows x ≡ k
+    → IsTrue (are_whole (fields_view fs)) → j < length fs
+    → HasColumn (entries_of lists b order extra []) (type_view (get_or fs j d).data_type) j (2 * j)
+    → IsColumn (entries_of lists b order extra []) (type_view (get_or fs j d).data_type) j (2 * j) x → any_rows x ≡ k
     → ReadColumn (entries_of lists b order extra known) (fields_view fs) is j k x
 unfolding entries_of
-read_column fs is lists b order extra known j k d x little w h has col rows =
+read_column fs is lists b order extra known j k d x w h has col rows =
     let s = entries_of lists b order extra known in
-    let s0 = entries_of lists b Little 0 [] in
+    let s0 = entries_of lists b order extra [] in
     let ts = kinds_of (fields_view fs) is in
     let t = type_view (get_or fs j d).data_type in
     let counted = field_count fs is in
     let at : AtField extra (fields_view fs) is j = at_field extra (fields_view fs) is j w (omega (arith, h, counted)) in
     let typed : type_at (fields_view fs) j ≡ t = type_is fs j d h in
-    let form : integer_of_type t ≡ Some at.form = sym (ap integer_of_type typed) ∙ at.integer in
-    let numbers : HasNumbers s0 at.form j (2 * j) = subst (λ (o : Option PrimitiveType). HasColumn s0 o j (2 * j)) form has in
-    let well : IsWellAt s ts None j = well_column s (fields_view fs) is j at (same_well lists b order extra known at.form j (2 * j) numbers) in
-    let own_type = whole_type t None no_ids (each_whole fs w j d h) in
-    let same_form : own_type.0 ≡ at.form = some_inj own_type.0 at.form (sym own_type.1 ∙ form) in
-    let kind_is : kind_of t None no_ids ≡ number_kind at.form = own_type.2 ∙ ap number_kind same_form in
+    let own : kind_of t None no_ids ≡ number_kind at.form = sym (ap (λ (u : TypeTree). kind_of u None no_ids) typed) ∙ at.own in
+    let numbers : IsWell s0 (number_kind at.form) j (2 * j) None = subst (λ (q : Kind). IsWell s0 q j (2 * j) None) own has.well in
+    let well : IsWellAt s ts None j = well_column s (fields_view fs) is j at (well_known lists b order extra known at.form j (2 * j) numbers) in
     let slots_are : slots_of_column s ts None j ≡ slots (layout_of x) =
     column_slots s (fields_view fs) is j at well
-    ∙ same_column lists b order extra known at.form j (2 * j) little
-    ∙ ap (λ (q : Kind). column s0 q j (2 * j) None) (sym kind_is)
+    ∙ same_column lists b order extra known at.form j (2 * j)
+    ∙ ap (λ (q : Kind). column s0 q j (2 * j) None) (sym own)
     ∙ sym col.slots in
     let type_same : type_at (fields_view fs) j ≡ type_of (layout_of x) = typed ∙ sym col.type in
     record {
@@ -281,12 +274,12 @@ read_column fs is lists b order extra known j k d x little w h has col rows =
 -- arrays that were read make a batch of the model
 batch_read :
     (fs : List Field) (is : IdTrees) (metadata : Pairs) (lists : Lists) (b : Body) (order : Endianness) (extra : ℕ) (known : Dictionaries) (xs : List AnyArray)
-    → order ≡ Little → IsTrue (are_whole (fields_view fs)) → AreSizes lists.buffers → total_of lists.buffers ≤ b.size
-    → length fs ≤ length lists.nodes → 2 * length fs ≤ length lists.buffers → HasColumns (entries_of lists b Little 0 []) fs (length fs)
-    → AreColumns (entries_of lists b Little 0 []) fs xs → length xs ≡ length fs → AreEqualRows any_rows xs
+    → IsTrue (are_whole (fields_view fs)) → AreSizes lists.buffers → total_of lists.buffers ≤ b.size
+    → length fs ≤ length lists.nodes → 2 * length fs ≤ length lists.buffers → HasColumns (entries_of lists b order extra []) fs (length fs)
+    → AreColumns (entries_of lists b order extra []) fs xs → length xs ≡ length fs → AreEqualRows any_rows xs
     → batch (entries_of lists b order extra known) b.size (record { fields = fields_view fs; metadata = metadata; ids = is; order = order }) None None ≡ Some (chunk_seen xs)
 unfolding entries_of
-batch_read fs is metadata lists b order extra known xs little w sizes total nodes buffers has are count_is equal =
+batch_read fs is metadata lists b order extra known xs w sizes total nodes buffers has are count_is equal =
     let s = entries_of lists b order extra known in
     let schema : Schema = record { fields = fields_view fs; metadata = metadata; ids = is; order = order } in
     let ts = kinds_of (fields_view fs) is in
@@ -297,7 +290,7 @@ batch_read fs is metadata lists b order extra known xs little w sizes total node
     λ j x h.
     let inside : j < length fs = omega (arith, h, count_is) in
     let d = field_in fs j inside in
-    read_column fs is lists b order extra known j k d (get_or xs j x) little w inside (has.each j d inside) (are.each j d x h) (equal j x h) in
+    read_column fs is lists b order extra known j k d (get_or xs j x) w inside (has.each j d inside) (are.each j d x h) (equal j x h) in
     let any : (j : ℕ) → j < n → WithRows (IsWellAt s ts None j) (rows_at s ts None j) k =
     λ j h. let inside : j < length xs = omega (arith, h, counted, count_is) in (read j (array_in xs j inside) inside).well in
     let listed = node_total (fields_view fs) is w in
@@ -321,7 +314,7 @@ batch_read fs is metadata lists b order extra known xs little w sizes total node
 pub judged :
     (fs : List Field) (is : IdTrees) (metadata : Pairs) (order : Endianness) (lists : Lists) (b : Body) (t : Spot) (extra : ℕ) (known : Dictionaries)
     → lists_of t ≡ Some lists → HasMeaning (record { fields = fields_view fs; metadata = metadata; ids = is; order = order }) extra known b t
-    → (order ≡ Little) × IsTrue (are_whole (fields_view fs)) × ((k : ℕ) × Judged fs lists b k)
+    → (order ≡ Little) × IsTrue (are_whole (fields_view fs)) × ((k : ℕ) × Judged fs lists b order extra k)
 unfolding record_meaning
 judged fs is metadata order lists b t extra known listed h =
     let schema : Schema = record { fields = fields_view fs; metadata = metadata; ids = is; order = order } in
@@ -335,15 +328,15 @@ judged fs is metadata order lists b t extra known listed h =
 -- what was read is what is meant
 pub meant :
     (fs : List Field) (is : IdTrees) (metadata : Pairs) (order : Endianness) (lists : Lists) (b : Body) (t : Spot) (extra : ℕ) (known : Dictionaries) (xs : List AnyArray)
-    → lists_of t ≡ Some lists → order ≡ Little → IsTrue (are_whole (fields_view fs)) → AreSizes lists.buffers → total_of lists.buffers ≤ b.size
-    → length fs ≤ length lists.nodes → 2 * length fs ≤ length lists.buffers → HasColumns (entries_of lists b Little 0 []) fs (length fs)
-    → AreColumns (entries_of lists b Little 0 []) fs xs → length xs ≡ length fs → AreEqualRows any_rows xs
+    → lists_of t ≡ Some lists → IsTrue (are_whole (fields_view fs)) → AreSizes lists.buffers → total_of lists.buffers ≤ b.size
+    → length fs ≤ length lists.nodes → 2 * length fs ≤ length lists.buffers → HasColumns (entries_of lists b order extra []) fs (length fs)
+    → AreColumns (entries_of lists b order extra []) fs xs → length xs ≡ length fs → AreEqualRows any_rows xs
     → record_meaning (record { fields = fields_view fs; metadata = metadata; ids = is; order = order }) extra known b t None None ≡ Some (chunk_seen xs)
 unfolding record_meaning
-meant fs is metadata order lists b t extra known xs listed little w sizes total nodes buffers has are count_is equal =
+meant fs is metadata order lists b t extra known xs listed w sizes total nodes buffers has are count_is equal =
     let schema : Schema = record { fields = fields_view fs; metadata = metadata; ids = is; order = order } in
     ap (λ (o : Option Lists). option_and_then (λ (l : Lists). batch (entries_of l b schema.order extra known) b.size schema None None) o) listed
-    ∙ batch_read fs is metadata lists b order extra known xs little w sizes total nodes buffers has are count_is equal
+    ∙ batch_read fs is metadata lists b order extra known xs w sizes total nodes buffers has are count_is equal
 
 some_listed : {X Y : Type 0} (f : X → Option Y) (o : Option X) → IsSome (option_and_then f o) → IsSome o
 some_listed f (Some x) h = refl
@@ -357,24 +350,22 @@ listed_of schema extra known b t h =
 
 -- columns of numbers have no nulls
 carried_batch :
-    (fs : List Field) (is : IdTrees) (metadata : Pairs) (lists : Lists) (b : Body) → IsTrue (are_whole (fields_view fs))
-    → length fs ≤ length lists.nodes → HasColumns (entries_of lists b Little 0 []) fs (length fs)
-    → IsCarriedBatch (record { fields = fields_view fs; metadata = metadata; ids = is; order = Little }) lists.nodes
+    (fs : List Field) (is : IdTrees) (metadata : Pairs) (lists : Lists) (b : Body) (order : Endianness) (extra : ℕ) → order ≡ Little → IsTrue (are_whole (fields_view fs))
+    → length fs ≤ length lists.nodes → HasColumns (entries_of lists b order extra []) fs (length fs)
+    → IsCarriedBatch (record { fields = fields_view fs; metadata = metadata; ids = is; order = order }) lists.nodes
 unfolding entries_of
-carried_batch fs is metadata lists b w nodes has =
-    let s0 = entries_of lists b Little 0 [] in
+carried_batch fs is metadata lists b order extra little w nodes has =
+    let s0 = entries_of lists b order extra [] in
     let m = fields_nodes (fields_view fs) in
     let first : m ≡ length fs = sym (node_count_law (fields_view fs) is) ∙ node_total (fields_view fs) is w ∙ field_count fs is in
     record {
-      carried = record { fields = w; order = refl };
+      carried = record { fields = w; order = little };
       no_nulls = λ j d h.
           let inside : j < length fs = omega (arith, h, length-take m lists.nodes, first) in
           let f = field_in fs j inside in
-          let own_type = whole_type (type_view (get_or fs j f).data_type) None no_ids (each_whole fs w j f inside) in
-          let numbers : HasNumbers s0 own_type.0 j (2 * j) = subst (λ (o : Option PrimitiveType). HasColumn s0 o j (2 * j)) own_type.1 (has.each j f inside) in
           let same : get_or (take m lists.nodes) j d ≡ node s0 j =
           get_or-take m lists.nodes j d (omega (arith, inside, first)) ∙ get_or_default lists.nodes j d (record { length = pos 0; null_count = pos 0 }) (omega (arith, inside, nodes)) in
-          ap (λ (n : FieldNode). size n.null_count) same ∙ numbers.whole;
+          ap (λ (n : FieldNode). size n.null_count) same ∙ (has.each j f inside).whole;
     }
 
 -- columns of equal rows
@@ -405,7 +396,7 @@ own_any (Faults.Lower e) P h = h
 -- ---- the answer
 
 -- what was read of a batch: all but the count of the rows
-pub record Fetched (fs : List Field) (order : Endianness) (lists : Lists) (b : Body) (t : Spot) (ys : List AnyArray) : Type 0 where
+pub record Fetched (fs : List Field) (order : Endianness) (extra : ℕ) (lists : Lists) (b : Body) (t : Spot) (ys : List AnyArray) : Type 0 where
   pub listed : lists_of t ≡ Some lists
   pub little : order ≡ Little
   pub whole : IsTrue (are_whole (fields_view fs))
@@ -413,42 +404,41 @@ pub record Fetched (fs : List Field) (order : Endianness) (lists : Lists) (b : B
   pub total : total_of lists.buffers ≤ b.size
   pub nodes : length fs ≤ length lists.nodes
   pub buffers : 2 * length fs ≤ length lists.buffers
-  pub has : HasColumns (entries_of lists b Little 0 []) fs (length fs)
-  pub are : AreColumns (entries_of lists b Little 0 []) fs ys
+  pub has : HasColumns (entries_of lists b order extra []) fs (length fs)
+  pub are : AreColumns (entries_of lists b order extra []) fs ys
   pub count : length ys ≡ length fs
 
 fetched_meaning :
     (fs : List Field) (is : IdTrees) (order : Endianness) (lists : Lists) (b : Body) (t : Spot) (extra : ℕ) (known : Dictionaries) (ys : List AnyArray)
-    → Fetched fs order lists b t ys → AreEqualRows any_rows ys
+    → Fetched fs order extra lists b t ys → AreEqualRows any_rows ys
     → record_meaning (record { fields = fields_view fs; metadata = []; ids = is; order = order }) extra known b t None None ≡ Some (chunk_seen ys)
 fetched_meaning fs is order lists b t extra known ys f equal =
-    meant fs is [] order lists b t extra known ys f.listed f.little f.whole f.sizes f.total f.nodes f.buffers f.has f.are f.count equal
+    meant fs is [] order lists b t extra known ys f.listed f.whole f.sizes f.total f.nodes f.buffers f.has f.are f.count equal
 
 fetched_carried :
-    (fs : List Field) (is : IdTrees) (order : Endianness) (lists : Lists) (b : Body) (t : Spot) (ys : List AnyArray) → Fetched fs order lists b t ys
+    (fs : List Field) (is : IdTrees) (order : Endianness) (extra : ℕ) (lists : Lists) (b : Body) (t : Spot) (ys : List AnyArray) → Fetched fs order extra lists b t ys
     → IsCarriedLists (record { fields = fields_view fs; metadata = []; ids = is; order = order }) (lists_of t)
-fetched_carried fs is order lists b t ys f =
-    subst (λ (e : Endianness). IsCarriedLists (record { fields = fields_view fs; metadata = []; ids = is; order = e }) (lists_of t)) (sym f.little)
-    (subst (λ (o : Option Lists). IsCarriedLists (record { fields = fields_view fs; metadata = []; ids = is; order = Little }) o) (sym f.listed)
-    (carried_batch fs is [] lists b f.whole f.nodes f.has))
+fetched_carried fs is order extra lists b t ys f =
+    subst (λ (o : Option Lists). IsCarriedLists (record { fields = fields_view fs; metadata = []; ids = is; order = order }) o) (sym f.listed)
+    (carried_batch fs is [] lists b order extra f.little f.whole f.nodes f.has)
 
 pub gives_batch :
     {A B : Type 0} (fs : List Field) (is : IdTrees) (order : Endianness) (lists : Lists) (b : Body) (t : Spot) (extra : ℕ)
     (projection : Option A) (limit : Option B) (ys : List AnyArray) (r : Result (List AnyArray) Fault)
-    → IsNone projection → IsNone limit → Fetched fs order lists b t ys → (IsOk r ↔ AreEqualRows any_rows ys) → IfOk r (λ xs. xs ≡ ys)
+    → IsNone projection → IsNone limit → Fetched fs order extra lists b t ys → (IsOk r ↔ AreEqualRows any_rows ys) → IfOk r (λ xs. xs ≡ ys)
     → GivesBatch (record { fields = fields_view fs; metadata = []; ids = is; order = order }) extra b t projection limit r
 gives_batch fs is order lists b t extra projection limit ys (Ok xs) all some f ok told = record {
   each = λ known.
       let equal : AreEqualRows any_rows ys = ok.0 refl in
       let means = fetched_meaning fs is order lists b t extra known ys f equal in (
-        (all, some, record { some = some_is _ (chunk_seen ys) means; carried = fetched_carried fs is order lists b t ys f }),
+        (all, some, record { some = some_is _ (chunk_seen ys) means; carried = fetched_carried fs is order extra lists b t ys f }),
         means ∙ ap (λ (zs : List AnyArray). Some (chunk_seen zs)) (sym told),
       );
 }
 gives_batch fs is order lists b t extra projection limit ys (Err e) all some f ok told = record {
   each = λ known. own_any e _ (λ h.
       let j = judged fs is [] order lists b t extra known f.listed h.2 in
-      let no : false ≡ true = ok.1 (equal_columns fs (entries_of lists b Little 0 []) ys j.2.0 f.are f.count j.2.1.rows) in
+      let no : false ≡ true = ok.1 (equal_columns fs (entries_of lists b order extra []) ys j.2.0 f.are f.count j.2.1.rows) in
       absurd cc);
 }
 
@@ -481,7 +471,7 @@ none_some None h e = absurd cc
 pub judged_lists :
     (fs : List Field) (is : IdTrees) (order : Endianness) (lists : Lists) (b : Body) (t : Spot) (extra : ℕ) (known : Dictionaries)
     → lists_of t ≡ Some lists → HasMeaning (record { fields = fields_view fs; metadata = []; ids = is; order = order }) extra known b t
-    → (k : ℕ) × Judged fs lists b k
+    → (k : ℕ) × Judged fs lists b order extra k
 judged_lists fs is order lists b t extra known listed h = (judged fs is [] order lists b t extra known listed h).2
 
 -- so are its fields

@@ -1,5 +1,3 @@
-pub mod Bodies
-pub mod Steps
 pub mod Carried
 pub mod Sizes
 pub mod Columns

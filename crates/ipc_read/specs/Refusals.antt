@@ -6,15 +6,6 @@ use Rattle.ipc_devices.specs.declared.fault.Nyi.TheVariants.{Compressed, Pending
 use Rattle.ipc_devices.specs.declared.fault.OutOfSpecKind.{OutOfSpecKind}
 use Rattle.ipc_devices.specs.declared.fault.OutOfSpecKind.TheVariants.{NegativeFooterLength, InvalidBuffer, InvalidBuffersLength, MissingMessageBuffers, MissingMessageNodes, ExpectedBuffer, InvalidFlatbufferBuffers, InvalidFlatbufferNodes, InvalidFlatbufferCompression}
 
--- of a column: a length or an offset below 0, bytes that are needed and aren't listed or aren't there, a form that
--- isn't carried
-abbrev pub IsColumnFault : Fault → Type 0
-IsColumnFault Ended = Unit {0}
-IsColumnFault (OutOfSpec NegativeFooterLength) = Unit {0}
-IsColumnFault (OutOfSpec (InvalidBuffer _ _ _ _)) = Unit {0}
-IsColumnFault (NotYetImplemented Pending) = Unit {0}
-IsColumnFault _ = ⊥
-
 -- of what a batch says of itself
 abbrev pub IsListFault : OutOfSpecKind → Type 0
 IsListFault NegativeFooterLength = Unit {0}

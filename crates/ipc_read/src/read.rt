@@ -1,9 +1,5 @@
 //! From the entries of a batch to its columns.
-pub mod array;
-pub mod body;
 pub mod common;
-pub mod deserialize;
-pub mod read_basic;
 
 use lower_arrays::array::AnyArray;
 use std::collections::HashMap;

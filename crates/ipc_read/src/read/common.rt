@@ -1,26 +1,29 @@
 //! Reads batches.
-ghost use Rattle.std.specs.Prelude.{◌≡◌, ◌*◌, ◌≤◌, ◌↔◌, All, length, IfOk, IfErr, IsSome, Some, IsTrue};
+ghost use Rattle.std.specs.Prelude.{◌≡◌, ◌+◌, ◌*◌, ◌<◌, ◌≤◌, ◌↔◌, All, length, IfOk, IfErr, IsSome, Some, IsTrue, MatchBool};
 ghost use Rattle.ipc_devices.specs.Device.{Rises};
 ghost use Rattle.ipc_devices.specs.Faults.{OnIo, OwnFault, Answers};
 ghost use Rattle.lower.specs.TypeViews.{type_view};
 ghost use Rattle.ipc_model.specs.Batches.{extra_of, lists_of};
 ghost use Rattle.ipc_model.specs.Carried.{is_whole_type};
-ghost use Rattle.ipc_read.specs.Bodies.{Stands, entries};
-ghost use Rattle.ipc_read.specs.Chunks.{GivesBatch, batch_schema};
+ghost use Rattle.ipc_model.specs.Entries.{size};
+ghost use Rattle.ipc_columns.specs.Bodies.{Stands, entries};
+ghost use Rattle.ipc_read.specs.Carried.{HasColumn, IsColumn};
+ghost use Rattle.ipc_read.specs.Chunks.{GivesBatch, batch_schema, order_of};
 ghost use Rattle.ipc_read.specs.Columns.{AreColumns, HasColumns};
-ghost use Rattle.ipc_read.specs.Refusals.{IsBatchFault, IsColumnFault};
+ghost use Rattle.ipc_read.specs.Refusals.{IsBatchFault};
 ghost use Rattle.ipc_read.specs.Sizes.{AreSizes, total_of};
 
 use crate::read::Dictionaries;
-use crate::read::body::{Body, Place};
-use crate::read::deserialize::read;
-use crate::read::read_basic::natural;
 use ipc_base::chunk::Chunk;
 use ipc_base::ipc::IpcSchema;
+use ipc_columns::read::body::{Body, Place};
+use ipc_columns::read::deserialize::read;
+use ipc_columns::read::read_basic::natural;
 use ipc_devices::fault::{Fault, Nyi, OutOfSpecKind};
 use ipc_devices::{Reads, Seeks};
 use ipc_views::{Buffers, MetadataVersion, Nodes, RecordBatchRef};
 use lower::datatypes::{DataType, Field};
+use lower::types::Endianness;
 use lower_arrays::array::AnyArray;
 use std::alloc::Global;
 use std::snapshot::Snapshot;
@@ -118,18 +121,89 @@ fn check_counts(nodes: usize, buffers: usize, columns: usize) -> Result<(), Faul
     Ok(())
 }
 
+// The order of the bytes of a number.
+fn byte_order(is_little_endian: bool) -> Endianness
+    ensures { result ≡ order_of is_little_endian }
+{
+    if is_little_endian {
+        Endianness::Little
+    } else {
+        Endianness::Big
+    }
+}
+
+// How many buffers stand in front of a union's own.
+fn count_extra(version: MetadataVersion) -> usize
+    ensures extra { result ≡ extra_of version }
+    ensures small { result ≤ 1 }
+{
+    match version {
+        MetadataVersion::V5 => 0,
+        _ => 1,
+    }
+}
+
+// Whether a node tells of nulls.
+fn has_nulls(null_count: i64) -> bool
+    ensures { MatchBool result (0 < size null_count) (size null_count ≡ 0) }
+{
+    null_count > 0
+}
+
+// The column of a field of integers, which is the one at `index`: each before it has one node and two buffers.
+#[tactic(auto, using(crate::proofs::WholeColumns::one_column))]
+fn read_column<R: Reads + Seeks>(
+    alloc: Global,
+    field: &Field,
+    reader: &mut R,
+    body: &Body<R>,
+    index: usize,
+) -> Result<AnyArray, Fault>
+    requires whole { IsTrue (is_whole_type (type_view field.now.data_type)) }
+    requires node { index < length body.now.nodes }
+    requires buffers { 2 * index + 1 < length body.now.buffers }
+    requires stands { Stands R.still R.memory reader.old body.now }
+    ensures only { IfErr result (λ e. OwnFault e (IsBatchFault e)) }
+    ensures monotone { R.failures reader.old ≤ R.failures reader.new }
+    ensures failed { OnIo result (Rises (R.failures reader.old) (R.failures reader.new)) }
+    ensures stands { Stands R.still R.memory reader.new body.now }
+    ensures memory { IsTrue R.known → let s = entries R.memory body.now in let t = type_view field.now.data_type in
+        Answers result (HasColumn s t index (2 * index)) (IsColumn s t index (2 * index)) }
+{
+    let node = body.nodes.get(index);
+    if has_nulls(node.null_count) {
+        return Err(Fault::NotYetImplemented(Nyi::Pending));
+    }
+    let place = Place {
+        node: index,
+        buffer: 2 * index,
+    };
+    let (column, _) = read(
+        alloc,
+        &field.data_type,
+        None,
+        &[],
+        reader,
+        body,
+        place,
+        None,
+    )?;
+    Ok(column)
+}
+
 // The columns of fields of integers.
-#[tactic(auto, using(crate::proofs::ColumnLists::column_lists))]
+#[tactic(auto, using(crate::proofs::ColumnLists::column_lists, crate::proofs::WholeColumns::whole_at))]
 fn read_columns<R: Reads + Seeks>(
     alloc: Global,
     fields: &[Field],
     reader: &mut R,
     body: &Body<R>,
 ) -> Result<Vec<AnyArray>, Fault>
+    requires whole { All (λ field. IsTrue (is_whole_type (type_view field.data_type))) fields.now }
     requires nodes { length fields.now ≤ length body.now.nodes }
     requires buffers { 2 * length fields.now ≤ length body.now.buffers }
     requires stands { Stands R.still R.memory reader.old body.now }
-    ensures only { IfErr result (λ e. OwnFault e (IsColumnFault e)) }
+    ensures only { IfErr result (λ e. OwnFault e (IsBatchFault e)) }
     ensures monotone { R.failures reader.old ≤ R.failures reader.new }
     ensures failed { OnIo result (Rises (R.failures reader.old) (R.failures reader.new)) }
     ensures stands { Stands R.still R.memory reader.new body.now }
@@ -139,11 +213,7 @@ fn read_columns<R: Reads + Seeks>(
 {
     let mut columns = Vec::new(alloc);
     for (index, field) in fields.iter().enumerate() {
-        let place = Place {
-            node: index,
-            buffer: 2 * index,
-        };
-        let column = read(alloc, &field.data_type, reader, body, place)?;
+        let column = read_column(alloc, field, reader, body, index)?;
         columns.push(column)?;
     }
     Ok(columns)
@@ -162,7 +232,6 @@ fn read_columns<R: Reads + Seeks>(
 /// given, the numbers have their highest byte first, a field isn't of integers, or a column has nulls.
 /// `Io` and `Memory` come too, and no other. The dictionaries and the scratch memory aren't used yet.
 #[allow(clippy::too_many_arguments)]
-#[tactic(auto, using(crate::proofs::Refusals::column_batch))]
 pub fn read_record_batch<R: Reads + Seeks>(
     alloc: Global,
     batch: RecordBatchRef,
@@ -198,6 +267,8 @@ pub fn read_record_batch<R: Reads + Seeks>(
         nodes,
         buffers,
         base: block_offset,
+        order: byte_order(ipc_schema.is_little_endian),
+        extra: count_extra(version),
         device: Snapshot::of(&*reader),
     };
     let columns = read_columns(alloc, fields, reader, &body)?;

@@ -1,5 +1,5 @@
 use Rattle.std.proofs.Common.{◌≡◌, ◌≤◌, length, IsTrue}
-use Rattle.ipc_read.specs.Bodies.{Stands, entries}
+use Rattle.ipc_columns.specs.Bodies.{Stands, entries}
 use Rattle.ipc_read.specs.Columns.{AreColumns, HasColumns}
 use Rattle.ipc_read.proofs.read.common.read_columns.Given as goal
 

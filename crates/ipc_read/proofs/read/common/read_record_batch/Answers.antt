@@ -1,11 +1,10 @@
 use Rattle.std.proofs.Common.{rules, ◌≡◌, ◌*◌, ◌≤◌, Err, [], length, refl, IsSome, is_some, true, false, ap, subst}
-use Rattle.lower_types.specs.declared.Endianness.TheVariants.{Little}
 use Rattle.ipc_base.specs.IdTrees.{all_ids_view}
 use Rattle.ipc_devices.specs.Faults.{OwnFault}
 use Rattle.ipc_model.specs.Batches.{Schema, Lists, extra_of, lists_of, entries_of}
 use Rattle.ipc_model.specs.Batches as model
 use Rattle.ipc_model.specs.Entries.{Entries}
-use Rattle.ipc_read.specs.Bodies.{entries}
+use Rattle.ipc_columns.specs.Bodies.{entries}
 use Rattle.ipc_read.specs.Chunks.{batch_schema, order_of}
 use Rattle.ipc_read.specs.Columns.{HasColumns, AreColumns}
 use Rattle.ipc_read.specs.Sizes.{AreSizes, total_of}
@@ -84,11 +83,13 @@ returns-in_err-columns-clause-memory g c = λ k.
     let e : c.from_residual-in_err-columns.result ≡ Err fault = search rules in
     let lists : Lists = record { nodes = c.in_ok-nodes.nodes; buffers = c.in_ok-nodes.buffers } in
     let body : model.Body = record { source = (g.R.Failures.memory c.args.reader.now).whole; base = c.args.block_offset; size = c.args.file_size } in
-    let same : entries g.R.Failures.memory _ ≡ entries_of lists body Little 0 [] =
-    same_entries g.R.Failures.memory _ lists body refl refl (ap (λ r. (g.R.Failures.memory r).whole) c.of.ensures) refl in
-    let denied : OwnFault fault (HasColumns (entries_of lists body Little 0 []) fs (length fs) → ⊥) =
+    let order = order_of c.args.ipc_schema.now.is_little_endian in
+    let extra = extra_of c.args.version in
+    let same : entries g.R.Failures.memory _ ≡ entries_of lists body order extra [] =
+    same_entries g.R.Failures.memory _ lists body order extra refl refl (ap (λ r. (g.R.Failures.memory r).whole) c.of.ensures) refl c.byte_order.ensures c.count_extra.ensures.extra in
+    let denied : OwnFault fault (HasColumns (entries_of lists body order extra []) fs (length fs) → ⊥) =
     subst (λ (s : Entries). OwnFault fault (HasColumns s fs (length fs) → ⊥)) same (c.in_err-columns.ensures.memory k) in
-    rw e (refused fault (HasColumns (entries_of lists body Little 0 []) fs (length fs)) (batch_schema fs c.args.ipc_schema.now) (extra_of c.args.version) body c.args.batch c.args.projection c.args.limit denied
+    rw e (refused fault (HasColumns (entries_of lists body order extra []) fs (length fs)) (batch_schema fs c.args.ipc_schema.now) (extra_of c.args.version) body c.args.batch c.args.projection c.args.limit denied
     (λ known h. (judged_lists fs (all_ids_view c.args.ipc_schema.now.fields.items) (order_of c.args.ipc_schema.now.is_little_endian) lists body c.args.batch
     (extra_of c.args.version) known c.in_ok-nodes.ensures.exact.1 h).1.has))
 
@@ -99,8 +100,10 @@ returns-clause-memory g c = λ k.
     let little = c.args.ipc_schema.now.is_little_endian in
     let lists : Lists = record { nodes = c.in_ok-nodes.nodes; buffers = c.in_ok-nodes.buffers } in
     let body : model.Body = record { source = (g.R.Failures.memory c.args.reader.now).whole; base = c.args.block_offset; size = c.args.file_size } in
-    let same : entries g.R.Failures.memory _ ≡ entries_of lists body Little 0 [] =
-    same_entries g.R.Failures.memory _ lists body refl refl (ap (λ r. (g.R.Failures.memory r).whole) c.of.ensures) refl in
+    let order = order_of c.args.ipc_schema.now.is_little_endian in
+    let extra = extra_of c.args.version in
+    let same : entries g.R.Failures.memory _ ≡ entries_of lists body order extra [] =
+    same_entries g.R.Failures.memory _ lists body order extra refl refl (ap (λ r. (g.R.Failures.memory r).whole) c.of.ensures) refl c.byte_order.ensures c.count_extra.ensures.extra in
     let read = c.in_ok-columns.ensures.memory k in
     let sizes = c.in_ok-check_lengths.ensures.exact.0 in
     let counts = c.in_ok-check_counts.ensures.exact.0 in

@@ -1,2 +1,0 @@
-//! Reads columns by their physical type: those of numbers, and no other yet.
-pub mod primitive;
