@@ -193,6 +193,14 @@ impl<R: Reads + Drop> StreamReader<R> {
         self.finished
     }
 
+    /// What was read from. Bytes of a prefix that had begun where `next` answered [`StreamState::Waiting`]
+    /// were taken from it, three at most, and go with the reader.
+    pub fn into_inner(self) -> R
+        ensures { result ≡ device_of self }
+    {
+        self.reader
+    }
+
     // The next chunk, or None at the mark.
     #[tactic(auto, unfolding(ipc_model::specs::Streams::item, crate::specs::Streams::IsCarriedFront))]
     fn read_item(&mut self) -> Result<Option<StreamState>, Fault>
