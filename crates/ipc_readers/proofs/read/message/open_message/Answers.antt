@@ -20,3 +20,7 @@ returns-in_err-body_length-clause-message c = gives_message c.args.metadata.now 
 pub returns-clause-message : goal.returns-clause-message
 unfolding opened
 returns-clause-message c = gives_message c.args.metadata.now (Ok (record { header = c.in_ok-header.header; body_length = c.in_ok-body_length.body_length })) (search rules)
+
+pub returns-clause-exact : goal.returns-clause-exact
+unfolding opened
+returns-clause-exact c = search rules
