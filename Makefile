@@ -12,7 +12,7 @@ build:
 	@cd crates/ipcat && rt run -- demo > /dev/null
 	@echo "the proved program: crates/ipcat/out/ipcat"
 
-# The wrong bodies that the gate leaves out: all of edits/, or make edits ONLY="lower_keys ipc_views".
+# The wrong bodies that the gate leaves out: all of edits/, or make edits ONLY="lower_rules ipc_views".
 edits:
 	tools/edits $(ONLY)
 

@@ -8,7 +8,7 @@ use Rattle.lower.specs.declared.datatypes.DataType.TheFolds.{fold_out-Field}
 use Rattle.lower.specs.declared.datatypes.UnionMode.TheVariants.{Sparse, Dense}
 use Rattle.lower_types.specs.declared.PrimitiveType.{PrimitiveType}
 use Rattle.lower_flat.specs.Validities.{Validity}
-use Rattle.lower_keys.specs.Fields.{child_fields, field_type, FieldTypes}
+use Rattle.lower_rules.specs.Fields.{child_fields, field_type, FieldTypes}
 use Rattle.lower_arrays.specs.Layouts.{Layout, layout, no_layouts, more_layouts, lists, len_of, type_of}
 use Rattle.lower_arrays.specs.Lists.{list_seen, list_layout}
 use Rattle.ipc_base.specs.IdTrees.{IdTree, ids, IdTrees}

@@ -7,8 +7,8 @@ use Rattle.lower.specs.declared.error.Error.TheVariants.{OutOfSpec}
 use Rattle.lower.specs.declared.error.Rule.TheVariants.{ValidityLength, OffsetsPastValues, ChildType, PhysicalType as WrongType}
 use Rattle.lower_types.specs.declared.PrimitiveType.{PrimitiveType}
 use Rattle.lower_flat.specs.Validities.{Validity}
-use Rattle.lower_keys.specs.Fields.{child_fields, FieldTypes}
-use Rattle.lower_keys.specs.ListTypes.{list_with, last_offset}
+use Rattle.lower_rules.specs.Fields.{child_fields, FieldTypes}
+use Rattle.lower_rules.specs.ListTypes.{list_with, last_offset}
 use Rattle.lower_arrays.specs.Layouts.{Layout, len_of, type_of}
 use Rattle.lower_arrays.specs.Lists.{list_seen, BreaksList}
 use Rattle.ipc_model.specs.Kinds.{OffsetWidth, offset_width}

@@ -4,7 +4,7 @@ use Rattle.std.proofs.lemmas.List.{at_drop_more}
 use Rattle.lower.specs.TypeTrees.{FieldTree, FieldTrees, no_fields, more_fields}
 use Rattle.lower.specs.TypeViews.{field_view, fields_view}
 use Rattle.lower.specs.declared.datatypes.Field.{Field}
-use Rattle.lower_keys.specs.Fields.{field_type}
+use Rattle.lower_rules.specs.Fields.{field_type}
 use Rattle.lower_arrays.specs.Layouts.{Layout, Layouts, no_layouts, more_layouts, layouts, len_of}
 use Rattle.lower_arrays.specs.Children.{ChildTypes, HasChild, AllHave}
 use Rattle.ipc_base.specs.IdTrees.{IdTrees}

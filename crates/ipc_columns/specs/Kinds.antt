@@ -4,8 +4,8 @@ use Rattle.lower.specs.Physical.{physical}
 use Rattle.lower.specs.TypeTrees.{TypeTree}
 use Rattle.lower.specs.declared.datatypes.UnionMode.TheVariants.{Sparse, Dense}
 use Rattle.lower_flat.specs.FixedBinaries.{byte_size}
-use Rattle.lower_keys.specs.Fields.{child_fields}
-use Rattle.lower_keys.specs.ListTypes.{list_size}
+use Rattle.lower_rules.specs.Fields.{child_fields}
+use Rattle.lower_rules.specs.ListTypes.{list_size}
 use Rattle.ipc_model.specs.Kinds.{OffsetWidth, offsets_32, offsets_64, Kind, null_kind, boolean_kind, number_kind, float_kind, fixed_binary_kind, binary_kind, utf8_kind, list_kind, map_kind, fixed_list_kind, struct_kind, union_kind, dictionary_kind, extension_kind, Kinds, no_kinds, more_kinds, nodes, all_nodes, buffers, all_buffers}
 use Rattle.ipc_model.specs.Entries.{Entries, listed}
 use Rattle.ipc_columns.specs.declared.read.body.Place.{Place}

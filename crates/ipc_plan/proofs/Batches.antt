@@ -10,7 +10,7 @@ use Rattle.std.proofs.lemmas.List.Elements.{All-cons}
 use Rattle.std.proofs.lemmas.List.FromFn.{length-map-range_with_len}
 use Rattle.std.proofs.lemmas.List.Sums.{sum_by-cons}
 use Rattle.lower.specs.TypeTrees.{FieldTree, FieldTrees, no_fields, more_fields}
-use Rattle.lower_keys.specs.Fields.{field_type}
+use Rattle.lower_rules.specs.Fields.{field_type}
 use Rattle.lower_arrays.specs.Choices.{no_child}
 use Rattle.lower_arrays.specs.Layouts.{Layout, Level, layouts, len_of, type_of}
 use Rattle.lower_arrays.specs.Slots.{Slot, slot_at as array_slot, slots_from, slots, AreArrays}

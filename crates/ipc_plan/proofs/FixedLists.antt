@@ -5,8 +5,8 @@ use Rattle.std.proofs.Math.Nat.{add-mul, mul-le-mul_left}
 use Rattle.std.proofs.lemmas.Nat.{mul-le}
 use Rattle.lower.specs.declared.datatypes.physical_type.PhysicalType.TheVariants as Physicals
 use Rattle.lower_flat.specs.Validities.{is_valid as array_valid}
-use Rattle.lower_keys.specs.Fields.{child_fields}
-use Rattle.lower_keys.specs.ListTypes.{list_size}
+use Rattle.lower_rules.specs.Fields.{child_fields}
+use Rattle.lower_rules.specs.ListTypes.{list_size}
 use Rattle.lower_arrays.specs.Layouts.{fixed_lists, Level, Layouts, no_layouts, more_layouts, len_of, type_of}
 use Rattle.lower_arrays.specs.Slots.{list_slot, slots_of, slots_from, slot_where, slot_at as array_slot, PartsFit}
 use Rattle.ipc_base.specs.IdTrees.{IdTrees}

@@ -7,8 +7,8 @@ use Rattle.lower.specs.declared.datatypes.physical_type.PhysicalType.TheVariants
 use Rattle.lower_types.specs.declared.PrimitiveType.{PrimitiveType}
 use Rattle.lower_types.specs.declared.PrimitiveType.TheVariants.{Int32, Int64}
 use Rattle.lower_flat.specs.Validities.{is_valid as array_valid}
-use Rattle.lower_keys.specs.Fields.{child_fields, IsPair as IsPairType}
-use Rattle.lower_keys.specs.ListTypes.{list_with}
+use Rattle.lower_rules.specs.Fields.{child_fields, IsPair as IsPairType}
+use Rattle.lower_rules.specs.ListTypes.{list_with}
 use Rattle.lower_arrays.specs.Children.{ChildTypes}
 use Rattle.lower_arrays.specs.Layouts.{lists, maps, Level, Layout, Layouts, no_layouts, more_layouts, len_of, type_of}
 use Rattle.lower_arrays.specs.Slots.{Slot, list_slot, slots_of, slots_from, slot_where, slot_at as array_slot, PartsFit, ItemsFit}

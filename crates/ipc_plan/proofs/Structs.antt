@@ -2,7 +2,7 @@
 use Rattle.std.proofs.Common.{arith, ◌≡◌, ℕ, ℤ, ◌+◌, ◌<◌, ◌≤◌, List, [], ◌∷◌, length, Option, refl, sym, ap, ◌∙◌, subst}
 use Rattle.lower.specs.TypeTrees.{FieldTree, FieldTrees, no_fields, more_fields}
 use Rattle.lower.specs.declared.datatypes.physical_type.PhysicalType.TheVariants as Physicals
-use Rattle.lower_keys.specs.Fields.{child_fields}
+use Rattle.lower_rules.specs.Fields.{child_fields}
 use Rattle.lower_arrays.specs.Children.{ChildTypes, HasChild, AllHave}
 use Rattle.lower_arrays.specs.Layouts.{records, Level, Layout, Layouts, no_layouts, more_layouts, type_of}
 use Rattle.lower_arrays.specs.Slots.{record_slot, more_slots, slots_of, each_at, children_at, PartsFit, IsArray, AreArrays}

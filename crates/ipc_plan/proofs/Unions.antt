@@ -17,10 +17,10 @@ use Rattle.lower_types.specs.declared.PrimitiveType.{PrimitiveType}
 use Rattle.lower_types.specs.declared.PrimitiveType.TheVariants.{Int8, Int32}
 use Rattle.lower_flat.specs.Validities.{part, is_valid as array_valid}
 use Rattle.lower_flat.proofs.Cuts.{get_or-part, length-part}
-use Rattle.lower_keys.specs.Fields.{child_fields}
-use Rattle.lower_keys.specs.Ids.{TypeIds, IdsFit, NamesChild, OffsetsGiven, place_among, child_number, union_ids, union_mode}
-use Rattle.lower_keys.specs.Keys.{place_of, KeyFits}
-use Rattle.lower_keys.specs.Places.{AllAre}
+use Rattle.lower_rules.specs.Fields.{child_fields}
+use Rattle.lower_rules.specs.Ids.{TypeIds, IdsFit, NamesChild, OffsetsGiven, place_among, child_number, union_ids, union_mode}
+use Rattle.lower_rules.specs.Keys.{place_of, KeyFits}
+use Rattle.lower_rules.specs.Places.{AllAre}
 use Rattle.lower_arrays.specs.Children.{ChildTypes, child_count, lens_of}
 use Rattle.lower_arrays.specs.Layouts.{choices, records, Level, Layout, Layouts, no_layouts, more_layouts, len_of, type_of}
 use Rattle.lower_arrays.specs.Slots.{Slot, Slots, no_slots, more_slots, null_slot, variant_slot, slots_of, slot_where, slot_at as array_slot, each_at, children_at, variant_at, PartsFit, AreArrays}

@@ -6,7 +6,7 @@ use Rattle.std.specs.List.{AllByRecursion}
 use Rattle.lower.proofs.Laws.{norm-norm}
 use Rattle.lower.specs.Normal.{norm}
 use Rattle.lower.specs.TypeTrees.{FieldTrees, no_fields, more_fields}
-use Rattle.lower_keys.specs.AnyNumbers.{numbers_seen}
+use Rattle.lower_rules.specs.AnyNumbers.{numbers_seen}
 use Rattle.lower_flat.specs.Validities.{cut_validity, null_count_of}
 use Rattle.lower_arrays.specs.AnyLayouts.{layout_of}
 use Rattle.lower_arrays.specs.Layouts.{Level, Validity, layouts, len_of, level, nulls_among, type_of}

@@ -4,8 +4,8 @@ use Rattle.std.specs.List.{flat_map}
 use Rattle.lower.specs.TypeTrees.{TypeTree, plain, single, group, dictionary, extension}
 use Rattle.lower_arrays.specs.AnyLayouts.{layout_of}
 use Rattle.lower_arrays.specs.Layouts.{Level, level, type_of}
-use Rattle.lower_keys.specs.declared.numbers.AnyPrimitive.{AnyPrimitive}
-use Rattle.lower_keys.specs.declared.numbers.AnyPrimitive.TheVariants.{Int8, Int16, Int32, Int64, UInt8, UInt16, UInt32, UInt64}
+use Rattle.lower_rules.specs.declared.numbers.AnyPrimitive.{AnyPrimitive}
+use Rattle.lower_rules.specs.declared.numbers.AnyPrimitive.TheVariants.{Int8, Int16, Int32, Int64, UInt8, UInt16, UInt32, UInt64}
 use Rattle.lower_arrays.specs.declared.array.AnyArray.{AnyArray}
 use Rattle.lower_arrays.specs.declared.array.AnyArray.TheVariants.{Primitive}
 use Rattle.ipc_model.specs.Offers.{whole_levels}

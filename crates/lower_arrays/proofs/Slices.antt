@@ -7,7 +7,7 @@ use Rattle.std.proofs.lemmas.Nat.{mul-le}
 use Rattle.lower_types.specs.NumberTypes.{whole}
 use Rattle.lower_types.specs.declared.PrimitiveType.{PrimitiveType}
 use Rattle.lower_flat.specs.Validities.{Validity, is_valid, part, cut_validity}
-use Rattle.lower_keys.specs.Numbers.{NumbersSeen, cut_numbers}
+use Rattle.lower_rules.specs.Numbers.{NumbersSeen, cut_numbers}
 use Rattle.lower_flat.specs.Nulls.{NullSeen, cut_null}
 use Rattle.lower_flat.specs.Booleans.{BooleanSeen, cut_boolean}
 use Rattle.lower_flat.specs.FixedBinaries.{FixedBinarySeen, cut_fixed}
@@ -20,8 +20,8 @@ use Rattle.lower_arrays.proofs.NestedParts.{list_part, fixed_list_part, struct_p
 use Rattle.lower_arrays.specs.Primitives.{numbers_layout}
 use Rattle.lower_arrays.specs.Flat.{null_layout, boolean_layout, fixed_layout, bytes_layout, texts_layout}
 use Rattle.lower.specs.TypeTrees.{TypeTree}
-use Rattle.lower_keys.specs.Keys.{place_of}
-use Rattle.lower_keys.specs.Ids.{TypeIds, child_number, union_ids}
+use Rattle.lower_rules.specs.Keys.{place_of}
+use Rattle.lower_rules.specs.Ids.{TypeIds, child_number, union_ids}
 use Rattle.lower_arrays.specs.Dictionaries.{DictionarySeen, dictionary_layout, cut_dictionary}
 use Rattle.lower_arrays.specs.Unions.{UnionSeen, union_seen, union_layout, cut_union}
 use Rattle.lower_arrays.proofs.Children.{layouts-cut}

@@ -9,10 +9,10 @@ use Rattle.lower.specs.declared.datatypes.physical_type.PhysicalType.TheVariants
 use Rattle.lower.specs.declared.error.Error.{Error}
 use Rattle.lower_flat.specs.TypeCodes.{coded_type}
 use Rattle.lower_flat.specs.Validities.{Validity}
-use Rattle.lower_keys.specs.Rules.{BreaksDictionaryRules}
+use Rattle.lower_rules.specs.Rules.{BreaksDictionaryRules}
 use Rattle.lower_arrays.specs.Layouts.{Parts, keys, Layout, layout, no_layouts, more_layouts, len_of, type_of}
 use Rattle.lower_arrays.specs.LayoutCodes.{coded_integer, coded_validity, coded_layout}
-use Rattle.lower_keys.specs.Keys.{values_type, KeysFit, KeysSeen, IsKeys, cut_keys}
+use Rattle.lower_rules.specs.Keys.{values_type, KeysFit, KeysSeen, IsKeys, cut_keys}
 use Rattle.lower_arrays.specs.Slots.{IsArray}
 
 pub record DictionarySeen : Type 0 where

@@ -6,10 +6,10 @@ use Rattle.lower.specs.TypeTrees.{TypeTree}
 use Rattle.lower.specs.declared.error.Error.{Error}
 use Rattle.lower_flat.specs.TypeCodes.{coded_type}
 use Rattle.lower_flat.specs.Validities.{Validity, cut_validity}
-use Rattle.lower_keys.specs.Rules.{BreaksFixedListRules}
+use Rattle.lower_rules.specs.Rules.{BreaksFixedListRules}
 use Rattle.lower_arrays.specs.Layouts.{fixed_lists, Layout, layout, no_layouts, more_layouts, len_of, type_of}
 use Rattle.lower_arrays.specs.LayoutCodes.{coded_validity, coded_layout}
-use Rattle.lower_keys.specs.ListTypes.{list_size}
+use Rattle.lower_rules.specs.ListTypes.{list_size}
 use Rattle.lower_arrays.specs.Cuts.{cut}
 
 pub record FixedListSeen : Type 0 where

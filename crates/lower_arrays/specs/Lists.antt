@@ -8,10 +8,10 @@ use Rattle.lower.specs.declared.error.Error.{Error}
 use Rattle.lower_flat.specs.TypeCodes.{coded_type}
 use Rattle.lower_flat.specs.Validities.{Validity, part, cut_validity}
 use Rattle.lower_flat.specs.Spans.{span_count}
-use Rattle.lower_keys.specs.Rules.{BreaksListRules}
+use Rattle.lower_rules.specs.Rules.{BreaksListRules}
 use Rattle.lower_arrays.specs.Layouts.{lists, Layout, layout, no_layouts, more_layouts, len_of, type_of}
 use Rattle.lower_arrays.specs.LayoutCodes.{coded_primitive, coded_validity, coded_layout}
-pub use Rattle.lower_keys.specs.AnyOffsets.{list_places, list_width}
+pub use Rattle.lower_rules.specs.AnyOffsets.{list_places, list_width}
 
 pub record ListSeen : Type 0 where
   pub type : TypeTree

@@ -2,7 +2,7 @@
 use Rattle.lower_types.specs.NumberTypes.{Number}
 use Rattle.lower_types.specs.declared.PrimitiveType.{PrimitiveType}
 use Rattle.lower_arrays.specs.Layouts.{numbers, Layout, layout, no_layouts}
-use Rattle.lower_keys.specs.Numbers.{NumbersSeen, numbers_in}
+use Rattle.lower_rules.specs.Numbers.{NumbersSeen, numbers_in}
 pub use Rattle.lower_flat.specs.Primitives.{PrimitiveSeen}
 
 abbrev pub numbers_layout : NumbersSeen → Layout

@@ -11,11 +11,11 @@ use Rattle.lower_flat.specs.Spans.{span, span_count, EndsWithin, AreTexts}
 use Rattle.lower_flat.specs.Binaries.{bytes_with}
 use Rattle.lower_flat.specs.Texts.{texts_with}
 use Rattle.lower_arrays.specs.Layouts.{Parts, nothing, truths, numbers, fixed_bytes, bytes, texts, keys, choices, Level, Layout, layout, Layouts, no_layouts, more_layouts, len_of, type_of, lists, fixed_lists, maps, records}
-use Rattle.lower_keys.specs.Keys.{place_of, values_type, KeysFit}
-use Rattle.lower_keys.specs.Ids.{child_number}
+use Rattle.lower_rules.specs.Keys.{place_of, values_type, KeysFit}
+use Rattle.lower_rules.specs.Ids.{child_number}
 use Rattle.lower_arrays.specs.Choices.{place_in, ChoicesFit}
 use Rattle.lower_arrays.specs.Children.{child_fields, ChildTypes, HasChild, AllHave, AllReach, ArePairs}
-use Rattle.lower_keys.specs.ListTypes.{list_with, list_size, last_offset}
+use Rattle.lower_rules.specs.ListTypes.{list_with, list_size, last_offset}
 pub use Rattle.lower_flat.specs.Validities.{Validity, is_valid, ValidityFits, part}
 
 mutual

@@ -13,9 +13,9 @@ use Rattle.lower_flat.specs.Validities.{part}
 use Rattle.lower_arrays.specs.Layouts.{choices, Layout, layout, layouts}
 use Rattle.lower_arrays.specs.LayoutCodes.{coded_layout}
 use Rattle.lower_arrays.specs.Children.{child_fields, field_count, child_count, lens_of, ChildTypes}
-use Rattle.lower_keys.specs.Ids.{union_ids, union_mode, IdsFit, AreNamed, OffsetsGiven}
-use Rattle.lower_keys.specs.Places.{PlacesFit}
-use Rattle.lower_keys.specs.Rules.{IsCount}
+use Rattle.lower_rules.specs.Ids.{union_ids, union_mode, IdsFit, AreNamed, OffsetsGiven}
+use Rattle.lower_rules.specs.Places.{PlacesFit}
+use Rattle.lower_rules.specs.Rules.{IsCount}
 use Rattle.lower_arrays.specs.Choices.{ChoicesFit}
 use Rattle.lower_arrays.specs.Slots.{AreArrays}
 use Rattle.lower_arrays.specs.Cuts.{cut}

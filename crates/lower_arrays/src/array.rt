@@ -23,9 +23,9 @@ use lower::datatypes::DataType;
 pub use lower_flat::{
     BinaryArray, BooleanArray, FixedSizeBinaryArray, NullArray, PrimitiveArray, Utf8Array,
 };
-pub use lower_keys::keys::{DictionaryKey, DictionaryKeys};
-pub use lower_keys::numbers::AnyPrimitive;
-pub use lower_keys::offsets::ListOffsets;
+pub use lower_rules::keys::{DictionaryKey, DictionaryKeys};
+pub use lower_rules::numbers::AnyPrimitive;
+pub use lower_rules::offsets::ListOffsets;
 pub use map::MapArray;
 use std::alloc::AllocError;
 use std::mem;

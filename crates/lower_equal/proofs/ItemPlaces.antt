@@ -6,7 +6,7 @@ use Rattle.lower_flat.specs.Spans.{span_count}
 use Rattle.lower_flat.proofs.SpanPlaces.{offset_next, offset_last}
 use Rattle.lower_arrays.specs.Layouts.{Layouts, layouts, no_layouts, more_layouts, Layout, len_of}
 use Rattle.lower_arrays.specs.Children.{AllHave, AllReach}
-use Rattle.lower_keys.specs.ListTypes.{last_offset}
+use Rattle.lower_rules.specs.ListTypes.{last_offset}
 use Rattle.lower_arrays.specs.Slots.{ItemsFit, IsArray}
 use Rattle.lower_arrays.specs.Lists.{ListSeen, list_layout}
 use Rattle.lower_arrays.specs.Maps.{MapSeen, map_layout}

@@ -6,7 +6,7 @@ ghost use Rattle.std.specs.Option.{option_copied};
 ghost use Rattle.lower_flat.specs.Validities.{part, cut_validity, ValidityHolds};
 ghost use Rattle.lower.specs.Offsets.{IsOffsets};
 ghost use Rattle.ipc_plan.specs.OffsetViews.{places_of, type_of_offsets};
-ghost use Rattle.lower_keys.specs.AnyOffsets.{list_places, list_width};
+ghost use Rattle.lower_rules.specs.AnyOffsets.{list_places, list_width};
 ghost use Rattle.ipc_model.specs.Offers.{offsets_length, validity_length};
 ghost use Rattle.ipc_plan.specs.Taking.{TakesBuffers, TakesLevel};
 ghost use Rattle.ipc_plan.specs.Plans.{AddsHead, AddsOffsets};

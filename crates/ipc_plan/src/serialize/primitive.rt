@@ -1,6 +1,6 @@
 //! Plans arrays of numbers (Arrow columnar format, "Fixed-Size Primitive Layout").
 ghost use Rattle.std.specs.Prelude.{◌≡◌, ◌+◌, ◌^◌, ◌<◌, ◌≤◌, length, OnOk};
-ghost use Rattle.lower_keys.specs.AnyNumbers.{numbers_seen};
+ghost use Rattle.lower_rules.specs.AnyNumbers.{numbers_seen};
 ghost use Rattle.lower_arrays.specs.Layouts.{numbers};
 ghost use Rattle.ipc_plan.specs.Pieces.{slice_numbers, slice_type};
 ghost use Rattle.lower_flat.specs.Validities.{part};

@@ -6,17 +6,17 @@ ghost use Rattle.lower_flat.specs.Validities.{null_count_of, is_valid};
 ghost use Rattle.lower_arrays.specs.Layouts.{level, len_of};
 ghost use Rattle.lower_arrays.specs.Slots.{IsArray};
 ghost use Rattle.lower_arrays.specs.Dictionaries.{HasKeys, dictionary_seen, IsDictionary, BreaksDictionary, cut_dictionary};
-ghost use Rattle.lower_keys.specs.Keys.{is_ordered, place_of};
-ghost use Rattle.lower_keys.specs.AnyKeys.{keys_seen};
+ghost use Rattle.lower_rules.specs.Keys.{is_ordered, place_of};
+ghost use Rattle.lower_rules.specs.AnyKeys.{keys_seen};
 ghost use Rattle.lower_arrays.specs.AnyLayouts.{layout_of};
 
 use super::AnyArray;
 use lower::bitmap::Bitmap;
 use lower::datatypes::DataType;
 use lower::error::Error;
-use lower_keys::fields::is_ordered;
-use lower_keys::keys::DictionaryKeys;
-use lower_keys::rules::check_dictionary;
+use lower_rules::fields::is_ordered;
+use lower_rules::keys::DictionaryKeys;
+use lower_rules::rules::check_dictionary;
 use std::alloc::AllocError;
 use std::marker::Model;
 use std::rc::Rc;
@@ -44,7 +44,7 @@ impl Model for DictionaryArray {
     ghost use Rattle.std.specs.Prelude.{◌+◌};
     ghost use Rattle.lower.specs.TypeViews.{type_view};
     ghost use Rattle.lower_arrays.specs.Layouts.{height};
-    ghost use Rattle.lower_keys.specs.AnyKeys.{keys_seen};
+    ghost use Rattle.lower_rules.specs.AnyKeys.{keys_seen};
     ghost use Rattle.lower_arrays.specs.AnyLayouts.{layout_of};
 
     ghost view = { λ a. record { type = type_view a.data_type; keys = keys_seen a.keys; values = layout_of a.values.value } };

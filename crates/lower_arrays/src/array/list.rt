@@ -13,8 +13,8 @@ use lower::bitmap::Bitmap;
 use lower::datatypes::DataType;
 use lower::error::Error;
 use lower_flat::validity::{clone_validity, is_valid_at, sliced_validity, unset_bits};
-use lower_keys::offsets::ListOffsets;
-use lower_keys::rules::check_list;
+use lower_rules::offsets::ListOffsets;
+use lower_rules::rules::check_list;
 use std::alloc::AllocError;
 use std::marker::Model;
 

@@ -14,7 +14,7 @@ use lower::datatypes::DataType;
 use lower::error::Error;
 use lower::offset::OffsetsBuffer;
 use lower_flat::validity::{clone_validity, is_valid_at, sliced_validity, unset_bits};
-use lower_keys::rules::check_map;
+use lower_rules::rules::check_map;
 use std::alloc::AllocError;
 use std::marker::Model;
 

@@ -13,7 +13,7 @@ use lower::bitmap::Bitmap;
 use lower::datatypes::DataType;
 use lower::error::Error;
 use lower_flat::validity::{clone_validity, is_valid_at, sliced_validity, unset_bits};
-use lower_keys::rules::check_struct;
+use lower_rules::rules::check_struct;
 use std::alloc::AllocError;
 use std::marker::Model;
 

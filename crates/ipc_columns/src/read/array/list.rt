@@ -3,9 +3,9 @@ ghost use Rattle.std.specs.Prelude.{◌≡◌, [], ◌∷◌, ◌+◌, IsTrue, I
 ghost use Rattle.ipc_devices.specs.Faults.{OnIo, OwnFault, Answers};
 ghost use Rattle.lower.specs.TypeViews.{type_view};
 ghost use Rattle.lower.specs.Physical.{physical};
-ghost use Rattle.lower_keys.specs.AnyOffsets.{list_places, list_width};
-ghost use Rattle.lower_keys.specs.ListTypes.{list_with};
-ghost use Rattle.lower_keys.specs.Fields.{child_fields, FieldTypes};
+ghost use Rattle.lower_rules.specs.AnyOffsets.{list_places, list_width};
+ghost use Rattle.lower_rules.specs.ListTypes.{list_with};
+ghost use Rattle.lower_rules.specs.Fields.{child_fields, FieldTypes};
 ghost use Rattle.lower_arrays.specs.Layouts.{len_of, type_of};
 ghost use Rattle.lower_arrays.specs.Lists.{list_seen, list_layout};
 ghost use Rattle.lower_arrays.specs.AnyLayouts.{layout_of};

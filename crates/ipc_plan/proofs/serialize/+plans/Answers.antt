@@ -9,8 +9,8 @@ use Rattle.lower_types.specs.declared.PrimitiveType.TheVariants.{Int32}
 use Rattle.lower_flat.specs.Validities.{Validity, part, cut_validity}
 use Rattle.lower_arrays.specs.AnyLayouts.{layout_of}
 use Rattle.lower_arrays.specs.Children.{AllHave, AllReach, lens_of}
-use Rattle.lower_keys.specs.Ids.{union_ids}
-use Rattle.lower_keys.specs.Places.{PlacesFit}
+use Rattle.lower_rules.specs.Ids.{union_ids}
+use Rattle.lower_rules.specs.Places.{PlacesFit}
 use Rattle.lower_arrays.specs.Cuts.{cut_level}
 use Rattle.lower_arrays.specs.declared.array.AnyArray.{AnyArray}
 use Rattle.lower_arrays.specs.Layouts.{Layout, Level, heights, layouts, level, records, choices}

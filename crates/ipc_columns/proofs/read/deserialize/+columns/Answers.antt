@@ -1,7 +1,7 @@
 use Rattle.std.proofs.Common.{arith, rules, Some, ◌≡◌, ℕ, ◌+◌, ◌≤◌, [], ◌∷◌, length, ap, sym, subst, ◌∙◌}
 use Rattle.lower.specs.TypeViews.{type_view, field_view}
-use Rattle.lower_keys.specs.AnyOffsets.{list_places, list_width}
-use Rattle.lower_keys.specs.Fields.{child_fields, FieldTypes}
+use Rattle.lower_rules.specs.AnyOffsets.{list_places, list_width}
+use Rattle.lower_rules.specs.Fields.{child_fields, FieldTypes}
 use Rattle.lower_arrays.specs.Layouts.{len_of, type_of}
 use Rattle.lower_arrays.specs.AnyLayouts.{layout_of}
 use Rattle.ipc_base.specs.IdTrees.{all_ids_view}
@@ -20,7 +20,7 @@ use Rattle.std.proofs.Math.ListN.{drop_of_length-le}
 use Rattle.lower.specs.TypeTrees.{TypeTree, FieldTrees}
 use Rattle.lower.specs.TypeViews.{fields_view}
 use Rattle.lower.specs.declared.datatypes.Field.{Field}
-use Rattle.lower_keys.specs.Fields.{field_type}
+use Rattle.lower_rules.specs.Fields.{field_type}
 use Rattle.lower_arrays.specs.Layouts.{Layout, Layouts, layouts}
 use Rattle.lower_arrays.specs.Children.{ChildTypes, HasChild, AllHave}
 use Rattle.ipc_base.specs.IdTrees.{IdTrees}

@@ -1,0 +1,160 @@
+//! Arrays of numbers of each type but floats.
+ghost use Rattle.std.specs.Prelude.{◌≡◌, ◌+◌, ◌≤◌};
+ghost use Rattle.std.specs.Option.{option_copied};
+ghost use Rattle.lower.specs.TypeViews.{type_view};
+ghost use Rattle.lower_flat.specs.Validities.{null_count_of};
+ghost use Rattle.lower_rules.specs.Numbers.{IsNumbers, cut_numbers};
+ghost use Rattle.lower_rules.specs.AnyNumbers.{numbers_seen};
+
+use lower::bitmap::Bitmap;
+use lower::datatypes::DataType;
+use lower::types::{days_ms, i256, months_days_ns};
+use lower_flat::PrimitiveArray;
+use std::alloc::AllocError;
+
+/// An array of numbers, of any type of number but floats.
+#[derive(Drop)]
+pub enum AnyPrimitive {
+    Int8(PrimitiveArray<i8>),
+    Int16(PrimitiveArray<i16>),
+    Int32(PrimitiveArray<i32>),
+    Int64(PrimitiveArray<i64>),
+    Int128(PrimitiveArray<i128>),
+    Int256(PrimitiveArray<i256>),
+    UInt8(PrimitiveArray<u8>),
+    UInt16(PrimitiveArray<u16>),
+    UInt32(PrimitiveArray<u32>),
+    UInt64(PrimitiveArray<u64>),
+    DaysMs(PrimitiveArray<days_ms>),
+    MonthDayNano(PrimitiveArray<months_days_ns>),
+}
+
+impl AnyPrimitive {
+    /// The type of its slots.
+    pub fn data_type(&self) -> &DataType
+        ensures tree { type_view result.now ≡ (numbers_seen self.now).type }
+        ensures valid { IsNumbers (numbers_seen self.now) }
+    {
+        match self {
+            AnyPrimitive::Int8(array) => array.data_type(),
+            AnyPrimitive::Int16(array) => array.data_type(),
+            AnyPrimitive::Int32(array) => array.data_type(),
+            AnyPrimitive::Int64(array) => array.data_type(),
+            AnyPrimitive::Int128(array) => array.data_type(),
+            AnyPrimitive::Int256(array) => array.data_type(),
+            AnyPrimitive::UInt8(array) => array.data_type(),
+            AnyPrimitive::UInt16(array) => array.data_type(),
+            AnyPrimitive::UInt32(array) => array.data_type(),
+            AnyPrimitive::UInt64(array) => array.data_type(),
+            AnyPrimitive::DaysMs(array) => array.data_type(),
+            AnyPrimitive::MonthDayNano(array) => array.data_type(),
+        }
+    }
+
+    /// The bits that say which slots are valid, or `None` where all are.
+    pub fn validity(&self) -> Option<&Bitmap>
+        ensures bits { option_copied result ≡ (numbers_seen self.now).validity }
+        ensures valid { IsNumbers (numbers_seen self.now) }
+    {
+        match self {
+            AnyPrimitive::Int8(array) => array.validity(),
+            AnyPrimitive::Int16(array) => array.validity(),
+            AnyPrimitive::Int32(array) => array.validity(),
+            AnyPrimitive::Int64(array) => array.validity(),
+            AnyPrimitive::Int128(array) => array.validity(),
+            AnyPrimitive::Int256(array) => array.validity(),
+            AnyPrimitive::UInt8(array) => array.validity(),
+            AnyPrimitive::UInt16(array) => array.validity(),
+            AnyPrimitive::UInt32(array) => array.validity(),
+            AnyPrimitive::UInt64(array) => array.validity(),
+            AnyPrimitive::DaysMs(array) => array.validity(),
+            AnyPrimitive::MonthDayNano(array) => array.validity(),
+        }
+    }
+
+    /// How many slots it has.
+    pub fn len(&self) -> usize
+        ensures len { result ≡ (numbers_seen self.now).len }
+        ensures valid { IsNumbers (numbers_seen self.now) }
+    {
+        match self {
+            AnyPrimitive::Int8(array) => array.len(),
+            AnyPrimitive::Int16(array) => array.len(),
+            AnyPrimitive::Int32(array) => array.len(),
+            AnyPrimitive::Int64(array) => array.len(),
+            AnyPrimitive::Int128(array) => array.len(),
+            AnyPrimitive::Int256(array) => array.len(),
+            AnyPrimitive::UInt8(array) => array.len(),
+            AnyPrimitive::UInt16(array) => array.len(),
+            AnyPrimitive::UInt32(array) => array.len(),
+            AnyPrimitive::UInt64(array) => array.len(),
+            AnyPrimitive::DaysMs(array) => array.len(),
+            AnyPrimitive::MonthDayNano(array) => array.len(),
+        }
+    }
+
+    /// How many slots are null.
+    pub fn null_count(&self) -> usize
+        ensures { result ≡ null_count_of (numbers_seen self.now).validity }
+    {
+        match self {
+            AnyPrimitive::Int8(array) => array.null_count(),
+            AnyPrimitive::Int16(array) => array.null_count(),
+            AnyPrimitive::Int32(array) => array.null_count(),
+            AnyPrimitive::Int64(array) => array.null_count(),
+            AnyPrimitive::Int128(array) => array.null_count(),
+            AnyPrimitive::Int256(array) => array.null_count(),
+            AnyPrimitive::UInt8(array) => array.null_count(),
+            AnyPrimitive::UInt16(array) => array.null_count(),
+            AnyPrimitive::UInt32(array) => array.null_count(),
+            AnyPrimitive::UInt64(array) => array.null_count(),
+            AnyPrimitive::DaysMs(array) => array.null_count(),
+            AnyPrimitive::MonthDayNano(array) => array.null_count(),
+        }
+    }
+
+    /// The `len` slots from `offset` on. It takes no memory.
+    pub fn sliced(self, offset: usize, len: usize) -> Self
+        requires { offset + len ≤ (numbers_seen self).len }
+        ensures { numbers_seen result ≡ cut_numbers offset len (numbers_seen self) }
+    {
+        match self {
+            AnyPrimitive::Int8(array) => AnyPrimitive::Int8(array.sliced(offset, len)),
+            AnyPrimitive::Int16(array) => AnyPrimitive::Int16(array.sliced(offset, len)),
+            AnyPrimitive::Int32(array) => AnyPrimitive::Int32(array.sliced(offset, len)),
+            AnyPrimitive::Int64(array) => AnyPrimitive::Int64(array.sliced(offset, len)),
+            AnyPrimitive::Int128(array) => AnyPrimitive::Int128(array.sliced(offset, len)),
+            AnyPrimitive::Int256(array) => AnyPrimitive::Int256(array.sliced(offset, len)),
+            AnyPrimitive::UInt8(array) => AnyPrimitive::UInt8(array.sliced(offset, len)),
+            AnyPrimitive::UInt16(array) => AnyPrimitive::UInt16(array.sliced(offset, len)),
+            AnyPrimitive::UInt32(array) => AnyPrimitive::UInt32(array.sliced(offset, len)),
+            AnyPrimitive::UInt64(array) => AnyPrimitive::UInt64(array.sliced(offset, len)),
+            AnyPrimitive::DaysMs(array) => AnyPrimitive::DaysMs(array.sliced(offset, len)),
+            AnyPrimitive::MonthDayNano(array) => AnyPrimitive::MonthDayNano(array.sliced(
+                offset, len,
+            )),
+        }
+    }
+}
+
+impl Clone for AnyPrimitive {
+    ghost is_clone = { λ a b. numbers_seen b ≡ numbers_seen a };
+
+    /// The same slots once more, which share their memory with these.
+    fn clone(&self) -> Result<Self, AllocError> {
+        match self {
+            AnyPrimitive::Int8(array) => Ok(AnyPrimitive::Int8(array.clone()?)),
+            AnyPrimitive::Int16(array) => Ok(AnyPrimitive::Int16(array.clone()?)),
+            AnyPrimitive::Int32(array) => Ok(AnyPrimitive::Int32(array.clone()?)),
+            AnyPrimitive::Int64(array) => Ok(AnyPrimitive::Int64(array.clone()?)),
+            AnyPrimitive::Int128(array) => Ok(AnyPrimitive::Int128(array.clone()?)),
+            AnyPrimitive::Int256(array) => Ok(AnyPrimitive::Int256(array.clone()?)),
+            AnyPrimitive::UInt8(array) => Ok(AnyPrimitive::UInt8(array.clone()?)),
+            AnyPrimitive::UInt16(array) => Ok(AnyPrimitive::UInt16(array.clone()?)),
+            AnyPrimitive::UInt32(array) => Ok(AnyPrimitive::UInt32(array.clone()?)),
+            AnyPrimitive::UInt64(array) => Ok(AnyPrimitive::UInt64(array.clone()?)),
+            AnyPrimitive::DaysMs(array) => Ok(AnyPrimitive::DaysMs(array.clone()?)),
+            AnyPrimitive::MonthDayNano(array) => Ok(AnyPrimitive::MonthDayNano(array.clone()?)),
+        }
+    }
+}

@@ -1,0 +1,88 @@
+//! The offsets of lists.
+ghost use Rattle.std.specs.Prelude.{◌≡◌, ◌+◌, ◌<◌, length, slice_index};
+ghost use Rattle.lower.specs.Offsets.{IsOffsets};
+ghost use Rattle.lower_flat.specs.Validities.{part};
+ghost use Rattle.lower_rules.specs.ListTypes.{list_with, last_offset};
+ghost use Rattle.lower_rules.specs.AnyOffsets.{list_places, list_width};
+
+use lower::datatypes::PhysicalType;
+use lower::offset::OffsetsBuffer;
+use std::alloc::AllocError;
+
+/// The offsets of lists, of either type.
+#[derive(Drop)]
+pub enum ListOffsets {
+    /// Those of a list.
+    Small(OffsetsBuffer<i32>),
+    /// Those of a large list.
+    Large(OffsetsBuffer<i64>),
+}
+
+impl ListOffsets {
+    /// How many offsets there are, which is one more than there are slots.
+    pub fn len(&self) -> usize
+        ensures len { result ≡ length (list_places self.now) }
+        ensures offsets { IsOffsets (list_places self.now) }
+    {
+        match self {
+            ListOffsets::Small(offsets) => offsets.len(),
+            ListOffsets::Large(offsets) => offsets.len(),
+        }
+    }
+
+    /// Offset `i`.
+    pub fn get(&self, i: usize) -> usize
+        requires { i < length (list_places self.now) }
+        ensures { result ≡ slice_index (list_places self.now) i }
+    {
+        match self {
+            ListOffsets::Small(offsets) => offsets.get(i),
+            ListOffsets::Large(offsets) => offsets.get(i),
+        }
+    }
+
+    /// The last offset: where the last slot ends.
+    pub fn last(&self) -> usize
+        ensures value { result ≡ last_offset (list_places self.now) }
+        ensures offsets { IsOffsets (list_places self.now) }
+    {
+        match self {
+            ListOffsets::Small(offsets) => offsets.last(),
+            ListOffsets::Large(offsets) => offsets.last(),
+        }
+    }
+
+    /// The offsets of the `len` slots from slot `offset` on, in the same memory.
+    pub fn sliced(self, offset: usize, len: usize) -> Self
+        requires { offset + len < length (list_places self) }
+        ensures width { list_width result ≡ list_width self }
+        ensures places { list_places result ≡ part offset (len + 1) (list_places self) }
+    {
+        match self {
+            ListOffsets::Small(offsets) => ListOffsets::Small(offsets.sliced(offset, len)),
+            ListOffsets::Large(offsets) => ListOffsets::Large(offsets.sliced(offset, len)),
+        }
+    }
+
+    // How lists with these offsets lie in memory.
+    pub(super) fn physical_type(&self) -> PhysicalType
+        ensures { result ≡ list_with (list_width self.now) }
+    {
+        match self {
+            ListOffsets::Small(_) => PhysicalType::List,
+            ListOffsets::Large(_) => PhysicalType::LargeList,
+        }
+    }
+}
+
+impl Clone for ListOffsets {
+    ghost is_clone = { λ a b. b ≡ a };
+
+    /// The same offsets once more, in the same memory.
+    fn clone(&self) -> Result<Self, AllocError> {
+        match self {
+            ListOffsets::Small(offsets) => Ok(ListOffsets::Small(offsets.clone()?)),
+            ListOffsets::Large(offsets) => Ok(ListOffsets::Large(offsets.clone()?)),
+        }
+    }
+}

@@ -1,0 +1,53 @@
+//! The rules of dictionaries.
+ghost use Rattle.std.specs.Prelude.{◌≡◌, ◌↔◌, IsTrue, MatchResult};
+ghost use Rattle.lower.specs.TypeViews.{type_view};
+ghost use Rattle.lower_rules.specs.Keys.{values_type};
+ghost use Rattle.lower_rules.specs.AnyKeys.{keys_seen};
+ghost use Rattle.lower_rules.specs.Rules.{DictionaryRules, BreaksDictionaryRules};
+
+use crate::keys::DictionaryKeys;
+use lower::datatypes::{DataType, PhysicalType, is_same_type};
+use lower::error::{Error, Rule};
+
+// Whether the type is one of a dictionary whose values have this type.
+fn is_dictionary_of(data_type: &DataType, values: &DataType) -> bool
+    ensures { IsTrue result ↔ type_view values.now ≡ values_type (type_view data_type.now) }
+{
+    match data_type.to_logical_type() {
+        DataType::Dictionary(_, inner, _) => is_same_type(values, inner),
+        _ => is_same_type(values, &DataType::Null),
+    }
+}
+
+/// Whether a dictionary can have this type and these keys, over `len` values of this type.
+///
+/// `PhysicalType` where the data type isn't a dictionary with keys of this type, or the keys have
+/// another data type than their integers; `DictionaryValues` where the values haven't the type that
+/// the dictionary's type names; `DictionaryKey` where a key that isn't null is negative, or not
+/// less than `len`.
+pub fn check_dictionary(
+    data_type: &DataType,
+    keys: &DictionaryKeys,
+    values: &DataType,
+    len: usize,
+) -> Result<(), Error>
+    ensures { MatchResult result
+        (λ _. DictionaryRules (type_view data_type.now) (keys_seen keys.now) (type_view values.now) len)
+        (BreaksDictionaryRules (type_view data_type.now) (keys_seen keys.now) (type_view values.now) len) }
+{
+    let key = keys.key_type();
+    if data_type.to_physical_type() != PhysicalType::Dictionary(key) {
+        return Err(Error::OutOfSpec(Rule::PhysicalType));
+    }
+    if !is_same_type(keys.data_type(), &DataType::from(key)) {
+        return Err(Error::OutOfSpec(Rule::PhysicalType));
+    }
+    if !is_dictionary_of(data_type, values) {
+        return Err(Error::OutOfSpec(Rule::DictionaryValues));
+    }
+    if !keys.fit(len) {
+        return Err(Error::OutOfSpec(Rule::DictionaryKey));
+    }
+    let _ = keys.len();
+    Ok(())
+}

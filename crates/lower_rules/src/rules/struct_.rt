@@ -1,0 +1,51 @@
+//! The rules of structs.
+ghost use Rattle.std.specs.Prelude.{◌≡◌, map, get_or, IfOk, MatchResult};
+ghost use Rattle.std.specs.List.{All};
+ghost use Rattle.lower.specs.TypeViews.{type_view};
+ghost use Rattle.lower_rules.specs.Rules.{StructRules, BreaksStructRules};
+
+use crate::children::{Child, have_len, have_types};
+use crate::fields::{are_so_many, child_fields};
+use lower::bitmap::Bitmap;
+use lower::datatypes::{DataType, PhysicalType};
+use lower::error::{Error, Rule};
+use lower_flat::validity::fits;
+
+/// How many records these children make, where they can have this type and this validity.
+///
+/// `NoChild` where there is no child, `PhysicalType` where the data type isn't one of structs,
+/// `ChildCount` where there are not as many children as fields, `ValidityLength` where the validity
+/// hasn't a bit for each slot, `ChildType` where a child hasn't the type of its field, `ChildLength`
+/// where a child hasn't as many slots as the first one.
+pub fn check_struct<C: Child>(
+    data_type: &DataType,
+    children: &[C],
+    validity: &Option<Bitmap>,
+) -> Result<usize, Error>
+    ensures rules { MatchResult result
+        (λ _. StructRules (type_view data_type.now) (map C.child_type children.now) (map C.child_len children.now) validity.now)
+        (BreaksStructRules (type_view data_type.now) (map C.child_type children.now) (map C.child_len children.now) validity.now) }
+    ensures len { IfOk result (λ len. len ≡ get_or (map C.child_len children.now) 0 0) }
+    ensures valid { IfOk result (λ _. All C.is_child children.now) }
+{
+    let len = match children.first() {
+        None => return Err(Error::OutOfSpec(Rule::NoChild)),
+        Some(first) => first.len(),
+    };
+    if data_type.to_physical_type() != PhysicalType::Struct {
+        return Err(Error::OutOfSpec(Rule::PhysicalType));
+    }
+    if !are_so_many(child_fields(data_type), children.len()) {
+        return Err(Error::OutOfSpec(Rule::ChildCount));
+    }
+    if !fits(validity, len) {
+        return Err(Error::OutOfSpec(Rule::ValidityLength));
+    }
+    if !have_types(child_fields(data_type), children) {
+        return Err(Error::OutOfSpec(Rule::ChildType));
+    }
+    if !have_len(children, len) {
+        return Err(Error::OutOfSpec(Rule::ChildLength));
+    }
+    Ok(len)
+}
