@@ -2,7 +2,8 @@
 //!
 //! Arrow columnar format, "Validity bitmaps": bit i is bit `i % 8` of byte `i / 8`, the lowest bit
 //! of a byte first.
-ghost use Rattle.std.specs.Prelude.{◌≡◌, ◌+◌, ◌-◌, ◌*◌, ◌/◌, ◌%◌, ◌<◌, ◌≤◌, length, take, drop, MatchResult, IsErrOf, List, get_or, false, map};
+ghost use Rattle.std.specs.Prelude.{◌≡◌, ◌+◌, ◌-◌, ◌*◌, ◌/◌, ◌%◌, ◌<◌, ◌≤◌, length, take, drop, MatchResult, IsErrOf, List, get_or, false, map, IsTrue, ◌↔◌, []};
+ghost use Rattle.std.specs.Iterator.{YieldsFirst, item_count};
 ghost use Rattle.std.specs.List.{range_with_len};
 ghost use Rattle.lower.specs.Bits.{has_bit};
 ghost use Rattle.lower.specs.declared.error.Error.{Error};
@@ -11,6 +12,7 @@ ghost use Rattle.lower.specs.declared.error.Rule.{Rule};
 use crate::buffer::Buffer;
 use crate::error::{Error, Rule};
 use std::alloc::AllocError;
+use std::fmt;
 use std::marker::Model;
 
 /// Some bits of bytes. Clones and parts share the memory.
@@ -125,5 +127,74 @@ impl Bitmap {
             start,
             self.len,
         )
+    }
+
+    /// Whether there is no bit.
+    #[tactic(auto, using(crate::proofs::BitLists::bit_lists))]
+    pub fn is_empty(&self) -> bool
+        ensures { IsTrue result ↔ self.now ≡ [] }
+    {
+        self.len() == 0
+    }
+
+    /// The bits one after another.
+    pub fn iter(&self) -> BitmapIter<'_>
+        ensures { result ≡ self.now }
+    {
+        BitmapIter {
+            bitmap: self,
+            index: 0,
+        }
+    }
+}
+
+/// The bits of a bitmap, seen as the list of those that are left.
+#[derive(Drop)]
+pub struct BitmapIter<'a> {
+    bitmap: &'a Bitmap,
+    index: usize,
+}
+
+impl<'a> Model for BitmapIter<'a> {
+    ghost use Rattle.std.specs.Prelude.{List, Bool, drop};
+
+    ghost Value = { List Bool };
+
+    ghost view = { λ a. drop a.index a.bitmap.now };
+}
+
+impl<'a> Iterator for BitmapIter<'a> {
+    type Item = bool;
+
+    ghost next_gives = { YieldsFirst (λ rest. rest) };
+
+    ghost remaining = { item_count (λ rest. rest) };
+
+    fn next(&mut self) -> Option<bool> {
+        let index = self.index;
+        if index >= self.bitmap.len() {
+            return None;
+        }
+        self.index += 1;
+        Some(self.bitmap.get_bit(index))
+    }
+}
+
+impl<'a> IntoIterator for &'a Bitmap {
+    type Item = bool;
+
+    type IntoIter = BitmapIter<'a>;
+
+    ghost into_iter_gives = { λ bitmap rest. rest ≡ bitmap.now };
+
+    fn into_iter(self) -> BitmapIter<'a> {
+        self.iter()
+    }
+}
+
+/// As a list of the bits is printed.
+impl fmt::Debug for Bitmap {
+    fn fmt<W: fmt::Write>(&self, f: &mut fmt::Formatter<W>) -> fmt::Result {
+        f.debug_list().entries(self.iter()).finish()
     }
 }

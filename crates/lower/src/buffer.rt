@@ -2,12 +2,15 @@
 //!
 //! Arrow columnar format, "Physical memory layout": an array's memory is made of such buffers, and
 //! a slice of an array shares them.
-ghost use Rattle.std.specs.Prelude.{◌≡◌, ◌+◌, ◌<◌, ◌≤◌, length, take, drop, IfOk, MatchResult, List, slice_index_or, nat_eq, IsTrue, ◌↔◌, []};
+ghost use Rattle.std.specs.Prelude.{◌≡◌, ◌+◌, ◌<◌, ◌≤◌, length, take, drop, IfOk, MatchResult, List, slice_index_or, nat_eq, IsTrue, ◌↔◌, [], ◌^◌};
+ghost use Rattle.std.specs.Slice.Iter.{iter_rest};
+ghost use Rattle.std.specs.Iterator.Adapters.{IterYieldsInOrder};
 
 use std::alloc::AllocError;
 use std::marker::Model;
 use std::ops::Index;
 use std::rc::Rc;
+use std::{fmt, slice};
 
 /// Some values, or a part of them. Clones and parts share the memory.
 #[derive(Drop)]
@@ -133,5 +136,21 @@ impl<T: Copy> Buffer<T> {
             Ok(vec) => Ok(vec),
             Err(all) => Err(Buffer { all, offset, len }),
         }
+    }
+
+    /// The values one after another.
+    pub fn iter(&self) -> slice::Iter<'_, T>
+        ensures rest { iter_rest result ≡ self.now }
+        ensures bound { length (iter_rest result) < 2 ^ 64 }
+        ensures runs { IterYieldsInOrder T }
+    {
+        self.as_slice().iter()
+    }
+}
+
+/// As a slice of the values is printed.
+impl<T: Copy + fmt::Debug> fmt::Debug for Buffer<T> {
+    fn fmt<W: fmt::Write>(&self, f: &mut fmt::Formatter<W>) -> fmt::Result {
+        fmt::Debug::fmt(self.as_slice(), f)
     }
 }

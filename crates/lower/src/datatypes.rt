@@ -6,6 +6,7 @@
 pub mod clones;
 pub mod counts;
 pub mod equal;
+mod fields;
 pub mod normal;
 mod physical_type;
 mod schema;

@@ -9,6 +9,7 @@ use crate::buffer::Buffer;
 use crate::error::{Error, Rule};
 use lower_types::NativeType;
 use std::alloc::AllocError;
+use std::fmt;
 use std::marker::Model;
 
 /// A type of offsets: signed, of 32 or 64 bits.
@@ -199,5 +200,12 @@ impl<O: Offset> OffsetsBuffer<O> {
     {
         prove!(len < self.offsets.len());
         self.offsets.slice(offset, len + 1);
+    }
+}
+
+/// As a slice of the offsets is printed.
+impl<O: Offset + fmt::Debug> fmt::Debug for OffsetsBuffer<O> {
+    fn fmt<W: fmt::Write>(&self, f: &mut fmt::Formatter<W>) -> fmt::Result {
+        fmt::Debug::fmt(self.as_slice(), f)
     }
 }

@@ -1,0 +1,47 @@
+//! How a field is made, and what is printed of a type.
+ghost use Rattle.std.specs.Prelude.{◌≡◌, [], string_bytes};
+ghost use Rattle.lower.specs.TypeTrees.{field};
+ghost use Rattle.lower.specs.TypeViews.{type_view, field_view, pairs_of};
+
+use super::{DataType, Field, Metadata};
+use std::fmt;
+
+impl Field {
+    /// A field of this name and type without metadata. It takes no memory.
+    pub fn new(name: String, data_type: DataType, is_nullable: bool) -> Field
+        ensures { field_view result ≡ field (string_bytes name) (type_view data_type) is_nullable [] }
+    {
+        let metadata = Metadata::new(*name.allocator());
+        Field {
+            name,
+            data_type,
+            is_nullable,
+            metadata,
+        }
+    }
+
+    /// The field with this metadata in place of its own. It takes no memory.
+    pub fn with_metadata(self, metadata: Metadata) -> Field
+        ensures { field_view result ≡ field (string_bytes self.name) (type_view self.data_type) self.is_nullable (pairs_of metadata.entries) }
+    {
+        let Field {
+            name,
+            data_type,
+            is_nullable,
+            ..
+        } = self;
+        Field {
+            name,
+            data_type,
+            is_nullable,
+            metadata,
+        }
+    }
+}
+
+/// As `{:?}` prints it.
+impl fmt::Display for DataType {
+    fn fmt<W: fmt::Write>(&self, f: &mut fmt::Formatter<W>) -> fmt::Result {
+        fmt::Debug::fmt(self, f)
+    }
+}
