@@ -80,3 +80,21 @@ physical (single s f) = physical_single s
 physical (group g fs) = physical_group g
 physical (dictionary keys t ordered) = Physicals.Dictionary keys
 physical (extension name t text) = physical t
+
+-- the type of these numbers where no other is named: decimals have 32 digits, each after the point
+abbrev pub number_type : PrimitiveType → Plain
+number_type Primitives.Int8 = int8
+number_type Primitives.Int16 = int16
+number_type Primitives.Int32 = int32
+number_type Primitives.Int64 = int64
+number_type Primitives.Int128 = decimal 32 32
+number_type Primitives.Int256 = decimal256 32 32
+number_type Primitives.UInt8 = uint8
+number_type Primitives.UInt16 = uint16
+number_type Primitives.UInt32 = uint32
+number_type Primitives.UInt64 = uint64
+number_type Primitives.Float16 = float16
+number_type Primitives.Float32 = float32
+number_type Primitives.Float64 = float64
+number_type Primitives.DaysMs = interval DayTime
+number_type Primitives.MonthDayNano = interval MonthDayNano

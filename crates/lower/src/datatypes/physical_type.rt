@@ -128,3 +128,33 @@ impl From<IntegerType> for DataType {
         }
     }
 }
+
+impl From<PrimitiveType> for DataType {
+    ghost use Rattle.lower.specs.TypeTrees.{plain};
+    ghost use Rattle.lower.specs.TypeViews.{type_view};
+    ghost use Rattle.lower.specs.Physical.{physical, number_type};
+    ghost use Rattle.lower.specs.declared.datatypes.physical_type.PhysicalType.TheVariants.{Primitive};
+
+    ghost from_gives = { λ number data_type. (type_view data_type ≡ plain (number_type number)) × (physical (type_view data_type) ≡ Primitive number) };
+
+    /// The type of an array of these numbers where no other is named, which lies in memory as they do.
+    fn from(number: PrimitiveType) -> DataType {
+        match number {
+            PrimitiveType::Int8 => DataType::Int8,
+            PrimitiveType::Int16 => DataType::Int16,
+            PrimitiveType::Int32 => DataType::Int32,
+            PrimitiveType::Int64 => DataType::Int64,
+            PrimitiveType::Int128 => DataType::Decimal(32, 32),
+            PrimitiveType::Int256 => DataType::Decimal256(32, 32),
+            PrimitiveType::UInt8 => DataType::UInt8,
+            PrimitiveType::UInt16 => DataType::UInt16,
+            PrimitiveType::UInt32 => DataType::UInt32,
+            PrimitiveType::UInt64 => DataType::UInt64,
+            PrimitiveType::Float16 => DataType::Float16,
+            PrimitiveType::Float32 => DataType::Float32,
+            PrimitiveType::Float64 => DataType::Float64,
+            PrimitiveType::DaysMs => DataType::Interval(IntervalUnit::DayTime),
+            PrimitiveType::MonthDayNano => DataType::Interval(IntervalUnit::MonthDayNano),
+        }
+    }
+}
