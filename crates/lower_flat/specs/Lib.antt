@@ -7,3 +7,4 @@ pub mod FixedBinaries
 pub mod Spans
 pub mod Binaries
 pub mod Texts
+pub mod Options

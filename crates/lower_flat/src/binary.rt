@@ -1,7 +1,9 @@
 //! Arrays of bytes of any length.
-ghost use Rattle.std.specs.Prelude.{◌≡◌, ◌+◌, ◌≤◌, MatchResult, IsTrue, ◌↔◌, ◌<◌};
+ghost use Rattle.std.specs.Prelude.{◌≡◌, ◌+◌, ◌≤◌, MatchResult, IsTrue, not, ◌↔◌, ◌<◌};
 ghost use Rattle.std.specs.Option.{option_copied};
+ghost use Rattle.std.specs.Iterator.{YieldsFirstBy, item_count};
 ghost use Rattle.lower.specs.TypeViews.{type_view};
+ghost use Rattle.lower_flat.specs.Options.{option_where, options, spans};
 ghost use Rattle.lower_flat.specs.Validities.{null_count_of, is_valid};
 ghost use Rattle.lower_flat.specs.Spans.{spans_seen, span_count, span, cut_spans};
 ghost use Rattle.lower_flat.specs.Binaries.{bytes_with, IsBinary, BreaksBinary};
@@ -14,6 +16,7 @@ use lower::error::{Error, Rule};
 use lower::offset::{Offset, OffsetsBuffer};
 use lower::types::PrimitiveType;
 use std::alloc::AllocError;
+use std::fmt;
 use std::marker::Model;
 
 /// Bytes for each slot, of any length (Arrow columnar format, "Variable-size Binary Layout").
@@ -146,6 +149,14 @@ impl<O: Offset> BinaryArray<O> {
         is_valid_at(&self.validity, index)
     }
 
+    /// Whether the slot at `index` is null.
+    pub fn is_null(&self, index: usize) -> bool
+        requires { index < span_count self.now.offsets }
+        ensures { result ≡ not (is_valid self.now.validity index) }
+    {
+        !self.is_valid(index)
+    }
+
     /// The bytes of the slot at `index`, of a null too.
     #[tactic(auto, using(crate::proofs::SpanPlaces::span_places))]
     pub fn value(&self, index: usize) -> &[u8]
@@ -176,6 +187,28 @@ impl<O: Offset> BinaryArray<O> {
             validity: sliced_validity(validity, offset, len),
         }
     }
+
+    /// The bytes of the slot at `index`, or `None` where the slot is null.
+    pub fn get(&self, index: usize) -> Option<&[u8]>
+        requires { index < span_count self.now.offsets }
+        ensures { option_copied result ≡ option_where (is_valid self.now.validity index) (span self.now.offsets self.now.values index) }
+    {
+        if self.is_valid(index) {
+            Some(self.value(index))
+        } else {
+            None
+        }
+    }
+
+    /// The slots one after another, `None` where one is null.
+    pub fn iter(&self) -> BinaryIter<'_, O>
+        ensures { result ≡ options self.now.validity (spans self.now) }
+    {
+        BinaryIter {
+            array: self,
+            index: 0,
+        }
+    }
 }
 
 impl<O: Offset> Clone for BinaryArray<O> {
@@ -189,5 +222,59 @@ impl<O: Offset> Clone for BinaryArray<O> {
             values: self.values.clone()?,
             validity: clone_validity(&self.validity)?,
         })
+    }
+}
+
+/// The slots of an array of bytes, seen as the list of those that are left.
+#[derive(Drop)]
+pub struct BinaryIter<'a, O: Offset> {
+    array: &'a BinaryArray<O>,
+    index: usize,
+}
+
+impl<'a, O: Offset> Model for BinaryIter<'a, O> {
+    ghost use Rattle.std.specs.Prelude.{ℕ, List, Option, drop};
+    ghost use Rattle.lower_flat.specs.Options.{options, spans};
+
+    ghost Value = { List (Option (List ℕ)) };
+
+    ghost view = { λ a. drop a.index (options a.array.now.validity (spans a.array.now)) };
+}
+
+impl<'a, O: Offset> Iterator for BinaryIter<'a, O> {
+    type Item = Option<&'a [u8]>;
+
+    ghost next_gives = { YieldsFirstBy (λ item. option_copied item) (λ rest. rest) };
+
+    ghost remaining = { item_count (λ rest. rest) };
+
+    #[tactic(auto, using(crate::proofs::OptionSteps::given_steps))]
+    fn next(&mut self) -> Option<Option<&'a [u8]>> {
+        let index = self.index;
+        if index >= self.array.len() {
+            return None;
+        }
+        self.index += 1;
+        Some(self.array.get(index))
+    }
+}
+
+impl<'a, O: Offset> IntoIterator for &'a BinaryArray<O> {
+    type Item = Option<&'a [u8]>;
+
+    type IntoIter = BinaryIter<'a, O>;
+
+    ghost into_iter_gives = { λ array rest. rest ≡ options array.now.validity (spans array.now) };
+
+    fn into_iter(self) -> BinaryIter<'a, O> {
+        self.iter()
+    }
+}
+
+/// The data type, and the slots as a list.
+impl<O: Offset> fmt::Debug for BinaryArray<O> {
+    fn fmt<W: fmt::Write>(&self, f: &mut fmt::Formatter<W>) -> fmt::Result {
+        fmt::Debug::fmt(&self.data_type, f)?;
+        f.debug_list().entries(self.iter()).finish()
     }
 }

@@ -1,7 +1,9 @@
 //! Arrays of truth values.
-ghost use Rattle.std.specs.Prelude.{◌≡◌, ◌+◌, ◌≤◌, length, MatchResult, IsTrue, ◌↔◌, ◌<◌, get_or, false};
+ghost use Rattle.std.specs.Prelude.{◌≡◌, ◌+◌, ◌≤◌, length, MatchResult, IsTrue, not, false, ◌↔◌, ◌<◌, get_or, false};
 ghost use Rattle.std.specs.Option.{option_copied};
+ghost use Rattle.std.specs.Iterator.{YieldsFirst, item_count};
 ghost use Rattle.lower.specs.TypeViews.{type_view};
+ghost use Rattle.lower_flat.specs.Options.{option_where, options};
 ghost use Rattle.lower_flat.specs.Validities.{null_count_of, is_valid};
 ghost use Rattle.lower_flat.specs.Booleans.{boolean_seen, IsBoolean, BreaksBoolean, cut_boolean};
 
@@ -10,6 +12,7 @@ use lower::bitmap::Bitmap;
 use lower::datatypes::{DataType, PhysicalType};
 use lower::error::{Error, Rule};
 use std::alloc::AllocError;
+use std::fmt;
 use std::marker::Model;
 
 /// A truth value for each slot, as a bit (Arrow columnar format, "Fixed-size Primitive Layout").
@@ -113,6 +116,14 @@ impl BooleanArray {
         is_valid_at(&self.validity, index)
     }
 
+    /// Whether the slot at `index` is null.
+    pub fn is_null(&self, index: usize) -> bool
+        requires { index < length self.now.values }
+        ensures { result ≡ not (is_valid self.now.validity index) }
+    {
+        !self.is_valid(index)
+    }
+
     /// The bit at `index`, of a null too.
     pub fn value(&self, index: usize) -> bool
         requires { index < length self.now.values }
@@ -137,6 +148,28 @@ impl BooleanArray {
             validity: sliced_validity(validity, offset, len),
         }
     }
+
+    /// The truth value at `index`, or `None` where the slot is null.
+    pub fn get(&self, index: usize) -> Option<bool>
+        requires { index < length self.now.values }
+        ensures { result ≡ option_where (is_valid self.now.validity index) (get_or self.now.values index false) }
+    {
+        if self.is_valid(index) {
+            Some(self.value(index))
+        } else {
+            None
+        }
+    }
+
+    /// The slots one after another, `None` where one is null.
+    pub fn iter(&self) -> BooleanIter<'_>
+        ensures { result ≡ options self.now.validity self.now.values }
+    {
+        BooleanIter {
+            array: self,
+            index: 0,
+        }
+    }
 }
 
 impl Clone for BooleanArray {
@@ -149,5 +182,59 @@ impl Clone for BooleanArray {
             values: self.values.clone()?,
             validity: clone_validity(&self.validity)?,
         })
+    }
+}
+
+/// The slots of an array of truth values, seen as the list of those that are left.
+#[derive(Drop)]
+pub struct BooleanIter<'a> {
+    array: &'a BooleanArray,
+    index: usize,
+}
+
+impl<'a> Model for BooleanIter<'a> {
+    ghost use Rattle.std.specs.Prelude.{Bool, List, Option, drop};
+    ghost use Rattle.lower_flat.specs.Options.{options};
+
+    ghost Value = { List (Option Bool) };
+
+    ghost view = { λ a. drop a.index (options a.array.now.validity a.array.now.values) };
+}
+
+impl<'a> Iterator for BooleanIter<'a> {
+    type Item = Option<bool>;
+
+    ghost next_gives = { YieldsFirst (λ rest. rest) };
+
+    ghost remaining = { item_count (λ rest. rest) };
+
+    #[tactic(auto, using(crate::proofs::OptionSteps::bit_steps))]
+    fn next(&mut self) -> Option<Option<bool>> {
+        let index = self.index;
+        if index >= self.array.len() {
+            return None;
+        }
+        self.index += 1;
+        Some(self.array.get(index))
+    }
+}
+
+impl<'a> IntoIterator for &'a BooleanArray {
+    type Item = Option<bool>;
+
+    type IntoIter = BooleanIter<'a>;
+
+    ghost into_iter_gives = { λ array rest. rest ≡ options array.now.validity array.now.values };
+
+    fn into_iter(self) -> BooleanIter<'a> {
+        self.iter()
+    }
+}
+
+/// The data type, and the slots as a list.
+impl fmt::Debug for BooleanArray {
+    fn fmt<W: fmt::Write>(&self, f: &mut fmt::Formatter<W>) -> fmt::Result {
+        fmt::Debug::fmt(&self.data_type, f)?;
+        f.debug_list().entries(self.iter()).finish()
     }
 }

@@ -1,7 +1,9 @@
 //! Arrays of bytes, as many in each slot.
-ghost use Rattle.std.specs.Prelude.{◌≡◌, ◌+◌, ◌*◌, ◌≤◌, MatchResult, IsTrue, ◌↔◌, ◌<◌};
+ghost use Rattle.std.specs.Prelude.{◌≡◌, ◌+◌, ◌*◌, ◌≤◌, MatchResult, IsTrue, not, ◌↔◌, ◌<◌};
 ghost use Rattle.std.specs.Option.{option_copied};
+ghost use Rattle.std.specs.Iterator.{YieldsFirstBy, item_count};
 ghost use Rattle.lower.specs.TypeViews.{type_view};
+ghost use Rattle.lower_flat.specs.Options.{option_where, options, pieces};
 ghost use Rattle.lower_flat.specs.Validities.{null_count_of, is_valid, part};
 ghost use Rattle.lower_flat.specs.FixedBinaries.{byte_size, fixed_seen, IsFixedBinary, BreaksFixedBinary, cut_fixed};
 
@@ -11,6 +13,7 @@ use lower::buffer::Buffer;
 use lower::datatypes::{DataType, PhysicalType};
 use lower::error::{Error, Rule};
 use std::alloc::AllocError;
+use std::fmt;
 use std::marker::Model;
 
 /// As many bytes for each slot as the data type says (Arrow columnar format, "Fixed-size Primitive
@@ -146,6 +149,14 @@ impl FixedSizeBinaryArray {
         is_valid_at(&self.validity, index)
     }
 
+    /// Whether the slot at `index` is null.
+    pub fn is_null(&self, index: usize) -> bool
+        requires { index < self.now.len }
+        ensures { result ≡ not (is_valid self.now.validity index) }
+    {
+        !self.is_valid(index)
+    }
+
     /// The bytes of the slot at `index`, of a null too.
     pub fn value(&self, index: usize) -> &[u8]
         requires { index < self.now.len }
@@ -176,6 +187,28 @@ impl FixedSizeBinaryArray {
             validity: sliced_validity(validity, offset, len),
         }
     }
+
+    /// The bytes of the slot at `index`, or `None` where the slot is null.
+    pub fn get(&self, index: usize) -> Option<&[u8]>
+        requires { index < self.now.len }
+        ensures { option_copied result ≡ option_where (is_valid self.now.validity index) (part (index * self.now.size) self.now.size self.now.values) }
+    {
+        if self.is_valid(index) {
+            Some(self.value(index))
+        } else {
+            None
+        }
+    }
+
+    /// The slots one after another, `None` where one is null.
+    pub fn iter(&self) -> FixedSizeBinaryIter<'_>
+        ensures { result ≡ options self.now.validity (pieces self.now) }
+    {
+        FixedSizeBinaryIter {
+            array: self,
+            index: 0,
+        }
+    }
 }
 
 impl Clone for FixedSizeBinaryArray {
@@ -190,5 +223,59 @@ impl Clone for FixedSizeBinaryArray {
             values: self.values.clone()?,
             validity: clone_validity(&self.validity)?,
         })
+    }
+}
+
+/// The slots of an array of bytes of a fixed size, seen as the list of those that are left.
+#[derive(Drop)]
+pub struct FixedSizeBinaryIter<'a> {
+    array: &'a FixedSizeBinaryArray,
+    index: usize,
+}
+
+impl<'a> Model for FixedSizeBinaryIter<'a> {
+    ghost use Rattle.std.specs.Prelude.{ℕ, List, Option, drop};
+    ghost use Rattle.lower_flat.specs.Options.{options, pieces};
+
+    ghost Value = { List (Option (List ℕ)) };
+
+    ghost view = { λ a. drop a.index (options a.array.now.validity (pieces a.array.now)) };
+}
+
+impl<'a> Iterator for FixedSizeBinaryIter<'a> {
+    type Item = Option<&'a [u8]>;
+
+    ghost next_gives = { YieldsFirstBy (λ item. option_copied item) (λ rest. rest) };
+
+    ghost remaining = { item_count (λ rest. rest) };
+
+    #[tactic(auto, using(crate::proofs::OptionSteps::given_steps))]
+    fn next(&mut self) -> Option<Option<&'a [u8]>> {
+        let index = self.index;
+        if index >= self.array.len() {
+            return None;
+        }
+        self.index += 1;
+        Some(self.array.get(index))
+    }
+}
+
+impl<'a> IntoIterator for &'a FixedSizeBinaryArray {
+    type Item = Option<&'a [u8]>;
+
+    type IntoIter = FixedSizeBinaryIter<'a>;
+
+    ghost into_iter_gives = { λ array rest. rest ≡ options array.now.validity (pieces array.now) };
+
+    fn into_iter(self) -> FixedSizeBinaryIter<'a> {
+        self.iter()
+    }
+}
+
+/// The data type, and the slots as a list.
+impl fmt::Debug for FixedSizeBinaryArray {
+    fn fmt<W: fmt::Write>(&self, f: &mut fmt::Formatter<W>) -> fmt::Result {
+        fmt::Debug::fmt(&self.data_type, f)?;
+        f.debug_list().entries(self.iter()).finish()
     }
 }

@@ -14,9 +14,9 @@ mod texts;
 mod utf8;
 pub mod validity;
 
-pub use binary::BinaryArray;
-pub use boolean::BooleanArray;
-pub use fixed_size_binary::FixedSizeBinaryArray;
+pub use binary::{BinaryArray, BinaryIter};
+pub use boolean::{BooleanArray, BooleanIter};
+pub use fixed_size_binary::{FixedSizeBinaryArray, FixedSizeBinaryIter};
 pub use null::NullArray;
-pub use primitive::PrimitiveArray;
-pub use utf8::Utf8Array;
+pub use primitive::{PrimitiveArray, PrimitiveIter};
+pub use utf8::{Utf8Array, Utf8Iter};

@@ -1,5 +1,5 @@
 //! Arrays of nulls.
-ghost use Rattle.std.specs.Prelude.{◌≡◌, ◌+◌, ◌<◌, ◌≤◌, MatchResult, IsTrue, ◌↔◌, None, false};
+ghost use Rattle.std.specs.Prelude.{◌≡◌, ◌+◌, ◌<◌, ◌≤◌, MatchResult, IsTrue, ◌↔◌, None, false, true};
 ghost use Rattle.lower.specs.TypeViews.{type_view};
 ghost use Rattle.lower_flat.specs.Nulls.{null_seen, IsNull, BreaksNull, cut_null};
 
@@ -7,6 +7,7 @@ use lower::bitmap::Bitmap;
 use lower::datatypes::{DataType, PhysicalType};
 use lower::error::{Error, Rule};
 use std::alloc::AllocError;
+use std::fmt;
 use std::marker::Model;
 
 /// Slots that are all null, with nothing in memory (Arrow columnar format, "Null Layout").
@@ -99,6 +100,14 @@ impl NullArray {
         let NullArray { data_type, .. } = self;
         NullArray { data_type, len }
     }
+
+    /// Whether the slot at `index` is null: each one is.
+    pub fn is_null(&self, index: usize) -> bool
+        requires { index < self.now.len }
+        ensures { result ≡ true }
+    {
+        !self.is_valid(index)
+    }
 }
 
 impl Clone for NullArray {
@@ -110,5 +119,15 @@ impl Clone for NullArray {
             data_type: self.data_type.clone()?,
             len: self.len,
         })
+    }
+}
+
+/// The data type, and how many slots there are.
+impl fmt::Debug for NullArray {
+    fn fmt<W: fmt::Write>(&self, f: &mut fmt::Formatter<W>) -> fmt::Result {
+        f.debug_struct("NullArray")
+            .field("data_type", &self.data_type)
+            .field("len", &self.len)
+            .finish()
     }
 }

@@ -1,7 +1,11 @@
 //! Arrays of numbers.
-ghost use Rattle.std.specs.Prelude.{◌≡◌, ◌+◌, ◌≤◌, length, MatchResult, IsTrue, ◌↔◌, ◌<◌};
+ghost use Rattle.std.specs.Prelude.{◌≡◌, ◌+◌, ◌≤◌, length, MatchResult, MatchOption, IsTrue, IfOk, not, true, false, None, get_or, ◌↔◌, ◌<◌};
 ghost use Rattle.std.specs.Option.{option_copied};
+ghost use Rattle.std.specs.Iterator.{YieldsFirst, item_count};
+ghost use Rattle.lower.specs.TypeTrees.{plain};
 ghost use Rattle.lower.specs.TypeViews.{type_view};
+ghost use Rattle.lower.specs.Physical.{number_type};
+ghost use Rattle.lower_flat.specs.Options.{options};
 ghost use Rattle.lower_flat.specs.Validities.{null_count_of, is_valid};
 ghost use Rattle.lower_flat.specs.Primitives.{primitive_seen, IsPrimitive, BreaksPrimitive, cut_primitive};
 
@@ -11,7 +15,8 @@ use lower::buffer::Buffer;
 use lower::datatypes::{DataType, PhysicalType};
 use lower::error::{Error, Rule};
 use lower::types::NativeType;
-use std::alloc::AllocError;
+use std::alloc::{AllocError, Global};
+use std::fmt;
 use std::marker::Model;
 
 /// A number for each slot (Arrow columnar format, "Fixed-size Primitive Layout").
@@ -118,6 +123,14 @@ impl<T: NativeType> PrimitiveArray<T> {
         is_valid_at(&self.validity, index)
     }
 
+    /// Whether the slot at `index` is null.
+    pub fn is_null(&self, index: usize) -> bool
+        requires { index < length self.now.values }
+        ensures { result ≡ not (is_valid self.now.validity index) }
+    {
+        !self.is_valid(index)
+    }
+
     /// The `len` slots from `offset` on. It takes no memory.
     pub fn sliced(self, offset: usize, len: usize) -> Self
         requires { offset + len ≤ length self.values }
@@ -134,6 +147,59 @@ impl<T: NativeType> PrimitiveArray<T> {
             validity: sliced_validity(validity, offset, len),
         }
     }
+
+    /// The number at `index`, of a null too.
+    pub fn value(&self, index: usize) -> T
+        requires { index < length self.now.values }
+        ensures { result ≡ get_or self.now.values index result }
+    {
+        self.values.as_slice()[index]
+    }
+
+    /// The number at `index`, or `None` where the slot is null.
+    pub fn get(&self, index: usize) -> Option<T>
+        requires { index < length self.now.values }
+        ensures { MatchOption result
+            (is_valid self.now.validity index ≡ false)
+            (λ x. (is_valid self.now.validity index ≡ true) × (x ≡ get_or self.now.values index x)) }
+    {
+        if self.is_valid(index) {
+            Some(self.value(index))
+        } else {
+            None
+        }
+    }
+
+    /// The slots one after another, `None` where one is null.
+    pub fn iter(&self) -> PrimitiveIter<'_, T>
+        ensures { result ≡ options self.now.validity self.now.values }
+    {
+        PrimitiveIter {
+            array: self,
+            index: 0,
+        }
+    }
+
+    /// An array of all these numbers, of the type that [`DataType::from`] gives theirs. No number is
+    /// copied, and one small block is taken to count the owners.
+    pub fn from_vec(values: Vec<T>) -> Result<Self, AllocError>
+        ensures { IfOk result (λ a. a ≡ primitive_seen (plain (number_type T.primitive)) values.items None) }
+    {
+        let data_type = DataType::from(T::primitive_type());
+        let values = Buffer::new(values)?;
+        Ok(PrimitiveArray {
+            data_type,
+            values,
+            validity: None,
+        })
+    }
+
+    /// As [`PrimitiveArray::from_vec`], of a copy of the numbers.
+    pub fn from_slice(alloc: Global, values: &[T]) -> Result<Self, AllocError>
+        ensures { IfOk result (λ a. a ≡ primitive_seen (plain (number_type T.primitive)) values.now None) }
+    {
+        PrimitiveArray::from_vec(Vec::from_slice(alloc, values)?)
+    }
 }
 
 impl<T: NativeType> Clone for PrimitiveArray<T> {
@@ -146,5 +212,59 @@ impl<T: NativeType> Clone for PrimitiveArray<T> {
             values: self.values.clone()?,
             validity: clone_validity(&self.validity)?,
         })
+    }
+}
+
+/// The slots of an array of numbers, seen as the list of those that are left.
+#[derive(Drop)]
+pub struct PrimitiveIter<'a, T: NativeType> {
+    array: &'a PrimitiveArray<T>,
+    index: usize,
+}
+
+impl<'a, T: NativeType> Model for PrimitiveIter<'a, T> {
+    ghost use Rattle.std.specs.Prelude.{List, Option, drop};
+    ghost use Rattle.lower_flat.specs.Options.{options};
+
+    ghost Value = { List (Option T) };
+
+    ghost view = { λ a. drop a.index (options a.array.now.validity a.array.now.values) };
+}
+
+impl<'a, T: NativeType> Iterator for PrimitiveIter<'a, T> {
+    type Item = Option<T>;
+
+    ghost next_gives = { YieldsFirst (λ rest. rest) };
+
+    ghost remaining = { item_count (λ rest. rest) };
+
+    #[tactic(auto, using(crate::proofs::OptionSteps::number_steps))]
+    fn next(&mut self) -> Option<Option<T>> {
+        let index = self.index;
+        if index >= self.array.len() {
+            return None;
+        }
+        self.index += 1;
+        Some(self.array.get(index))
+    }
+}
+
+impl<'a, T: NativeType> IntoIterator for &'a PrimitiveArray<T> {
+    type Item = Option<T>;
+
+    type IntoIter = PrimitiveIter<'a, T>;
+
+    ghost into_iter_gives = { λ array rest. rest ≡ options array.now.validity array.now.values };
+
+    fn into_iter(self) -> PrimitiveIter<'a, T> {
+        self.iter()
+    }
+}
+
+/// The data type, and the slots as a list.
+impl<T: NativeType + fmt::Debug> fmt::Debug for PrimitiveArray<T> {
+    fn fmt<W: fmt::Write>(&self, f: &mut fmt::Formatter<W>) -> fmt::Result {
+        fmt::Debug::fmt(&self.data_type, f)?;
+        f.debug_list().entries(self.iter()).finish()
     }
 }

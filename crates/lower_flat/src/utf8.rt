@@ -1,7 +1,9 @@
 //! Arrays of texts.
-ghost use Rattle.std.specs.Prelude.{◌≡◌, ◌+◌, ◌≤◌, MatchResult, IsTrue, ◌↔◌, ◌<◌};
+ghost use Rattle.std.specs.Prelude.{◌≡◌, ◌+◌, ◌≤◌, MatchResult, IsTrue, not, ◌↔◌, ◌<◌};
 ghost use Rattle.std.specs.Option.{option_copied};
+ghost use Rattle.std.specs.Iterator.{YieldsFirstBy, item_count};
 ghost use Rattle.lower.specs.TypeViews.{type_view};
+ghost use Rattle.lower_flat.specs.Options.{option_where, options, spans};
 ghost use Rattle.lower_flat.specs.Validities.{null_count_of, is_valid};
 ghost use Rattle.lower_flat.specs.Spans.{spans_seen, span_count, span, cut_spans};
 ghost use Rattle.lower_flat.specs.Texts.{texts_with, IsText, BreaksText};
@@ -15,6 +17,7 @@ use lower::error::{Error, Rule};
 use lower::offset::{Offset, OffsetsBuffer};
 use lower::types::PrimitiveType;
 use std::alloc::AllocError;
+use std::fmt;
 use std::marker::Model;
 
 /// A text for each slot, in UTF-8 (Arrow columnar format, "Variable-size Binary Layout").
@@ -150,6 +153,14 @@ impl<O: Offset> Utf8Array<O> {
         is_valid_at(&self.validity, index)
     }
 
+    /// Whether the slot at `index` is null.
+    pub fn is_null(&self, index: usize) -> bool
+        requires { index < span_count self.now.offsets }
+        ensures { result ≡ not (is_valid self.now.validity index) }
+    {
+        !self.is_valid(index)
+    }
+
     /// The text at `index`, of a null too.
     #[tactic(auto, using(crate::proofs::SpanPlaces::span_places))]
     pub fn value(&self, index: usize) -> &str
@@ -181,6 +192,28 @@ impl<O: Offset> Utf8Array<O> {
             validity: sliced_validity(validity, offset, len),
         }
     }
+
+    /// The text at `index`, or `None` where the slot is null.
+    pub fn get(&self, index: usize) -> Option<&str>
+        requires { index < span_count self.now.offsets }
+        ensures { option_copied result ≡ option_where (is_valid self.now.validity index) (span self.now.offsets self.now.values index) }
+    {
+        if self.is_valid(index) {
+            Some(self.value(index))
+        } else {
+            None
+        }
+    }
+
+    /// The slots one after another, `None` where one is null.
+    pub fn iter(&self) -> Utf8Iter<'_, O>
+        ensures { result ≡ options self.now.validity (spans self.now) }
+    {
+        Utf8Iter {
+            array: self,
+            index: 0,
+        }
+    }
 }
 
 impl<O: Offset> Clone for Utf8Array<O> {
@@ -194,5 +227,59 @@ impl<O: Offset> Clone for Utf8Array<O> {
             values: self.values.clone()?,
             validity: clone_validity(&self.validity)?,
         })
+    }
+}
+
+/// The slots of an array of texts, seen as the list of those that are left.
+#[derive(Drop)]
+pub struct Utf8Iter<'a, O: Offset> {
+    array: &'a Utf8Array<O>,
+    index: usize,
+}
+
+impl<'a, O: Offset> Model for Utf8Iter<'a, O> {
+    ghost use Rattle.std.specs.Prelude.{ℕ, List, Option, drop};
+    ghost use Rattle.lower_flat.specs.Options.{options, spans};
+
+    ghost Value = { List (Option (List ℕ)) };
+
+    ghost view = { λ a. drop a.index (options a.array.now.validity (spans a.array.now)) };
+}
+
+impl<'a, O: Offset> Iterator for Utf8Iter<'a, O> {
+    type Item = Option<&'a str>;
+
+    ghost next_gives = { YieldsFirstBy (λ item. option_copied item) (λ rest. rest) };
+
+    ghost remaining = { item_count (λ rest. rest) };
+
+    #[tactic(auto, using(crate::proofs::OptionSteps::given_steps))]
+    fn next(&mut self) -> Option<Option<&'a str>> {
+        let index = self.index;
+        if index >= self.array.len() {
+            return None;
+        }
+        self.index += 1;
+        Some(self.array.get(index))
+    }
+}
+
+impl<'a, O: Offset> IntoIterator for &'a Utf8Array<O> {
+    type Item = Option<&'a str>;
+
+    type IntoIter = Utf8Iter<'a, O>;
+
+    ghost into_iter_gives = { λ array rest. rest ≡ options array.now.validity (spans array.now) };
+
+    fn into_iter(self) -> Utf8Iter<'a, O> {
+        self.iter()
+    }
+}
+
+/// The data type, and the slots as a list.
+impl<O: Offset> fmt::Debug for Utf8Array<O> {
+    fn fmt<W: fmt::Write>(&self, f: &mut fmt::Formatter<W>) -> fmt::Result {
+        fmt::Debug::fmt(&self.data_type, f)?;
+        f.debug_list().entries(self.iter()).finish()
     }
 }
