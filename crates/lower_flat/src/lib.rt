@@ -18,5 +18,9 @@ pub use binary::{BinaryArray, BinaryIter};
 pub use boolean::{BooleanArray, BooleanIter};
 pub use fixed_size_binary::{FixedSizeBinaryArray, FixedSizeBinaryIter};
 pub use null::NullArray;
-pub use primitive::{PrimitiveArray, PrimitiveIter};
+pub use primitive::{
+    DaysMsArray, Int8Array, Int16Array, Int32Array, Int64Array, Int128Array, Int256Array,
+    MonthsDaysNsArray, PrimitiveArray, PrimitiveIter, UInt8Array, UInt16Array, UInt32Array,
+    UInt64Array,
+};
 pub use utf8::{Utf8Array, Utf8Iter};

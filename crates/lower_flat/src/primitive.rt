@@ -14,7 +14,7 @@ use lower::bitmap::Bitmap;
 use lower::buffer::Buffer;
 use lower::datatypes::{DataType, PhysicalType};
 use lower::error::{Error, Rule};
-use lower::types::NativeType;
+use lower::types::{NativeType, days_ms, i256, months_days_ns};
 use std::alloc::{AllocError, Global};
 use std::fmt;
 use std::marker::Model;
@@ -29,6 +29,42 @@ pub struct PrimitiveArray<T: NativeType> {
     values: Buffer<T>,
     validity: Option<Bitmap>,
 }
+
+/// An array of `i8`.
+pub type Int8Array = PrimitiveArray<i8>;
+
+/// An array of `i16`.
+pub type Int16Array = PrimitiveArray<i16>;
+
+/// An array of `i32`.
+pub type Int32Array = PrimitiveArray<i32>;
+
+/// An array of `i64`.
+pub type Int64Array = PrimitiveArray<i64>;
+
+/// An array of `i128`.
+pub type Int128Array = PrimitiveArray<i128>;
+
+/// An array of `i256`.
+pub type Int256Array = PrimitiveArray<i256>;
+
+/// An array of `u8`.
+pub type UInt8Array = PrimitiveArray<u8>;
+
+/// An array of `u16`.
+pub type UInt16Array = PrimitiveArray<u16>;
+
+/// An array of `u32`.
+pub type UInt32Array = PrimitiveArray<u32>;
+
+/// An array of `u64`.
+pub type UInt64Array = PrimitiveArray<u64>;
+
+/// An array of `days_ms`.
+pub type DaysMsArray = PrimitiveArray<days_ms>;
+
+/// An array of `months_days_ns`.
+pub type MonthsDaysNsArray = PrimitiveArray<months_days_ns>;
 
 impl<T: NativeType> Model for PrimitiveArray<T> {
     ghost use Rattle.lower_flat.specs.Primitives.{PrimitiveSeen, coded_primitive, IsPrimitive};
