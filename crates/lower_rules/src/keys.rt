@@ -12,6 +12,7 @@ use lower::datatypes::{DataType, IntegerType};
 use lower::types::NativeType;
 use lower_flat::PrimitiveArray;
 use std::alloc::AllocError;
+use std::fmt;
 
 /// A type of integers that the keys of a dictionary may have.
 pub trait DictionaryKey: NativeType {
@@ -387,6 +388,22 @@ impl Clone for DictionaryKeys {
             DictionaryKeys::UInt16(keys) => Ok(DictionaryKeys::UInt16(keys.clone()?)),
             DictionaryKeys::UInt32(keys) => Ok(DictionaryKeys::UInt32(keys.clone()?)),
             DictionaryKeys::UInt64(keys) => Ok(DictionaryKeys::UInt64(keys.clone()?)),
+        }
+    }
+}
+
+/// As the array of their type is printed.
+impl fmt::Debug for DictionaryKeys {
+    fn fmt<W: fmt::Write>(&self, f: &mut fmt::Formatter<W>) -> fmt::Result {
+        match self {
+            DictionaryKeys::Int8(keys) => fmt::Debug::fmt(keys, f),
+            DictionaryKeys::Int16(keys) => fmt::Debug::fmt(keys, f),
+            DictionaryKeys::Int32(keys) => fmt::Debug::fmt(keys, f),
+            DictionaryKeys::Int64(keys) => fmt::Debug::fmt(keys, f),
+            DictionaryKeys::UInt8(keys) => fmt::Debug::fmt(keys, f),
+            DictionaryKeys::UInt16(keys) => fmt::Debug::fmt(keys, f),
+            DictionaryKeys::UInt32(keys) => fmt::Debug::fmt(keys, f),
+            DictionaryKeys::UInt64(keys) => fmt::Debug::fmt(keys, f),
         }
     }
 }

@@ -8,6 +8,7 @@ pub mod fields;
 pub mod ids;
 pub mod keys;
 pub mod numbers;
+pub mod numeric;
 pub mod offsets;
 pub mod places;
 pub mod rules;

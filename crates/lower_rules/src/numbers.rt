@@ -11,6 +11,7 @@ use lower::datatypes::DataType;
 use lower::types::{days_ms, i256, months_days_ns};
 use lower_flat::PrimitiveArray;
 use std::alloc::AllocError;
+use std::fmt;
 
 /// An array of numbers, of any type of number but floats.
 #[derive(Drop)]
@@ -155,6 +156,26 @@ impl Clone for AnyPrimitive {
             AnyPrimitive::UInt64(array) => Ok(AnyPrimitive::UInt64(array.clone()?)),
             AnyPrimitive::DaysMs(array) => Ok(AnyPrimitive::DaysMs(array.clone()?)),
             AnyPrimitive::MonthDayNano(array) => Ok(AnyPrimitive::MonthDayNano(array.clone()?)),
+        }
+    }
+}
+
+/// As the array of its type is printed.
+impl fmt::Debug for AnyPrimitive {
+    fn fmt<W: fmt::Write>(&self, f: &mut fmt::Formatter<W>) -> fmt::Result {
+        match self {
+            AnyPrimitive::Int8(array) => fmt::Debug::fmt(array, f),
+            AnyPrimitive::Int16(array) => fmt::Debug::fmt(array, f),
+            AnyPrimitive::Int32(array) => fmt::Debug::fmt(array, f),
+            AnyPrimitive::Int64(array) => fmt::Debug::fmt(array, f),
+            AnyPrimitive::Int128(array) => fmt::Debug::fmt(array, f),
+            AnyPrimitive::Int256(array) => fmt::Debug::fmt(array, f),
+            AnyPrimitive::UInt8(array) => fmt::Debug::fmt(array, f),
+            AnyPrimitive::UInt16(array) => fmt::Debug::fmt(array, f),
+            AnyPrimitive::UInt32(array) => fmt::Debug::fmt(array, f),
+            AnyPrimitive::UInt64(array) => fmt::Debug::fmt(array, f),
+            AnyPrimitive::DaysMs(array) => fmt::Debug::fmt(array, f),
+            AnyPrimitive::MonthDayNano(array) => fmt::Debug::fmt(array, f),
         }
     }
 }

@@ -8,6 +8,7 @@ ghost use Rattle.lower_rules.specs.AnyOffsets.{list_places, list_width};
 use lower::datatypes::PhysicalType;
 use lower::offset::OffsetsBuffer;
 use std::alloc::AllocError;
+use std::fmt;
 
 /// The offsets of lists, of either type.
 #[derive(Drop)]
@@ -83,6 +84,16 @@ impl Clone for ListOffsets {
         match self {
             ListOffsets::Small(offsets) => Ok(ListOffsets::Small(offsets.clone()?)),
             ListOffsets::Large(offsets) => Ok(ListOffsets::Large(offsets.clone()?)),
+        }
+    }
+}
+
+/// As a slice of the offsets is printed.
+impl fmt::Debug for ListOffsets {
+    fn fmt<W: fmt::Write>(&self, f: &mut fmt::Formatter<W>) -> fmt::Result {
+        match self {
+            ListOffsets::Small(offsets) => fmt::Debug::fmt(offsets, f),
+            ListOffsets::Large(offsets) => fmt::Debug::fmt(offsets, f),
         }
     }
 }
