@@ -1,9 +1,9 @@
 -- Regions one after the other.
-use Rattle.std.proofs.Common.{◌≡◌, ℕ, zero, suc, ◌+◌, ◌%◌, ◌<◌, ◌≤◌, List, [], ◌∷◌, ◌++◌, length, slice_index_or, arith}
+use Rattle.std.proofs.Common.{◌≡◌, ℕ, zero, suc, ◌+◌, ◌%◌, ◌<◌, ◌≤◌, List, [], ◌∷◌, ◌++◌, length, slice_index_or, inl, arith}
 use Rattle.std.specs.List.{All, AllPairs}
 use Rattle.std.proofs.lemmas.List.Kept.{AllPairs-cons}
 use Rattle.ipc_parts.specs.Tree.{Slots}
-use Rattle.ipc_parts.specs.Strict.{Region, AreLaidOut, IsLaidOut, message_regions}
+use Rattle.ipc_parts.specs.Strict.{AreApart, Region, AreLaidOut, Grain, IsLaidOut, message_regions}
 
 pub AreLaidOut-later : (lo lo' hi : ℕ) (rs : List Region) → lo ≤ lo' → AreLaidOut lo' rs hi → AreLaidOut lo rs hi
 AreLaidOut-later lo lo' hi [] h l = omega arith
@@ -38,10 +38,15 @@ laid-apart lo hi [] l = λ i j d h k. absurd (omega arith)
 laid-apart lo hi (r ∷ rs) l =
     AllPairs-cons (λ r s. r.from + r.size ≤ s.from) r rs (laid-after (r.from + r.size) (r.from + r.size) hi rs (omega arith) l.2) (laid-apart (r.from + r.size) hi rs l.2)
 
+-- in order, so apart
+in-order-apart : (rs : List Region) → AllPairs (λ r s. r.from + r.size ≤ s.from) rs → AllPairs AreApart rs
+in-order-apart rs l = λ i j d h k. inl (l i j d h k)
+
 -- what is laid out step by step is laid out
-pub IsLaidOut-from : (m : List ℕ) (slots : Slots) → AreLaidOut 0 (message_regions m slots) (length m) → IsLaidOut m slots
+pub IsLaidOut-from : (m : List ℕ) (slots : Slots) → ((g : Grain) → AreLaidOut 0 (message_regions g m slots) (length m)) → IsLaidOut m slots
 IsLaidOut-from m slots l = record {
-  aligned = laid-aligned 0 (length m) (message_regions m slots) l;
-  inside = laid-inside 0 (length m) (message_regions m slots) l;
-  apart = laid-apart 0 (length m) (message_regions m slots) l;
+  aligned = λ g. laid-aligned 0 (length m) (message_regions g m slots) (l g);
+  inside = λ g. laid-inside 0 (length m) (message_regions g m slots) (l g);
+  apart = λ g. in-order-apart (message_regions g m slots) (laid-apart 0 (length m) (message_regions g m slots) (l g));
+  in_order = λ g. laid-apart 0 (length m) (message_regions g m slots) (l g);
 }

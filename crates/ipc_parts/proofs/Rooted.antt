@@ -6,7 +6,7 @@ use Rattle.ipc_parts.specs.Pads.{le}
 use Rattle.ipc_parts.specs.Parts.{Stands, IsPart}
 use Rattle.ipc_parts.specs.Sizes.{message_size}
 use Rattle.ipc_parts.specs.Tree.{Slots, table}
-use Rattle.ipc_parts.specs.Strict.{regions, target_place, AreLaidOut}
+use Rattle.ipc_parts.specs.Strict.{Grain, regions, target_place, AreLaidOut}
 use Rattle.ipc_parts.proofs.TableHolds.{same-end}
 use Rattle.ipc_parts.proofs.LaidOut.{IsLaidOut-from}
 use Rattle.ipc_parts.proofs.Lengths.{length-le}
@@ -27,11 +27,10 @@ IsEncoding-from_part m root slots e short is =
     let all = subst (λ (r : List ℕ). Stands m 0 r) e (itself m) in
     let rest = stands-then m 0 (8 * 1) (le 8 (8 + root.entry)) root.bytes.items (omega (arith, length-le 8 (8 + root.entry))) all in
     let place = number_at-stands m 0 4 8 (8 + root.entry) (omega arith) (omega arith) (stands-first m 0 (le 8 (8 + root.entry)) _ all) in
-    let laid : AreLaidOut (0 + 4) (regions m (8 * 1 + root.entry) (table slots)) (length m) =
-    same-end _ (8 * 1) _ (length m) (regions m (8 * 1 + root.entry) (table slots)) (omega arith) long (is.laid small m 1 rest) in
+    let laid = λ (g : Grain). same-end (0 + 4) (8 * 1) _ (length m) (regions g m (8 * 1 + root.entry) (table slots)) (omega arith) long (is.laid g small m 1 rest) in
     record {
       holds = (8 * 1 + root.entry, place, is.holds small m 1 rest);
-      strict = IsLaidOut-from m slots (omega arith, omega arith, subst (λ (k : ℕ). AreLaidOut (0 + 4) (regions m k (table slots)) (length m)) (sym (ap target_place place)) laid);
+      strict = IsLaidOut-from m slots (λ g. (omega arith, omega arith, subst (λ (k : ℕ). AreLaidOut (0 + 4) (regions g m k (table slots)) (length m)) (sym (ap target_place place)) (laid g)));
       size = length-rooted m root slots e is;
       small = short;
     }

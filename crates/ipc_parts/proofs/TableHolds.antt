@@ -10,11 +10,11 @@ use Rattle.ipc_parts.specs.Tree.{Part, Slots, table}
 use Rattle.ipc_parts.specs.Holds.{HoldsPart, HoldsSlots, count_slots}
 use Rattle.ipc_parts.specs.Sizes.{size_of, slots_size}
 use Rattle.ipc_devices.specs.declared.fault.TableFault.{TableFault}
-use Rattle.ipc_parts.specs.Strict.{Region, region, regions, inline_regions, child_regions, slot_place, target_place, vtable_place, AreLaidOut}
+use Rattle.ipc_parts.specs.Strict.{Grain, by_part, by_value, Region, region, regions, inline_regions, child_regions, slot_place, stated_size, target_place, vtable_place, vtable_stated, AreLaidOut}
 use Rattle.ipc_parts.proofs.LaidOut.{AreLaidOut-later, AreLaidOut-append}
 use Rattle.ipc_parts.specs.Pads.{le, missing, zeros}
 use Rattle.ipc_parts.specs.Parts.{vtable_size, vtable_bytes, entries, tail_of, tails, number_in, numbers, table_bytes, Stands, IsPart, AreSlots, no_more, is_absent, is_number, is_offset}
-use Rattle.ipc_views.specs.Tables.{number_at, table_at, slot_at, target_at}
+use Rattle.ipc_views.specs.Tables.{Opened as OpenedAt, number_at, table_at, slot_at, target_at}
 use Rattle.ipc_parts.proofs.TableBytes.{length-vtable, length-numbers, length-table}
 use Rattle.ipc_parts.proofs.Lengths.{length-le}
 use Rattle.ipc_parts.proofs.Standing.{stands-first, stands-then, stands-at, number_at-stands}
@@ -164,28 +164,28 @@ inline-laid m t v n i u _ _ (is_offset {slots = slots} {rest = rest} {y = y} {x 
     (inline-laid m t v n (i + 1) _ slots rest a (next m t v n i u (Offset y) slots (8 + 8 * i) refl length_is (omega arith) l) at (omega arith)))
 
 -- the regions of a part that stands at a multiple of 8
-pub laid-at : (m : List ℕ) (p q hi : ℕ) (y : Built) (x : Part) → IsPart y x → length y.bytes.items < 2 ^ 31 → p % 8 ≡ 0 → p + y.entry ≡ q → p + length y.bytes.items ≡ hi → Stands m p y.bytes.items → AreLaidOut p (regions m q x) hi
-laid-at m p q hi y x is small whole e f s =
+pub laid-at : (g : Grain) (m : List ℕ) (p q hi : ℕ) (y : Built) (x : Part) → IsPart y x → length y.bytes.items < 2 ^ 31 → p % 8 ≡ 0 → p + y.entry ≡ q → p + length y.bytes.items ≡ hi → Stands m p y.bytes.items → AreLaidOut p (regions g m q x) hi
+laid-at g m p q hi y x is small whole e f s =
     let a : p ≡ 8 * (p / 8) = omega arith in
     let b : 8 * (p / 8) + y.entry ≡ q = omega arith in
     let d : 8 * (p / 8) + length y.bytes.items ≡ hi = omega arith in
-    subst (λ (r : ℕ). AreLaidOut r (regions m q x) hi) (sym a) (subst (λ (r : ℕ). AreLaidOut (8 * (p / 8)) (regions m q x) r) d
-    (subst (λ (r : ℕ). AreLaidOut (8 * (p / 8)) (regions m r x) (8 * (p / 8) + length y.bytes.items)) b
-    (is.laid small m (p / 8) (stands-at m p (8 * (p / 8)) y.bytes.items a s))))
+    subst (λ (r : ℕ). AreLaidOut r (regions g m q x) hi) (sym a) (subst (λ (r : ℕ). AreLaidOut (8 * (p / 8)) (regions g m q x) r) d
+    (subst (λ (r : ℕ). AreLaidOut (8 * (p / 8)) (regions g m r x) (8 * (p / 8) + length y.bytes.items)) b
+    (is.laid g small m (p / 8) (stands-at m p (8 * (p / 8)) y.bytes.items a s))))
 
 pub same-end : (lo lo' hi hi' : ℕ) (rs : List Region) → lo ≤ lo' → hi ≡ hi' → AreLaidOut lo' rs hi → AreLaidOut lo rs hi'
 same-end lo lo' hi hi' rs h e l = subst (λ (r : ℕ). AreLaidOut lo rs r) e (AreLaidOut-later lo lo' hi rs h l)
 
-children-laid : (m : List ℕ) (t v n i u : ℕ) (slots : List Slot) (xs : Slots) → AreSlots slots xs → Layout m t v n i u slots → 8 * n + u + length (tails slots) < 2 ^ 31
-    → AreLaidOut (t + 8 + 8 * n + u) (child_regions m t i xs) (t + 8 + 8 * n + (u + length (tails slots)))
-children-laid m t v n i u _ _ no_more l small = omega arith
-children-laid m t v n i u _ _ (is_absent {slots = slots} {rest = rest} a) l small =
+children-laid : (g : Grain) (m : List ℕ) (t v n i u : ℕ) (slots : List Slot) (xs : Slots) → AreSlots slots xs → Layout m t v n i u slots → 8 * n + u + length (tails slots) < 2 ^ 31
+    → AreLaidOut (t + 8 + 8 * n + u) (child_regions g m t i xs) (t + 8 + 8 * n + (u + length (tails slots)))
+children-laid g m t v n i u _ _ no_more l small = omega arith
+children-laid g m t v n i u _ _ (is_absent {slots = slots} {rest = rest} a) l small =
     same-end _ (t + 8 + 8 * n + (u + 0)) _ _ _ (omega arith) (omega arith)
-    (children-laid m t v n (i + 1) _ slots rest a (next m t v n i u Absent slots 0 refl (omega arith) (omega arith) l) (omega arith))
-children-laid m t v n i u _ _ (is_number {slots = slots} {rest = rest} {w = w} {x = x} {y = y} same fits whole range a) l small =
+    (children-laid g m t v n (i + 1) _ slots rest a (next m t v n i u Absent slots 0 refl (omega arith) (omega arith) l) (omega arith))
+children-laid g m t v n i u _ _ (is_number {slots = slots} {rest = rest} {w = w} {x = x} {y = y} same fits whole range a) l small =
     same-end _ (t + 8 + 8 * n + (u + 0)) _ _ _ (omega arith) (omega arith)
-    (children-laid m t v n (i + 1) _ slots rest a (next m t v n i u (Number x) slots (8 + 8 * i) refl (omega arith) (omega arith) l) (omega arith))
-children-laid m t v n i u _ _ (is_offset {slots = slots} {rest = rest} {y = y} {x = z} is a) l small =
+    (children-laid g m t v n (i + 1) _ slots rest a (next m t v n i u (Number x) slots (8 + 8 * i) refl (omega arith) (omega arith) l) (omega arith))
+children-laid g m t v n i u _ _ (is_offset {slots = slots} {rest = rest} {y = y} {x = z} is a) l small =
     let o = 8 * (length slots + 1) + u + y.entry in
     let q = t + (8 + 8 * i) in
     let cut = length-append y.bytes.items (tails slots) in
@@ -196,11 +196,11 @@ children-laid m t v n i u _ _ (is_offset {slots = slots} {rest = rest} {y = y} {
     let far = number_at-stands m q 4 8 o (omega arith) (omega arith) (stands-at m _ q (le 8 o) (omega arith) (stands-first m _ (le 8 o) _ l.numbered)) in
     let there = ap (λ (r : Result (Option ℕ) TableFault). target_place (target_at m (slot_place r))) (entry-is m t v n i u (Offset y) slots refl l) ∙ ap target_place (target-is m q o far) in
     let hi = t + 8 + 8 * n + (u + length (y.bytes.items ++ tails slots)) in
-    subst (λ (r : ℕ). AreLaidOut (t + 8 + 8 * n + u) (regions m r z ++ child_regions m t (i + 1) rest) hi) (sym there)
-    (AreLaidOut-append _ (t + 8 + 8 * n + (u + length y.bytes.items)) hi (regions m (q + o) z) (child_regions m t (i + 1) rest)
-    (laid-at m (t + 8 + 8 * n + u) (q + o) _ y z is (omega arith) (omega arith) (omega arith) (omega arith) (stands-first m _ y.bytes.items _ l.followed))
-    (same-end _ _ _ hi (child_regions m t (i + 1) rest) (omega arith) (omega arith)
-    (children-laid m t v n (i + 1) _ slots rest a (next m t v n i u (Offset y) slots (8 + 8 * i) refl length_is (omega arith) l) (omega arith))))
+    subst (λ (r : ℕ). AreLaidOut (t + 8 + 8 * n + u) (regions g m r z ++ child_regions g m t (i + 1) rest) hi) (sym there)
+    (AreLaidOut-append _ (t + 8 + 8 * n + (u + length y.bytes.items)) hi (regions g m (q + o) z) (child_regions g m t (i + 1) rest)
+    (laid-at g m (t + 8 + 8 * n + u) (q + o) _ y z is (omega arith) (omega arith) (omega arith) (omega arith) (stands-first m _ y.bytes.items _ l.followed))
+    (same-end _ _ _ hi (child_regions g m t (i + 1) rest) (omega arith) (omega arith)
+    (children-laid g m t v n (i + 1) _ slots rest a (next m t v n i u (Offset y) slots (8 + 8 * i) refl length_is (omega arith) l) (omega arith))))
 
 missing-whole : (p n : ℕ) → (8 * p + (n + missing n) + 0) % 8 ≡ 0
 missing-whole p n = omega arith
@@ -241,9 +241,24 @@ opened-table m p slots few built_small all =
 missing-eighth : (p n : ℕ) → (8 * p + (n + missing n)) % 8 ≡ 0
 missing-eighth p n = omega arith
 
-table-laid : (m : List ℕ) (p : ℕ) (slots : List Slot) (xs : Slots) → AreSlots slots xs → length (table_bytes slots) < 2 ^ 31 → Opened m p slots
-    → AreLaidOut (8 * p) (regions m (8 * p + vtable_size (length slots)) (table xs)) (8 * p + length (table_bytes slots))
-table-laid m p slots xs are small o =
+-- what the vtable says
+stated-is : (m : List ℕ) (t v k size : ℕ) → table_at m t ≡ Ok (v, k) → number_at 2 m (v + 2) ≡ Ok size → stated_size m t ≡ size
+stated-is m t v k size e f = ap (λ (r : Result OpenedAt TableFault). target_place (number_at 2 m (vtable_place r + 2))) e ∙ ap target_place f
+
+-- the parts below, after a table of this size
+below-laid : (g : Grain) (m : List ℕ) (p : ℕ) (slots : List Slot) (xs : Slots) → AreSlots slots xs → length (table_bytes slots) < 2 ^ 31 → Opened m p slots
+    → AreLaidOut (8 * p + vtable_size (length slots) + (8 + 8 * length slots)) (child_regions g m (8 * p + vtable_size (length slots)) 0 xs) (8 * p + length (table_bytes slots))
+below-laid g m p slots xs are small o =
+    let n = length slots in
+    let t = 8 * p + vtable_size n in
+    let long = length-table slots in
+    let within : 8 * n + 0 + length (tails slots) < 2 ^ 31 = omega arith in
+    let hi = 8 * p + length (table_bytes slots) in
+    same-end _ (t + 8 + 8 * n + 0) _ hi _ (omega arith) (omega arith) (children-laid g m t (8 * p) n 0 0 slots xs are o.layout within)
+
+table-laid : (g : Grain) (m : List ℕ) (p : ℕ) (slots : List Slot) (xs : Slots) → AreSlots slots xs → length (table_bytes slots) < 2 ^ 31 → Opened m p slots
+    → AreLaidOut (8 * p) (regions g m (8 * p + vtable_size (length slots)) (table xs)) (8 * p + length (table_bytes slots))
+table-laid by_value m p slots xs are small o =
     let n = length slots in
     let t = 8 * p + vtable_size n in
     let l = o.layout in
@@ -252,13 +267,26 @@ table-laid m p slots xs are small o =
     let count = count-is slots xs are in
     let within : 8 * n + 0 + length (tails slots) < 2 ^ 31 = omega arith in
     let hi = 8 * p + length (table_bytes slots) in
-    let rs = inline_regions m t 0 xs ++ child_regions m t 0 xs in
+    let rs = inline_regions m t 0 xs ++ child_regions by_value m t 0 xs in
     let inner : AreLaidOut (t + 4) rs hi =
-    AreLaidOut-append _ (t + 8 + 8 * n) hi (inline_regions m t 0 xs) (child_regions m t 0 xs)
+    AreLaidOut-append _ (t + 8 + 8 * n) hi (inline_regions m t 0 xs) (child_regions by_value m t 0 xs)
     (AreLaidOut-later _ (t + 8 + 8 * 0) _ _ (omega arith) (inline-laid m t (8 * p) n 0 0 slots xs are l at within))
-    (same-end _ (t + 8 + 8 * n + 0) _ hi _ (omega arith) (omega arith) (children-laid m t (8 * p) n 0 0 slots xs are l within)) in
+    (AreLaidOut-later _ (t + (8 + 8 * n)) _ _ (omega arith) (below-laid by_value m p slots xs are small o)) in
     let outer : AreLaidOut (8 * p + (4 + 2 * count_slots xs)) (region 4 t 4 ∷ rs) hi = (omega arith, omega arith, inner) in
     first-region 2 (8 * p) _ (8 * p) (4 + 2 * count_slots xs) hi (region 4 t 4 ∷ rs) (ap vtable_place l.opened) (omega arith) (omega arith) outer
+table-laid by_part m p slots xs are small o =
+    let n = length slots in
+    let t = 8 * p + vtable_size n in
+    let l = o.layout in
+    let at : t % 8 ≡ 0 = missing-eighth p (4 + 2 * n) in
+    let hi = 8 * p + length (table_bytes slots) in
+    let rs = child_regions by_part m t 0 xs in
+    let stated = stated-is m t (8 * p) (4 + 2 * n) (8 + 8 * n) l.opened o.size in
+    let inner : AreLaidOut (8 * p + (4 + 2 * n)) (region 4 t (8 + 8 * n) ∷ rs) hi = (omega arith, omega arith, below-laid by_part m p slots xs are small o) in
+    let outer : AreLaidOut (8 * p + (4 + 2 * n)) (region 4 t (stated_size m t) ∷ rs) hi =
+    subst (λ (k : ℕ). AreLaidOut (8 * p + (4 + 2 * n)) (region 4 t k ∷ rs) hi) (sym stated) inner in
+    subst (λ (k : ℕ). AreLaidOut (8 * p) (region 2 (vtable_place (table_at m t)) k ∷ (region 4 t (stated_size m t) ∷ rs)) hi) (sym (ap vtable_stated l.opened))
+    (first-region 2 (8 * p) _ (8 * p) (4 + 2 * n) hi (region 4 t (stated_size m t) ∷ rs) (ap vtable_place l.opened) (omega arith) (omega arith) outer)
 
 table-size : (slots : List Slot) (xs : Slots) → AreSlots slots xs → length (table_bytes slots) ≡ size_of (table xs)
 table-size slots xs are = omega (arith, length-table slots, count-is slots xs are, length-tails slots xs are)
@@ -276,8 +304,8 @@ IsPart-table built slots xs bytes entry are few =
           let within : length (table_bytes slots) < 2 ^ 31 = short small in
           subst (λ (k : ℕ). HoldsPart m (8 * p + k) (table xs)) (sym entry)
           (8 * p, 8 + 8 * n, o.layout.opened ∙ count, o.size, slots-hold m _ _ n 0 0 slots xs are o.layout (let z = length-table slots in omega arith));
-      laid = λ small m p s.
-          subst (λ (k : ℕ). AreLaidOut (8 * p) (regions m (8 * p + k) (table xs)) (8 * p + length built.bytes.items)) (sym entry)
-          (subst (λ (k : List ℕ). AreLaidOut (8 * p) (regions m (8 * p + vtable_size n) (table xs)) (8 * p + length k)) (sym bytes)
-          (table-laid m p slots xs are (short small) (opened (short small) m p s)));
+      laid = λ g small m p s.
+          subst (λ (k : ℕ). AreLaidOut (8 * p) (regions g m (8 * p + k) (table xs)) (8 * p + length built.bytes.items)) (sym entry)
+          (subst (λ (k : List ℕ). AreLaidOut (8 * p) (regions g m (8 * p + vtable_size n) (table xs)) (8 * p + length k)) (sym bytes)
+          (table-laid g m p slots xs are (short small) (opened (short small) m p s)));
     }

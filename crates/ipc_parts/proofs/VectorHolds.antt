@@ -9,8 +9,8 @@ use Rattle.ipc_devices.specs.declared.fault.TableFault.TheVariants.{Utf8}
 use Rattle.ipc_parts.specs.Tree.{text, elements, tables, Parts, no_parts, part}
 use Rattle.ipc_parts.specs.Holds.{HoldsPart, HoldsParts, vector, count_parts}
 use Rattle.ipc_parts.specs.Sizes.{parts_size, size_of}
-use Rattle.ipc_parts.specs.Strict.{regions, offset_regions, part_regions, target_place, AreLaidOut}
-use Rattle.ipc_parts.proofs.LaidOut.{AreLaidOut-append}
+use Rattle.ipc_parts.specs.Strict.{Grain, by_part, by_value, regions, offset_regions, part_regions, target_place, AreLaidOut}
+use Rattle.ipc_parts.proofs.LaidOut.{AreLaidOut-append, AreLaidOut-later}
 use Rattle.ipc_parts.specs.Pads.{le, missing, short, zeros}
 use Rattle.ipc_parts.specs.Parts.{joined, offsets, gap_after, vector_bytes, text_bytes, elements_bytes, Stands, IsPart, AreParts, end_parts, is_part}
 use Rattle.ipc_views.specs.Tables.{bytes_at, number_at, target_at, text_at, vector_at, and_then, as_text}
@@ -46,7 +46,7 @@ IsPart-text built s bytes entry valid =
     let size : length built.bytes.items ≡ size_of (text s) = ap length bytes ∙ long in
     record {
       size = size;
-      laid = λ small m p st. (omega arith, omega arith, omega arith);
+      laid = λ g small m p st. (omega arith, omega arith, omega arith);
       holds = λ small m p st.
           let same : n ≡ length s = omega arith in
           let all = subst (λ (r : List ℕ). Stands m (8 * p) r) bytes st in
@@ -62,6 +62,11 @@ IsPart-text built s bytes entry valid =
           (text-is m s (8 * p) count here valid, subst (λ (k : ℕ). number_at 1 m k ≡ Ok 0) e ends);
     }
 
+elements-laid : (g : Grain) (m : List ℕ) (lo t hi align size count : ℕ) (raw : List ℕ) → lo ≤ t → t % 8 ≡ 4 → 8 % align ≡ 0 → t + (4 + size * count) ≤ hi
+    → AreLaidOut lo (regions g m t (elements align size count raw)) hi
+elements-laid by_part m lo t hi align size count raw h at whole end = (h, omega arith, end)
+elements-laid by_value m lo t hi align size count raw h at whole end = (h, omega arith, (omega arith, whole-by align (t + 4) whole (omega arith), omega arith))
+
 pub IsPart-elements : (built : Built) (align size count : ℕ) (raw : List ℕ) → built.bytes.items ≡ elements_bytes count raw → built.entry ≡ 4 → 8 % align ≡ 0 → 0 < size → length raw ≡ size * count → IsPart built (elements align size count raw)
 unfolding elements_bytes
 IsPart-elements built align size count raw bytes entry whole some e =
@@ -70,7 +75,9 @@ IsPart-elements built align size count raw bytes entry whole some e =
     let total : length built.bytes.items ≡ size_of (elements align size count raw) = ap length bytes ∙ long in
     record {
       size = total;
-      laid = λ small m p st. (omega arith, omega arith, (omega arith, whole-by align (8 * p + built.entry + 4) whole (omega arith), omega arith));
+      laid = λ g small m p st.
+          let hi : 8 * p + built.entry + (4 + size * count) ≤ 8 * p + length built.bytes.items = omega (arith, total) in
+          elements-laid g m (8 * p) (8 * p + built.entry) _ align size count raw (omega arith) (omega arith) whole hi;
       holds = λ small m p st.
           let few = at-most size count some in
           let same : n ≡ count = omega arith in
@@ -153,20 +160,20 @@ offsets-laid q no_parts h = omega arith
 offsets-laid q (part x rest) h =
     (omega arith, h, same-end _ (q + 4) _ _ _ (omega arith) (omega arith) (offsets-laid (q + 4) rest (omega arith)))
 
-parts-laid : (m : List ℕ) (q gap u : ℕ) (parts : List Built) (xs : Parts) → AreParts parts xs → Row m q gap u parts
-    → AreLaidOut (q + 4 * length parts + gap + u) (part_regions m q xs) (q + 4 * length parts + gap + u + length (joined parts))
-parts-laid m q gap u _ _ end_parts r = omega arith
-parts-laid m q gap u _ _ (is_part {parts = parts} {rest = rest} {y = y} {x = x} is a) r =
+parts-laid : (g : Grain) (m : List ℕ) (q gap u : ℕ) (parts : List Built) (xs : Parts) → AreParts parts xs → Row m q gap u parts
+    → AreLaidOut (q + 4 * length parts + gap + u) (part_regions g m q xs) (q + 4 * length parts + gap + u + length (joined parts))
+parts-laid g m q gap u _ _ end_parts r = omega arith
+parts-laid g m q gap u _ _ (is_part {parts = parts} {rest = rest} {y = y} {x = x} is a) r =
     let o = 4 * (length parts + 1) + (gap + u) + y.entry in
     let cut = length-append y.bytes.items (joined parts) in
     let whole = r.whole in
     let here = q + 4 * length (y ∷ parts) + gap + u in
     let hi = here + length (y.bytes.items ++ joined parts) in
-    subst (λ (k : ℕ). AreLaidOut here (regions m k x ++ part_regions m (q + 4) rest) hi) (sym (ap target_place (offset-is m q gap u y parts r)))
-    (AreLaidOut-append here (here + length y.bytes.items) hi (regions m (q + o) x) (part_regions m (q + 4) rest)
-    (laid-at m here (q + o) _ y x is (first-small m q gap u y parts r) (omega arith) (omega arith) refl (stands-first m here y.bytes.items _ r.followed))
-    (same-end _ _ _ hi (part_regions m (q + 4) rest) (omega arith) (omega arith)
-    (parts-laid m (q + 4) gap (u + length y.bytes.items) parts rest a (next-row m q gap u y parts r))))
+    subst (λ (k : ℕ). AreLaidOut here (regions g m k x ++ part_regions g m (q + 4) rest) hi) (sym (ap target_place (offset-is m q gap u y parts r)))
+    (AreLaidOut-append here (here + length y.bytes.items) hi (regions g m (q + o) x) (part_regions g m (q + 4) rest)
+    (laid-at g m here (q + o) _ y x is (first-small m q gap u y parts r) (omega arith) (omega arith) refl (stands-first m here y.bytes.items _ r.followed))
+    (same-end _ _ _ hi (part_regions g m (q + 4) rest) (omega arith) (omega arith)
+    (parts-laid g m (q + 4) gap (u + length y.bytes.items) parts rest a (next-row m q gap u y parts r))))
 
 gap-whole : (p n : ℕ) → (8 * p + 4 + 4 * n + missing (4 + 4 * n) + 0) % 8 ≡ 0
 gap-whole p n = omega arith
@@ -199,19 +206,26 @@ count-stands m p parts h all =
     number_at-stands m (8 * p) 4 4 s (omega arith) (omega arith) (stands-first m _ (le 4 s) _ (stands-first m (8 * p) (le 4 s ++ offsets (gap_after parts) 0 parts) _ all))
     ∙ ap (λ (k : ℕ). Ok k) same
 
-tables-laid : (m : List ℕ) (p : ℕ) (parts : List Built) (xs : Parts) → AreParts parts xs → length (vector_bytes parts) < 2 ^ 31 → Row m (8 * p + 4) (gap_after parts) 0 parts
-    → AreLaidOut (8 * p) (regions m (8 * p) (tables xs)) (8 * p + length (vector_bytes parts))
-tables-laid m p parts xs are small row =
+-- the parts, after the offsets and a gap
+rest-laid : (g : Grain) (m : List ℕ) (p : ℕ) (parts : List Built) (xs : Parts) → AreParts parts xs → length (vector_bytes parts) < 2 ^ 31 → Row m (8 * p + 4) (gap_after parts) 0 parts
+    → AreLaidOut (8 * p + (4 + 4 * count_parts xs)) (part_regions g m (8 * p + 4) xs) (8 * p + length (vector_bytes parts))
+rest-laid g m p parts xs are small row =
     let n = length parts in
     let gap = gap_after parts in
     let long = length-vector parts in
     let count = count-is parts xs are in
+    same-end _ (8 * p + 4 + 4 * n + gap + 0) _ (8 * p + length (vector_bytes parts)) _ (omega arith) (omega arith) (parts-laid g m (8 * p + 4) gap 0 parts xs are row)
+
+tables-laid : (g : Grain) (m : List ℕ) (p : ℕ) (parts : List Built) (xs : Parts) → AreParts parts xs → length (vector_bytes parts) < 2 ^ 31 → Row m (8 * p + 4) (gap_after parts) 0 parts
+    → AreLaidOut (8 * p) (regions g m (8 * p) (tables xs)) (8 * p + length (vector_bytes parts))
+tables-laid by_part m p parts xs are small row = (omega arith, omega arith, rest-laid by_part m p parts xs are small row)
+tables-laid by_value m p parts xs are small row =
     let hi = 8 * p + length (vector_bytes parts) in (
       omega arith,
       omega arith,
-      AreLaidOut-append (8 * p + 4) (8 * p + 4 + 4 * count_parts xs) hi (offset_regions (8 * p + 4) xs) (part_regions m (8 * p + 4) xs)
+      AreLaidOut-append (8 * p + 4) (8 * p + 4 + 4 * count_parts xs) hi (offset_regions (8 * p + 4) xs) (part_regions by_value m (8 * p + 4) xs)
           (offsets-laid (8 * p + 4) xs (omega arith))
-          (same-end _ (8 * p + 4 + 4 * n + gap + 0) _ hi _ (omega arith) (omega arith) (parts-laid m (8 * p + 4) gap 0 parts xs are row)),
+          (AreLaidOut-later _ (8 * p + (4 + 4 * count_parts xs)) _ _ (omega arith) (rest-laid by_value m p parts xs are small row)),
     )
 
 pub IsPart-tables : (built : Built) (parts : List Built) (xs : Parts) → built.bytes.items ≡ vector_bytes parts → built.entry ≡ 0 → AreParts parts xs → IsPart built (tables xs)
@@ -232,8 +246,8 @@ IsPart-tables built parts xs bytes entry are =
                 (vector-is m (8 * p) 4 n (count-stands m p parts (omega arith) all) (let i = stands-inside m (8 * p + 4) _ row.offset in let off = length-offsets (gap_after parts) 0 parts in omega arith)),
             parts-hold m (8 * p + 4) (gap_after parts) 0 parts xs are row,
           );
-      laid = λ small m p s.
-          subst (λ (k : ℕ). AreLaidOut (8 * p) (regions m k (tables xs)) (8 * p + length built.bytes.items)) (e p)
-          (subst (λ (k : List ℕ). AreLaidOut (8 * p) (regions m (8 * p) (tables xs)) (8 * p + length k)) (sym bytes)
-          (tables-laid m p parts xs are (short small) (row-of m p parts (short small) (stands m p s))));
+      laid = λ g small m p s.
+          subst (λ (k : ℕ). AreLaidOut (8 * p) (regions g m k (tables xs)) (8 * p + length built.bytes.items)) (e p)
+          (subst (λ (k : List ℕ). AreLaidOut (8 * p) (regions g m (8 * p) (tables xs)) (8 * p + length k)) (sym bytes)
+          (tables-laid g m p parts xs are (short small) (row-of m p parts (short small) (stands m p s))));
     }

@@ -7,7 +7,7 @@ use Rattle.ipc_parts.specs.declared.build.Slot.TheVariants.{Absent, Number, Offs
 use Rattle.ipc_parts.specs.Tree.{Part, Slots, no_slots, absent, number, offset, Parts, no_parts, part}
 use Rattle.ipc_parts.specs.Holds.{HoldsPart}
 use Rattle.ipc_parts.specs.Sizes.{size_of}
-use Rattle.ipc_parts.specs.Strict.{AreLaidOut, regions}
+use Rattle.ipc_parts.specs.Strict.{AreLaidOut, Grain, regions}
 
 -- the bytes of the vtable of a table of n slots
 abbrev pub vtable_size : ℕ → ℕ
@@ -89,8 +89,8 @@ pub record Stands (m : List ℕ) (p : ℕ) (xs : List ℕ) : Type 0 where
 pub record IsPart (built : Built) (x : Part) : Type 0 where
   pub size : length built.bytes.items ≡ size_of x
   pub holds : length built.bytes.items < 2 ^ 31 → (m : List ℕ) (p : ℕ) → Stands m (8 * p) built.bytes.items → HoldsPart m (8 * p + built.entry) x
-  pub laid : length built.bytes.items < 2 ^ 31 → (m : List ℕ) (p : ℕ) → Stands m (8 * p) built.bytes.items
-      → AreLaidOut (8 * p) (regions m (8 * p + built.entry) x) (8 * p + length built.bytes.items)
+  pub laid : (g : Grain) → length built.bytes.items < 2 ^ 31 → (m : List ℕ) (p : ℕ) → Stands m (8 * p) built.bytes.items
+      → AreLaidOut (8 * p) (regions g m (8 * p + built.entry) x) (8 * p + length built.bytes.items)
 
 -- each slot is what the table is to hold there
 pub data AreSlots : List Slot → Slots → Type 0 where

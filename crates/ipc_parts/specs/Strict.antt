@@ -1,8 +1,9 @@
 -- The places that a message's parts take, in the order in which they are written.
-use Rattle.std.specs.Prelude.{ℕ, ◌≡◌, ◌+◌, ◌*◌, ◌%◌, ◌≤◌, List, [], ◌∷◌, ◌++◌, length, Option, Some, None, Result, Ok, Err}
+-- (Flatbuffers, "Internals": tables, vtables, vectors, strings; alignment.)
+use Rattle.std.specs.Prelude.{ℕ, ◌≡◌, ◌+◌, ◌*◌, ◌%◌, ◌≤◌, List, [], ◌∷◌, ◌++◌, ◌⊎◌, length, Option, Some, None, Result, Ok, Err}
 use Rattle.std.specs.List.{All, AllPairs}
 use Rattle.ipc_devices.specs.declared.fault.TableFault.{TableFault}
-use Rattle.ipc_parts.specs.Holds.{count_slots}
+use Rattle.ipc_parts.specs.Holds.{count_parts, count_slots}
 use Rattle.ipc_parts.specs.Tree.{Part, text, elements, table, tables, Slots, no_slots, absent, number, offset, Parts, no_parts, part}
 use Rattle.ipc_views.specs.Tables.{Opened, number_at, slot_at, target_at, table_at}
 
@@ -24,9 +25,18 @@ abbrev pub target_place : Result ℕ TableFault → ℕ
 target_place (Ok t) = t
 target_place (Err e) = 0
 
+-- where a table's vtable stands, and how many bytes it says that it has
 abbrev pub vtable_place : Result Opened TableFault → ℕ
 vtable_place (Ok v) = v.0
 vtable_place (Err e) = 0
+
+abbrev pub vtable_stated : Result Opened TableFault → ℕ
+vtable_stated (Ok v) = v.1
+vtable_stated (Err e) = 0
+
+-- how many bytes a table has, as its vtable says
+abbrev pub stated_size : List ℕ → ℕ → ℕ
+stated_size m t = target_place (number_at 2 m (vtable_place (table_at m t) + 2))
 
 -- the values in the slots from i on of the table at t
 abbrev pub inline_regions : List ℕ → ℕ → ℕ → Slots → List Region
@@ -39,34 +49,54 @@ abbrev pub offset_regions : ℕ → Parts → List Region
 offset_regions q no_parts = []
 offset_regions q (part x rest) = region 4 q 4 ∷ offset_regions (q + 4) rest
 
+-- A message is looked at part by part, or value by value.
+pub data Grain : Type 0 where
+  by_part : Grain
+  by_value : Grain
+
+-- The part at t: vtable and table by the sizes that are stated, a vector as a whole. Or what stands in it: each number, offset and element.
+abbrev pub own_regions : Grain → List ℕ → ℕ → Part → List Region
+own_regions g m t (text bytes) = region 4 t (4 + length bytes + 1) ∷ []
+own_regions by_part m t (elements align size count bytes) = region 4 t (4 + size * count) ∷ []
+own_regions by_value m t (elements align size count bytes) = region 4 t 4 ∷ (region align (t + 4) (size * count) ∷ [])
+own_regions by_part m t (table slots) = region 2 (vtable_place (table_at m t)) (vtable_stated (table_at m t)) ∷ (region 4 t (stated_size m t) ∷ [])
+own_regions by_value m t (table slots) = region 2 (vtable_place (table_at m t)) (4 + 2 * count_slots slots) ∷ (region 4 t 4 ∷ inline_regions m t 0 slots)
+own_regions by_part m t (tables xs) = region 4 t (4 + 4 * count_parts xs) ∷ []
+own_regions by_value m t (tables xs) = region 4 t 4 ∷ offset_regions (t + 4) xs
+
 abbrev mutual
   -- the part at t and all that it leads to
-  pub regions : List ℕ → ℕ → Part → List Region
-  regions m t (text bytes) = region 4 t (4 + length bytes + 1) ∷ []
-  regions m t (elements align size count bytes) = region 4 t 4 ∷ (region align (t + 4) (size * count) ∷ [])
-  regions m t (table slots) =
-      region 2 (vtable_place (table_at m t)) (4 + 2 * count_slots slots) ∷ (region 4 t 4 ∷ (inline_regions m t 0 slots ++ child_regions m t 0 slots))
-  regions m t (tables parts) = region 4 t 4 ∷ (offset_regions (t + 4) parts ++ part_regions m (t + 4) parts)
+  pub regions : Grain → List ℕ → ℕ → Part → List Region
+  regions g m t (text bytes) = own_regions g m t (text bytes)
+  regions g m t (elements align size count bytes) = own_regions g m t (elements align size count bytes)
+  regions g m t (table slots) = own_regions g m t (table slots) ++ child_regions g m t 0 slots
+  regions g m t (tables xs) = own_regions g m t (tables xs) ++ part_regions g m (t + 4) xs
 
-  pub child_regions : List ℕ → ℕ → ℕ → Slots → List Region
-  child_regions m t i no_slots = []
-  child_regions m t i (absent rest) = child_regions m t (i + 1) rest
-  child_regions m t i (number w x rest) = child_regions m t (i + 1) rest
-  child_regions m t i (offset x rest) = regions m (target_place (target_at m (slot_place (slot_at m t i)))) x ++ child_regions m t (i + 1) rest
+  pub child_regions : Grain → List ℕ → ℕ → ℕ → Slots → List Region
+  child_regions g m t i no_slots = []
+  child_regions g m t i (absent rest) = child_regions g m t (i + 1) rest
+  child_regions g m t i (number w x rest) = child_regions g m t (i + 1) rest
+  child_regions g m t i (offset x rest) = regions g m (target_place (target_at m (slot_place (slot_at m t i)))) x ++ child_regions g m t (i + 1) rest
 
-  pub part_regions : List ℕ → ℕ → Parts → List Region
-  part_regions m q no_parts = []
-  part_regions m q (part x rest) = regions m (target_place (target_at m q)) x ++ part_regions m (q + 4) rest
+  pub part_regions : Grain → List ℕ → ℕ → Parts → List Region
+  part_regions g m q no_parts = []
+  part_regions g m q (part x rest) = regions g m (target_place (target_at m q)) x ++ part_regions g m (q + 4) rest
 
 -- the root's place, and the parts of the root's table
-abbrev pub message_regions : List ℕ → Slots → List Region
-message_regions m slots = region 4 0 4 ∷ regions m (target_place (number_at 4 m 0)) (table slots)
+abbrev pub message_regions : Grain → List ℕ → Slots → List Region
+message_regions g m slots = region 4 0 4 ∷ regions g m (target_place (number_at 4 m 0)) (table slots)
 
--- Each number and each vector of structs stands at a multiple of its alignment, and the parts lie in the message, no two of them overlapping.
+-- one ends before the other begins
+abbrev pub AreApart : Region → Region → Type 0
+AreApart r s = (r.from + r.size ≤ s.from) ⊎ (s.from + s.size ≤ r.from)
+
+-- Part by part and value by value: each stands at a multiple of its alignment and inside of the message, and no two overlap,
+-- whatever their order. Here they stand in order too.
 pub record IsLaidOut (m : List ℕ) (slots : Slots) : Type 0 where
-  pub aligned : All (λ r. r.from % r.align ≡ 0) (message_regions m slots)
-  pub inside : All (λ r. r.from + r.size ≤ length m) (message_regions m slots)
-  pub apart : AllPairs (λ r s. r.from + r.size ≤ s.from) (message_regions m slots)
+  pub aligned : (g : Grain) → All (λ r. r.from % r.align ≡ 0) (message_regions g m slots)
+  pub inside : (g : Grain) → All (λ r. r.from + r.size ≤ length m) (message_regions g m slots)
+  pub apart : (g : Grain) → AllPairs AreApart (message_regions g m slots)
+  pub in_order : (g : Grain) → AllPairs (λ r s. r.from + r.size ≤ s.from) (message_regions g m slots)
 
 -- Each region is aligned, lies from lo to hi, and begins where the one before it has ended: the same, told step by step.
 abbrev pub AreLaidOut : ℕ → List Region → ℕ → Type 0
