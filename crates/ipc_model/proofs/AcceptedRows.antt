@@ -1,8 +1,12 @@
 -- Each row is computed.
-use Rattle.std.proofs.Common.{◌≡◌, ℕ, ◌<◌, ◌≤◌, List, [], ◌∷◌, lit<, lit≤, refl, ap, arith}
+use Rattle.std.proofs.Common.{◌≡◌, ℕ, ℤ, pos, negsuc, ◌<◌, ◌≤◌, List, [], ◌∷◌, lit<, lit≤, refl, ap, arith}
+use Rattle.std.specs.List.{AllByRecursion}
+use Rattle.std.specs.Prelude.{codes}
+use Rattle.lower.specs.Normal.{data_key}
+use Rattle.lower.specs.TypeTrees.{utf8, TypeTree, plain, single, no_fields}
 use Rattle.lower_arrays.specs.Slots.{Slot, text_slot}
-use Rattle.ipc_model.specs.Accepted.{IsAccepted}
-use Rattle.ipc_model.specs.AcceptedRows.{two_fields, under_one_id, AcceptedRows}
+use Rattle.ipc_model.specs.Accepted.{Brought, body_length, IsSayable, AreShared, IsAccepted}
+use Rattle.ipc_model.specs.AcceptedRows.{two_fields, under_one_id, AcceptedRows, lengths_offered, values_offered, brought, brought_as, lists_with, EdgeRows}
 use Rattle.ipc_model.specs.DictionaryRows.{texts, a, b}
 
 same_texts : IsAccepted (two_fields texts texts) (under_one_id (a ∷ []) (a ∷ []))
@@ -44,4 +48,47 @@ accepted_rows = record {
   too_many_blocks = λ v. let e : 33554433 ≤ 33554432 = v.few in absurd (omega arith);
   padded_body = refl;
   long_body = λ v. let e : 9223372036854775808 < 9223372036854775808 = v.bodies.0 in absurd (omega arith);
+}
+
+-- ---- at the edges
+
+no_columns : (ns body : List ℕ) → AllByRecursion IsSayable ns → IsSayable (body_length body) → IsAccepted no_fields (lengths_offered ns body)
+no_columns ns body n b = record { count = refl; types = refl; shared = tt; nodes = n; bodies = (b, tt) }
+
+only_values : (ds : List Brought) → AreShared ds → IsAccepted no_fields (values_offered ds)
+only_values ds h = record { count = refl; types = refl; shared = h; nodes = tt; bodies = tt }
+
+abbrev id_number : ℤ → ℕ
+id_number (pos n) = n
+id_number (negsuc n) = 0
+
+apart : (m n : ℕ) → pos m ≡ pos n → m ≡ n
+apart m n e = ap id_number e
+
+-- whether a type is a list
+abbrev is_list : TypeTree → ℕ
+is_list (single s f) = 1
+is_list _ = 0
+
+pub edge_rows : EdgeRows
+edge_rows = record {
+  longest_node = no_columns (1 ∷ 9223372036854775807 ∷ []) [] (lit< tt, (lit< tt, tt)) (lit< tt);
+  longer_node = λ v. let e : 9223372036854775808 < 9223372036854775808 = v.nodes.1.0 in absurd (omega arith);
+  longest_body = no_columns [] (1 ∷ 9223372036854775680 ∷ []) tt (lit< tt);
+  longer_body = λ v. let e : 9223372036854775808 < 9223372036854775808 = v.bodies.0 in absurd (omega arith);
+  third_is_other = λ v. let e : 97 ≡ 98 = ap first_byte (v.shared.0.1.0 refl) in absurd (omega arith);
+  two_ids = only_values (brought (a ∷ []) ∷ brought_as (pos 1) (plain utf8) (b ∷ []) ∷ [])
+      (((λ e. let f : 0 ≡ 1 = apart 0 1 e in absurd (omega arith)), tt), (tt, tt));
+  most_blocks_there = record { accepted = only_values [] tt; kept = tt; few = lit≤ tt; places = tt };
+  one_block_more = λ v. let e : 33554433 ≤ 33554432 = v.few in absurd (omega arith);
+  last_end = record { accepted = only_values [] tt; kept = tt; few = lit≤ tt; places = (lit< tt, (lit< tt, tt)) };
+  past_the_last_end = λ v. let e : 9223372036854775808 < 9223372036854775808 = v.places.1.0 in absurd (omega arith);
+  kept_in_normal_form = record {
+    accepted = only_values (brought_as (pos 0) (lists_with ((data_key, codes "m") ∷ [])) (a ∷ []) ∷ []) (tt, tt);
+    kept = ((refl, refl), tt);
+    few = lit≤ tt;
+    places = tt;
+  };
+  other_type = λ v. let e : 1 ≡ 0 = ap is_list v.kept.0.1 in absurd (omega arith);
+  another_id = record { accepted = only_values (brought_as (pos 1) (plain utf8) (b ∷ []) ∷ []) (tt, tt); kept = (tt, tt); few = lit≤ tt; places = tt };
 }

@@ -117,7 +117,7 @@ ids_decides (Some ids) n =
     and3 _ _ _ (Decides-eqb (length ids) n) (distinct_decides ids)
     (Decides-by_and (λ x. is_index x 127) (λ x. IsIndex x 127) (list_all (λ x. is_index x 127)) (λ x. index_decides x 127) refl (λ _ _. refl) ids)
 
-union_decides : (ids : Option (List ℤ)) (n : ℕ) → Decides (is_union ids n) (IsUnion ids n)
+pub union_decides : (ids : Option (List ℤ)) (n : ℕ) → Decides (is_union ids n) (IsUnion ids n)
 union_decides ids n =
     Decides-like (is_union ids n) (λ v. record { some = v.0; few = v.1; distinct = v.2 }) (λ v. (v.some, v.few, v.distinct))
     (and3 _ _ _ (le_decides 1 n) (le_decides n 127) (ids_decides ids n))

@@ -1,5 +1,5 @@
 -- Each row is computed.
-use Rattle.std.proofs.Common.{refl}
+use Rattle.std.proofs.Common.{ℕ, List, refl}
 use Rattle.std.specs.Str.{is_utf8, chars}
 use lib.Utf8.{encode}
 use Rattle.ipc_views.specs.Tables.{number_at, table_at, slot_at, spot_at, target_at, text_at, vector_at, table_in}
@@ -10,7 +10,7 @@ use Rattle.ipc_model.specs.Streams.{header_of, body_item, item, meant_within, me
 use Rattle.ipc_model.specs.Schemas.{integer_at, decimal_at, plain_at, single_at, group_at, pairs_at, encoding_at, field_from, field_at, schema_at, schema_of, head_of}
 use Rattle.ipc_model.specs.WholeStreams.{stream_of}
 use Rattle.ipc_model.specs.Files.{footer_at, metadata_of, block_header, chunk_at, dictionaries_at}
-use Rattle.ipc_model.specs.FileRows.{FileRows}
+use Rattle.ipc_model.specs.FileRows.{FileRows, FooterRows, BlockRows}
 
 pub file_rows : FileRows
 unfolding number_at table_at slot_at spot_at target_at text_at vector_at table_in structs_at signed32 signed64 is_utf8 chars encode integer_at decimal_at plain_at single_at group_at pairs_at encoding_at field_from field_at schema_at schema_of head_of frame sized marked lists_of entries_of batch record_meaning dictionary_meaning header_of body_item item meant_within meaning stream_of footer_at metadata_of block_header chunk_at dictionaries_at
@@ -25,4 +25,36 @@ file_rows = record {
   negative = refl;
   no_record = refl;
   no_block = refl;
+}
+
+pub footer_rows : FooterRows
+unfolding number_at table_at slot_at spot_at target_at text_at vector_at table_in structs_at signed32 signed64 is_utf8 chars encode integer_at decimal_at plain_at single_at group_at pairs_at encoding_at field_from field_at schema_at schema_of head_of frame sized marked lists_of entries_of batch record_meaning dictionary_meaning header_of body_item item meant_within meaning stream_of footer_at metadata_of block_header chunk_at dictionaries_at
+footer_rows = record {
+  cut_off = refl;
+  a_byte_before = refl;
+  negative_length = λ bytes. refl;
+  no_schema = refl;
+  no_dictionaries = refl;
+  no_records = refl;
+  short_file = refl;
+}
+
+pub block_rows : BlockRows
+unfolding number_at table_at slot_at spot_at target_at text_at vector_at table_in structs_at signed32 signed64 is_utf8 chars encode integer_at decimal_at plain_at single_at group_at pairs_at encoding_at field_from field_at schema_at schema_of head_of frame sized marked lists_of entries_of batch record_meaning dictionary_meaning header_of body_item item meant_within meaning stream_of footer_at metadata_of block_header chunk_at dictionaries_at
+block_rows = record {
+  in_order = refl;
+  in_other_order = refl;
+  first_record = refl;
+  second_record = refl;
+  last_counts = refl;
+  older_prefix = refl;
+  a_dictionary = refl;
+  a_record = refl;
+  negative_offset = refl;
+  negative_length = refl;
+  negative_body = refl;
+  fifth_version = refl;
+  fourth_version = refl;
+  first_version = refl;
+  no_version = refl;
 }

@@ -41,3 +41,8 @@ pub mod CutRows
 pub mod HeldColumns
 pub mod HeldRows
 pub mod ReadSlots
+pub mod SchemaRows
+pub mod KindRows
+pub mod MessageRows
+pub mod WritableRows
+pub mod ArrayRows

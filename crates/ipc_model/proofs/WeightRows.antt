@@ -12,6 +12,11 @@ weight_rows = record {
   no_timezone = refl;
   union_ids = refl;
   no_union_ids = refl;
+  dictionary_values = refl;
+  list_child = refl;
+  struct_fields = refl;
+  schema_metadata = refl;
+  normal_metadata = refl;
 }
 
 pub place_rows : PlaceRows

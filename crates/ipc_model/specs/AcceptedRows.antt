@@ -1,6 +1,7 @@
 -- Chunks that a writer takes. Beside each stands one that it refuses.
-use Rattle.std.specs.Prelude.{◌≡◌, ℕ, pos, ◌+◌, ◌-◌, ◌^◌, true, List, [], ◌∷◌}
-use Rattle.lower.specs.TypeTrees.{TypeTree, FieldTrees, int32, utf8, plain, field, no_fields, more_fields}
+use Rattle.std.specs.Prelude.{◌≡◌, ℕ, ℤ, pos, ◌+◌, ◌-◌, ◌^◌, true, List, [], ◌∷◌, codes}
+use Rattle.lower.specs.Normal.{data_key}
+use Rattle.lower.specs.TypeTrees.{Pairs, TypeTree, FieldTrees, int32, utf8, binary, list, plain, single, field, no_fields, more_fields}
 use Rattle.lower_arrays.specs.Slots.{Slot}
 use Rattle.ipc_model.specs.Accepted.{Brought, Offer, body_length, IsAccepted, IsAcceptedByFile}
 use Rattle.ipc_model.specs.Batches.{Column}
@@ -45,3 +46,40 @@ pub record AcceptedRows : Type 0 where
   pub padded_body : body_length (0 ∷ 1 ∷ 64 ∷ 65 ∷ []) ≡ 256
   pub long_body : ¬ IsAccepted (two_fields (plain int32) (plain int32))
       (offer (column_is (plain int32) [] ∷ column_is (plain int32) [] ∷ []) [] (2 ^ 63 - 63))
+
+-- ---- at the edges
+
+-- a chunk without columns, whose messages have such lengths of nodes and of buffers
+abbrev pub lengths_offered : List ℕ → List ℕ → Offer
+lengths_offered ns body = record { columns = []; dictionaries = []; nodes = ns; bodies = body ∷ [] }
+
+-- one without columns, with such values
+abbrev pub values_offered : List Brought → Offer
+values_offered ds = record { columns = []; dictionaries = ds; nodes = []; bodies = [] }
+
+abbrev pub brought_as : ℤ → TypeTree → List Slot → Brought
+brought_as id t xs = record { id = id; values = record { type = t; slots = xs } }
+
+-- a list of integers, whose field has metadata
+abbrev pub lists_with : Pairs → TypeTree
+lists_with metadata = single list (field [] (plain int32) true metadata)
+
+abbrev pub empty_file : ℕ → List ℕ → List Brought → Type 0
+empty_file blocks ends ds = IsAcceptedByFile no_fields ((pos 0, record { type = lists_with []; slots = a ∷ [] }) ∷ []) blocks ends (values_offered ds)
+
+-- Lengths and ends are at most 2 ^ 63 - 1, a body's with its padding, and a file has at most 2 ^ 25 blocks. Values of one id are the same wherever they stand, and those of two ids needn't be. In a file they keep their
+-- type too, as it is in the normal form.
+pub record EdgeRows : Type 0 where
+  pub longest_node : IsAccepted no_fields (lengths_offered (1 ∷ (2 ^ 63 - 1) ∷ []) [])
+  pub longer_node : ¬ IsAccepted no_fields (lengths_offered (1 ∷ (2 ^ 63) ∷ []) [])
+  pub longest_body : IsAccepted no_fields (lengths_offered [] (1 ∷ (2 ^ 63 - 128) ∷ []))
+  pub longer_body : ¬ IsAccepted no_fields (lengths_offered [] (1 ∷ (2 ^ 63 - 127) ∷ []))
+  pub third_is_other : ¬ IsAccepted no_fields (values_offered (brought (a ∷ []) ∷ brought_as (pos 1) (plain utf8) (b ∷ []) ∷ brought (b ∷ []) ∷ []))
+  pub two_ids : IsAccepted no_fields (values_offered (brought (a ∷ []) ∷ brought_as (pos 1) (plain utf8) (b ∷ []) ∷ []))
+  pub most_blocks_there : empty_file (2 ^ 25) [] []
+  pub one_block_more : ¬ empty_file (2 ^ 25 + 1) [] []
+  pub last_end : empty_file 1 (64 ∷ (2 ^ 63 - 1) ∷ []) []
+  pub past_the_last_end : ¬ empty_file 1 (64 ∷ (2 ^ 63) ∷ []) []
+  pub kept_in_normal_form : empty_file 1 [] (brought_as (pos 0) (lists_with ((data_key, codes "m") ∷ [])) (a ∷ []) ∷ [])
+  pub other_type : ¬ empty_file 1 [] (brought_as (pos 0) (plain utf8) (a ∷ []) ∷ [])
+  pub another_id : empty_file 1 [] (brought_as (pos 1) (plain utf8) (b ∷ []) ∷ [])

@@ -1,11 +1,14 @@
--- A file that is written out, and what it means. Beside each stands one that has no meaning.
-use Rattle.std.specs.Prelude.{◌≡◌, ℕ, pos, List, [], ◌∷◌, ◌++◌, ◌-◌, length, slice_set, Some, None}
+-- Files that are written out, and what they mean. Beside each stands one that has no meaning.
+-- (Arrow columnar format, "IPC File Format"; File.fbs.)
+use Rattle.std.specs.Prelude.{◌≡◌, ℕ, ℤ, pos, negsuc, List, [], ◌∷◌, ◌++◌, ◌+◌, ◌-◌, ◌^◌, length, take, drop, slice_set, Option, Some, None, option_map}
 use Rattle.lower.specs.TypeTrees.{int32, plain}
 use Rattle.ipc_views.specs.declared.file.Block.{Block}
 use Rattle.ipc_model.specs.Batches.{Chunk}
 use Rattle.ipc_model.specs.ColumnRows.{number}
-use Rattle.ipc_model.specs.Files.{FileMetadata, magic, metadata_of, file_dictionaries, file_chunk}
-use Rattle.ipc_model.specs.StreamRows.{schema_metadata, demo_record, demo_schema, demo_chunk, marker, mark}
+use Rattle.ipc_model.specs.DictionaryRows.{text_head, texts, a, b, values_are, a_and_b, b_alone, two_keys, b_and_a, chunk_is}
+use Rattle.ipc_model.specs.Entries.{Dictionaries}
+use Rattle.ipc_model.specs.Files.{FileMetadata, magic, footer_of_length, metadata_of, BlockHeader, block_header, file_dictionaries, file_chunk}
+use Rattle.ipc_model.specs.StreamRows.{schema_metadata, record_metadata, demo_record, demo_schema, demo_chunk, marker, mark}
 
 -- the footer: a schema of x and y, no dictionaries, and one block (208, 192, 128)
 abbrev pub footer : List ℕ
@@ -57,3 +60,81 @@ pub record FileRows : Type 0 where
   pub negative : metadata_of (slice_set demo_file (length demo_file - 7) 0xFF) ≡ None
   pub no_record : file_chunk (with_block (block_at 8)) [] demo_file None None 0 ≡ None
   pub no_block : file_chunk demo_metadata [] demo_file None None 1 ≡ None
+
+-- ---- the footer
+
+-- the file up to its footer
+abbrev pub before_footer : List ℕ
+before_footer = take (length demo_file - 250) demo_file
+
+-- with a byte of the footer's vtable as 0: the slot that it says is absent
+abbrev pub without_slot : ℕ → Option FileMetadata
+without_slot place = metadata_of (slice_set demo_file (length demo_file - 250 + place) 0)
+
+-- A footer is as long as it is said to be: what stands behind its end isn't its own. A length from 2 ^ 31 on is one below 0, however long the file is. The schema and the
+-- blocks of records are there; where no blocks of dictionaries are listed, there are none.
+pub record FooterRows : Type 0 where
+  pub cut_off : metadata_of (before_footer ++ take 236 footer ++ (236 ∷ 0 ∷ 0 ∷ 0 ∷ []) ++ magic) ≡ None
+  pub a_byte_before : metadata_of (before_footer ++ footer ++ 0 ∷ (240 ∷ 0 ∷ 0 ∷ 0 ∷ []) ++ magic) ≡ None
+  pub negative_length : (bytes : List ℕ) → footer_of_length bytes (2 ^ 31) ≡ None
+  pub no_schema : without_slot 10 ≡ None
+  pub no_dictionaries : without_slot 12 ≡ Some demo_metadata
+  pub no_records : without_slot 14 ≡ None
+  pub short_file : metadata_of magic ≡ None
+
+-- ---- blocks
+
+-- a block of a message at some place, whose body has so many bytes
+abbrev pub block_of : ℕ → List ℕ → ℕ → Block
+block_of place message body = record { offset = pos place; meta_data_length = pos (length message - body); body_length = pos body }
+
+-- two messages with values of the id 0, and two records
+abbrev pub messages : List ℕ
+messages = a_and_b ++ b_alone ++ two_keys 1 0 ++ two_keys 0 0
+
+abbrev pub first_block : Block
+first_block = block_of 0 a_and_b 128
+
+abbrev pub second_block : Block
+second_block = block_of (length a_and_b) b_alone 128
+
+abbrev pub third_block : Block
+third_block = block_of (length (a_and_b ++ b_alone)) (two_keys 1 0) 64
+
+abbrev pub last_block : Block
+last_block = block_of (length (a_and_b ++ b_alone ++ two_keys 1 0)) (two_keys 0 0) 64
+
+abbrev pub blocks_are : List Block → List Block → FileMetadata
+blocks_are ds bs = record { schema = text_head.schema; dictionaries = ds; blocks = bs; size = length messages }
+
+abbrev pub text_blocks : FileMetadata
+text_blocks = blocks_are (first_block ∷ second_block ∷ []) (third_block ∷ last_block ∷ [])
+
+abbrev pub both_known : Dictionaries
+both_known = (pos 0, values_are (b ∷ [])) ∷ (pos 0, values_are (a ∷ b ∷ [])) ∷ []
+
+abbrev pub first_known : Dictionaries
+first_known = (pos 0, values_are (a ∷ b ∷ [])) ∷ []
+
+abbrev pub extra_of_block : ℕ → Option ℕ
+extra_of_block version = option_map (λ (h : BlockHeader). h.extra) (block_header (slice_set record_metadata 36 version))
+
+-- Dictionary blocks are read in the footer's order, and the last of an id counts; records by their index. A block's message has either prefix, its header is due, its own version
+-- counts, and neither of its two numbers that are used is below 0.
+pub record BlockRows : Type 0 where
+  pub in_order : file_dictionaries text_blocks messages ≡ Some both_known
+  pub in_other_order : file_dictionaries (blocks_are (second_block ∷ first_block ∷ []) []) messages
+      ≡ Some ((pos 0, values_are (a ∷ b ∷ [])) ∷ (pos 0, values_are (b ∷ [])) ∷ [])
+  pub first_record : file_chunk text_blocks first_known messages None None 0 ≡ Some b_and_a
+  pub second_record : file_chunk text_blocks first_known messages None None 1 ≡ Some (chunk_is texts (a ∷ a ∷ []))
+  pub last_counts : file_chunk text_blocks both_known messages None None 0 ≡ None
+  pub older_prefix : file_chunk (blocks_are [] (record { offset = pos 4; meta_data_length = pos (length (two_keys 1 0) - 68); body_length = pos 64 } ∷ [])) first_known (two_keys 1 0) None None 0 ≡ Some b_and_a
+  pub a_dictionary : file_chunk (blocks_are [] (first_block ∷ [])) first_known messages None None 0 ≡ None
+  pub a_record : file_dictionaries (blocks_are (third_block ∷ []) []) messages ≡ None
+  pub negative_offset : file_chunk (with_block (record { offset = negsuc 0; meta_data_length = pos 192; body_length = pos 128 })) [] demo_file None None 0 ≡ None
+  pub negative_length : file_chunk (with_block (record { offset = pos 208; meta_data_length = negsuc 0; body_length = pos 128 })) [] demo_file None None 0 ≡ None
+  pub negative_body : file_chunk (with_block (record { offset = pos 208; meta_data_length = pos 192; body_length = negsuc 0 })) [] demo_file None None 0 ≡ Some demo_chunk
+  pub fifth_version : extra_of_block 4 ≡ Some 0
+  pub fourth_version : extra_of_block 3 ≡ Some 1
+  pub first_version : extra_of_block 0 ≡ Some 1
+  pub no_version : extra_of_block 5 ≡ None

@@ -44,3 +44,9 @@ pub mod CutRows
 pub mod ReadArrays
 pub mod HeldColumns
 pub mod HeldRows
+pub mod SchemaBytes
+pub mod SchemaRows
+pub mod KindRows
+pub mod MessageRows
+pub mod WritableRows
+pub mod ArrayRows

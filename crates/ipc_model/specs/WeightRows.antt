@@ -1,6 +1,7 @@
 -- The weights of schemas that are written out, and the places of dictionaries.
 use Rattle.std.specs.Prelude.{◌≡◌, ℕ, pos, true, false, List, [], ◌∷◌, codes, map, Some, None}
-use Rattle.lower.specs.TypeTrees.{int32, boolean, utf8, binary, timestamp, fixed_binary, list, choice, TypeTree, plain, single, group, dictionary, extension, FieldTree, field, FieldTrees, no_fields, more_fields}
+use Rattle.lower.specs.Normal.{data_key}
+use Rattle.lower.specs.TypeTrees.{int32, boolean, utf8, binary, timestamp, fixed_binary, list, structure, choice, TypeTree, plain, single, group, dictionary, extension, FieldTree, field, FieldTrees, no_fields, more_fields}
 use Rattle.lower.specs.declared.datatypes.IntegerType.TheVariants.{Int8}
 use Rattle.lower.specs.declared.datatypes.TimeUnit.TheVariants.{Second}
 use Rattle.lower.specs.declared.datatypes.UnionMode.TheVariants.{Sparse}
@@ -14,6 +15,7 @@ named t name = field name t true []
 abbrev pub alone : FieldTree → FieldTrees
 alone f = more_fields f no_fields
 
+-- The values of a dictionary and each child weigh too, and metadata as they are in the normal form.
 pub record WeightRows : Type 0 where
   pub two_integers : weight
       (more_fields (named (plain int32) (codes "x")) (alone (named (plain int32) (codes "y")))) [] ≡ 2050
@@ -33,6 +35,12 @@ pub record WeightRows : Type 0 where
       weight (alone (named (group (choice None Sparse)
       (more_fields (named (plain int32) (codes "a")) (alone (named (plain boolean) (codes "b")))))
       (codes "u"))) [] ≡ 2563
+  pub dictionary_values : weight (alone (named (dictionary Int8 (plain (timestamp Second (Some (codes "UTC")))) false) (codes "d"))) [] ≡ 1540
+  pub list_child : weight (alone (named (single list (named (plain int32) (codes "item"))) (codes "l"))) [] ≡ 2053
+  pub struct_fields :
+      weight (alone (named (group structure (more_fields (named (plain int32) (codes "a")) (alone (named (plain boolean) (codes "b"))))) (codes "s"))) [] ≡ 2563
+  pub schema_metadata : weight (alone (named (plain int32) (codes "x"))) ((codes "k", codes "vw") ∷ []) ≡ 1604
+  pub normal_metadata : weight (alone (field (codes "x") (plain int32) true ((data_key, codes "m") ∷ (codes "k", codes "v") ∷ []))) [] ≡ 1603
 
 -- a dictionary of texts, and one of lists whose items are a dictionary of bytes: their ids in pre-order
 abbrev pub two_dictionaries : FieldTrees

@@ -4,6 +4,7 @@
 
 pub mod batches;
 pub mod columns;
+pub mod edges;
 pub mod files;
 pub mod frame;
 pub mod numbers;

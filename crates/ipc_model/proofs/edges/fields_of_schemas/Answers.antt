@@ -1,0 +1,5 @@
+use Rattle.ipc_model.proofs.SchemaRows.{child_rows}
+use Rattle.ipc_model.proofs.edges.fields_of_schemas.Goals as goal
+
+pub returns-clause-children : goal.returns-clause-children
+returns-clause-children c = child_rows

@@ -1,0 +1,56 @@
+-- The arrays that columns are read to, type by type, and what arrays of each width bring to a writer.
+-- (Arrow columnar format, "Physical Memory Layout" and "Buffer Listing for Each Layout".)
+use Rattle.std.specs.Prelude.{◌≡◌, ℕ, pos, true, false, List, [], ◌∷◌, ◌++◌, length, codes, replicate, Some, None}
+use Rattle.lower.specs.TypeTrees.{Plain, int16, int64, binary, large_binary, decimal, fixed_binary, utf8, list, large_list, plain, single, dictionary, int32, field}
+use Rattle.lower.specs.declared.datatypes.IntegerType.{IntegerType}
+use Rattle.lower.specs.declared.datatypes.IntegerType.TheVariants as integers
+use Rattle.lower_types.specs.NumberTypes.{whole}
+use Rattle.lower_types.specs.declared.Endianness.TheVariants.{Little}
+use Rattle.lower_types.specs.declared.PrimitiveType.TheVariants.{Int16, Int32, Int64, Int128}
+use Rattle.lower_arrays.specs.Layouts.{Validity, Parts, nothing, numbers, fixed_bytes, bytes, lists, keys, Level, Layout, layout, no_layouts}
+use Rattle.ipc_base.specs.IdTrees.{no_ids}
+use Rattle.ipc_model.specs.ColumnRows.{node_is, buffer_is, entries, word}
+use Rattle.ipc_model.specs.Entries.{Entries}
+use Rattle.ipc_model.specs.HeldRows.{read_array}
+use Rattle.ipc_model.specs.KindRows.{large_lists_of, three_long_offsets, list_field}
+use Rattle.ipc_model.specs.OfferRows.{array_is, one_child, texts_are, lengths_of, lengths_are}
+use Rattle.ipc_model.specs.TypeKinds.{kind_of}
+
+abbrev pub own_parts : Layout → Parts
+own_parts (layout h cs) = h.parts
+
+abbrev pub two_bytes_each : Entries
+two_bytes_each = entries Little 0 (node_is 1 0 ∷ []) (buffer_is 0 0 ∷ buffer_is 0 16 ∷ []) (2 ∷ replicate 15 0)
+
+-- one key, 2, of each type
+abbrev pub key_read : IntegerType → Parts
+key_read k = own_parts (read_array (kind_of (dictionary k (plain utf8) false) (Some (pos 0)) no_ids) (dictionary k (plain utf8) false) None two_bytes_each)
+
+-- Keys stay of their type, and offsets of theirs.
+pub record KeyTypeRows : Type 0 where
+  pub signed_8 : key_read integers.Int8 ≡ keys integers.Int8 (pos 2 ∷ [])
+  pub signed_16 : key_read integers.Int16 ≡ keys integers.Int16 (pos 2 ∷ [])
+  pub signed_32 : key_read integers.Int32 ≡ keys integers.Int32 (pos 2 ∷ [])
+  pub signed_64 : key_read integers.Int64 ≡ keys integers.Int64 (pos 2 ∷ [])
+  pub unsigned_8 : key_read integers.UInt8 ≡ keys integers.UInt8 (pos 2 ∷ [])
+  pub unsigned_16 : key_read integers.UInt16 ≡ keys integers.UInt16 (pos 2 ∷ [])
+  pub unsigned_32 : key_read integers.UInt32 ≡ keys integers.UInt32 (pos 2 ∷ [])
+  pub unsigned_64 : key_read integers.UInt64 ≡ keys integers.UInt64 (pos 2 ∷ [])
+  pub large_offsets : own_parts (read_array (kind_of (single large_list list_field) None no_ids) (single large_list list_field) None
+      (large_lists_of (three_long_offsets ++ word 3 ++ word 4))) ≡ lists Int64 (0 ∷ 1 ∷ 2 ∷ [])
+
+-- keys of a type with a validity, over one text
+abbrev pub keys_of : IntegerType → Layout
+keys_of k = array_is (dictionary k (plain utf8) false) 3 (Some (true ∷ false ∷ true ∷ [])) (keys k (pos 0 ∷ pos 0 ∷ pos 0 ∷ [])) (one_child (texts_are 1 (0 ∷ 1 ∷ []) (codes "a")))
+
+-- The lengths of nodes and buffers of three slots: what a number, a key, an offset and a fixed number of bytes take.
+pub record OfferWidthRows : Type 0 where
+  pub short_numbers : lengths_of (array_is (plain int16) 3 None (numbers Int16 (replicate 3 (whole (pos 1)))) no_layouts) ≡ lengths_are (3 ∷ []) (0 ∷ 6 ∷ [])
+  pub long_numbers : lengths_of (array_is (plain int64) 3 None (numbers Int64 (replicate 3 (whole (pos 1)))) no_layouts) ≡ lengths_are (3 ∷ []) (0 ∷ 24 ∷ [])
+  pub decimals : lengths_of (array_is (plain (decimal 10 2)) 3 None (numbers Int128 (replicate 3 (whole (pos 1)))) no_layouts) ≡ lengths_are (3 ∷ []) (0 ∷ 48 ∷ [])
+  pub fixed : lengths_of (array_is (plain (fixed_binary 5)) 3 None (fixed_bytes 5 (replicate 15 0)) no_layouts) ≡ lengths_are (3 ∷ []) (0 ∷ 15 ∷ [])
+  pub large_offsets : lengths_of (array_is (plain large_binary) 1 None (bytes Int64 (0 ∷ 2 ∷ []) (7 ∷ 8 ∷ [])) no_layouts) ≡ lengths_are (1 ∷ []) (0 ∷ 16 ∷ 2 ∷ [])
+  pub keys_of_a_byte : lengths_of (keys_of integers.Int8) ≡ lengths_are (3 ∷ []) (1 ∷ 3 ∷ [])
+  pub keys_of_two : lengths_of (keys_of integers.UInt16) ≡ lengths_are (3 ∷ []) (1 ∷ 6 ∷ [])
+  pub keys_of_eight : lengths_of (keys_of integers.Int64) ≡ lengths_are (3 ∷ []) (1 ∷ 24 ∷ [])
+  pub nine_slots : lengths_of (array_is (plain int16) 9 (Some (replicate 9 true)) (numbers Int16 (replicate 9 (whole (pos 1)))) no_layouts) ≡ lengths_are (9 ∷ []) (2 ∷ 18 ∷ [])

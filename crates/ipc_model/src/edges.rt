@@ -1,0 +1,98 @@
+//! What each word of the definitions decides, shown on what is written out: types, schemas, messages and blocks slot by slot, and the edges of
+//! each limit.
+
+ghost use Rattle.ipc_model.specs.AcceptedRows.{EdgeRows};
+ghost use Rattle.ipc_model.specs.ArrayRows.{KeyTypeRows, OfferWidthRows};
+ghost use Rattle.ipc_model.specs.FileRows.{BlockRows, FooterRows};
+ghost use Rattle.ipc_model.specs.KindRows.{FixedRows, KeyRows, OffsetRows, PairRows, UnionEdgeRows, WidthRows};
+ghost use Rattle.ipc_model.specs.MessageRows.{CountRows, FirstPlaceRows, FrameRows, RecordRows, VersionRows, WhereRows};
+ghost use Rattle.ipc_model.specs.SchemaRows.{ChildRows, EncodingRows, IntegerRows, LastLevelRows, LevelRows, PastLevelRows, PlainRows, SizeRows, TimeRows};
+ghost use Rattle.ipc_model.specs.WritableRows.{NestedTypeRows, PlainTypeRows, WritableSchemaRows};
+
+/// The types without a child that a schema's tables say.
+pub fn types_of_schemas()
+    ensures integers { IntegerRows }
+    ensures plain { PlainRows }
+    ensures times { TimeRows }
+    ensures sizes { SizeRows }
+{}
+
+/// Children, dictionaries and extensions of a schema's fields.
+#[tactic(auto, using(crate::proofs::SchemaRows::encoding_rows))]
+pub fn fields_of_schemas()
+    ensures children { ChildRows }
+    ensures encodings { EncodingRows }
+{}
+
+/// Byte orders, levels and visits of schemas.
+#[tactic(auto, using(crate::proofs::SchemaRows::level_rows, crate::proofs::SchemaRows::last_level_rows, crate::proofs::SchemaRows::past_level_rows))]
+pub fn levels_of_schemas()
+    ensures some { LevelRows }
+    ensures last { LastLevelRows }
+    ensures past { PastLevelRows }
+{}
+
+/// The first value of each type, bytes of a fixed number, bits and validities.
+#[tactic(auto, using(crate::proofs::KindRows::width_rows, crate::proofs::KindRows::fixed_rows))]
+pub fn values_of_types()
+    ensures widths { WidthRows }
+    ensures fixed { FixedRows }
+{}
+
+/// Offsets and keys of each width.
+#[tactic(auto, using(crate::proofs::KindRows::offset_rows, crate::proofs::KindRows::key_rows))]
+pub fn offsets_and_keys()
+    ensures offsets { OffsetRows }
+    ensures keys { KeyRows }
+{}
+
+/// The children of unions, maps and structs.
+#[tactic(auto, using(crate::proofs::KindRows::union_edge_rows, crate::proofs::KindRows::pair_rows))]
+pub fn children_of_columns()
+    ensures unions { UnionEdgeRows }
+    ensures pairs { PairRows }
+{}
+
+/// Frames, record messages slot by slot, and versions.
+#[tactic(auto, using(crate::proofs::MessageRows::frame_rows, crate::proofs::MessageRows::record_rows, crate::proofs::MessageRows::version_rows))]
+pub fn slots_of_messages()
+    ensures frames { FrameRows }
+    ensures records { RecordRows }
+    ensures versions { VersionRows }
+{}
+
+/// How many dictionary messages there may be, and which place of an id says the type of its values.
+#[tactic(auto, using(crate::proofs::MessageRows::count_rows, crate::proofs::MessageRows::first_place_rows, crate::proofs::MessageRows::where_rows))]
+pub fn messages_of_dictionaries()
+    ensures counts { CountRows }
+    ensures first_places { FirstPlaceRows }
+    ensures places { WhereRows }
+{}
+
+/// A file's footer and its blocks.
+#[tactic(auto, using(crate::proofs::FileRows::footer_rows, crate::proofs::FileRows::block_rows))]
+pub fn footers_and_blocks()
+    ensures footers { FooterRows }
+    ensures blocks { BlockRows }
+{}
+
+/// Types and schemas that can be written, and that can't.
+#[tactic(auto, using(crate::proofs::WritableRows::plain_type_rows))]
+pub fn writable_schemas()
+    ensures plain { PlainTypeRows }
+    ensures nested { NestedTypeRows }
+    ensures schemas { WritableSchemaRows }
+{}
+
+/// Chunks at the edges of what a writer takes.
+#[tactic(auto, using(crate::proofs::AcceptedRows::edge_rows))]
+pub fn chunks_at_the_edges()
+    ensures { EdgeRows }
+{}
+
+/// The arrays that columns of keys and large lists are read to, and what arrays of each width bring to a writer.
+#[tactic(auto, using(crate::proofs::ArrayRows::key_type_rows, crate::proofs::ArrayRows::offer_width_rows))]
+pub fn arrays_of_types()
+    ensures keys { KeyTypeRows }
+    ensures widths { OfferWidthRows }
+{}
