@@ -1,7 +1,9 @@
 //! Chunks: columns of one length, the unit in which data is written and read.
-ghost use Rattle.std.specs.Prelude.{◌≡◌, ◌↔◌, ℕ, IsTrue, IsOk, IfOk, IfErr};
+ghost use Rattle.std.specs.Prelude.{◌≡◌, ◌↔◌, ◌<◌, ◌^◌, ℕ, length, IsTrue, IsOk, IfOk, IfErr};
 ghost use Rattle.std.specs.Cmp.Lexicographic.{pointwise, lists_per, lists_equiv};
 ghost use Rattle.std.specs.List.{AllZip};
+ghost use Rattle.std.specs.Slice.Iter.{iter_rest};
+ghost use Rattle.std.specs.Iterator.Adapters.{IterYieldsInOrder};
 ghost use Rattle.ipc_base.specs.Chunks.{AreEqualRows, row_count};
 ghost use Rattle.ipc_devices.specs.declared.fault.Fault.TheVariants.{Argument};
 ghost use Rattle.ipc_devices.specs.declared.fault.ArgFault.TheVariants.{UnequalRows};
@@ -10,6 +12,7 @@ use crate::fault::{ArgFault, Fault};
 use lower_arrays::array::AnyArray;
 use std::alloc::AllocError;
 use std::marker::Model;
+use std::slice;
 
 /// A column, of which only the number of its rows is asked.
 pub trait Rows: Drop {
@@ -28,6 +31,22 @@ impl Rows for AnyArray {
 
     fn len(&self) -> usize {
         AnyArray::len(self)
+    }
+}
+
+impl<'a, A: Rows> Rows for &'a A {
+    ghost rows = { λ array. A.rows array.now };
+
+    fn len(&self) -> usize {
+        A::len(*self)
+    }
+}
+
+impl<A: Rows> Rows for Box<A> {
+    ghost rows = { λ array. A.rows array.value };
+
+    fn len(&self) -> usize {
+        A::len(&**self)
     }
 }
 
@@ -98,6 +117,15 @@ impl<A: Rows> Chunk<A> {
         self.arrays()
     }
 
+    /// The columns one after another, as a `for` over the chunk gives them.
+    pub fn iter(&self) -> slice::Iter<'_, A>
+        ensures rest { iter_rest result ≡ self.now }
+        ensures bound { length (iter_rest result) < 2 ^ 64 }
+        ensures runs { IterYieldsInOrder A }
+    {
+        self.columns().iter()
+    }
+
     /// The number of rows: that of each column, and 0 where there is no column.
     pub fn len(&self) -> usize
         ensures rows { result ≡ row_count A.rows self.now }
@@ -123,6 +151,18 @@ impl<A: Rows> Chunk<A> {
     {
         let Chunk { arrays } = self;
         arrays
+    }
+}
+
+impl<'a, A: Rows> IntoIterator for &'a Chunk<A> {
+    type Item = &'a A;
+
+    type IntoIter = slice::Iter<'a, A>;
+
+    ghost into_iter_gives = { λ chunk rest. (iter_rest rest ≡ chunk.now) × (length (iter_rest rest) < 2 ^ 64) × IterYieldsInOrder A };
+
+    fn into_iter(self) -> slice::Iter<'a, A> {
+        self.iter()
     }
 }
 

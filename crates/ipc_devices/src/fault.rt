@@ -1,6 +1,6 @@
 //! Everything that reading and writing refuse, by name.
 ghost use Rattle.std.specs.Prelude.{◌≡◌};
-ghost use Rattle.ipc_devices.specs.declared.fault.Fault.TheVariants.{OutOfSpec, Io, Memory, Lower};
+ghost use Rattle.ipc_devices.specs.declared.fault.Fault.TheVariants.{OutOfSpec, NotYetImplemented, Schema, Argument, State, Io, Memory, Lower};
 
 use lower::error::Error as ArrayError;
 use std::alloc::{AllocError, AllocFailed};
@@ -204,7 +204,7 @@ pub enum Nyi {
     #[error("appending to a big-endian file")]
     BigEndianAppend,
     /// What a later version of this repository brings.
-    #[error("this form")]
+    #[error("dictionaries, nulls, big-endian bodies, chosen columns, a schema's metadata in writing, and columns other than of whole numbers")]
     Pending,
 }
 
@@ -329,6 +329,38 @@ impl From<OutOfSpecKind> for Fault {
 
     fn from(kind: OutOfSpecKind) -> Fault {
         Fault::OutOfSpec(kind)
+    }
+}
+
+impl From<Nyi> for Fault {
+    ghost from_gives = { λ form f. f ≡ NotYetImplemented form };
+
+    fn from(form: Nyi) -> Fault {
+        Fault::NotYetImplemented(form)
+    }
+}
+
+impl From<SchemaFault> for Fault {
+    ghost from_gives = { λ fault f. f ≡ Schema fault };
+
+    fn from(fault: SchemaFault) -> Fault {
+        Fault::Schema(fault)
+    }
+}
+
+impl From<ArgFault> for Fault {
+    ghost from_gives = { λ fault f. f ≡ Argument fault };
+
+    fn from(fault: ArgFault) -> Fault {
+        Fault::Argument(fault)
+    }
+}
+
+impl From<StateFault> for Fault {
+    ghost from_gives = { λ fault f. f ≡ State fault };
+
+    fn from(fault: StateFault) -> Fault {
+        Fault::State(fault)
     }
 }
 

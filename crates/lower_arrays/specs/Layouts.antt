@@ -1,10 +1,11 @@
 -- What an array is made of: a tree of levels, one for the array and one for each child.
 -- (Arrow columnar format, "Physical memory layout".)
-use Rattle.std.specs.Prelude.{ℕ, ℤ, ◌+◌, max, List, [], ◌∷◌, Bool, Option}
+use Rattle.std.specs.Prelude.{ℕ, ℤ, ◌+◌, max, List, [], ◌∷◌, Bool, false, Option}
 use Rattle.lower_types.specs.NumberTypes.{Number}
 use Rattle.lower.specs.TypeTrees.{TypeTree}
 use Rattle.lower.specs.declared.datatypes.IntegerType.{IntegerType}
 use Rattle.lower_types.specs.declared.PrimitiveType.{PrimitiveType}
+use Rattle.lower_flat.specs.Validities.{is_valid}
 pub use Rattle.lower_flat.specs.Validities.{Validity, null_count_of}
 
 -- what a level has beside its type, its length and its validity, by its kind: nothing; a bit for each slot; the numbers of a type; for
@@ -59,6 +60,14 @@ nulls_among _ n v = null_count_of v
 
 abbrev pub nulls_of : Layout → ℕ
 nulls_of l = nulls_among (level l).parts (level l).len (level l).validity
+
+-- whether a slot is valid by the array's own validity: none is where nothing lies in memory
+abbrev pub valid_among : Parts → Validity → ℕ → Bool
+valid_among nothing v i = false
+valid_among _ v i = is_valid v i
+
+abbrev pub is_own_valid : Layout → ℕ → Bool
+is_own_valid l i = valid_among (level l).parts (level l).validity i
 
 -- some trees as children
 abbrev pub layouts : List Layout → Layouts

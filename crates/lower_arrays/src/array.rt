@@ -7,24 +7,30 @@ ghost use Rattle.lower_arrays.specs.Slots.{IsArray, slots};
 ghost use Rattle.lower_arrays.specs.Cuts.{cut};
 ghost use Rattle.lower_arrays.specs.AnyLayouts.{layout_of};
 
+mod any;
 mod children;
 mod dictionary;
 mod fixed_size_list;
+mod from;
 mod list;
 mod map;
 mod struct_;
 mod union;
 
-pub use dictionary::{DictionaryArray, is_dictionary};
+pub use dictionary::{DictionaryArray, DictionaryArray as AnyDictionary, is_dictionary};
 pub use fixed_size_list::FixedSizeListArray;
 pub use list::ListArray;
 use lower::bitmap::Bitmap;
 use lower::datatypes::DataType;
 pub use lower_flat::{
-    BinaryArray, BooleanArray, FixedSizeBinaryArray, NullArray, PrimitiveArray, Utf8Array,
+    BinaryArray, BinaryIter, BooleanArray, BooleanIter, DaysMsArray, FixedSizeBinaryArray,
+    FixedSizeBinaryIter, Int8Array, Int16Array, Int32Array, Int64Array, Int128Array, Int256Array,
+    MonthsDaysNsArray, NullArray, PrimitiveArray, PrimitiveIter, UInt8Array, UInt16Array,
+    UInt32Array, UInt64Array, Utf8Array, Utf8Iter,
 };
 pub use lower_rules::keys::{DictionaryKey, DictionaryKeys};
 pub use lower_rules::numbers::AnyPrimitive;
+pub use lower_rules::numeric::Numeric;
 pub use lower_rules::offsets::ListOffsets;
 pub use map::MapArray;
 use std::alloc::AllocError;

@@ -1,10 +1,11 @@
 //! Arrays of lists.
-ghost use Rattle.std.specs.Prelude.{◌≡◌, ◌+◌, ◌-◌, ◌<◌, ◌≤◌, ◌↔◌, MatchResult, IsTrue, IfOk};
+ghost use Rattle.std.specs.Prelude.{◌≡◌, ◌+◌, ◌-◌, ◌<◌, ◌≤◌, ◌↔◌, MatchResult, IsTrue, IfOk, slice_index};
 ghost use Rattle.std.specs.Option.{option_copied};
 ghost use Rattle.lower.specs.TypeViews.{type_view};
 ghost use Rattle.lower_flat.specs.Validities.{null_count_of, is_valid};
 ghost use Rattle.lower_flat.specs.Spans.{span_count};
 ghost use Rattle.lower_arrays.specs.Slots.{IsArray};
+ghost use Rattle.lower_arrays.specs.Cuts.{cut};
 ghost use Rattle.lower_arrays.specs.Lists.{list_places, list_width, list_seen, list_layout, cut_list, BreaksList};
 ghost use Rattle.lower_arrays.specs.AnyLayouts.{layout_of};
 
@@ -166,6 +167,20 @@ impl ListArray {
             values,
             validity: sliced_validity(validity, offset, len),
         }
+    }
+
+    /// The list at `index`, of a null too: slots of the child, which share its memory. It fails only
+    /// where there is no memory for a clone of the child.
+    #[tactic(auto, using(lower_flat::proofs::SpanPlaces::offset_next, lower_flat::proofs::SpanPlaces::offset_last))]
+    pub fn value(&self, index: usize) -> Result<AnyArray, AllocError>
+        requires { index < span_count self.now.offsets }
+        ensures { let start = slice_index self.now.offsets index in
+            IfOk result (λ list. layout_of list ≡ cut start (slice_index self.now.offsets (index + 1) - start) self.now.child) }
+    {
+        prove!(index < self.len());
+        let start = self.offsets.get(index);
+        let end = self.offsets.get(index + 1);
+        Ok(self.values().clone()?.sliced(start, end - start))
     }
 
     // The same slots once more.

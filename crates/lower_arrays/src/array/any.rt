@@ -1,0 +1,130 @@
+//! What is asked of an array of any kind, beside its parts.
+ghost use Rattle.std.specs.Prelude.{◌≡◌, ◌↔◌, ◌<◌, IsTrue, MatchOption, not};
+ghost use Rattle.lower_arrays.specs.Layouts.{len_of, is_own_valid};
+ghost use Rattle.lower_arrays.specs.Primitives.{primitive_layout, IsPrimitiveOf};
+ghost use Rattle.lower_arrays.specs.AnyLayouts.{layout_of};
+
+use super::{
+    AnyArray, DictionaryArray, FixedSizeListArray, ListArray, MapArray, StructArray, UnionArray,
+};
+use lower::datatypes::DataType;
+use lower_flat::PrimitiveArray;
+use lower_rules::numeric::Numeric;
+use std::fmt;
+
+impl AnyArray {
+    /// Whether it has no slot.
+    pub fn is_empty(&self) -> bool
+        ensures { IsTrue result ↔ (len_of (layout_of self.now) ≡ 0) }
+    {
+        self.len() == 0
+    }
+
+    /// Whether the slot at `index` isn't null by the array's own validity: none of an array of nulls,
+    /// each of a union. A slot of a dictionary is valid where its key is.
+    pub fn is_valid(&self, index: usize) -> bool
+        requires { index < len_of (layout_of self.now) }
+        ensures { result ≡ is_own_valid (layout_of self.now) index }
+    {
+        match self {
+            AnyArray::Null(array) => array.is_valid(index),
+            _ => match self.validity() {
+                None => true,
+                Some(bits) => bits.get_bit(index),
+            },
+        }
+    }
+
+    /// Whether the slot at `index` is null, as [`AnyArray::is_valid`] tells it.
+    pub fn is_null(&self, index: usize) -> bool
+        requires { index < len_of (layout_of self.now) }
+        ensures { result ≡ not (is_own_valid (layout_of self.now) index) }
+    {
+        !self.is_valid(index)
+    }
+
+    /// The array of numbers of the type `T` that it is, or `None` where it is one of other numbers or
+    /// of another kind.
+    pub fn as_primitive<T: Numeric>(&self) -> Option<&PrimitiveArray<T>>
+        ensures { MatchOption result
+            (¬ (IsPrimitiveOf T.primitive (layout_of self.now)))
+            (λ a. primitive_layout T.primitive T.number a.now ≡ layout_of self.now) }
+    {
+        match self {
+            AnyArray::Primitive(array) => T::downcast_ref(array),
+            _ => None,
+        }
+    }
+}
+
+// The name of a kind, the type and the length.
+fn fmt_brief<W: fmt::Write>(
+    name: &str,
+    data_type: &DataType,
+    len: usize,
+    f: &mut fmt::Formatter<W>,
+) -> fmt::Result {
+    f.debug_struct(name)
+        .field("data_type", data_type)
+        .field("len", &len)
+        .finish()
+}
+
+/// An array without children is printed with its slots, another with its type and its length.
+impl fmt::Debug for AnyArray {
+    fn fmt<W: fmt::Write>(&self, f: &mut fmt::Formatter<W>) -> fmt::Result {
+        match self {
+            AnyArray::Null(array) => fmt::Debug::fmt(array, f),
+            AnyArray::Boolean(array) => fmt::Debug::fmt(array, f),
+            AnyArray::Primitive(array) => fmt::Debug::fmt(array, f),
+            AnyArray::FixedSizeBinary(array) => fmt::Debug::fmt(array, f),
+            AnyArray::Binary(array) => fmt::Debug::fmt(array, f),
+            AnyArray::LargeBinary(array) => fmt::Debug::fmt(array, f),
+            AnyArray::Utf8(array) => fmt::Debug::fmt(array, f),
+            AnyArray::LargeUtf8(array) => fmt::Debug::fmt(array, f),
+            _ => fmt_brief("AnyArray", self.data_type(), self.len(), f),
+        }
+    }
+}
+
+/// The type and the length.
+impl fmt::Debug for ListArray {
+    fn fmt<W: fmt::Write>(&self, f: &mut fmt::Formatter<W>) -> fmt::Result {
+        fmt_brief("ListArray", self.data_type(), self.len(), f)
+    }
+}
+
+/// The type and the length.
+impl fmt::Debug for FixedSizeListArray {
+    fn fmt<W: fmt::Write>(&self, f: &mut fmt::Formatter<W>) -> fmt::Result {
+        fmt_brief("FixedSizeListArray", self.data_type(), self.len(), f)
+    }
+}
+
+/// The type and the length.
+impl fmt::Debug for StructArray {
+    fn fmt<W: fmt::Write>(&self, f: &mut fmt::Formatter<W>) -> fmt::Result {
+        fmt_brief("StructArray", self.data_type(), self.len(), f)
+    }
+}
+
+/// The type and the length.
+impl fmt::Debug for UnionArray {
+    fn fmt<W: fmt::Write>(&self, f: &mut fmt::Formatter<W>) -> fmt::Result {
+        fmt_brief("UnionArray", self.data_type(), self.len(), f)
+    }
+}
+
+/// The type and the length.
+impl fmt::Debug for MapArray {
+    fn fmt<W: fmt::Write>(&self, f: &mut fmt::Formatter<W>) -> fmt::Result {
+        fmt_brief("MapArray", self.data_type(), self.len(), f)
+    }
+}
+
+/// The type and the length.
+impl fmt::Debug for DictionaryArray {
+    fn fmt<W: fmt::Write>(&self, f: &mut fmt::Formatter<W>) -> fmt::Result {
+        fmt_brief("DictionaryArray", self.data_type(), self.len(), f)
+    }
+}
