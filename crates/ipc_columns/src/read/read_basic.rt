@@ -1,5 +1,5 @@
 //! Reads numbers, bits, bytes and offsets out of the buffers of a batch.
-ghost use Rattle.std.specs.Prelude.{◌≡◌, ◌+◌, ◌*◌, ◌<◌, ◌≤◌, ◌^◌, ◌↔◌, length, take, drop, vec_len, IsTrue, IfOk, IfErr, MatchBool, ℕ, pos, List, [], ◌∷◌, refl};
+ghost use Rattle.std.specs.Prelude.{◌≡◌, ◌+◌, ◌*◌, ◌<◌, ◌≤◌, ◌^◌, ◌↔◌, length, take, drop, vec_len, IsTrue, IfOk, IfErr, IfSome, IsNone, MatchBool, ℕ, pos, List, [], ◌∷◌, refl};
 ghost use Rattle.ipc_devices.specs.Device.{Rises, after};
 ghost use Rattle.ipc_devices.specs.Faults.{OnIo, OwnFault, Answers};
 ghost use Rattle.ipc_devices.specs.declared.fault.Fault.TheVariants.{Ended, OutOfSpec};
@@ -48,11 +48,64 @@ fn size_of(number: i64) -> usize
     number.max(0) as usize
 }
 
-/// Reads the next `count` numbers, whose bytes stand in the given order. They go through a block of
-/// 4,096 bytes straight into their vector, which grows as they come: that a length is listed doesn't mean
-/// that the device has it. `Ended` where there are fewer.
-#[tactic(auto, using(crate::proofs::Pieces::reading))]
+/// Reads the next `count` numbers, whose bytes stand in the given order. Where the device shows them they go
+/// straight into their vector, else through a block of 4,096 bytes, and the vector grows as they come: that a
+/// length is listed doesn't mean that the device has it. `Ended` where there are fewer.
 pub fn read_numbers<T: NativeType, R: Reads>(
+    alloc: Global,
+    reader: &mut R,
+    count: usize,
+    order: Endianness,
+) -> Result<Vec<T>, Fault>
+    ensures count { IfOk result (λ v. vec_len v ≡ count) }
+    ensures only { IfErr result (λ e. OwnFault e (e ≡ Ended)) }
+    ensures monotone { R.failures reader.old ≤ R.failures reader.new }
+    ensures failed { OnIo result (Rises (R.failures reader.old) (R.failures reader.new)) }
+    ensures given { R.given reader.new ≤ R.given reader.old + T.width * count }
+    ensures memory { IsTrue R.known → Answers result
+        (T.width * count ≤ length (after (R.memory reader.old)))
+        (λ v. v.items ≡ values_of (T.value order) T.width (take (T.width * count) (after (R.memory reader.old)))) }
+    ensures whole { IsTrue R.still → (R.memory reader.new).whole ≡ (R.memory reader.old).whole }
+{
+    match take_shown(alloc, reader, count, order)? {
+        Some(numbers) => Ok(numbers),
+        None => read_pieces(alloc, reader, count, order),
+    }
+}
+
+// The next `count` numbers, where the device shows their bytes. None where it doesn't, and nothing is read then.
+fn take_shown<T: NativeType, R: Reads>(
+    alloc: Global,
+    reader: &mut R,
+    count: usize,
+    order: Endianness,
+) -> Result<Option<Vec<T>>, Fault>
+    ensures count { IfOk result (λ r. IfSome r (λ v. vec_len v ≡ count)) }
+    ensures only { IfErr result (λ e. OwnFault e ⊥) }
+    ensures monotone { R.failures reader.old ≤ R.failures reader.new }
+    ensures failed { OnIo result (Rises (R.failures reader.old) (R.failures reader.new)) }
+    ensures given { R.given reader.new ≤ R.given reader.old + T.width * count }
+    ensures none { IfOk result (λ r. IsNone r → reader.new ≡ reader.old) }
+    ensures memory { IsTrue R.known → IfOk result (λ r. IfSome r (λ v.
+        (T.width * count ≤ length (after (R.memory reader.old)))
+        × (v.items ≡ values_of (T.value order) T.width (take (T.width * count) (after (R.memory reader.old)))))) }
+    ensures whole { IsTrue R.still → (R.memory reader.new).whole ≡ (R.memory reader.old).whole }
+{
+    let Some(length) = count.checked_mul(T::width()) else {
+        return Ok(None);
+    };
+    let Some(bytes) = reader.ahead(length) else {
+        return Ok(None);
+    };
+    let mut numbers = Vec::new(alloc);
+    T::append(&mut numbers, bytes, order)?;
+    reader.skip(length)?;
+    Ok(Some(numbers))
+}
+
+// The next `count` numbers, block by block.
+#[tactic(auto, using(crate::proofs::Pieces::reading))]
+fn read_pieces<T: NativeType, R: Reads>(
     alloc: Global,
     reader: &mut R,
     count: usize,

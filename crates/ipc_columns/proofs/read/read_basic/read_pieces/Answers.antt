@@ -2,7 +2,7 @@ use Rattle.std.proofs.Common.{arith, rules, ◌≡◌, ◌+◌, ◌*◌, ◌/◌
 use Rattle.std.proofs.Math.Nat.{mul-add, mul-div_cancel_left}
 use Rattle.std.proofs.lemmas.Grind.{common_steps}
 use Rattle.ipc_columns.proofs.Pieces.{read_more}
-use Rattle.ipc_columns.proofs.read.read_basic.read_numbers.Goals as goal
+use Rattle.ipc_columns.proofs.read.read_basic.read_pieces.Goals as goal
 
 pub pieces-preserved : goal.pieces-preserved
 pieces-preserved g c =

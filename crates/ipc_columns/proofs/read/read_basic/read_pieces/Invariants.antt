@@ -1,7 +1,7 @@
 use Rattle.std.proofs.Common.{◌≡◌, ◌+◌, ◌*◌, ◌≤◌, ◌-◌, vec_len, IsTrue}
 use Rattle.ipc_devices.specs.Device.{after}
 use Rattle.ipc_columns.proofs.Pieces.{ReadSoFar}
-use Rattle.ipc_columns.proofs.read.read_basic.read_numbers.Given as goal
+use Rattle.ipc_columns.proofs.read.read_basic.read_pieces.Given as goal
 
 abbrev pub invariant-pieces : goal.invariant-pieces
 invariant-pieces g l = record {
