@@ -3,3 +3,4 @@ pub mod Sizes
 pub mod SpanPlaces
 pub mod TextRuns
 pub mod Unset
+pub mod SlotRows

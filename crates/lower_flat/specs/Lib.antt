@@ -7,3 +7,5 @@ pub mod FixedBinaries
 pub mod Spans
 pub mod Binaries
 pub mod Texts
+pub mod Columns
+pub mod ColumnLaws
