@@ -4,5 +4,5 @@ pub use lower_arrays::array::{
     DictionaryKeys, FixedSizeBinaryArray, FixedSizeListArray, ListArray, ListOffsets, MapArray,
     NullArray, PrimitiveArray, StructArray, UnionArray, Utf8Array, is_dictionary,
 };
-pub use lower_equal::equal;
-pub use lower_equal::value::{Nesting, Scalar, Value, value_at};
+pub use lower_arrays::equal;
+pub use lower_arrays::value::{Nesting, Scalar, Value, value_at};

@@ -8,7 +8,7 @@ ghost use Rattle.lower_arrays.specs.AnyLayouts.{layout_of};
 
 use crate::text::Text;
 use lower_arrays::array::AnyArray;
-use lower_equal::value::{Nesting, Scalar, Value, value_at};
+use lower_arrays::value::{Nesting, Scalar, Value, value_at};
 
 /// Appends all slots of an array, of as many levels at most.
 pub fn put_slots(out: &mut Text, array: &AnyArray, levels: usize) {

@@ -6,3 +6,5 @@ pub mod NestedParts
 pub mod Slices
 pub mod HeldBytes
 pub mod Checked
+pub mod ItemPlaces
+pub mod SameSlots

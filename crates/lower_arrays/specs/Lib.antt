@@ -15,3 +15,5 @@ pub mod Unions
 pub mod AnyLayouts
 pub mod Falls
 pub mod Held
+pub mod Values
+pub mod Sameness

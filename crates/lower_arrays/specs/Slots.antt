@@ -17,37 +17,7 @@ use Rattle.lower_arrays.specs.Choices.{place_in, ChoicesFit}
 use Rattle.lower_arrays.specs.Children.{child_fields, ChildTypes, HasChild, AllHave, AllReach, ArePairs}
 use Rattle.lower_rules.specs.ListTypes.{list_with, list_size, last_offset}
 pub use Rattle.lower_flat.specs.Validities.{Validity, is_valid, ValidityFits, part}
-
-mutual
-  -- What stands at one place of a column: null, a truth value, a number, bytes, a text, the slots of a
-  -- list, those of a record, or a variant: the id of its type and its slot.
-  pub data Slot : Type 0 where
-    null_slot : Slot
-    truth_slot : Bool → Slot
-    number_slot : Number → Slot
-    bytes_slot : List ℕ → Slot
-    text_slot : List ℕ → Slot
-    list_slot : Slots → Slot
-    record_slot : Slots → Slot
-    variant_slot : ℤ → Slot → Slot
-
-  pub data Slots : Type 0 where
-    no_slots : Slots
-    more_slots : Slot → Slots → Slots
-
--- some slots as slots of their own
-abbrev pub slots_of : List Slot → Slots
-slots_of [] = no_slots
-slots_of (x ∷ xs) = more_slots x (slots_of xs)
-
-abbrev pub slot_where : Bool → Slot → Slot
-slot_where true s = s
-slot_where false s = null_slot
-
--- the n slots that f gives from place a on
-abbrev pub slots_from : (ℕ → Slot) → ℕ → ℕ → List Slot
-slots_from f a zero = []
-slots_from f a (suc n) = f a ∷ slots_from f (a + 1) n
+pub use Rattle.lower_flat.specs.Columns.{Slot, null_slot, truth_slot, number_slot, bytes_slot, text_slot, list_slot, record_slot, variant_slot, Slots, no_slots, more_slots, slots_of, slot_where, slots_from, Column, column_by}
 
 -- the slots of the first child
 abbrev pub first_child : List (ℕ → Slot) → ℕ → Slot
@@ -93,6 +63,10 @@ abbrev mutual
 -- all slots of an array
 abbrev pub slots : Layout → List Slot
 slots l = slots_from (slot_at l) 0 (len_of l)
+
+-- what an array stands for, however it lies in memory
+abbrev pub column_of : Layout → Column
+column_of l = column_by (type_of l) (len_of l) (slot_at l)
 
 -- offsets for so many slots, none past the bytes
 pub record SpansFit (os xs : List ℕ) (n : ℕ) : Type 0 where

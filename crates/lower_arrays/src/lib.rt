@@ -7,4 +7,8 @@
 #![tactic(auto)]
 
 pub mod array;
+mod equality;
 pub mod held;
+pub mod value;
+
+pub use equality::{equal, has_same_range, has_same_slot};

@@ -4,3 +4,4 @@ pub mod SpanPlaces
 pub mod TextRuns
 pub mod Unset
 pub mod OptionSteps
+pub mod SlotRows

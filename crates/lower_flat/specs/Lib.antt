@@ -8,3 +8,5 @@ pub mod Spans
 pub mod Binaries
 pub mod Texts
 pub mod Options
+pub mod Columns
+pub mod ColumnLaws

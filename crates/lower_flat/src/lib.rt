@@ -7,6 +7,7 @@
 
 mod binary;
 mod boolean;
+pub mod equality;
 mod fixed_size_binary;
 mod null;
 mod primitive;

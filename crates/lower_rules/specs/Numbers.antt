@@ -1,13 +1,14 @@
 -- What contracts see of numbers of any type.
 -- (Arrow columnar format, "Fixed-size Primitive Layout".)
-use Rattle.std.specs.Prelude.{◌≡◌, ℕ, List, length, map}
-use Rattle.lower_types.specs.NumberTypes.{Number}
+use Rattle.std.specs.Prelude.{◌≡◌, ℕ, pos, List, length, map, get_or}
+use Rattle.lower_types.specs.NumberTypes.{Number, whole}
 use Rattle.lower_types.specs.declared.PrimitiveType.{PrimitiveType}
 use Rattle.lower.specs.TypeTrees.{TypeTree}
 use Rattle.lower.specs.Physical.{physical}
 use Rattle.lower.specs.declared.datatypes.physical_type.PhysicalType.TheVariants.{Primitive}
-use Rattle.lower_flat.specs.Validities.{Validity, ValidityFits, part, cut_validity}
+use Rattle.lower_flat.specs.Validities.{Validity, is_valid, ValidityFits, part, cut_validity}
 use Rattle.lower_flat.specs.Primitives.{PrimitiveSeen}
+use Rattle.lower_flat.specs.Columns.{Slot, number_slot, slot_where, Column, column_by}
 
 -- the type of numbers that they are, the type of their array, how many there are, the numbers, and which of them are null
 pub record NumbersSeen : Type 0 where
@@ -36,3 +37,11 @@ cut_numbers o n a = record {
   numbers = part o n a.numbers;
   validity = cut_validity o n a.validity;
 }
+
+-- the slot at a place
+abbrev pub numbers_at : NumbersSeen → ℕ → Slot
+numbers_at a i = slot_where (is_valid a.validity i) (number_slot (get_or a.numbers i (whole (pos 0))))
+
+-- what the array stands for
+abbrev pub numbers_column : NumbersSeen → Column
+numbers_column a = column_by a.type a.len (numbers_at a)

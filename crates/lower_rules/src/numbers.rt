@@ -1,15 +1,19 @@
 //! Arrays of numbers of each type but floats.
-ghost use Rattle.std.specs.Prelude.{◌≡◌, ◌+◌, ◌≤◌};
+ghost use Rattle.std.specs.Prelude.{◌≡◌, ◌↔◌, ◌+◌, ◌≤◌, IsTrue};
+ghost use Rattle.std.specs.Ordering.{on};
 ghost use Rattle.std.specs.Option.{option_copied};
 ghost use Rattle.lower.specs.TypeViews.{type_view};
 ghost use Rattle.lower_flat.specs.Validities.{null_count_of};
-ghost use Rattle.lower_rules.specs.Numbers.{IsNumbers, cut_numbers};
+ghost use Rattle.lower_flat.specs.Columns.{IsSame, same_column};
+ghost use Rattle.lower_flat.specs.ColumnLaws.{columns_equiv, columns_per};
+ghost use Rattle.lower_rules.specs.Numbers.{IsNumbers, cut_numbers, numbers_column};
 ghost use Rattle.lower_rules.specs.AnyNumbers.{numbers_seen};
 
 use lower::bitmap::Bitmap;
-use lower::datatypes::DataType;
+use lower::datatypes::{DataType, is_same_type};
 use lower::types::{days_ms, i256, months_days_ns};
 use lower_flat::PrimitiveArray;
+use lower_flat::equality::is_same_column;
 use std::alloc::AllocError;
 use std::fmt;
 
@@ -178,4 +182,42 @@ impl fmt::Debug for AnyPrimitive {
             AnyPrimitive::MonthDayNano(array) => fmt::Debug::fmt(array, f),
         }
     }
+}
+
+// Whether both have one type and the same slots.
+fn are_same_numbers(numbers: &AnyPrimitive, others: &AnyPrimitive) -> bool
+    ensures { IsTrue result ↔ IsSame (numbers_column (numbers_seen numbers.now)) (numbers_column (numbers_seen others.now)) }
+{
+    match (numbers, others) {
+        (AnyPrimitive::Int8(lhs), AnyPrimitive::Int8(rhs)) => is_same_column(lhs, rhs),
+        (AnyPrimitive::Int16(lhs), AnyPrimitive::Int16(rhs)) => is_same_column(lhs, rhs),
+        (AnyPrimitive::Int32(lhs), AnyPrimitive::Int32(rhs)) => is_same_column(lhs, rhs),
+        (AnyPrimitive::Int64(lhs), AnyPrimitive::Int64(rhs)) => is_same_column(lhs, rhs),
+        (AnyPrimitive::Int128(lhs), AnyPrimitive::Int128(rhs)) => is_same_column(lhs, rhs),
+        (AnyPrimitive::Int256(lhs), AnyPrimitive::Int256(rhs)) => is_same_column(lhs, rhs),
+        (AnyPrimitive::UInt8(lhs), AnyPrimitive::UInt8(rhs)) => is_same_column(lhs, rhs),
+        (AnyPrimitive::UInt16(lhs), AnyPrimitive::UInt16(rhs)) => is_same_column(lhs, rhs),
+        (AnyPrimitive::UInt32(lhs), AnyPrimitive::UInt32(rhs)) => is_same_column(lhs, rhs),
+        (AnyPrimitive::UInt64(lhs), AnyPrimitive::UInt64(rhs)) => is_same_column(lhs, rhs),
+        (AnyPrimitive::DaysMs(lhs), AnyPrimitive::DaysMs(rhs)) => is_same_column(lhs, rhs),
+        (AnyPrimitive::MonthDayNano(lhs), AnyPrimitive::MonthDayNano(rhs)) => is_same_column(
+            lhs, rhs,
+        ),
+        // Numbers of two types lie in memory in two ways, so these types aren't the same.
+        _ => is_same_type(numbers.data_type(), others.data_type()),
+    }
+}
+
+impl PartialEq for AnyPrimitive {
+    ghost eq = { on (λ a. numbers_column (numbers_seen a)) same_column };
+
+    ghost laws = { columns_per (λ a. numbers_column (numbers_seen a)) };
+
+    fn eq(&self, other: &Self) -> bool {
+        are_same_numbers(self, other)
+    }
+}
+
+impl Eq for AnyPrimitive {
+    ghost laws = { columns_equiv (λ a. numbers_column (numbers_seen a)) };
 }

@@ -10,7 +10,7 @@ use crate::text::Text;
 use crate::trouble::Trouble;
 use crate::types::LEVELS;
 use lower_arrays::array::{AnyArray, is_dictionary};
-use lower_equal::equal;
+use lower_arrays::equal;
 use serde_json::Value;
 use std::alloc::Global;
 

@@ -13,7 +13,7 @@ use crate::types::LEVELS;
 use ipc_base::chunk::{Chunk, equal_rows};
 use ipc_base::ipc::{IpcSchema, clone_ipc_fields, fits};
 use lower_arrays::array::AnyArray;
-use lower_equal::equal;
+use lower_arrays::equal;
 use serde_json::Value;
 use std::alloc::Global;
 

@@ -15,7 +15,7 @@ use crate::types::LEVELS;
 use lower::buffer::Buffer;
 use lower::types::{Endianness, NativeType, PrimitiveType, append_bytes, numbers_from_bytes};
 use lower_arrays::array::{AnyArray, AnyPrimitive, PrimitiveArray};
-use lower_equal::equal;
+use lower_arrays::equal;
 use serde_json::Value;
 use std::alloc::Global;
 

@@ -1,0 +1,362 @@
+//! What stands at one place of an array.
+ghost use Rattle.std.specs.Prelude.{◌≡◌, ◌↔◌, ◌+◌, ◌<◌, ◌≤◌, length, IsTrue};
+ghost use Rattle.lower_flat.specs.Spans.{span_count};
+ghost use Rattle.lower_arrays.specs.Layouts.{len_of, height};
+ghost use Rattle.lower_arrays.specs.Slots.{slot_at};
+ghost use Rattle.lower_arrays.specs.Primitives.{primitive_layout};
+ghost use Rattle.lower_arrays.specs.Flat.{boolean_layout, fixed_layout, bytes_layout, texts_layout};
+ghost use Rattle.lower_arrays.specs.Lists.{list_layout};
+ghost use Rattle.lower_arrays.specs.FixedLists.{fixed_list_layout};
+ghost use Rattle.lower_arrays.specs.Structs.{struct_layout};
+ghost use Rattle.lower_arrays.specs.Maps.{map_layout};
+ghost use Rattle.lower_arrays.specs.Unions.{union_layout};
+ghost use Rattle.lower_arrays.specs.Dictionaries.{dictionary_layout};
+ghost use Rattle.lower_arrays.specs.AnyLayouts.{any_primitive_layout, layout_of};
+ghost use Rattle.lower_arrays.specs.Values.{scalar_number, span, child_slot, IsOneChild, value_slot, ValueFits, value_height};
+
+use crate::array::{
+    AnyArray, AnyPrimitive, BinaryArray, BooleanArray, DictionaryArray, FixedSizeBinaryArray,
+    FixedSizeListArray, ListArray, MapArray, PrimitiveArray, StructArray, UnionArray, Utf8Array,
+};
+use lower::offset::Offset;
+use lower::types::{NativeType, days_ms, i256, months_days_ns};
+use std::slice;
+
+/// A number of any type that arrays have.
+#[derive(Clone, Copy)]
+pub enum Scalar {
+    Whole(i128),
+    Wide(i256),
+    DayTime(days_ms),
+    MonthDayNano(months_days_ns),
+}
+
+/// What slots of children are together.
+#[derive(Clone, Copy)]
+pub enum Nesting {
+    /// A list of so many slots of the first child, from the place on.
+    List(usize),
+    /// A record of a slot of each child.
+    Record,
+    /// A variant of the type with this id: the slot of the first child.
+    Variant(i8),
+}
+
+/// What stands at one place of an array.
+#[derive(Clone, Copy)]
+pub enum Value<'a> {
+    Null,
+    Truth(bool),
+    Number(Scalar),
+    Bytes(&'a [u8]),
+    Text(&'a [u8]),
+    /// Slots of these children at a place.
+    Nested(Nesting, &'a [AnyArray], usize),
+}
+
+// A number of a type of its own.
+trait ToScalar: NativeType {
+    // The same number.
+    fn scalar(self) -> Scalar
+        ensures { scalar_number result ≡ Self.number self };
+}
+
+impl ToScalar for i8 {
+    fn scalar(self) -> Scalar {
+        Scalar::Whole(i128::from(self))
+    }
+}
+
+impl ToScalar for i16 {
+    fn scalar(self) -> Scalar {
+        Scalar::Whole(i128::from(self))
+    }
+}
+
+impl ToScalar for i32 {
+    fn scalar(self) -> Scalar {
+        Scalar::Whole(i128::from(self))
+    }
+}
+
+impl ToScalar for i64 {
+    fn scalar(self) -> Scalar {
+        Scalar::Whole(i128::from(self))
+    }
+}
+
+impl ToScalar for i128 {
+    fn scalar(self) -> Scalar {
+        Scalar::Whole(self)
+    }
+}
+
+impl ToScalar for i256 {
+    fn scalar(self) -> Scalar {
+        Scalar::Wide(self)
+    }
+}
+
+impl ToScalar for u8 {
+    fn scalar(self) -> Scalar {
+        Scalar::Whole(i128::from(self))
+    }
+}
+
+impl ToScalar for u16 {
+    fn scalar(self) -> Scalar {
+        Scalar::Whole(i128::from(self))
+    }
+}
+
+impl ToScalar for u32 {
+    fn scalar(self) -> Scalar {
+        Scalar::Whole(i128::from(self))
+    }
+}
+
+impl ToScalar for u64 {
+    fn scalar(self) -> Scalar {
+        Scalar::Whole(i128::from(self))
+    }
+}
+
+impl ToScalar for days_ms {
+    fn scalar(self) -> Scalar {
+        Scalar::DayTime(self)
+    }
+}
+
+impl ToScalar for months_days_ns {
+    fn scalar(self) -> Scalar {
+        Scalar::MonthDayNano(self)
+    }
+}
+
+/// What stands at `index` of an array of any kind, below all dictionaries.
+#[cycle(value)]
+pub fn value_at(array: &AnyArray, index: usize) -> Value<'_>
+    requires { index < len_of (layout_of array.now) }
+    ensures slot { value_slot result ≡ slot_at (layout_of array.now) index }
+    ensures fits { ValueFits result }
+    ensures height { value_height result ≤ height (layout_of array.now) }
+{
+    match array {
+        AnyArray::Null(_) => Value::Null,
+        AnyArray::Boolean(array) => boolean_value(array, index),
+        AnyArray::Primitive(array) => number_value(array, index),
+        AnyArray::FixedSizeBinary(array) => fixed_value(array, index),
+        AnyArray::Binary(array) => bytes_value(array, index),
+        AnyArray::LargeBinary(array) => bytes_value(array, index),
+        AnyArray::Utf8(array) => text_value(array, index),
+        AnyArray::LargeUtf8(array) => text_value(array, index),
+        AnyArray::List(array) => list_value(array, index),
+        AnyArray::FixedSizeList(array) => fixed_list_value(array, index),
+        AnyArray::Struct(array) => record_value(array, index),
+        AnyArray::Union(array) => union_value(array, index),
+        AnyArray::Map(array) => map_value(array, index),
+        AnyArray::Dictionary(array) => dictionary_value(array, index),
+    }
+}
+
+fn boolean_value(array: &BooleanArray, index: usize) -> Value<'_>
+    requires { index < length array.now.values }
+    ensures slot { value_slot result ≡ slot_at (boolean_layout array.now) index }
+    ensures fits { ValueFits result }
+    ensures height { value_height result ≤ 0 }
+{
+    if !array.is_valid(index) {
+        return Value::Null;
+    }
+    Value::Truth(array.value(index))
+}
+
+// The number at `index`, of an array of any type of number.
+fn number_value(array: &AnyPrimitive, index: usize) -> Value<'_>
+    requires { index < len_of (any_primitive_layout array.now) }
+    ensures slot { value_slot result ≡ slot_at (any_primitive_layout array.now) index }
+    ensures fits { ValueFits result }
+    ensures height { value_height result ≤ 0 }
+{
+    match array {
+        AnyPrimitive::Int8(array) => primitive_value(array, index),
+        AnyPrimitive::Int16(array) => primitive_value(array, index),
+        AnyPrimitive::Int32(array) => primitive_value(array, index),
+        AnyPrimitive::Int64(array) => primitive_value(array, index),
+        AnyPrimitive::Int128(array) => primitive_value(array, index),
+        AnyPrimitive::Int256(array) => primitive_value(array, index),
+        AnyPrimitive::UInt8(array) => primitive_value(array, index),
+        AnyPrimitive::UInt16(array) => primitive_value(array, index),
+        AnyPrimitive::UInt32(array) => primitive_value(array, index),
+        AnyPrimitive::UInt64(array) => primitive_value(array, index),
+        AnyPrimitive::DaysMs(array) => primitive_value(array, index),
+        AnyPrimitive::MonthDayNano(array) => primitive_value(array, index),
+    }
+}
+
+#[tactic(auto, using(crate::proofs::SameSlots::primitive_slot))]
+fn primitive_value<T: ToScalar>(array: &PrimitiveArray<T>, index: usize) -> Value<'_>
+    requires { index < length array.now.values }
+    ensures slot { value_slot result ≡ slot_at (primitive_layout T.primitive T.number array.now) index }
+    ensures fits { ValueFits result }
+    ensures height { value_height result ≤ 0 }
+{
+    if !array.is_valid(index) {
+        return Value::Null;
+    }
+    let value = array.values().as_slice()[index];
+    Value::Number(value.scalar())
+}
+
+fn fixed_value(array: &FixedSizeBinaryArray, index: usize) -> Value<'_>
+    requires { index < array.now.len }
+    ensures slot { value_slot result ≡ slot_at (fixed_layout array.now) index }
+    ensures fits { ValueFits result }
+    ensures height { value_height result ≤ 0 }
+{
+    if !array.is_valid(index) {
+        return Value::Null;
+    }
+    Value::Bytes(array.value(index))
+}
+
+fn bytes_value<O: Offset>(array: &BinaryArray<O>, index: usize) -> Value<'_>
+    requires { index < span_count array.now.offsets }
+    ensures slot { value_slot result ≡ slot_at (bytes_layout O.primitive array.now) index }
+    ensures fits { ValueFits result }
+    ensures height { value_height result ≤ 0 }
+{
+    if !array.is_valid(index) {
+        return Value::Null;
+    }
+    Value::Bytes(array.value(index))
+}
+
+fn text_value<O: Offset>(array: &Utf8Array<O>, index: usize) -> Value<'_>
+    requires { index < span_count array.now.offsets }
+    ensures slot { value_slot result ≡ slot_at (texts_layout O.primitive array.now) index }
+    ensures fits { ValueFits result }
+    ensures height { value_height result ≤ 0 }
+{
+    if !array.is_valid(index) {
+        return Value::Null;
+    }
+    Value::Text(array.value(index).as_bytes())
+}
+
+// A list of slots of one child, or a variant.
+fn nested(nesting: Nesting, child: &AnyArray, index: usize) -> Value<'_>
+    requires one { IsOneChild nesting }
+    requires within { index + span nesting ≤ len_of (layout_of child.now) }
+    ensures slot { value_slot result ≡ child_slot nesting (slot_at (layout_of child.now)) index }
+    ensures fits { ValueFits result }
+    ensures height { value_height result ≤ height (layout_of child.now) + 1 }
+{
+    Value::Nested(nesting, slice::from_ref(child), index)
+}
+
+// The slots of the child from an offset to the next.
+#[tactic(auto, using(crate::proofs::ItemPlaces::item_places))]
+pub fn list_value(array: &ListArray, index: usize) -> Value<'_>
+    requires { index < span_count array.now.offsets }
+    ensures slot { value_slot result ≡ slot_at (list_layout array.now) index }
+    ensures fits { ValueFits result }
+    ensures height { value_height result ≤ height (list_layout array.now) }
+{
+    if !array.is_valid(index) {
+        return Value::Null;
+    }
+    prove!(index < array.len());
+    let start = array.offsets().get(index);
+    let end = array.offsets().get(index + 1);
+    nested(Nesting::List(end - start), array.values(), start)
+}
+
+// The pairs of the child from an offset to the next.
+#[tactic(auto, using(crate::proofs::ItemPlaces::item_places))]
+pub fn map_value(array: &MapArray, index: usize) -> Value<'_>
+    requires { index < span_count array.now.offsets }
+    ensures slot { value_slot result ≡ slot_at (map_layout array.now) index }
+    ensures fits { ValueFits result }
+    ensures height { value_height result ≤ height (map_layout array.now) }
+{
+    if !array.is_valid(index) {
+        return Value::Null;
+    }
+    prove!(index < array.len());
+    let start = array.offsets().get(index);
+    let end = array.offsets().get(index + 1);
+    nested(Nesting::List(end - start), array.field(), start)
+}
+
+// As many slots of the child as each list has.
+#[tactic(auto, using(crate::proofs::ItemPlaces::item_places))]
+pub fn fixed_list_value(array: &FixedSizeListArray, index: usize) -> Value<'_>
+    requires { index < array.now.len }
+    ensures slot { value_slot result ≡ slot_at (fixed_list_layout array.now) index }
+    ensures fits { ValueFits result }
+    ensures height { value_height result ≤ height (fixed_list_layout array.now) }
+{
+    if !array.is_valid(index) {
+        return Value::Null;
+    }
+    let _slots = array.values().len();
+    nested(
+        Nesting::List(array.size()),
+        array.values(),
+        index * array.size(),
+    )
+}
+
+// A slot of each child.
+#[tactic(auto, using(crate::proofs::ItemPlaces::item_places))]
+pub fn record_value(array: &StructArray, index: usize) -> Value<'_>
+    requires { index < array.now.len }
+    ensures slot { value_slot result ≡ slot_at (struct_layout array.now) index }
+    ensures fits { ValueFits result }
+    ensures height { value_height result ≤ height (struct_layout array.now) }
+{
+    if !array.is_valid(index) {
+        return Value::Null;
+    }
+    Value::Nested(Nesting::Record, array.values(), index)
+}
+
+// A variant: the id of its type, the child and the place there.
+pub fn union_value(array: &UnionArray, index: usize) -> Value<'_>
+    requires { index < length array.now.types }
+    ensures slot { value_slot result ≡ slot_at (union_layout array.now) index }
+    ensures fits { ValueFits result }
+    ensures height { value_height result ≤ height (union_layout array.now) }
+{
+    let (number, place) = array.index(index);
+    let id = array.type_at(index);
+    nested(Nesting::Variant(id), &array.fields()[number], place)
+}
+
+// The value that a key names.
+#[cycle(value)]
+pub fn dictionary_value(array: &DictionaryArray, index: usize) -> Value<'_>
+    requires { index < length array.now.keys.integers }
+    ensures slot { value_slot result ≡ slot_at (dictionary_layout array.now) index }
+    ensures fits { ValueFits result }
+    ensures height { value_height result ≤ height (dictionary_layout array.now) }
+{
+    if !array.is_valid(index) {
+        return Value::Null;
+    }
+    value_at(array.values(), array.key_value(index))
+}
+
+/// Whether both are the same number.
+pub fn is_same_number(lhs: Scalar, rhs: Scalar) -> bool
+    ensures { IsTrue result ↔ (scalar_number lhs ≡ scalar_number rhs) }
+{
+    match (lhs, rhs) {
+        (Scalar::Whole(lhs), Scalar::Whole(rhs)) => lhs == rhs,
+        (Scalar::Wide(lhs), Scalar::Wide(rhs)) => lhs.is_same(rhs),
+        (Scalar::DayTime(lhs), Scalar::DayTime(rhs)) => lhs.is_same(rhs),
+        (Scalar::MonthDayNano(lhs), Scalar::MonthDayNano(rhs)) => lhs.is_same(rhs),
+        _ => false,
+    }
+}

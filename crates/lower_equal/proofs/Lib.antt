@@ -1,2 +1,0 @@
-pub mod ItemPlaces
-pub mod SameSlots
