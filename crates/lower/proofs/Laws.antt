@@ -6,7 +6,7 @@ use Rattle.std.specs.Cmp.{tied_itself}
 use Rattle.std.proofs.lemmas.Cmp.{nat_list_cmp_total}
 use Rattle.lower.specs.TypeTrees.{Pairs, TypeTree, plain, single, group, dictionary, extension, FieldTree, field, FieldTrees, no_fields, more_fields}
 use Rattle.lower.specs.Counts.{nodes, field_nodes, fields_nodes}
-use Rattle.lower.specs.Normal.{norm, norm_field, norm_fields, norm_pairs, extension_of, extension_of_values, put_extension, put_text, without, with_pair, name_key, data_key}
+use Rattle.lower.specs.Normal.{norm, norm_field, norm_fields, norm_pairs, extension_of, extension_of_values, put_extension, put_text, without, with_pair, kept_pairs, name_key, data_key}
 
 pub nodes_pos : (t : TypeTree) → 1 ≤ nodes t
 nodes_pos (plain p) = omega arith
@@ -89,15 +89,12 @@ pub without-swap : (k j : List ℕ) (es : Pairs) → without k (without j es) �
 without-swap k j [] = refl
 without-swap k j (e ∷ es) = without-swap_at k j _ _ e (without j es) (without k es) refl refl (without-swap k j es)
 
-abbrev strip : Pairs → Pairs
-strip es = without name_key (without data_key es)
-
 -- what a field's extension puts in can be taken away again
-strip-put : (x : Option (List ℕ × Option (List ℕ))) (es : Pairs) → Lacks name_key es → Lacks data_key es → strip (put_extension x es) ≡ es
+strip-put : (x : Option (List ℕ × Option (List ℕ))) (es : Pairs) → Lacks name_key es → Lacks data_key es → kept_pairs (put_extension x es) ≡ es
 strip-put None es n d = rw (without-Lacks data_key es d) (without-Lacks name_key es n)
 strip-put (Some e) es n d = at_text e.0 e.1
   where
-    at_text : (name : List ℕ) (text : Option (List ℕ)) → strip (with_pair name_key name (put_text text es)) ≡ es
+    at_text : (name : List ℕ) (text : Option (List ℕ)) → kept_pairs (with_pair name_key name (put_text text es)) ≡ es
     at_text name None = rw (without-Lacks data_key _ (Lacks-with data_key name_key name es refl d)) (without-with name_key name es n)
     at_text name (Some text) =
         let below = with_pair data_key text es in
@@ -111,19 +108,22 @@ extension_of_values-norm (group g fs) = refl
 extension_of_values-norm (dictionary keys t ordered) = refl
 extension_of_values-norm (extension name t text) = refl
 
-extension_of-norm : (t : TypeTree) → extension_of (norm t) ≡ extension_of t
+pub extension_of-norm : (t : TypeTree) → extension_of (norm t) ≡ extension_of t
 extension_of-norm (plain p) = refl
 extension_of-norm (single s f) = refl
 extension_of-norm (group g fs) = refl
 extension_of-norm (dictionary keys t ordered) = extension_of_values-norm t
 extension_of-norm (extension name t text) = refl
 
-norm_pairs-norm : (t : TypeTree) (es : Pairs) → norm_pairs (norm t) (norm_pairs t es) ≡ norm_pairs t es
-norm_pairs-norm t es =
-    let base = strip es in
+pub kept-norm : (t : TypeTree) (es : Pairs) → kept_pairs (norm_pairs t es) ≡ kept_pairs es
+kept-norm t es =
     let no_name = Lacks-without name_key (without data_key es) in
     let no_data = Lacks-other data_key name_key (without data_key es) (Lacks-without data_key es) in
-    ap (λ x. put_extension x (strip (norm_pairs t es))) (extension_of-norm t) ∙ ap (put_extension (extension_of t)) (strip-put (extension_of t) base no_name no_data)
+    strip-put (extension_of t) (kept_pairs es) no_name no_data
+
+norm_pairs-norm : (t : TypeTree) (es : Pairs) → norm_pairs (norm t) (norm_pairs t es) ≡ norm_pairs t es
+norm_pairs-norm t es =
+    ap (λ x. put_extension x (kept_pairs (norm_pairs t es))) (extension_of-norm t) ∙ ap (put_extension (extension_of t)) (kept-norm t es)
 
 -- the normal form of a normal form is itself
 mutual

@@ -7,3 +7,4 @@ pub mod Same
 pub mod Decided
 pub mod Maps
 pub mod Others
+pub mod SameNormal

@@ -1,7 +1,7 @@
 -- The normal form of a type: in the metadata of each field the two keys of extensions say the own
 -- extension of the field, or of the values of its dictionary, and nothing else.
 -- (Arrow columnar format, "Extension types".)
-use Rattle.std.specs.Prelude.{ℕ, List, [], ◌∷◌, Option, Some, None, codes, if◌then◌else◌}
+use Rattle.std.specs.Prelude.{ℕ, Bool, ◌||◌, List, [], ◌∷◌, Option, Some, None, codes, if◌then◌else◌}
 use Rattle.std.specs.Cmp.Lexicographic.{slice_cmp}
 use Rattle.std.specs.Ordering.{match_ordering, nat_cmp, is_eq}
 use Rattle.lower.specs.TypeTrees.{Pairs, TypeTree, plain, single, group, dictionary, extension, FieldTree, field, FieldTrees, no_fields, more_fields}
@@ -12,10 +12,18 @@ name_key = codes "ARROW:extension:name"
 abbrev pub data_key : List ℕ
 data_key = codes "ARROW:extension:metadata"
 
+-- whether a key is one of the two of extensions
+abbrev pub is_extension_key : List ℕ → Bool
+is_extension_key k = is_eq (slice_cmp nat_cmp name_key k) || is_eq (slice_cmp nat_cmp data_key k)
+
 -- the pairs without those at a key
 abbrev pub without : List ℕ → Pairs → Pairs
 without k [] = []
 without k (e ∷ es) = if is_eq (slice_cmp nat_cmp k e.0) then without k es else (e ∷ without k es)
+
+-- the pairs that say nothing of extensions
+abbrev pub kept_pairs : Pairs → Pairs
+kept_pairs es = without name_key (without data_key es)
 
 -- the pairs, in the order of the keys, with a value at a key
 abbrev pub with_pair : List ℕ → List ℕ → Pairs → Pairs
@@ -40,7 +48,7 @@ put_extension None es = es
 put_extension (Some e) es = with_pair name_key e.0 (put_text e.1 es)
 
 abbrev pub norm_pairs : TypeTree → Pairs → Pairs
-norm_pairs t es = put_extension (extension_of t) (without name_key (without data_key es))
+norm_pairs t es = put_extension (extension_of t) (kept_pairs es)
 
 abbrev mutual
   pub norm : TypeTree → TypeTree

@@ -9,6 +9,7 @@ pub mod equal;
 mod fields;
 pub mod normal;
 mod physical_type;
+mod same_normal;
 mod schema;
 
 pub use counts::{
@@ -17,6 +18,7 @@ pub use counts::{
 };
 pub use equal::{is_same_field, is_same_schema, is_same_type};
 pub use physical_type::PhysicalType;
+pub use same_normal::is_same_normal_type;
 pub use schema::Schema;
 use std::collections::BTreeMap;
 

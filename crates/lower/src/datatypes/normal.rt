@@ -7,9 +7,9 @@ use super::{DataType, Field, Metadata};
 use crate::datatypes::clones::clone_metadata;
 use std::alloc::AllocError;
 
-const NAME_KEY: &str = "ARROW:extension:name";
+pub(super) const NAME_KEY: &str = "ARROW:extension:name";
 
-const DATA_KEY: &str = "ARROW:extension:metadata";
+pub(super) const DATA_KEY: &str = "ARROW:extension:metadata";
 
 impl DataType {
     /// The type in its normal form.
