@@ -107,6 +107,7 @@ enum Call {
     SchemaBytesOf,
     SchemaBackOf,
     WeightOf,
+    VisitsOf,
     PlainSchemaOf,
     SchemaByBoth,
     DamagedSchemasOf,
@@ -139,7 +140,7 @@ enum Call {
     IpcatDamaged,
 }
 
-const CALLS: [(&str, Call); 46] = [
+const CALLS: [(&str, Call); 47] = [
     ("slots_of", Call::SlotsOf),
     ("parts_of", Call::PartsOf),
     ("bits_of", Call::BitsOf),
@@ -156,6 +157,7 @@ const CALLS: [(&str, Call); 46] = [
     ("schema_bytes_of", Call::SchemaBytesOf),
     ("schema_back_of", Call::SchemaBackOf),
     ("weight_of", Call::WeightOf),
+    ("visits_of", Call::VisitsOf),
     ("plain_schema_of", Call::PlainSchemaOf),
     ("schema_by_both", Call::SchemaByBoth),
     ("damaged_schemas_of", Call::DamagedSchemasOf),
@@ -206,6 +208,7 @@ fn put_called(alloc: Global, out: &mut Text, call: Call, parts: &Value) -> Resul
         Call::SchemaBytesOf => schemas::schema_bytes_of(alloc, out, parts),
         Call::SchemaBackOf => schemas::schema_back_of(alloc, out, parts),
         Call::WeightOf => schemas::weight_of(alloc, out, parts),
+        Call::VisitsOf => schemas::visits_of(alloc, out, parts),
         Call::PlainSchemaOf => plain_schemas::plain_schema_of(alloc, out, parts),
         Call::SchemaByBoth => plain_schemas::schema_by_both(alloc, out, parts),
         Call::DamagedSchemasOf => plain_schemas::damaged_schemas_of(alloc, out, parts),

@@ -1,5 +1,5 @@
 -- What a field's table means, by the slots that were read of it.
-use Rattle.std.proofs.Common.{◌≡◌, ℕ, zero, suc, ◌+◌, ◌-◌, ◌<◌, ◌≤◌, Bool, List, Option, Some, None, Result, Ok, Err, refl, ap, sym, subst, ◌∙◌, arith}
+use Rattle.std.proofs.Common.{◌≡◌, ℕ, zero, suc, ◌+◌, ◌-◌, ◌<◌, ◌≤◌, Bool, true, false, cond, nat_eq, List, Option, Some, None, Result, Ok, Err, refl, ap, sym, subst, ◌∙◌, arith}
 use Rattle.std.specs.Prelude.{IfSome}
 use Rattle.std.specs.Option.{option_map}
 use Rattle.lower.specs.TypeTrees.{Pairs, TypeTree, Single, list, large_list, fixed_list, entries, single, Group, structure, choice, group, FieldTree, field, FieldTrees}
@@ -14,9 +14,9 @@ use Rattle.ipc_views.specs.SchemaSlots.{field_name, field_nullable, field_type, 
 use Rattle.ipc_views.specs.Tables.{map_ok, table_in}
 use Rattle.ipc_model.specs.Schemas.{Encoding, Read, ReadAll, ReadType, made, present, given, encoded, extended, value_under, with_extension, optional_encoding, pairs_at, field_at, field_count, field_from, field_with, fields_count, fields_from, first_field, group_with, inner_count, single_with, some_fields, type_of_field}
 use Rattle.ipc_schema.specs.Reading.{Refuses, in_schema}
-use Rattle.ipc_schema.specs.Views.{Child, with_one_id}
+use Rattle.ipc_schema.specs.Views.{Child, below_count, below_number, child_number, with_one_id}
 use Rattle.ipc_model.proofs.FieldLists.{OneField, one-field}
-use Rattle.ipc_model.proofs.Given.{if-some, if-some-at}
+use Rattle.ipc_model.proofs.Given.{given-some, if-some, if-some-at, map-some}
 use Rattle.ipc_schema.proofs.FieldLists.{given-given}
 use Rattle.ipc_schema.proofs.Steps.{in_schema-ok}
 
@@ -36,6 +36,9 @@ slot-made r s x same e = ap made (sym same ∙ in_schema-ok r x e)
 pub slot-present : {A B : Type 0} (f : A → B) (r : Result (Option A) TableFault) (s : Result (Option B) TableFault) (o : Option A) (x : A)
     → map_ok (option_map f) r ≡ s → Ok o ≡ in_schema r → o ≡ Some x → present s ≡ Some (f x)
 slot-present f r s o x same e is = ap present (sym same ∙ ap (map_ok (option_map f)) (in_schema-ok r o e)) ∙ ap (λ o. present (Ok (option_map f o))) is
+
+pub present-read : {A : Type 0} (r s : Result (Option A) TableFault) (o : Option A) (x : A) → r ≡ s → Ok o ≡ in_schema r → o ≡ Some x → present s ≡ Some x
+present-read r s o x same e is = ap present (sym same ∙ in_schema-ok r o e) ∙ ap (λ o. present (Ok o)) is
 
 -- ---- a field
 
@@ -89,16 +92,17 @@ count-encoded : (enc : Option Encoding) (t : TypeTree) → inner_count (encoded 
 count-encoded None t = refl
 count-encoded (Some e) t = refl
 
-pub count-with : (name : List ℕ) (nullable : Bool) (es : Pairs) (enc : Option Encoding) (y : ReadType) → field_count (field_with name nullable es enc y).0 ≡ 1 + inner_count y.0
-count-with name nullable es enc y = ap (λ n. 1 + n) (count-encoded enc (with_extension es y.0) ∙ count-extended _ _ y.0)
+pub below-with : (name : List ℕ) (nullable : Bool) (es : Pairs) (enc : Option Encoding) (y : ReadType) → below_number (field_with name nullable es enc y) ≡ inner_count y.0
+below-with name nullable es enc y = count-encoded enc (with_extension es y.0) ∙ count-extended _ _ y.0
 
-pub some-field : (f : FieldTree) → 0 < field_count f
-some-field (field name t nullable es) = omega arith
+-- a field, and those below it
+pub one-and-below : (f : FieldTree) → field_count f ≡ 1 + below_count f
+one-and-below (field name t nullable es) = refl
 
-pub mapped-few : (name : List ℕ) (nullable : Bool) (es : Pairs) (enc : Option Encoding) (o : Option ReadType) (before after : ℕ) → before ≡ after + 1
-    → IfSome o (λ y. after < inner_count y.0) → IfSome (option_map (field_with name nullable es enc) o) (λ y. before < field_count y.0)
-mapped-few name nullable es enc None before after one h = tt
-mapped-few name nullable es enc (Some y) before after one h = let count = count-with name nullable es enc y in omega (arith, one, h, count)
+pub mapped-within : (name : List ℕ) (nullable : Bool) (es : Pairs) (enc : Option Encoding) (o : Option ReadType) (most before : ℕ)
+    → IfSome o (λ y. most < before + inner_count y.0) → IfSome (option_map (field_with name nullable es enc) o) (λ y. most < before + below_number y)
+mapped-within name nullable es enc None most before h = tt
+mapped-within name nullable es enc (Some y) most before h = omega (arith, h, below-with name nullable es enc y)
 
 -- ---- types with children
 
@@ -116,22 +120,44 @@ several (Some v) f g all e = rw e refl
 
 -- ---- the fields of a vector
 
-pub no-table : (read : Spot → Option Read) (v : Vector) (i n : ℕ) (before : ReadAll) (d : TableFault) (P : ReadAll → Type 0)
-    → fields_from read v 0 i ≡ Some before → table_in v i ≡ Err d → i < n → IfSome (fields_from read v 0 n) P
-no-table read v i n before d P first led inside = if-some (fields_from read v 0 n) P (λ all e.
-    let one = one-field read v 0 n i before all e first inside in
-    let same : 0 + i ≡ i = omega arith in
-    let apart : Ok one.table ≡ Err d = sym one.led ∙ ap (table_in v) same ∙ led in
-    cc)
+not-none : (b : Bool) (o : Option Read) (x : Read) → cond b None o ≡ Some x → o ≡ Some x
+not-none true o x e = cc
+not-none false o x e = e
 
-pub too-many : (read : Spot → Option Read) (v : Vector) (i n : ℕ) (before : ReadAll) (t : Spot) (old left : ℕ)
-    → fields_from read v 0 i ≡ Some before → table_in v i ≡ Ok t → i < n → old ≡ left + fields_count before.0
-    → IfSome (read t) (λ y. left < field_count y.0) → IfSome (fields_from read v 0 n) (λ all. old < fields_count all.0)
-too-many read v i n before t old left first led inside taken few = if-some (fields_from read v 0 n) (λ all. old < fields_count all.0) (λ all e.
+-- the table of the first field: it is opened, or there is none, or no visit is left
+pub no-first : (o : Option Vector) (read : Spot → Option Read) (v : Vector) (most visits : ℕ) → o ≡ Some v → IfSome (made (table_in v 0)) (λ _. most < visits + 1)
+    → IfSome (option_map with_one_id (given o (first_field read))) (λ y. most < visits + child_number y)
+no-first o read v most visits there none = if-some (option_map with_one_id (given o (first_field read))) (λ y. most < visits + child_number y) (λ y e.
+    let (x, x_is, y_is) = map-some with_one_id (given o (first_field read)) y e in
+    let first : first_field read v ≡ Some x = sym (ap (λ (p : Option Vector). given p (first_field read)) there) ∙ x_is in
+    let (t, t_is, read_is) = given-some (made (table_in v 0)) read x (not-none (nat_eq v.count 0) (given (made (table_in v 0)) read) x first) in
+    let here : most < visits + 1 = if-some-at (made (table_in v 0)) (λ _. most < visits + 1) t none t_is in
+    let same : child_number y ≡ field_count x.0 = ap child_number y_is in
+    let counted = one-and-below x.0 in
+    omega (arith, here, same, counted))
+
+-- the table at i, after the fields before it: it is opened, or there is none, or no visit is left
+pub no-table : (read : Spot → Option Read) (v : Vector) (i n : ℕ) (before : ReadAll) (most old visits : ℕ)
+    → fields_from read v 0 i ≡ Some before → i < n → visits ≡ old + fields_count before.0
+    → IfSome (made (table_in v i)) (λ _. most < visits + 1) → IfSome (fields_from read v 0 n) (λ all. most < old + fields_count all.0)
+no-table read v i n before most old visits first inside taken none = if-some (fields_from read v 0 n) (λ all. most < old + fields_count all.0) (λ all e.
     let one = one-field read v 0 n i before all e first inside in
     let same : 0 + i ≡ i = omega arith in
-    let opened : Ok one.table ≡ Ok t = sym one.led ∙ ap (table_in v) same ∙ led in
+    let led : made (table_in v i) ≡ Some one.table = ap (λ k. made (table_in v k)) (sym same) ∙ ap made one.led in
+    let here : most < visits + 1 = if-some-at (made (table_in v i)) (λ _. most < visits + 1) one.table none led in
+    let counted = one-and-below one.field.0 in
+    let few = one.few in
+    omega (arith, taken, here, counted, few))
+
+pub too-many : (read : Spot → Option Read) (v : Vector) (i n : ℕ) (before : ReadAll) (t : Spot) (most old visits opened : ℕ)
+    → fields_from read v 0 i ≡ Some before → table_in v i ≡ Ok t → i < n → visits ≡ old + fields_count before.0 → opened ≡ visits + 1
+    → IfSome (read t) (λ y. most < opened + below_number y) → IfSome (fields_from read v 0 n) (λ all. most < old + fields_count all.0)
+too-many read v i n before t most old visits opened first led inside taken one_more few = if-some (fields_from read v 0 n) (λ all. most < old + fields_count all.0) (λ all e.
+    let one = one-field read v 0 n i before all e first inside in
+    let same : 0 + i ≡ i = omega arith in
+    let opens : Ok one.table ≡ Ok t = sym one.led ∙ ap (table_in v) same ∙ led in
     let table : one.table ≡ t = cc in
-    let here = if-some-at (read t) (λ y. left < field_count y.0) one.field few (ap read (sym table) ∙ one.is) in
+    let here = if-some-at (read t) (λ y. most < opened + below_number y) one.field few (ap read (sym table) ∙ one.is) in
+    let counted = one-and-below one.field.0 in
     let all_few = one.few in
-    omega (arith, taken, here, all_few))
+    omega (arith, taken, one_more, here, counted, all_few))

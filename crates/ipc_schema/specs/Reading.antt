@@ -1,5 +1,5 @@
 -- What reading a schema answers.
-use Rattle.std.specs.Prelude.{◌≡◌, ℕ, ◌+◌, ◌<◌, nat_eq, Bool, false, if◌then◌else◌, List, option_map, Option, Some, None, IfSome, Result, Ok, Err}
+use Rattle.std.specs.Prelude.{◌≡◌, ℕ, ◌+◌, ◌<◌, ◌≤◌, nat_eq, Bool, false, if◌then◌else◌, List, option_map, Option, Some, None, IfSome, Result, Ok, Err}
 use Rattle.ipc_devices.specs.declared.fault.TableFault.{TableFault}
 use Rattle.ipc_devices.specs.declared.fault.SchemaFault.TheVariants.{NotASchema, Table}
 use Rattle.ipc_devices.specs.declared.fault.Fault.{Fault}
@@ -24,10 +24,15 @@ abbrev pub Gives : {X Y : Type 0} → (X → Y) → Result X Fault → Option Y 
 Gives view (Ok x) meaning = meaning ≡ Some (view x)
 Gives view (Err e) meaning = Refuses e (meaning ≡ None)
 
--- The same, where no more fields may be met than were left before: so many as `count` says are taken.
-abbrev pub GivesFew : {X Y : Type 0} → (X → Y) → (Y → ℕ) → (before after : ℕ) → Result X Fault → Option Y → Type 0
-GivesFew view count before after (Ok x) meaning = (meaning ≡ Some (view x)) × (before ≡ after + count (view x))
-GivesFew view count before after (Err e) meaning = Refuses e (IfSome meaning (λ y. before < count y))
+-- The same, where field tables are visited, `most` of them at the end: a value takes so many as `count` says,
+-- and what is refused has no meaning or takes more than there may be.
+abbrev pub GivesWithin : {X Y : Type 0} → (X → Y) → (Y → ℕ) → (most before after : ℕ) → Result X Fault → Option Y → Type 0
+GivesWithin view count most before after (Ok x) meaning = (meaning ≡ Some (view x)) × (after ≡ before + count (view x))
+GivesWithin view count most before after (Err e) meaning = Refuses e (IfSome meaning (λ y. most < before + count y))
+
+-- a count of visits never falls, and ends at `most`
+abbrev pub IsWithin : (before after most : ℕ) → Type 0
+IsWithin before after most = (before ≤ after) × (after ≤ most)
 
 -- a slot of a table of a schema: an ill-made one is a fault of the schema
 abbrev pub in_schema : {A : Type 0} → Result A TableFault → Result A Fault

@@ -10,7 +10,7 @@ use Rattle.lower_types.specs.declared.Endianness.TheVariants.{Little, Big}
 use Rattle.ipc_base.specs.declared.ipc.IpcField.{IpcField}
 use Rattle.ipc_base.specs.declared.ipc.IpcSchema.{IpcSchema}
 use Rattle.ipc_base.specs.IdTrees.{IdTrees, no_ids, more_ids, ids_view, all_ids_view}
-use Rattle.lower.specs.TypeTrees.{FieldTree}
+use Rattle.lower.specs.TypeTrees.{FieldTree, field}
 use Rattle.ipc_schema.specs.declared.read.schema.Encoding.{Encoding}
 use Rattle.ipc_model.specs.Batches.{Schema as Meaning}
 use Rattle.ipc_model.specs.Schemas.{Encoding as EncodingMeaning, Read, ReadAll, ReadType, field_count, inner_count, fields_count}
@@ -49,9 +49,12 @@ schema_seen x = record {
   order = byte_order x.1.is_little_endian;
 }
 
--- how many fields there are in it
-abbrev pub field_number : Read → ℕ
-field_number x = field_count x.0
+-- how many fields there are below a field, and how many there are in what is read
+abbrev pub below_count : FieldTree → ℕ
+below_count (field name t nullable es) = inner_count t
+
+abbrev pub below_number : Read → ℕ
+below_number x = below_count x.0
 
 abbrev pub child_number : Child → ℕ
 child_number x = field_count x.0

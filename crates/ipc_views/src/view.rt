@@ -54,8 +54,8 @@ impl<'a, K> TableRef<'a, K> {
         })
     }
 
-    // The message that the table stands in.
-    pub(crate) fn message(&self) -> &'a [u8]
+    /// The message that the table stands in.
+    pub fn message(&self) -> &'a [u8]
         ensures { result.now ≡ self.now.message }
     {
         self.message

@@ -1,5 +1,6 @@
 //! Schema messages. `"schema_of": BYTES` reads one, and gives a schema. `"schema_bytes_of"` writes a schema and gives the bytes;
-//! `"schema_back_of"` reads them again and gives a schema, `"weight_of"` gives what the tables of a schema weigh.
+//! `"schema_back_of"` reads them again and gives a schema, `"weight_of"` gives what the tables of a schema weigh. `"visits_of": BYTES` gives
+//! how many tables of fields are opened in reading a schema: `{"visits": 3}`, and `{"fault": FAULT, "visits": 3}` where it is refused.
 //!
 //! And schemas alone: `"normal_of"` gives the normal form of one, `"is_normal"` whether it is its own normal form;
 //! `"are_same_schemas": [SCHEMA, SCHEMA]` whether a clone of the first and the second are the same.
@@ -9,7 +10,7 @@ use crate::json::both;
 use crate::schemas::{ids_of, put_schema, put_schema_of_row, schema};
 use crate::text::Text;
 use crate::trouble::Trouble;
-use ipc_schema::read::schema::deserialize_schema;
+use ipc_schema::read::schema::{deserialize_schema, deserialize_schema_counted};
 use ipc_schema_write::schema::{schema_to_bytes, serialize_schema};
 use ipc_schema_write::weights::weigh_schema;
 use lower::datatypes::is_same_schema;
@@ -24,6 +25,23 @@ pub fn schema_of(alloc: Global, out: &mut Text, value: &Value) -> Result<(), Tro
 fn put_message(alloc: Global, out: &mut Text, message: &[u8]) -> Result<(), Trouble> {
     let (schema, ids) = deserialize_schema(alloc, message)?;
     put_schema(out, &schema, &ids);
+    Ok(())
+}
+
+/// How many tables of fields are opened in reading a message, and why it is refused, where it is.
+pub fn visits_of(alloc: Global, out: &mut Text, value: &Value) -> Result<(), Trouble> {
+    let message = bytes(alloc, value)?;
+    let mut visits = 0;
+    let read = deserialize_schema_counted(alloc, &message, &mut visits);
+    out.put("{");
+    if let Err(fault) = read {
+        out.put("\"fault\":");
+        out.shown(&fault);
+        out.put(",");
+    }
+    out.put("\"visits\":");
+    out.show(&visits);
+    out.put("}");
     Ok(())
 }
 

@@ -2,15 +2,16 @@
 //!
 //! Arrow columnar format, "Schema message": the header of the first message of a stream is a table
 //! `Schema`, whose fields are tables `Field`.
-ghost use Rattle.std.specs.Prelude.{◌≡◌, IfOk, option_map, string_bytes};
+ghost use Rattle.std.specs.Prelude.{◌≡◌, ◌+◌, ◌<◌, ◌≤◌, ◌^◌, IfOk, length, option_map, string_bytes};
 ghost use Rattle.lower.specs.TypeViews.{fields_view, pairs_of, type_view};
 ghost use Rattle.ipc_base.specs.Fitting.{AllFit};
 ghost use Rattle.ipc_base.specs.IdTrees.{all_ids_view};
 ghost use Rattle.ipc_views.specs.SchemaSlots.{field_children, field_dictionary, field_name};
+ghost use Rattle.ipc_views.specs.Tables.{table_in};
 ghost use Rattle.ipc_views.specs.Unions.{type_parts};
-ghost use Rattle.ipc_model.specs.Schemas.{order_of, made, present, given, encoding_at, optional_encoding, encoded, id_of, field_with, field_at, fields_from, first_field, some_fields, type_of_field};
-ghost use Rattle.ipc_schema.specs.Reading.{Gives, GivesFew, GivesMessage, GivesTable};
-ghost use Rattle.ipc_schema.specs.Views.{byte_order, child_number, child_seen, encoding_seen, field_number, field_seen, fields_number, fields_seen, inner_number, schema_seen, type_seen, with_one_id};
+ghost use Rattle.ipc_model.specs.Schemas.{order_of, made, present, given, encoding_at, optional_encoding, encoded, id_of, field_with, field_at, fields_count, fields_from, first_field, some_fields, type_of_field};
+ghost use Rattle.ipc_schema.specs.Reading.{Gives, GivesMessage, GivesTable, GivesWithin, IsWithin};
+ghost use Rattle.ipc_schema.specs.Views.{below_number, byte_order, child_number, child_seen, encoding_seen, field_seen, fields_number, fields_seen, inner_number, schema_seen, type_seen, with_one_id};
 
 use crate::read::metadata::{read_metadata, read_schema_metadata, with_extension};
 use crate::read::types::{
@@ -130,24 +131,45 @@ fn read_name(alloc: Global, field: &FieldRef<'_>) -> Result<String, Fault>
     }
 }
 
-// The field of a table, of as many levels at most. It is one of the fields that may still be met.
+// The field's table at an index of a vector. Nowhere else is one opened, and each time it is a visit, of
+// which there are `most` at the end.
+fn open_field<'a>(
+    tables: &Tables<'a, FieldTable>,
+    index: usize,
+    visits: &mut u64,
+    most: u64,
+) -> Result<FieldRef<'a>, Fault>
+    requires inside { index < tables.now.count }
+    requires few { visits.now ≤ most }
+    ensures meaning { GivesWithin (λ t. t) (λ _. 1) most visits.old visits.new result
+        (made (table_in tables.now index)) }
+    ensures within { IsWithin visits.old visits.new most }
+{
+    if *visits == most {
+        return Err(Fault::Schema(SchemaFault::TooManyFields));
+    }
+    *visits += 1;
+    in_schema(tables.get(index))
+}
+
+// The field of a table that is open, of as many levels at most.
 #[cycle(fields)]
 #[tactic(auto, unfolding(ipc_model::specs::Schemas::field_at, ipc_model::specs::Schemas::field_from))]
 fn deserialize_field(
     alloc: Global,
     field: &FieldRef<'_>,
     levels: u64,
-    left: &mut u64,
+    visits: &mut u64,
+    most: u64,
 ) -> Result<(Field, IpcField), Fault>
-    ensures { GivesFew field_seen field_number left.old left.new result (field_at levels field.now) }
+    requires few { visits.now ≤ most }
+    ensures meaning { GivesWithin field_seen below_number most visits.old visits.new result
+        (field_at levels field.now) }
+    ensures within { IsWithin visits.old visits.new most }
 {
     if levels == 0 {
         return Err(Fault::Schema(SchemaFault::TooDeep));
     }
-    if *left == 0 {
-        return Err(Fault::Schema(SchemaFault::TooManyFields));
-    }
-    *left -= 1;
     let name = read_name(alloc, field)?;
     let is_nullable = in_schema(field.nullable())?;
     let metadata = read_metadata(alloc, field)?;
@@ -155,7 +177,7 @@ fn deserialize_field(
     let Some(type_) = in_schema(field.type_())? else {
         return Err(Fault::Schema(SchemaFault::NoType));
     };
-    let seen = deserialize_type(alloc, field, &type_, levels - 1, left)?;
+    let seen = deserialize_type(alloc, field, &type_, levels - 1, visits, most)?;
     let read = field_with(alloc, name, is_nullable, metadata, encoding, seen)?;
     Ok(read)
 }
@@ -168,38 +190,41 @@ fn deserialize_type(
     field: &FieldRef<'_>,
     type_: &TypeRef<'_>,
     levels: u64,
-    left: &mut u64,
+    visits: &mut u64,
+    most: u64,
 ) -> Result<(DataType, Vec<IpcField>), Fault>
-    ensures { GivesFew type_seen inner_number left.old left.new result
+    requires few { visits.now ≤ most }
+    ensures meaning { GivesWithin type_seen inner_number most visits.old visits.new result
         (type_of_field (λ s. field_at levels s) field.now (type_parts type_.now)) }
+    ensures within { IsWithin visits.old visits.new most }
 {
     match type_ {
         TypeRef::List(_) => {
-            let (child, ids) = deserialize_child(alloc, field, levels, left)?;
+            let (child, ids) = deserialize_child(alloc, field, levels, visits, most)?;
             Ok((DataType::List(child), ids))
         }
         TypeRef::LargeList(_) => {
-            let (child, ids) = deserialize_child(alloc, field, levels, left)?;
+            let (child, ids) = deserialize_child(alloc, field, levels, visits, most)?;
             Ok((DataType::LargeList(child), ids))
         }
         TypeRef::FixedSizeList(list) => {
             let size = deserialize_size(in_schema(list.list_size())?)?;
-            let (child, ids) = deserialize_child(alloc, field, levels, left)?;
+            let (child, ids) = deserialize_child(alloc, field, levels, visits, most)?;
             Ok((DataType::FixedSizeList(child, size), ids))
         }
         TypeRef::Map(map) => {
             let is_sorted = in_schema(map.keys_sorted())?;
-            let (child, ids) = deserialize_child(alloc, field, levels, left)?;
+            let (child, ids) = deserialize_child(alloc, field, levels, visits, most)?;
             Ok((DataType::Map(child, is_sorted), ids))
         }
         TypeRef::Struct(_) => {
-            let (fields, ids) = deserialize_children(alloc, field, levels, left)?;
+            let (fields, ids) = deserialize_children(alloc, field, levels, visits, most)?;
             Ok((DataType::Struct(fields), ids))
         }
         TypeRef::Union(union) => {
             let mode = union_mode(in_schema(union.mode())?);
             let type_ids = deserialize_ids(alloc, union)?;
-            let (fields, ids) = deserialize_children(alloc, field, levels, left)?;
+            let (fields, ids) = deserialize_children(alloc, field, levels, visits, most)?;
             Ok((DataType::Union(fields, type_ids, mode), ids))
         }
         _ => Ok((deserialize_plain(alloc, type_)?, Vec::new(alloc))),
@@ -212,10 +237,13 @@ fn deserialize_child(
     alloc: Global,
     field: &FieldRef<'_>,
     levels: u64,
-    left: &mut u64,
+    visits: &mut u64,
+    most: u64,
 ) -> Result<(Box<Field>, Vec<IpcField>), Fault>
-    ensures { GivesFew child_seen child_number left.old left.new result
+    requires few { visits.now ≤ most }
+    ensures meaning { GivesWithin child_seen child_number most visits.old visits.new result
         (option_map with_one_id (given (present (field_children field.now)) (first_field (λ s. field_at levels s)))) }
+    ensures within { IsWithin visits.old visits.new most }
 {
     let Some(tables) = in_schema(field.children())? else {
         return Err(Fault::Schema(SchemaFault::NoChild));
@@ -223,8 +251,8 @@ fn deserialize_child(
     if tables.is_empty() {
         return Err(Fault::Schema(SchemaFault::NoChild));
     }
-    let table = in_schema(tables.get(0))?;
-    let (child, id) = deserialize_field(alloc, &table, levels, left)?;
+    let table = open_field(&tables, 0, visits, most)?;
+    let (child, id) = deserialize_field(alloc, &table, levels, visits, most)?;
     let child = Box::new(alloc, child)?;
     let mut ids = Vec::new(alloc);
     ids.push(id)?;
@@ -237,10 +265,13 @@ fn deserialize_children(
     alloc: Global,
     field: &FieldRef<'_>,
     levels: u64,
-    left: &mut u64,
+    visits: &mut u64,
+    most: u64,
 ) -> Result<(Vec<Field>, Vec<IpcField>), Fault>
-    ensures { GivesFew fields_seen fields_number left.old left.new result
+    requires few { visits.now ≤ most }
+    ensures meaning { GivesWithin fields_seen fields_number most visits.old visits.new result
         (given (present (field_children field.now)) (some_fields (λ s. field_at levels s))) }
+    ensures within { IsWithin visits.old visits.new most }
 {
     let Some(tables) = in_schema(field.children())? else {
         return Err(Fault::Schema(SchemaFault::NoChild));
@@ -248,7 +279,7 @@ fn deserialize_children(
     if tables.is_empty() {
         return Err(Fault::Schema(SchemaFault::NoChild));
     }
-    deserialize_fields(alloc, &tables, levels, left)
+    deserialize_fields(alloc, &tables, levels, visits, most)
 }
 
 #[cycle(fields)]
@@ -256,16 +287,19 @@ fn deserialize_fields(
     alloc: Global,
     tables: &Tables<'_, FieldTable>,
     levels: u64,
-    left: &mut u64,
+    visits: &mut u64,
+    most: u64,
 ) -> Result<(Vec<Field>, Vec<IpcField>), Fault>
-    ensures { GivesFew fields_seen fields_number left.old left.new result
+    requires few { visits.now ≤ most }
+    ensures meaning { GivesWithin fields_seen fields_number most visits.old visits.new result
         (fields_from (λ s. field_at levels s) tables.now 0 tables.now.count) }
+    ensures within { IsWithin visits.old visits.new most }
 {
     let mut fields = Vec::new(alloc);
     let mut ipc_fields = Vec::new(alloc);
     for i in 0..tables.len() {
-        let table = in_schema(tables.get(i))?;
-        let (field, ipc_field) = deserialize_field(alloc, &table, levels, left)?;
+        let table = open_field(tables, i, visits, most)?;
+        let (field, ipc_field) = deserialize_field(alloc, &table, levels, visits, most)?;
         fields.push(field)?;
         ipc_fields.push(ipc_field)?;
     }
@@ -281,22 +315,29 @@ fn is_little_endian(order: Endianness) -> bool
     }
 }
 
+/// The schema of a table, and what IPC adds to it. `visits` counts how many times the table of a field is
+/// opened, where it stands in the message of the table or wherever else such a table stands.
+///
+/// Faults: those of [`deserialize_schema`] but `Schema(NotASchema)`. Whatever the answer, `visits` grows by
+/// no more than the message has bytes, and where it is Ok, by the number of fields at all levels.
 #[tactic(auto, unfolding(ipc_model::specs::Schemas::schema_at))]
-fn read_schema(
+pub fn fb_to_schema(
     alloc: Global,
     schema: &SchemaRef<'_>,
-    message: &[u8],
+    visits: &mut u64,
 ) -> Result<(Schema, IpcSchema), Fault>
-    requires { message.now ≡ schema.now.message }
-    ensures { GivesTable schema_seen result schema.now }
+    requires { visits.now + length schema.now.message < 2 ^ 64 }
+    ensures meaning { GivesTable schema_seen result schema.now }
+    ensures counted { IfOk result (λ r. visits.new ≡ visits.old + fields_count (fields_view r.0.fields.items)) }
+    ensures within { IsWithin visits.old visits.new (visits.old + length schema.now.message) }
 {
     let is_little_endian = is_little_endian(in_schema(schema.endianness())?);
     let metadata = read_schema_metadata(alloc, schema)?;
     let Some(tables) = in_schema(schema.fields())? else {
         return Err(Fault::OutOfSpec(OutOfSpecKind::MissingFields));
     };
-    let mut left = message.len() as u64;
-    let (fields, ipc_fields) = deserialize_fields(alloc, &tables, MAX_LEVELS, &mut left)?;
+    let most = *visits + schema.message().len() as u64;
+    let (fields, ipc_fields) = deserialize_fields(alloc, &tables, MAX_LEVELS, visits, most)?;
     Ok((
         Schema { fields, metadata },
         IpcSchema {
@@ -307,14 +348,44 @@ fn read_schema(
 }
 
 #[tactic(auto, unfolding(ipc_model::specs::Schemas::schema_of))]
-fn read_message(alloc: Global, message: &[u8]) -> Result<(Schema, IpcSchema), Fault>
-    ensures { GivesMessage schema_seen result message.now }
+fn read_message(
+    alloc: Global,
+    message: &[u8],
+    visits: &mut u64,
+) -> Result<(Schema, IpcSchema), Fault>
+    requires { visits.now + length message.now < 2 ^ 64 }
+    ensures meaning { GivesMessage schema_seen result message.now }
+    ensures counted { IfOk result (λ r. visits.new ≡ visits.old + fields_count (fields_view r.0.fields.items)) }
+    ensures within { IsWithin visits.old visits.new (visits.old + length message.now) }
 {
     let root = in_schema(MessageRef::read_as_root(message))?;
     match in_schema(root.header())? {
-        Some(MessageHeaderRef::Schema(schema)) => { read_schema(alloc, &schema, message) }
+        Some(MessageHeaderRef::Schema(schema)) => { fb_to_schema(alloc, &schema, visits) }
         _ => Err(Fault::Schema(SchemaFault::NotASchema)),
     }
+}
+
+/// What [`deserialize_schema`] answers, with each visit counted: `visits` grows by one before the table of
+/// a field is opened.
+///
+/// Whatever the answer, it grows by no more than the message has bytes, so a table that is shared over and
+/// over is no way to keep a reader busy. Where the answer is Ok, it grows by the number of fields at all
+/// levels.
+pub fn deserialize_schema_counted(
+    alloc: Global,
+    message: &[u8],
+    visits: &mut u64,
+) -> Result<(Schema, IpcSchema), Fault>
+    requires { visits.now + length message.now < 2 ^ 64 }
+    ensures meaning { GivesMessage schema_seen result message.now }
+    // the ids that are answered have the shape of the fields
+    ensures fits { IfOk result (λ r. AllFit (fields_view r.0.fields.items)
+        (all_ids_view r.1.fields.items)) }
+    ensures counted { IfOk result (λ r. visits.new ≡ visits.old + fields_count (fields_view r.0.fields.items)) }
+    ensures within { IsWithin visits.old visits.new (visits.old + length message.now) }
+{
+    let read = read_message(alloc, message, visits)?;
+    Ok(read)
 }
 
 /// The schema that a message holds, and what IPC adds to it: the ids of dictionaries, and the order
@@ -336,6 +407,6 @@ pub fn deserialize_schema(alloc: Global, message: &[u8]) -> Result<(Schema, IpcS
     ensures fits { IfOk result (λ r. AllFit (fields_view r.0.fields.items)
         (all_ids_view r.1.fields.items)) }
 {
-    let read = read_message(alloc, message)?;
-    Ok(read)
+    let mut visits = 0;
+    deserialize_schema_counted(alloc, message, &mut visits)
 }

@@ -4,4 +4,4 @@ pub use ipc_readers::read::stream::{
     StreamMetadata, StreamReader, StreamState, read_stream_metadata,
 };
 pub use ipc_round_trip::read::{WholeStream, read_stream};
-pub use ipc_schema::read::schema::deserialize_schema;
+pub use ipc_schema::read::schema::{deserialize_schema, deserialize_schema_counted};

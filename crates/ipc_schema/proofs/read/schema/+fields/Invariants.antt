@@ -1,4 +1,4 @@
-use Rattle.std.proofs.Common.{◌≡◌, ◌+◌, ◌*◌, Some}
+use Rattle.std.proofs.Common.{◌≡◌, ◌+◌, ◌*◌, ◌≤◌, Some}
 use Rattle.lower.specs.TypeViews.{fields_view}
 use Rattle.ipc_base.specs.IdTrees.{all_ids_view}
 use Rattle.ipc_model.specs.Schemas.{field_at, fields_count, fields_from}
@@ -22,4 +22,4 @@ decreases-deserialize_fields l = 4 * l.levels + 1
 abbrev pub invariant-deserialize_fields-loop-i : goal.invariant-deserialize_fields-loop-i
 invariant-deserialize_fields-loop-i l =
     (fields_from (λ s. field_at l.levels s) l.tables 0 l.i ≡ Some (fields_view l.fields.items, all_ids_view l.ipc_fields.items))
-    × (l.initial.left ≡ l.left + fields_count (fields_view l.fields.items))
+    × (l.visits ≡ l.initial.visits + fields_count (fields_view l.fields.items)) × (l.visits ≤ l.most)

@@ -1,4 +1,4 @@
-use Rattle.std.proofs.Common.{◌≡◌, ◌∙◌, ap, sym, Some, Ok}
+use Rattle.std.proofs.Common.{◌≡◌, ◌∙◌, ap, sym, Some, Ok, List, ℕ, length, arith}
 use Rattle.std.specs.Option.{option_map}
 use Rattle.ipc_views.specs.Tables.{map_ok}
 use Rattle.ipc_views.specs.Unions.{header_parts}
@@ -6,9 +6,18 @@ use Rattle.ipc_model.proofs.Places.{root-message, header-message}
 use Rattle.ipc_schema.proofs.Steps.{in_schema-ok}
 use Rattle.ipc_schema.proofs.read.schema.read_message.Goals as goal
 
-pub read_schema-requires : goal.read_schema-requires
-read_schema-requires c =
+pub fb_to_schema-requires : goal.fb_to_schema-requires
+fb_to_schema-requires c =
     let root = root-message c.args.message.now c.in_ok-root.root (sym c.read_as_root.ensures ∙ in_schema-ok _ _ c.in_ok-root.ensures) in
     let read = in_schema-ok _ _ c.in_ok-schema.ensures ∙ ap (λ o. Ok o) (c.in-Some-Schema.is ∙ ap (λ h. Some h) c.in-Some-Schema.field-0-is) in
     let header = header-message c.in_ok-root.root 1 c.in-Some-Schema.schema (sym c.header.ensures ∙ ap (λ r. map_ok (option_map header_parts) r) read) in
-    sym (header ∙ root)
+    omega (arith, c.requires, ap (λ (m : List ℕ). length m) (header ∙ root))
+
+pub returns-in-Some-Schema-clause-within : goal.returns-in-Some-Schema-clause-within
+returns-in-Some-Schema-clause-within c =
+    let root = root-message c.args.message.now c.in_ok-root.root (sym c.read_as_root.ensures ∙ in_schema-ok _ _ c.in_ok-root.ensures) in
+    let read = in_schema-ok _ _ c.in_ok-schema.ensures ∙ ap (λ o. Ok o) (c.in-Some-Schema.is ∙ ap (λ h. Some h) c.in-Some-Schema.field-0-is) in
+    let header = header-message c.in_ok-root.root 1 c.in-Some-Schema.schema (sym c.header.ensures ∙ ap (λ r. map_ok (option_map header_parts) r) read) in
+    let long = ap (λ (m : List ℕ). length m) (header ∙ root) in
+    let within = c.fb_to_schema.ensures.within in
+    (within.0, omega (arith, within, long))
