@@ -9,7 +9,7 @@ use Rattle.ipc_model.specs.Kinds.{Kind, Kinds, count, all_nodes, all_buffers, bu
 use Rattle.ipc_model.specs.Entries.{Entries, Part, size, part_at, Dictionaries, Limit, rows}
 use Rattle.ipc_model.specs.Columns.{column}
 use Rattle.ipc_model.specs.Tests.{is_size, with_rows, is_well}
-use Rattle.ipc_model.specs.Batches.{kinds, Body, Lists, entries_of, kind_at, type_at, buffers_before, own, rows_at, slots_of_column, chosen, first_rows, Chunk, chunk_of, all_read, are_bounded, is_batch, batch}
+use Rattle.ipc_model.specs.Batches.{kinds, Body, Lists, entries_of, kind_at, type_at, buffers_before, own, rows_at, slots_of_column, chosen, first_rows, Chunk, chunk_of, all_read, are_bounded, is_projection, is_batch, batch}
 use Rattle.ipc_model.specs.BatchLaws.{own_buffers, Agree, AgreeLaw}
 
 take-map : {X Y : Type 0} (f : X → Y) (n : ℕ) (xs : List X) → take n (map f xs) ≡ map f (take n xs)
@@ -132,6 +132,7 @@ agree_law lists x y order extra ds schema projection limit e h =
     let s = entries_of lists x order extra ds in
     let t = entries_of lists y order extra ds in
     let same = all_same lists x y order extra ds ts js h in
-    ap (λ most. cond (is_batch s most ts js limit) (Some (chunk_of s schema.fields ts js limit)) None) e
+    ap (λ o. cond (is_projection projection (count ts)) o None)
+    (ap (λ most. cond (is_batch s most ts js limit) (Some (chunk_of s schema.fields ts js limit)) None) e
     ∙ ap (λ v. cond v (Some (chunk_of s schema.fields ts js limit)) None) (test_same lists x y order extra ds y.size ts js limit same)
-    ∙ ap (λ (c : Chunk). cond (is_batch t y.size ts js limit) (Some c) None) (columns_same s t schema.fields ts limit js same)
+    ∙ ap (λ (c : Chunk). cond (is_batch t y.size ts js limit) (Some c) None) (columns_same s t schema.fields ts limit js same))

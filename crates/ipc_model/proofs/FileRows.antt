@@ -10,7 +10,7 @@ use Rattle.ipc_model.specs.Streams.{header_of, body_item, item, meant_within, me
 use Rattle.ipc_model.specs.Schemas.{integer_at, decimal_at, plain_at, single_at, group_at, pairs_at, encoding_at, field_from, field_at, schema_at, schema_of, head_of}
 use Rattle.ipc_model.specs.WholeStreams.{stream_of}
 use Rattle.ipc_model.specs.Files.{footer_at, metadata_of, block_header, chunk_at, dictionaries_at}
-use Rattle.ipc_model.specs.FileRows.{FileRows, FooterRows, BlockRows}
+use Rattle.ipc_model.specs.FileRows.{FileRows, FooterRows, FooterPairRows, BlockRows}
 
 pub file_rows : FileRows
 unfolding number_at table_at slot_at spot_at target_at text_at vector_at table_in structs_at signed32 signed64 is_utf8 chars encode integer_at decimal_at plain_at single_at group_at pairs_at encoding_at field_from field_at schema_at schema_of head_of frame sized marked lists_of entries_of batch record_meaning dictionary_meaning header_of body_item item meant_within meaning stream_of footer_at metadata_of block_header chunk_at dictionaries_at
@@ -57,4 +57,12 @@ block_rows = record {
   fourth_version = refl;
   first_version = refl;
   no_version = refl;
+}
+
+pub footer_pair_rows : FooterPairRows
+unfolding number_at table_at slot_at spot_at target_at text_at vector_at table_in structs_at signed32 signed64 is_utf8 chars encode integer_at decimal_at plain_at single_at group_at pairs_at encoding_at field_from field_at schema_at schema_of head_of frame sized marked lists_of entries_of batch record_meaning dictionary_meaning header_of body_item item meant_within meaning stream_of footer_at metadata_of block_header chunk_at dictionaries_at
+footer_pair_rows = record {
+  none_there = refl;
+  later_wins = refl;
+  no_text = refl;
 }

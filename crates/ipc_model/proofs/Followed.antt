@@ -13,7 +13,7 @@ use Rattle.ipc_views.specs.declared.schema.Buffer.{Buffer}
 use Rattle.ipc_model.proofs.Given.{then-some}
 use Rattle.ipc_model.proofs.Agreement.{own_parts, lengths_same, total_same, count_same}
 use Rattle.ipc_model.proofs.ExtendedSlots.{extend_law}
-use Rattle.ipc_model.proofs.Pruned.{bounded_decides, batch_some, batch_is}
+use Rattle.ipc_model.proofs.Pruned.{bounded_decides, batch_some, batch_projection, projected_is}
 use Rattle.ipc_model.specs.AddressLaws.{Followed, RecordFollowLaw, DictionaryFollowLaw}
 use Rattle.ipc_model.specs.Batches.{Schema, kinds, Body, Lists, lists_of, entries_of, kind_at, type_at, buffers_before, own, IsWellAt, rows_at, slots_of_column, chosen, first_rows, AllRead, listed_bytes, AreBounded, IsBatch, Chunk, chunk_of, batch, record_meaning, Place, places, place_of, values_schema, with_values, values_meaning, batch_meaning, dictionary_meaning}
 use Rattle.ipc_model.specs.Entries.{Part, bytes_from, part_at, Dictionaries, Limit}
@@ -160,7 +160,7 @@ batch_then lists x y order extra ds schema projection limit c f e =
       buffers_listed = subst (λ (z : ℕ). all_buffers z ts ≤ length t.parts) extra_same listed.1;
       columns = subst (λ (z : ℕ). AllRead t ts limit z js) (sym (first_then_rows lists x y order extra ds ts limit js)) (read_then lists x y order extra ds ts limit k js f found.0.columns);
     } in
-    batch_is t y.size schema projection limit is
+    projected_is t y.size schema projection limit is (batch_projection s x.size schema projection limit c e)
     ∙ ap Some (chunk_then lists x y order extra ds schema.fields ts limit k js f found.0.columns ∙ found.1)
 
 then_is : {A B : Type 0} (g : A → Option B) (o : Option A) (a : A) (c : B) → o ≡ Some a → g a ≡ Some c → option_and_then g o ≡ Some c

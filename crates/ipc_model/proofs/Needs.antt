@@ -1,9 +1,12 @@
 -- The nodes of a column, and the bytes that it needs.
-use Rattle.std.proofs.Common.{ℕ, ◌+◌, ◌<◌, ◌≤◌, ◌↔◌, ℤ, pos, negsuc, length, drop, length-take, length-drop, arith, List, inl, inr}
+use Rattle.std.proofs.Common.{◌≡◌, refl, Bool, true, false, nat_lt, Decides, ℕ, ◌+◌, ◌*◌, ◌<◌, ◌≤◌, ◌↔◌, ℤ, pos, negsuc, length, drop, length-take, length-drop, arith, List, inl, inr}
 use Rattle.std.proofs.lemmas.Bool.{cases_lt}
+use Rattle.std.proofs.lemmas.Bool.Decides.{Decides-ltb}
+use Rattle.std.proofs.Math.Nat.{mul-add, mul-one, mul-le-mul_left}
 use Rattle.ipc_model.specs.Kinds.{null_kind, boolean_kind, number_kind, float_kind, fixed_binary_kind, binary_kind, utf8_kind, list_kind, map_kind, fixed_list_kind, struct_kind, union_kind, dictionary_kind, extension_kind}
-use Rattle.ipc_model.specs.Entries.{IsSize, size, bytes_from}
-use Rattle.ipc_model.specs.Laws.{NodeLaw, NeedLaw}
+use Rattle.lower_types.specs.NumberTypes.{width_of}
+use Rattle.ipc_model.specs.Entries.{IsSize, size, bytes_from, bytes}
+use Rattle.ipc_model.specs.Laws.{NodeLaw, NeedLaw, NumberLaw}
 
 pub node_law : NodeLaw
 node_law null_kind = omega arith
@@ -38,3 +41,19 @@ part_need source base (negsuc o) l d = (λ v. absurd v.0.le, λ v. absurd v.0.le
 
 pub need_law : NeedLaw
 need_law source base r d = part_need source base r.offset r.length d
+
+not_so : (b : Bool) (P : Type 0) → Decides b P → (P → ⊥) → b ≡ false
+not_so true P d never = absurd (never (d.0 refl))
+not_so false P d never = refl
+
+not_below : (m n : ℕ) → n ≤ m → nat_lt m n ≡ false
+not_below m n h = not_so (nat_lt m n) (m < n) (Decides-ltb m n) (λ l. absurd (omega (arith, h, l)))
+
+pub number_law : NumberLaw
+number_law s f b k i need h =
+    let more : width_of f * (i + 1) ≤ width_of f * k = mul-le-mul_left (width_of f) (omega (arith, h)) in
+    let apart : width_of f * (i + 1) ≡ width_of f * i + width_of f * 1 = mul-add (width_of f) i 1 in
+    let one : width_of f * 1 ≡ width_of f = mul-one (width_of f) in
+    let inside : nat_lt (length (bytes s b)) (width_of f * i + width_of f) ≡ false =
+    not_below (length (bytes s b)) (width_of f * i + width_of f) (omega (arith, more, apart, one, need.2)) in
+    record { number = rw inside refl; integer_is = rw inside refl }

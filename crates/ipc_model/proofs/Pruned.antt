@@ -1,8 +1,8 @@
 -- A batch under a projection and a limit.
-use Rattle.std.proofs.Common.{◌≡◌, ℕ, zero, suc, ◌+◌, ◌<◌, ◌≤◌, cond, min, true, false, Bool, rules, List, [], ◌∷◌, map, length, take, Option, None, Some, refl, sym, ap, ◌∙◌, subst, arith, inl, inr, Decides}
-use Rattle.std.specs.List.{range_with_len, list_all, AllByRecursion}
-use Rattle.std.proofs.lemmas.Bool.{cases_lt}
-use Rattle.std.proofs.lemmas.Bool.Decides.{Decides-and, Decides-like, Decides-by_and}
+use Rattle.std.proofs.Common.{◌≡◌, ℕ, zero, suc, ◌+◌, ◌<◌, ◌≤◌, ◌==◌, nat_lt, not, cond, min, true, false, Bool, rules, List, [], ◌∷◌, map, length, take, Option, None, Some, refl, sym, ap, ◌∙◌, subst, arith, inl, inr, Decides}
+use Rattle.std.specs.List.{range_with_len, list_all, AllByRecursion, IsDistinct}
+use Rattle.std.proofs.lemmas.Bool.{cases_lt, false≢true, true≢false}
+use Rattle.std.proofs.lemmas.Bool.Decides.{Decides-and, Decides-like, Decides-by_and, Decides-ltb}
 use Rattle.std.proofs.lemmas.List.{take_all}
 use Rattle.std.proofs.lemmas.List.FromFn.{length-map-range_with_len, get_or-map-range_with_len}
 use Rattle.lower.specs.TypeTrees.{FieldTrees, plain, null}
@@ -14,8 +14,8 @@ use Rattle.ipc_model.specs.Entries.{Entries, IsSize, Limit, limited}
 use Rattle.ipc_model.specs.Columns.{WithRows}
 use Rattle.ipc_model.specs.Tests.{is_size, is_well}
 use Rattle.ipc_model.specs.Laws.{IsLower}
-use Rattle.ipc_model.specs.Batches.{Schema, kinds, kind_at, type_at, own, IsWellAt, rows_at, slots_of_column, chosen, first_rows, AllRead, listed_bytes, AreBounded, IsBatch, Column, Chunk, chunk_of, all_read, are_bounded, is_batch, batch}
-use Rattle.ipc_model.specs.BatchLaws.{BatchTestLaw, cut, column_at, IsProjection, PruneLaw}
+use Rattle.ipc_model.specs.Batches.{Schema, kinds, kind_at, type_at, own, IsWellAt, rows_at, slots_of_column, chosen, IsProjection, first_rows, AllRead, listed_bytes, AreBounded, IsBatch, Column, Chunk, chunk_of, all_read, are_bounded, is_apart, are_apart, is_projection, is_batch, chunk_in, batch}
+use Rattle.ipc_model.specs.BatchLaws.{BatchTestLaw, ProjectionTestLaw, cut, column_at, PruneLaw, NoProjectionLaw}
 
 -- ---- the test
 
@@ -39,6 +39,29 @@ batch_decides s most ts js limit =
     (λ v. (v.bounded, v.nodes_listed, v.buffers_listed, v.columns))
     (and4 _ _ _ _ (bounded_decides s most) (le_decides (all_nodes ts) (length s.nodes)) (le_decides (all_buffers s.extra ts) (length s.parts))
     (read_decides s ts limit (first_rows s ts limit js) js))
+
+-- ---- the projection
+
+apart_decides : (i : ℕ) (js : List ℕ) → Decides (is_apart i js) (AllByRecursion (λ j. (i == j) ≡ false) js)
+apart_decides i [] = always
+apart_decides i (j ∷ js) = Decides-and (not (i == j)) (is_apart i js) (not_decides (i == j)) (apart_decides i js)
+  where
+    not_decides : (b : Bool) → Decides (not b) (b ≡ false)
+    not_decides true = (λ e. absurd (false≢true e), λ e. absurd (true≢false e))
+    not_decides false = (λ _. refl, λ _. refl)
+
+distinct_decides : (js : List ℕ) → Decides (are_apart js) (IsDistinct (λ i j. i == j) js)
+unfolding IsDistinct
+distinct_decides [] = always
+distinct_decides (i ∷ js) = Decides-and (is_apart i js) (are_apart js) (apart_decides i js) (distinct_decides js)
+
+inside_decides : (n : ℕ) (js : List ℕ) → Decides (list_all (λ j. nat_lt j n) js) (AllByRecursion (λ j. j < n) js)
+inside_decides n [] = always
+inside_decides n (j ∷ js) = Decides-and (nat_lt j n) (list_all (λ i. nat_lt i n) js) (Decides-ltb j n) (inside_decides n js)
+
+pub projection_decides : ProjectionTestLaw
+projection_decides None n = always
+projection_decides (Some js) n = Decides-and (list_all (λ j. nat_lt j n) js) (are_apart js) (inside_decides n js) (distinct_decides js)
 
 -- ---- columns one by one
 
@@ -77,7 +100,7 @@ below_range a (suc n) m h = (omega arith, below_range (a + 1) n m (omega arith))
 
 chosen_below : (projection : Option (List ℕ)) (n : ℕ) → IsProjection projection n → AllByRecursion (λ j. j < n) (chosen projection n)
 chosen_below None n h = below_range 0 n n (omega arith)
-chosen_below (Some js) n h = h
+chosen_below (Some js) n h = h.0
 
 -- ---- slots
 
@@ -124,22 +147,52 @@ chosen_some : {X : Type 0} (b : Bool) (x y : X) → cond b (Some x) None ≡ Som
 chosen_some true x y e = (refl, some_is x y e)
 chosen_some false x y e = absurd cc
 
+passed : {X : Type 0} (b : Bool) (o : Option X) (y : X) → cond b o None ≡ Some y → (b ≡ true) × (o ≡ Some y)
+passed true o y e = (refl, e)
+passed false o y e = absurd cc
+
+-- a batch that has a meaning has it by a projection
+pub batch_projection : (s : Entries) (most : ℕ) (schema : Schema) (projection : Option (List ℕ)) (limit : Limit) (c : Chunk) → batch s most schema projection limit ≡ Some c
+    → is_projection projection (count (kinds schema)) ≡ true
+unfolding batch
+batch_projection s most schema projection limit c e = (passed (is_projection projection (count (kinds schema))) _ c e).0
+
 pub batch_some : (s : Entries) (most : ℕ) (schema : Schema) (projection : Option (List ℕ)) (limit : Limit) (c : Chunk) → batch s most schema projection limit ≡ Some c
     → IsBatch s most (kinds schema) (chosen projection (count (kinds schema))) limit
     × (chunk_of s schema.fields (kinds schema) (chosen projection (count (kinds schema))) limit ≡ c)
 unfolding batch
 batch_some s most schema projection limit c e =
     let js = chosen projection (count (kinds schema)) in
-    let f = chosen_some (is_batch s most (kinds schema) js limit) _ c e in
+    let f = chosen_some (is_batch s most (kinds schema) js limit) _ c (passed (is_projection projection (count (kinds schema))) _ c e).1 in
     ((batch_decides s most (kinds schema) js limit).0 f.0, f.1)
 
 pub batch_is : (s : Entries) (most : ℕ) (schema : Schema) (projection : Option (List ℕ)) (limit : Limit)
     → IsBatch s most (kinds schema) (chosen projection (count (kinds schema))) limit
-    → batch s most schema projection limit ≡ Some (chunk_of s schema.fields (kinds schema) (chosen projection (count (kinds schema))) limit)
+    → batch s most schema projection limit
+    ≡ cond (is_projection projection (count (kinds schema))) (Some (chunk_of s schema.fields (kinds schema) (chosen projection (count (kinds schema))) limit)) None
 unfolding batch
 batch_is s most schema projection limit v =
     let js = chosen projection (count (kinds schema)) in
     rw ((batch_decides s most (kinds schema) js limit).1 v) refl
+
+-- the same where the projection is one
+pub projected_is : (s : Entries) (most : ℕ) (schema : Schema) (projection : Option (List ℕ)) (limit : Limit)
+    → IsBatch s most (kinds schema) (chosen projection (count (kinds schema))) limit → is_projection projection (count (kinds schema)) ≡ true
+    → batch s most schema projection limit ≡ Some (chunk_of s schema.fields (kinds schema) (chosen projection (count (kinds schema))) limit)
+projected_is s most schema projection limit v e =
+    batch_is s most schema projection limit v
+    ∙ ap (λ b. cond b (Some (chunk_of s schema.fields (kinds schema) (chosen projection (count (kinds schema))) limit)) None) e
+
+not_passed : (b : Bool) (P : Type 0) → Decides b P → ¬ P → b ≡ false
+not_passed true P d never = absurd (never (d.0 refl))
+not_passed false P d never = refl
+
+pub no_projection_law : NoProjectionLaw
+unfolding batch
+no_projection_law s most schema projection limit never =
+    let n = count (kinds schema) in
+    ap (λ b. cond b (chunk_in s most schema (chosen projection n) limit) None)
+    (not_passed (is_projection projection n) (IsProjection projection n) (projection_decides projection n) never)
 
 pub prune_law : PruneLaw
 prune_law s most schema projection limit c h e =
@@ -158,7 +211,7 @@ prune_law s most schema projection limit c h e =
     } in
     let long : length (chunk_of s schema.fields ts (range_with_len 0 n) None) ≡ n = length-map-range_with_len _ 0 n in
     let long' : n ≡ length c = sym long ∙ ap length found.1 in
-    batch_is s most schema projection limit is
+    projected_is s most schema projection limit is ((projection_decides projection n).1 h)
     ∙ ap Some (cut_columns s schema.fields ts limit n (λ j l. (each j l).0) js below
     ∙ ap (λ (d : Chunk). map (λ j. cut limit (column_at d j)) js) found.1
     ∙ ap (λ m. map (λ j. cut limit (column_at c j)) (chosen projection m)) long')

@@ -79,6 +79,9 @@ chosen_rows = record {
   none = refl;
   no_columns = refl;
   in_order = refl;
+  no_such_column = refl;
+  last_column = refl;
+  chosen_twice = refl;
   unequal = refl;
   beyond_the_size = refl;
 }

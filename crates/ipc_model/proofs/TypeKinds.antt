@@ -1,11 +1,14 @@
 -- A kind has the nodes and buffers of its type.
 use Rattle.std.proofs.Common.{◌≡◌, ℕ, ◌+◌, ℤ, Option, refl, ap, arith}
 use Rattle.lower.specs.Counts as types
-use Rattle.lower.specs.TypeTrees.{Plain, null, boolean, binary, fixed_binary, list, large_list, fixed_list, entries, structure, choice, TypeTree, plain, single, group, dictionary, extension, FieldTree, field, FieldTrees, no_fields, more_fields}
+use Rattle.lower.specs.declared.datatypes.IntegerType.{IntegerType}
+use Rattle.lower.specs.declared.datatypes.IntegerType.TheVariants.{Int8, Int16, Int32, Int64, UInt8, UInt16, UInt32, UInt64}
+use Rattle.lower.specs.declared.datatypes.IntervalUnit.TheVariants.{YearMonth, DayTime, MonthDayNano}
+use Rattle.lower.specs.TypeTrees.{Plain, null, boolean, int8, int16, int32, int64, uint8, uint16, uint32, uint64, float16, float32, float64, timestamp, date32, date64, time32, time64, duration, interval, binary, fixed_binary, large_binary, utf8, large_utf8, decimal, decimal256, Single, list, large_list, fixed_list, entries, Group, structure, choice, TypeTree, plain, single, group, dictionary, extension, FieldTree, field, FieldTrees, no_fields, more_fields}
 use Rattle.ipc_base.specs.IdTrees.{IdTree, ids, IdTrees}
-use Rattle.ipc_model.specs.Kinds.{nodes, all_nodes, buffers, all_buffers}
-use Rattle.ipc_model.specs.TypeKinds.{plain_kind, first_ids, other_ids, kind_of, field_kind, kinds_of}
-use Rattle.ipc_model.specs.KindLaws.{NodeCountLaw, BufferCountLaw}
+use Rattle.ipc_model.specs.Kinds.{Kind, Kinds, nodes, all_nodes, buffers, all_buffers}
+use Rattle.ipc_model.specs.TypeKinds.{key_form, plain_kind, single_kind, group_kind, first_ids, other_ids, kind_of, field_kind, kinds_of}
+use Rattle.ipc_model.specs.KindLaws.{NodeCountLaw, BufferCountLaw, IsNoFloat, HasNoFloat, HaveNoFloat, NoFloatLaw}
 
 plain_nodes : (p : Plain) → nodes (plain_kind p) ≡ 1
 plain_nodes null = refl
@@ -67,3 +70,71 @@ node_count_law fs is = all_node_counts fs is
 
 pub buffer_count_law : BufferCountLaw
 buffer_count_law extra fs is = all_buffer_counts extra fs is
+
+-- ---- floats
+
+plain_floats : (p : Plain) → HasNoFloat (plain_kind p)
+plain_floats null = tt
+plain_floats boolean = tt
+plain_floats int8 = tt
+plain_floats int16 = tt
+plain_floats int32 = tt
+plain_floats int64 = tt
+plain_floats uint8 = tt
+plain_floats uint16 = tt
+plain_floats uint32 = tt
+plain_floats uint64 = tt
+plain_floats float16 = tt
+plain_floats float32 = tt
+plain_floats float64 = tt
+plain_floats (timestamp unit zone) = tt
+plain_floats date32 = tt
+plain_floats date64 = tt
+plain_floats (time32 unit) = tt
+plain_floats (time64 unit) = tt
+plain_floats (duration unit) = tt
+plain_floats binary = tt
+plain_floats (fixed_binary n) = tt
+plain_floats large_binary = tt
+plain_floats utf8 = tt
+plain_floats large_utf8 = tt
+plain_floats (decimal precision scale) = tt
+plain_floats (decimal256 precision scale) = tt
+plain_floats (interval YearMonth) = tt
+plain_floats (interval DayTime) = tt
+plain_floats (interval MonthDayNano) = tt
+
+key_floats : (keys : IntegerType) → IsNoFloat (key_form keys)
+key_floats Int8 = tt
+key_floats Int16 = tt
+key_floats Int32 = tt
+key_floats Int64 = tt
+key_floats UInt8 = tt
+key_floats UInt16 = tt
+key_floats UInt32 = tt
+key_floats UInt64 = tt
+
+single_floats : (s : Single) (t : Kind) → HasNoFloat t → HasNoFloat (single_kind s t)
+single_floats list t h = h
+single_floats large_list t h = h
+single_floats (fixed_list n) t h = h
+single_floats (entries sorted) t h = h
+
+group_floats : (g : Group) (ts : Kinds) → HaveNoFloat ts → HasNoFloat (group_kind g ts)
+group_floats structure ts h = h
+group_floats (choice type_ids mode) ts h = h
+
+mutual
+  no_floats : (t : TypeTree) (id : Option ℤ) (is : IdTrees) → HasNoFloat (kind_of t id is)
+  no_floats (plain p) id is = plain_floats p
+  no_floats (single s f) id is = single_floats s (field_kind f (first_ids is)) (no_field_floats f (first_ids is))
+  no_floats (group g fs) id is = group_floats g (kinds_of fs is) (no_float_law fs is)
+  no_floats (dictionary keys t ordered) id is = key_floats keys
+  no_floats (extension name t text) id is = no_floats t id is
+
+  no_field_floats : (f : FieldTree) (i : IdTree) → HasNoFloat (field_kind f i)
+  no_field_floats (field name t nullable metadata) (ids id is) = no_floats t id is
+
+  pub no_float_law : NoFloatLaw
+  no_float_law no_fields is = tt
+  no_float_law (more_fields f fs) is = (no_field_floats f (first_ids is), no_float_law fs (other_ids is))

@@ -16,6 +16,7 @@ weight_rows = record {
   list_child = refl;
   struct_fields = refl;
   schema_metadata = refl;
+  footer_pairs = refl;
   normal_metadata = refl;
 }
 

@@ -1,7 +1,7 @@
 -- What runs of calls leave.
-use Rattle.std.proofs.Common.{[], ◌∷◌, refl, sym}
+use Rattle.std.proofs.Common.{[], ◌∷◌, refl, sym, ap}
 use Rattle.ipc_model.specs.Writers.{Call, start_call, write_call, finish_call}
-use Rattle.ipc_model.specs.WriterStates.{State, new_writer, started_writer, finished_writer, failed_writer, is_taken, is_refused, is_broken, IsOpen, IsClosed, ClosedLaw}
+use Rattle.ipc_model.specs.WriterStates.{State, new_writer, started_writer, finished_writer, failed_writer, is_taken, is_refused, is_broken, IsOpen, Writer, writer_after, IsClosed, ClosedLaw, KeepLaw}
 
 -- no call is open in a closed writer
 none_open : (call : Call) (s : State) → IsClosed s → IsOpen call s → ⊥
@@ -19,8 +19,13 @@ none_open finish_call finished_writer h e = absurd cc
 none_open finish_call failed_writer h e = absurd cc
 
 pub closed_law : ClosedLaw
-closed_law s t [] h run = record { state = sym run; none_taken = refl }
-closed_law s t ((call, is_taken) ∷ rest) h run = absurd (none_open call s h run.0)
-closed_law s t ((call, is_refused) ∷ rest) h run =
-    let later = closed_law s t rest h run.1 in record { state = later.state; none_taken = later.none_taken }
-closed_law s t ((call, is_broken) ∷ rest) h run = absurd (none_open call s h run.0)
+closed_law w v [] h run = record { writer = sym run; none_taken = refl }
+closed_law w v ((call, is_taken) ∷ rest) h run = absurd (none_open call w.state h run.0)
+closed_law w v ((call, is_refused) ∷ rest) h run =
+    let later = closed_law w v rest h run.1 in record { writer = later.writer; none_taken = later.none_taken }
+closed_law w v ((call, is_broken) ∷ rest) h run = absurd (none_open call w.state h run.0)
+
+pub keep_law : KeepLaw
+keep_law w v [] run = record { order = ap (λ (u : Writer). u.order) (sym run); pairs = ap (λ (u : Writer). u.pairs) (sym run) }
+keep_law w v ((call, o) ∷ rest) run =
+    let later = keep_law (writer_after call o w) v rest run.1 in record { order = later.order; pairs = later.pairs }

@@ -1,12 +1,15 @@
 -- Which chunks a writer takes.
 -- (Arrow columnar format, "RecordBatch message", "Dictionary messages" and "IPC File Format"; the limits are those of signed numbers of 64 bits.)
-use Rattle.std.specs.Prelude.{◌≡◌, ℕ, ℤ, ◌^◌, ◌<◌, ◌≤◌, List, [], ◌∷◌, length, map, Option, None, Some}
+use Rattle.std.specs.Prelude.{◌≡◌, ℕ, ℤ, pos, ◌+◌, ◌^◌, ◌<◌, ◌≤◌, true, is_some, if◌then◌else◌, List, [], ◌∷◌, length, map, Option, None, Some}
 use Rattle.std.specs.Int.{next_multiple_of}
 use Rattle.std.specs.List.{AllByRecursion, sum_by}
 use Rattle.lower.specs.Normal.{norm}
-use Rattle.lower.specs.TypeTrees.{TypeTree, FieldTrees, no_fields, more_fields}
+use Rattle.lower.specs.TypeTrees.{TypeTree, field, FieldTrees, no_fields, more_fields}
+use Rattle.ipc_base.specs.IdTrees.{IdTrees}
+use Rattle.ipc_views.specs.declared.file.Block.{Block}
 use Rattle.ipc_model.specs.Batches.{Chunk, field_type}
-use Rattle.ipc_model.specs.Entries.{Dictionary, Dictionaries, dictionary_at}
+use Rattle.ipc_model.specs.Entries.{IsSize, size, Dictionary, Dictionaries, dictionary_at}
+use Rattle.ipc_model.specs.Writable.{IsWritable}
 
 -- the values at one dictionary place of a chunk
 pub record Brought : Type 0 where
@@ -63,10 +66,42 @@ AreKept (Some d) values = (d.slots ≡ values.slots) × (d.type ≡ norm values.
 abbrev pub most_blocks : ℕ
 most_blocks = 2 ^ 25
 
--- A writer of a file takes it too, where these dictionaries are written: no dictionary is replaced, and
--- with it there are so many blocks, whose messages end at these places.
-pub record IsAcceptedByFile (fs : FieldTrees) (known : Dictionaries) (blocks : ℕ) (ends : List ℕ) (o : Offer) : Type 0 where
+-- The buffers of the messages that are written: those of each dictionary whose id isn't known yet, and those of the record, which come last.
+abbrev pub written_bodies : Dictionaries → List Brought → List (List ℕ) → List (List ℕ)
+written_bodies known [] bodies = bodies
+written_bodies known (p ∷ ps) [] = []
+written_bodies known (p ∷ ps) (b ∷ bodies) =
+    if is_some (dictionary_at known p.id) then written_bodies known ps bodies
+    else (b ∷ written_bodies ((p.id, p.values) ∷ known) ps bodies)
+
+-- where the message of a block ends: behind its metadata and its body
+abbrev pub block_end : Block → ℕ
+block_end b = size b.offset + size b.meta_data_length + size b.body_length
+
+-- These are the blocks of messages with such buffers, one behind the other from a place on, each of which ends where a number of 64 bits, signed, can say it.
+abbrev pub AreBlocks : ℕ → List Block → List (List ℕ) → Type 0
+AreBlocks place [] [] = Unit {0}
+AreBlocks place (b ∷ bs) (lengths ∷ bodies) =
+    (b.offset ≡ pos place) × IsSize b.meta_data_length × (b.body_length ≡ pos (body_length lengths)) × IsSayable (block_end b)
+    × AreBlocks (block_end b) bs bodies
+AreBlocks place _ _ = ⊥
+
+-- A writer of a file takes it too, where these dictionaries are known and so many blocks stand before a place: no dictionary is replaced, and these blocks, one
+-- for each message that is written, have room in the file and in its footer.
+pub record IsAcceptedByFile (fs : FieldTrees) (known : Dictionaries) (blocks place : ℕ) (added : List Block) (o : Offer) : Type 0 where
   pub accepted : IsAccepted fs o
   pub kept : AllByRecursion (λ p. AreKept (dictionary_at known p.id) p.values) o.dictionaries
-  pub few : blocks ≤ most_blocks
-  pub places : AllByRecursion IsSayable ends
+  pub few : blocks + length added ≤ most_blocks
+  pub places : AreBlocks place added (written_bodies known o.dictionaries o.bodies)
+
+-- ---- without a schema
+
+-- the fields of some columns that have no schema: their types, without a name and without metadata
+abbrev pub fields_of : List TypeTree → FieldTrees
+fields_of [] = no_fields
+fields_of (t ∷ ts) = more_fields (field [] t true []) (fields_of ts)
+
+-- Such columns are encoded with ids: their fields can be written with them, and what they bring is taken.
+pub record IsEncoded (is : IdTrees) (o : Offer) : Type 0 where
+  pub writable : IsWritable (fields_of (map (λ c. c.type) o.columns)) [] is
+  pub accepted : IsAccepted (fields_of (map (λ c. c.type) o.columns)) o

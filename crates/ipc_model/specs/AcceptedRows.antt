@@ -1,9 +1,11 @@
 -- Chunks that a writer takes. Beside each stands one that it refuses.
-use Rattle.std.specs.Prelude.{◌≡◌, ℕ, ℤ, pos, ◌+◌, ◌-◌, ◌^◌, true, List, [], ◌∷◌, codes}
+use Rattle.std.specs.Prelude.{◌≡◌, ℕ, ℤ, pos, ◌+◌, ◌-◌, ◌^◌, true, List, [], ◌∷◌, length, codes, replicate, Option, Some, None}
 use Rattle.lower.specs.Normal.{data_key}
-use Rattle.lower.specs.TypeTrees.{Pairs, TypeTree, FieldTrees, int32, utf8, binary, list, plain, single, field, no_fields, more_fields}
+use Rattle.lower.specs.TypeTrees.{Pairs, TypeTree, FieldTrees, int32, float64, utf8, list, plain, single, field, no_fields, more_fields}
+use Rattle.ipc_base.specs.IdTrees.{ids, IdTrees, no_ids, more_ids}
+use Rattle.ipc_views.specs.declared.file.Block.{Block}
 use Rattle.lower_arrays.specs.Slots.{Slot}
-use Rattle.ipc_model.specs.Accepted.{Brought, Offer, body_length, IsAccepted, IsAcceptedByFile}
+use Rattle.ipc_model.specs.Accepted.{Brought, Offer, body_length, IsAccepted, IsAcceptedByFile, fields_of, IsEncoded}
 use Rattle.ipc_model.specs.Batches.{Column}
 use Rattle.ipc_model.specs.ColumnRows.{number}
 use Rattle.ipc_model.specs.DictionaryRows.{texts, a, b, values_are}
@@ -32,17 +34,34 @@ two_numbers = offer (column_is (plain int32) (number 1 ∷ []) ∷ column_is (pl
 abbrev pub written : Dictionaries
 written = (pos 0, values_are (a ∷ b ∷ [])) ∷ []
 
--- Columns of one id have the same values, and a file keeps those that it has. A body goes up to multiples of 64, and may be
--- less than 2 ^ 63 bytes long.
+abbrev pub block_is : ℕ → ℕ → ℕ → Block
+block_is place metadata body = record { offset = pos place; meta_data_length = pos metadata; body_length = pos body }
+
+-- two columns of the id 0 with such values: a message for each of its places, and the record's
+abbrev pub offered_to_file : List Slot → Offer
+offered_to_file xs = record {
+  columns = column_is texts (a ∷ []) ∷ column_is texts (a ∷ []) ∷ [];
+  dictionaries = brought xs ∷ brought xs ∷ [];
+  nodes = 2 ∷ 2 ∷ 1 ∷ 1 ∷ [];
+  bodies = (0 ∷ 12 ∷ 2 ∷ []) ∷ (0 ∷ 12 ∷ 2 ∷ []) ∷ (0 ∷ 4 ∷ 0 ∷ 4 ∷ []) ∷ [];
+}
+
+-- Columns of one id have the same values, and a file keeps those that it has. It has a block more for each message that is written, one behind the other from the place
+-- where it goes on: for a dictionary that isn't known, once, and for the record. A body goes up to multiples of 64, and may be less than 2 ^ 63 bytes long.
 pub record AcceptedRows : Type 0 where
   pub numbers : IsAccepted (two_fields (plain int32) (plain int32)) two_numbers
   pub another_type : ¬ IsAccepted (two_fields (plain int32) (plain utf8)) two_numbers
   pub another_count : ¬ IsAccepted (more_fields (field [] (plain int32) true []) no_fields) two_numbers
   pub same_values : IsAccepted (two_fields texts texts) (under_one_id (a ∷ []) (a ∷ []))
   pub other_values : ¬ IsAccepted (two_fields texts texts) (under_one_id (a ∷ []) (b ∷ []))
-  pub kept : IsAcceptedByFile (two_fields texts texts) written 3 (1024 ∷ []) (under_one_id (a ∷ b ∷ []) (a ∷ b ∷ []))
-  pub replaced : ¬ IsAcceptedByFile (two_fields texts texts) written 3 (1024 ∷ []) (under_one_id (b ∷ []) (b ∷ []))
-  pub too_many_blocks : ¬ IsAcceptedByFile (two_fields texts texts) written (2 ^ 25 + 1) (1024 ∷ []) (under_one_id (a ∷ b ∷ []) (a ∷ b ∷ []))
+  pub kept : IsAcceptedByFile (two_fields texts texts) written 3 1024 (block_is 1024 200 128 ∷ []) (offered_to_file (a ∷ b ∷ []))
+  pub replaced : ¬ IsAcceptedByFile (two_fields texts texts) written 3 1024 (block_is 1024 200 128 ∷ []) (offered_to_file (b ∷ []))
+  pub first_time : IsAcceptedByFile (two_fields texts texts) [] 3 1024 (block_is 1024 200 128 ∷ block_is 1352 192 128 ∷ []) (offered_to_file (a ∷ b ∷ []))
+  pub no_block_for_values : ¬ IsAcceptedByFile (two_fields texts texts) [] 3 1024 (block_is 1024 192 128 ∷ []) (offered_to_file (a ∷ b ∷ []))
+  pub block_for_known_values : ¬ IsAcceptedByFile (two_fields texts texts) written 3 1024 (block_is 1024 200 128 ∷ block_is 1352 192 128 ∷ []) (offered_to_file (a ∷ b ∷ []))
+  pub not_at_the_place : ¬ IsAcceptedByFile (two_fields texts texts) written 3 1024 (block_is 1032 200 128 ∷ []) (offered_to_file (a ∷ b ∷ []))
+  pub not_behind : ¬ IsAcceptedByFile (two_fields texts texts) [] 3 1024 (block_is 1024 200 128 ∷ block_is 1360 192 128 ∷ []) (offered_to_file (a ∷ b ∷ []))
+  pub other_body : ¬ IsAcceptedByFile (two_fields texts texts) written 3 1024 (block_is 1024 200 64 ∷ []) (offered_to_file (a ∷ b ∷ []))
   pub padded_body : body_length (0 ∷ 1 ∷ 64 ∷ 65 ∷ []) ≡ 256
   pub long_body : ¬ IsAccepted (two_fields (plain int32) (plain int32))
       (offer (column_is (plain int32) [] ∷ column_is (plain int32) [] ∷ []) [] (2 ^ 63 - 63))
@@ -53,9 +72,9 @@ pub record AcceptedRows : Type 0 where
 abbrev pub lengths_offered : List ℕ → List ℕ → Offer
 lengths_offered ns body = record { columns = []; dictionaries = []; nodes = ns; bodies = body ∷ [] }
 
--- one without columns, with such values
+-- one without columns, with such values: a message for each, and the record's, none of which has a buffer
 abbrev pub values_offered : List Brought → Offer
-values_offered ds = record { columns = []; dictionaries = ds; nodes = []; bodies = [] }
+values_offered ds = record { columns = []; dictionaries = ds; nodes = []; bodies = replicate (1 + length ds) [] }
 
 abbrev pub brought_as : ℤ → TypeTree → List Slot → Brought
 brought_as id t xs = record { id = id; values = record { type = t; slots = xs } }
@@ -64,8 +83,10 @@ brought_as id t xs = record { id = id; values = record { type = t; slots = xs } 
 abbrev pub lists_with : Pairs → TypeTree
 lists_with metadata = single list (field [] (plain int32) true metadata)
 
-abbrev pub empty_file : ℕ → List ℕ → List Brought → Type 0
-empty_file blocks ends ds = IsAcceptedByFile no_fields ((pos 0, record { type = lists_with []; slots = a ∷ [] }) ∷ []) blocks ends (values_offered ds)
+-- a file of so many blocks, which knows values of the id 0, takes such values and has these blocks more, from place 1024 on
+abbrev pub TakesValues : ℕ → List Block → List Brought → Type 0
+TakesValues blocks added ds =
+    IsAcceptedByFile no_fields ((pos 0, record { type = lists_with []; slots = a ∷ [] }) ∷ []) blocks 1024 added (values_offered ds)
 
 -- Lengths and ends are at most 2 ^ 63 - 1, a body's with its padding, and a file has at most 2 ^ 25 blocks. Values of one id are the same wherever they stand, and those of two ids needn't be. In a file they keep their
 -- type too, as it is in the normal form.
@@ -76,10 +97,27 @@ pub record EdgeRows : Type 0 where
   pub longer_body : ¬ IsAccepted no_fields (lengths_offered [] (1 ∷ (2 ^ 63 - 127) ∷ []))
   pub third_is_other : ¬ IsAccepted no_fields (values_offered (brought (a ∷ []) ∷ brought_as (pos 1) (plain utf8) (b ∷ []) ∷ brought (b ∷ []) ∷ []))
   pub two_ids : IsAccepted no_fields (values_offered (brought (a ∷ []) ∷ brought_as (pos 1) (plain utf8) (b ∷ []) ∷ []))
-  pub most_blocks_there : empty_file (2 ^ 25) [] []
-  pub one_block_more : ¬ empty_file (2 ^ 25 + 1) [] []
-  pub last_end : empty_file 1 (64 ∷ (2 ^ 63 - 1) ∷ []) []
-  pub past_the_last_end : ¬ empty_file 1 (64 ∷ (2 ^ 63) ∷ []) []
-  pub kept_in_normal_form : empty_file 1 [] (brought_as (pos 0) (lists_with ((data_key, codes "m") ∷ [])) (a ∷ []) ∷ [])
-  pub other_type : ¬ empty_file 1 [] (brought_as (pos 0) (plain utf8) (a ∷ []) ∷ [])
-  pub another_id : empty_file 1 [] (brought_as (pos 1) (plain utf8) (b ∷ []) ∷ [])
+  pub most_blocks_there : TakesValues (2 ^ 25 - 1) (block_is 1024 8 0 ∷ []) []
+  pub one_block_more : ¬ TakesValues (2 ^ 25) (block_is 1024 8 0 ∷ []) []
+  pub last_end : TakesValues 1 (block_is 1024 (2 ^ 63 - 1025) 0 ∷ []) []
+  pub past_the_last_end : ¬ TakesValues 1 (block_is 1024 (2 ^ 63 - 1024) 0 ∷ []) []
+  pub kept_in_normal_form : TakesValues 1 (block_is 1024 8 0 ∷ []) (brought_as (pos 0) (lists_with ((data_key, codes "m") ∷ [])) (a ∷ []) ∷ [])
+  pub other_type : ¬ TakesValues 1 (block_is 1024 8 0 ∷ []) (brought_as (pos 0) (plain utf8) (a ∷ []) ∷ [])
+  pub another_id : TakesValues 1 (block_is 1024 8 0 ∷ block_is 1032 8 0 ∷ []) (brought_as (pos 1) (plain utf8) (b ∷ []) ∷ [])
+
+-- ---- without a schema
+
+-- two columns of one row without a schema: numbers, and texts under an id
+abbrev pub number_and_text : Offer
+number_and_text = offer (column_is (plain int32) (number 1 ∷ []) ∷ column_is texts (a ∷ []) ∷ []) (brought (a ∷ []) ∷ []) 4
+
+abbrev pub ids_of_both : Option ℤ → IdTrees
+ids_of_both o = more_ids (ids None no_ids) (more_ids (ids o no_ids) no_ids)
+
+-- Columns are encoded with as many ids, which stand at dictionaries alone, where their types can be written. Their fields have no name.
+pub record EncodedRows : Type 0 where
+  pub with_an_id : IsEncoded (ids_of_both (Some (pos 0))) number_and_text
+  pub no_id : ¬ IsEncoded (ids_of_both None) number_and_text
+  pub few_ids : ¬ IsEncoded (more_ids (ids None no_ids) no_ids) number_and_text
+  pub a_float : ¬ IsEncoded (more_ids (ids None no_ids) no_ids) (offer (column_is (plain float64) [] ∷ []) [] 0)
+  pub no_name : fields_of (plain int32 ∷ []) ≡ more_fields (field [] (plain int32) true []) no_fields

@@ -7,12 +7,16 @@ use Rattle.lower_types.specs.declared.Endianness.{Endianness}
 use Rattle.ipc_views.specs.declared.schema.Buffer.{Buffer}
 use Rattle.ipc_model.specs.Kinds.{Kinds, count, buffers}
 use Rattle.ipc_model.specs.Entries.{Entries, part_at, Dictionaries, Limit}
-use Rattle.ipc_model.specs.Batches.{Schema, kinds, Body, Lists, entries_of, kind_at, buffers_before, chosen, is_batch, IsBatch, Column, Chunk, batch}
+use Rattle.ipc_model.specs.Batches.{Schema, kinds, Body, Lists, entries_of, kind_at, buffers_before, chosen, is_projection, IsProjection, is_batch, IsBatch, Column, Chunk, batch}
 
 -- whether some entries are a batch can be computed
 abbrev pub BatchTestLaw : Type 0
 BatchTestLaw = (s : Entries) (most : ℕ) (ts : Kinds) (js : List ℕ) (limit : Limit)
     → Decides (is_batch s most ts js limit) (IsBatch s most ts js limit)
+
+-- so can whether columns are chosen that are there, each once
+abbrev pub ProjectionTestLaw : Type 0
+ProjectionTestLaw = (projection : Option (List ℕ)) (n : ℕ) → Decides (is_projection projection n) (IsProjection projection n)
 
 -- ---- projection and limit
 
@@ -27,16 +31,16 @@ column_at c j = slice_index_or c j (record { type = plain null; slots = [] })
 abbrev pub pruned : Option (List ℕ) → Limit → Chunk → Chunk
 pruned projection limit c = map (λ j. cut limit (column_at c j)) (chosen projection (length c))
 
--- each chosen column is one of n
-abbrev pub IsProjection : Option (List ℕ) → ℕ → Type 0
-IsProjection None n = Unit {0}
-IsProjection (Some js) n = AllByRecursion (λ j. j < n) js
-
--- a batch that has a meaning has one for each projection and limit: the first slots of the chosen columns
+-- a batch that has a meaning has one for each projection to columns that are there, each once, and each limit: the first slots of the chosen
+-- columns; and for no other projection
 abbrev pub PruneLaw : Type 0
 PruneLaw = (s : Entries) (most : ℕ) (schema : Schema) (projection : Option (List ℕ)) (limit : Limit) (c : Chunk)
     → IsProjection projection (count (kinds schema))
     → batch s most schema None None ≡ Some c → batch s most schema projection limit ≡ Some (pruned projection limit c)
+
+abbrev pub NoProjectionLaw : Type 0
+NoProjectionLaw = (s : Entries) (most : ℕ) (schema : Schema) (projection : Option (List ℕ)) (limit : Limit)
+    → ¬ IsProjection projection (count (kinds schema)) → batch s most schema projection limit ≡ None
 
 -- ---- sources that agree
 

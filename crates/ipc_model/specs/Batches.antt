@@ -1,7 +1,7 @@
 -- What a record batch means: its columns, each with its type and its slots.
 -- (Arrow columnar format, "RecordBatch message" and "Dictionary messages".)
-use Rattle.std.specs.Prelude.{ℕ, zero, suc, ℤ, ◌+◌, ◌≤◌, ◌&&◌, nat_le, Bool, true, false, List, [], ◌∷◌, ◌++◌, map, length, take, drop, if◌then◌else◌, Option, Some, None, Result, Ok, All}
-use Rattle.std.specs.List.{range_with_len, sum_by, list_all}
+use Rattle.std.specs.Prelude.{ℕ, zero, suc, ℤ, ◌+◌, ◌<◌, ◌≤◌, ◌==◌, ◌&&◌, not, nat_lt, nat_le, Bool, true, false, List, [], ◌∷◌, ◌++◌, map, length, take, drop, if◌then◌else◌, Option, Some, None, Result, Ok, All}
+use Rattle.std.specs.List.{range_with_len, sum_by, list_all, AllByRecursion, IsDistinct}
 use Rattle.std.specs.Option.{option_and_then}
 use Rattle.std.specs.Ordering.{int_eq}
 use Rattle.lower.specs.Normal.{norm}
@@ -121,6 +121,11 @@ abbrev pub chosen : Option (List ℕ) → ℕ → List ℕ
 chosen None n = range_with_len 0 n
 chosen (Some js) n = js
 
+-- each chosen column is one of n, and none is chosen twice
+abbrev pub IsProjection : Option (List ℕ) → ℕ → Type 0
+IsProjection None n = Unit {0}
+IsProjection (Some js) n = AllByRecursion (λ j. j < n) js × IsDistinct (λ i j. i == j) js
+
 -- how many rows the first of some columns has
 abbrev pub first_rows : Entries → Kinds → Limit → List ℕ → ℕ
 first_rows s ts limit [] = 0
@@ -167,17 +172,32 @@ all_read s ts limit k (j ∷ js) =
 abbrev pub are_bounded : Entries → ℕ → Bool
 are_bounded s most = list_all (λ p. is_size p.length) s.parts && nat_le (listed_bytes s) most
 
+abbrev pub is_apart : ℕ → List ℕ → Bool
+is_apart i js = list_all (λ j. not (i == j)) js
+
+abbrev pub are_apart : List ℕ → Bool
+are_apart [] = true
+are_apart (i ∷ js) = is_apart i js && are_apart js
+
+abbrev pub is_projection : Option (List ℕ) → ℕ → Bool
+is_projection None n = true
+is_projection (Some js) n = list_all (λ j. nat_lt j n) js && are_apart js
+
 abbrev pub is_batch : Entries → ℕ → Kinds → List ℕ → Limit → Bool
 is_batch s most ts js limit =
     are_bounded s most
     && (nat_le (all_nodes ts) (length s.nodes)
     && (nat_le (all_buffers s.extra ts) (length s.parts) && all_read s ts limit (first_rows s ts limit js) js))
 
--- the chunk of the chosen columns, if the entries have a meaning
+-- the chunk of some columns, if the entries have a meaning
+abbrev pub chunk_in : Entries → ℕ → Schema → List ℕ → Limit → Option Chunk
+chunk_in s most schema js limit =
+    if is_batch s most (kinds schema) js limit then Some (chunk_of s schema.fields (kinds schema) js limit) else None
+
+-- That of the chosen columns. A projection that names no column, or one twice, has no meaning.
 unfoldable pub batch : Entries → ℕ → Schema → Option (List ℕ) → Limit → Option Chunk
 batch s most schema projection limit =
-    let js = chosen projection (count (kinds schema)) in
-    if is_batch s most (kinds schema) js limit then Some (chunk_of s schema.fields (kinds schema) js limit) else None
+    if is_projection projection (count (kinds schema)) then chunk_in s most schema (chosen projection (count (kinds schema))) limit else None
 
 -- what a record batch means
 unfoldable pub record_meaning : Schema → ℕ → Dictionaries → Body → Spot → Option (List ℕ) → Limit → Option Chunk

@@ -8,7 +8,7 @@ use Rattle.ipc_model.specs.Files.{FileMetadata, file_dictionaries, file_chunk, d
 
 -- the same schema and blocks, for a file of another size
 abbrev pub resized : FileMetadata → ℕ → FileMetadata
-resized m size = record { schema = m.schema; dictionaries = m.dictionaries; blocks = m.blocks; size = size }
+resized m size = record { schema = m.schema; pairs = m.pairs; dictionaries = m.dictionaries; blocks = m.blocks; size = size }
 
 -- what the dictionary blocks and the blocks of records mean, where `seen b` are the bytes that are seen from the block b
 pub record BlocksMean (m : FileMetadata) (seen : Block → List ℕ) (known : Dictionaries) (cs : List Chunk) : Type 0 where

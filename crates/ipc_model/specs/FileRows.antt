@@ -1,13 +1,16 @@
 -- Files that are written out, and what they mean. Beside each stands one that has no meaning.
 -- (Arrow columnar format, "IPC File Format"; File.fbs.)
-use Rattle.std.specs.Prelude.{◌≡◌, ℕ, ℤ, pos, negsuc, List, [], ◌∷◌, ◌++◌, ◌+◌, ◌-◌, ◌^◌, length, take, drop, slice_set, Option, Some, None, option_map}
-use Rattle.lower.specs.TypeTrees.{int32, plain}
+use Rattle.std.specs.Prelude.{◌≡◌, ℕ, ℤ, pos, negsuc, List, [], ◌∷◌, ◌++◌, ◌+◌, ◌-◌, ◌^◌, length, take, drop, slice_set, codes, Option, Some, None, option_map}
+use Rattle.lower.specs.TypeTrees.{Pairs, int32, plain}
+use Rattle.ipc_views.specs.Tables.{root_at}
 use Rattle.ipc_views.specs.declared.file.Block.{Block}
 use Rattle.ipc_model.specs.Batches.{Chunk}
 use Rattle.ipc_model.specs.ColumnRows.{number}
 use Rattle.ipc_model.specs.DictionaryRows.{text_head, texts, a, b, values_are, a_and_b, b_alone, two_keys, b_and_a, chunk_is}
 use Rattle.ipc_model.specs.Entries.{Dictionaries}
-use Rattle.ipc_model.specs.Files.{FileMetadata, magic, footer_of_length, metadata_of, BlockHeader, block_header, file_dictionaries, file_chunk}
+use Rattle.ipc_model.specs.Files.{FileMetadata, magic, footer_at, footer_of_length, metadata_of, BlockHeader, block_header, file_dictionaries, file_chunk}
+use Rattle.ipc_model.specs.SchemaBytes.{four, three_slots, table_bytes, counted, entry_of, pair_bytes, all_pairs}
+use Rattle.ipc_model.specs.Schemas.{made, given}
 use Rattle.ipc_model.specs.StreamRows.{schema_metadata, record_metadata, demo_record, demo_schema, demo_chunk, marker, mark}
 
 -- the footer: a schema of x and y, no dictionaries, and one block (208, 192, 128)
@@ -39,7 +42,7 @@ abbrev pub block_at : ℕ → Block
 block_at offset = record { offset = pos offset; meta_data_length = pos 192; body_length = pos 128 }
 
 abbrev pub with_block : Block → FileMetadata
-with_block b = record { schema = demo_schema; dictionaries = []; blocks = b ∷ []; size = length demo_file }
+with_block b = record { schema = demo_schema; pairs = []; dictionaries = []; blocks = b ∷ []; size = length demo_file }
 
 abbrev pub demo_metadata : FileMetadata
 demo_metadata = with_block (block_at 208)
@@ -82,6 +85,27 @@ pub record FooterRows : Type 0 where
   pub no_records : without_slot 14 ≡ None
   pub short_file : metadata_of magic ≡ None
 
+-- ---- the pairs of a footer
+
+-- a footer without fields and without blocks, with pairs where they aren't empty
+abbrev pub footer_bytes : List ℕ → List ℕ
+footer_bytes pairs =
+    four 18 ++ table_bytes (4 ∷ 8 ∷ 0 ∷ 16 ∷ entry_of pairs 20 ∷ [])
+    (4 ∷ 0 ∷ 0 ∷ 0 ∷ [] ++ four 26 ++ four 0 ++ four 30 ++ four 30 ++ three_slots 0 4 0 (four 4 ++ four 0) ++ four 0 ++ pairs)
+
+-- "m" without a value
+abbrev pub half_a_pair : List ℕ
+half_a_pair = table_bytes (4 ∷ 0 ∷ []) (four 4 ++ counted (codes "m"))
+
+abbrev pub pairs_in : List ℕ → Option Pairs
+pairs_in pairs = option_map (λ (m : FileMetadata). m.pairs) (given (made (root_at (footer_bytes pairs))) (footer_at 0))
+
+-- Pairs of the footer are read as those of a schema: the later of equal keys wins, and a pair without a key or a value is passed over. One that is ill-made has no meaning.
+pub record FooterPairRows : Type 0 where
+  pub none_there : pairs_in [] ≡ Some []
+  pub later_wins : pairs_in (all_pairs (pair_bytes (codes "k") (codes "1") ∷ pair_bytes (codes "k") (codes "2") ∷ half_a_pair ∷ [])) ≡ Some ((codes "k", codes "2") ∷ [])
+  pub no_text : pairs_in (all_pairs (pair_bytes (0xFF ∷ []) (codes "1") ∷ [])) ≡ None
+
 -- ---- blocks
 
 -- a block of a message at some place, whose body has so many bytes
@@ -105,7 +129,7 @@ abbrev pub last_block : Block
 last_block = block_of (length (a_and_b ++ b_alone ++ two_keys 1 0)) (two_keys 0 0) 64
 
 abbrev pub blocks_are : List Block → List Block → FileMetadata
-blocks_are ds bs = record { schema = text_head.schema; dictionaries = ds; blocks = bs; size = length messages }
+blocks_are ds bs = record { schema = text_head.schema; pairs = []; dictionaries = ds; blocks = bs; size = length messages }
 
 abbrev pub text_blocks : FileMetadata
 text_blocks = blocks_are (first_block ∷ second_block ∷ []) (third_block ∷ last_block ∷ [])

@@ -4,7 +4,8 @@ use Rattle.std.specs.Prelude.{◌≡◌, ℕ, ℤ, pos, ◌+◌, ◌-◌, ◌^�
 use Rattle.std.specs.Option.{option_and_then}
 use Rattle.std.specs.Str.{bytes_eq}
 use Rattle.std.specs.Int.{w32, from_le_bytes}
-use Rattle.ipc_views.specs.FileSlots.{footer_schema, footer_dictionaries, footer_record_batches}
+use Rattle.lower.specs.TypeTrees.{Pairs}
+use Rattle.ipc_views.specs.FileSlots.{footer_schema, footer_dictionaries, footer_record_batches, footer_custom_metadata}
 use Rattle.ipc_views.specs.MessageSlots.{message_header, message_version}
 use Rattle.ipc_views.specs.Spot.{Spot}
 use Rattle.ipc_views.specs.Tables.{root_at}
@@ -12,13 +13,14 @@ use Rattle.ipc_views.specs.declared.file.Block.{Block}
 use Rattle.ipc_model.specs.Batches.{Schema, extra_of, Body, Chunk, record_meaning, dictionary_meaning}
 use Rattle.ipc_model.specs.Entries.{Dictionaries, Limit}
 use Rattle.ipc_model.specs.Frame.{Frame, message, mark, waiting, broken, frame}
-use Rattle.ipc_model.specs.Schemas.{made, present, given, schema_at}
+use Rattle.ipc_model.specs.Schemas.{made, present, given, pairs_at, schema_at}
 
 -- ---- the footer
 
--- the schema and the blocks of a file, and how long the file is
+-- the schema and the blocks of a file, its own pairs of metadata, and how long the file is
 pub record FileMetadata : Type 0 where
   pub schema : Schema
+  pub pairs : Pairs
   pub dictionaries : List Block
   pub blocks : List Block
   pub size : ℕ
@@ -35,13 +37,13 @@ abbrev pub or_no_blocks : Option (List Block) → List Block
 or_no_blocks None = []
 or_no_blocks (Some bs) = bs
 
--- what a footer says of a file of some bytes
+-- what a footer says of a file of some bytes: its schema, its blocks and its pairs are well made
 unfoldable pub footer_at : ℕ → Spot → Option FileMetadata
 footer_at size t =
     given (present (footer_record_batches t))
     (λ blocks. given (present (footer_schema t)) (λ s. given (schema_at s) (λ schema.
-    given (made (footer_dictionaries t))
-    (λ ds. Some (record { schema = schema; dictionaries = or_no_blocks ds; blocks = blocks; size = size })))))
+    given (made (footer_dictionaries t)) (λ ds. given (made (footer_custom_metadata t)) (λ v. given (pairs_at v)
+    (λ pairs. Some (record { schema = schema; pairs = pairs; dictionaries = or_no_blocks ds; blocks = blocks; size = size })))))))
 
 -- The footer of n bytes ends 10 bytes before the end of the file. A number from 2 ^ 31 on is one below 0.
 abbrev pub footer_of_length : List ℕ → ℕ → Option FileMetadata

@@ -1,8 +1,12 @@
 -- Laws of the definitions of columns.
-use Rattle.std.specs.Prelude.{◌≡◌, ◌≤◌, ℕ, ◌+◌, ◌<◌, ◌↔◌, Some, None, List, length, take}
+use Rattle.std.specs.Prelude.{◌≡◌, ◌≤◌, ℕ, ◌+◌, ◌*◌, ◌<◌, ◌↔◌, Some, None, List, length, take}
+use Rattle.std.specs.Option.{option_map}
 use Rattle.ipc_views.specs.declared.schema.Buffer.{Buffer}
+use Rattle.lower_types.specs.NumberTypes.{width_of, number_in}
+use Rattle.lower_types.specs.declared.PrimitiveType.{PrimitiveType}
+use Rattle.ipc_model.specs.Numbers.{integer_of, number_at}
 use Rattle.ipc_model.specs.Kinds.{Kind, nodes}
-use Rattle.ipc_model.specs.Entries.{Entries, Part, IsSize, size, part_at, Limit, rows}
+use Rattle.ipc_model.specs.Entries.{Entries, Part, IsSize, size, part_at, bytes, Need, value_bytes, integer, Limit, rows}
 use Rattle.ipc_model.specs.Columns.{IsWell, column}
 
 -- each column has a node of its own
@@ -22,6 +26,15 @@ IsInside source base r d = IsSize r.offset
 abbrev pub NeedLaw : Type 0
 NeedLaw = (source : List ℕ) (base : ℕ) (r : Buffer) (d : ℕ)
     → IsThere (part_at source base r) d ↔ IsInside source base r d
+
+-- value i of a buffer is the number that stands in its bytes at a place, and so is the integer that it is
+pub record IsRead (s : Entries) (f : PrimitiveType) (b i : ℕ) : Type 0 where
+  pub number : number_at f s.order (bytes s b) (width_of f * i) ≡ Some (number_in f s.order (value_bytes s b (width_of f) i))
+  pub integer_is : option_map integer_of (number_at f s.order (bytes s b) (width_of f * i)) ≡ Some (integer s b f i)
+
+-- such is each of k values whose bytes are there
+abbrev pub NumberLaw : Type 0
+NumberLaw = (s : Entries) (f : PrimitiveType) (b k i : ℕ) → Need s b (width_of f * k) → i < k → IsRead s f b i
 
 -- a limit is at most another one
 abbrev pub IsLower : Limit → Limit → Type 0

@@ -223,7 +223,7 @@ three_fields = record {
 }
 
 -- Three columns with two nodes are no batch, whichever are chosen; with three they are, and in the
--- order in which they are chosen.
+-- order in which they are chosen. A projection that names a column that isn't there, or one twice, has no meaning.
 pub record ChosenRows : Type 0 where
   pub first_alone : batch
       (entries Little 0 (node_is 0 0 ∷ node_is 0 0 ∷ []) (replicate 6 (buffer_is 0 0)) []) 0 three_fields
@@ -237,6 +237,13 @@ pub record ChosenRows : Type 0 where
       (buffer_is 0 0 ∷ buffer_is 0 4 ∷ buffer_is 0 0 ∷ buffer_is 0 8 ∷ buffer_is 0 0 ∷ buffer_is 4 4 ∷ []) (word 1
       ++ word 2)) 16 three_fields (Some (2 ∷ 0 ∷ [])) None
       ≡ Some (record { type = plain int32; slots = number 2 ∷ [] } ∷ record { type = plain int32; slots = number 1 ∷ [] } ∷ [])
+  pub no_such_column : batch
+      (entries Little 0 (node_is 0 0 ∷ node_is 0 0 ∷ node_is 0 0 ∷ []) (replicate 6 (buffer_is 0 0)) []) 0 three_fields (Some (3 ∷ [])) None ≡ None
+  pub last_column : batch
+      (entries Little 0 (node_is 0 0 ∷ node_is 0 0 ∷ node_is 0 0 ∷ []) (replicate 6 (buffer_is 0 0)) []) 0 three_fields (Some (2 ∷ [])) None
+      ≡ Some (record { type = plain int32; slots = [] } ∷ [])
+  pub chosen_twice : batch
+      (entries Little 0 (node_is 0 0 ∷ node_is 0 0 ∷ node_is 0 0 ∷ []) (replicate 6 (buffer_is 0 0)) []) 0 three_fields (Some (1 ∷ 0 ∷ 1 ∷ [])) None ≡ None
   pub unequal : batch (entries Little 0 (node_is 1 0 ∷ node_is 2 0 ∷ node_is 1 0 ∷ [])
       (buffer_is 0 0 ∷ buffer_is 0 4 ∷ buffer_is 0 0 ∷ buffer_is 0 8 ∷ buffer_is 0 0 ∷ buffer_is 4 4 ∷ []) (word 1
       ++ word 2)) 16 three_fields None None ≡ None

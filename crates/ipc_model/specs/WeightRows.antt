@@ -7,7 +7,7 @@ use Rattle.lower.specs.declared.datatypes.TimeUnit.TheVariants.{Second}
 use Rattle.lower.specs.declared.datatypes.UnionMode.TheVariants.{Sparse}
 use Rattle.ipc_base.specs.IdTrees.{ids, IdTrees, no_ids, more_ids}
 use Rattle.ipc_model.specs.Batches.{Place, places}
-use Rattle.ipc_model.specs.Writable.{weight}
+use Rattle.ipc_model.specs.Writable.{weight, file_weight}
 
 abbrev pub named : TypeTree → List ℕ → FieldTree
 named t name = field name t true []
@@ -15,7 +15,7 @@ named t name = field name t true []
 abbrev pub alone : FieldTree → FieldTrees
 alone f = more_fields f no_fields
 
--- The values of a dictionary and each child weigh too, and metadata as they are in the normal form.
+-- The values of a dictionary and each child weigh too, and metadata as they are in the normal form; so do the pairs of a file's footer.
 pub record WeightRows : Type 0 where
   pub two_integers : weight
       (more_fields (named (plain int32) (codes "x")) (alone (named (plain int32) (codes "y")))) [] ≡ 2050
@@ -40,6 +40,7 @@ pub record WeightRows : Type 0 where
   pub struct_fields :
       weight (alone (named (group structure (more_fields (named (plain int32) (codes "a")) (alone (named (plain boolean) (codes "b"))))) (codes "s"))) [] ≡ 2563
   pub schema_metadata : weight (alone (named (plain int32) (codes "x"))) ((codes "k", codes "vw") ∷ []) ≡ 1604
+  pub footer_pairs : file_weight (alone (named (plain int32) (codes "x"))) ((codes "k", codes "vw") ∷ []) ((codes "j", codes "v") ∷ []) ≡ 1670
   pub normal_metadata : weight (alone (field (codes "x") (plain int32) true ((data_key, codes "m") ∷ (codes "k", codes "v") ∷ []))) [] ≡ 1603
 
 -- a dictionary of texts, and one of lists whose items are a dictionary of bytes: their ids in pre-order

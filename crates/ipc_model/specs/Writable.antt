@@ -120,6 +120,10 @@ abbrev mutual
 abbrev pub weight : FieldTrees → Pairs → ℕ
 weight fs metadata = 1024 + fields_weight (norm_fields fs) + pairs_weight metadata
 
+-- for a file, whose footer has pairs of its own
+abbrev pub file_weight : FieldTrees → Pairs → Pairs → ℕ
+file_weight fs metadata pairs = weight fs metadata + pairs_weight pairs
+
 -- ---- schemas
 
 abbrev pub most_places : ℕ
@@ -138,3 +142,8 @@ pub record IsWritable (fs : FieldTrees) (metadata : Pairs) (is : IdTrees) : Type
   pub few_places : length (places fs is) ≤ most_places
   pub values : AllPairs SameUnderId (places fs is)
   pub light : weight fs metadata ≤ 2 ^ 30
+
+-- the same for a file whose footer has some pairs
+pub record IsWritableFile (fs : FieldTrees) (metadata : Pairs) (is : IdTrees) (pairs : Pairs) : Type 0 where
+  pub schema : IsWritable fs metadata is
+  pub light : file_weight fs metadata pairs ≤ 2 ^ 30

@@ -1,6 +1,8 @@
 -- The states of a writer, and which runs of calls there are.
 -- (Arrow columnar format, "IPC Streaming Format": a schema, then batches, then the end; that a writer whose device failed takes nothing more is this project's own.)
 use Rattle.std.specs.Prelude.{◌≡◌, Bool, true, false, List, [], ◌∷◌, map}
+use Rattle.lower.specs.TypeTrees.{Pairs}
+use Rattle.lower_types.specs.declared.Endianness.{Endianness}
 use Rattle.ipc_model.specs.Writers.{Call, start_call, write_call, finish_call, taken}
 
 pub data State : Type 0 where
@@ -38,10 +40,21 @@ state_after call is_taken s = opened_by call
 state_after call is_refused s = s
 state_after call is_broken s = failed_writer
 
--- a run of calls takes a writer from one state to another
-abbrev pub IsRun : State → List (Call × Outcome) → State → Type 0
-IsRun s [] t = s ≡ t
-IsRun s ((call, o) ∷ rest) t = MayEnd call o s × IsRun (state_after call o s) rest t
+-- A writer, as far as a list of calls can tell: its state, the order of the bytes of numbers in the bodies that it writes, and the pairs of
+-- metadata that the footer of a file is to have.
+pub record Writer : Type 0 where
+  pub state : State
+  pub order : Endianness
+  pub pairs : Pairs
+
+-- the writer after a call: order and pairs stay
+abbrev pub writer_after : Call → Outcome → Writer → Writer
+writer_after call o w = record { state = state_after call o w.state; order = w.order; pairs = w.pairs }
+
+-- a run of calls takes a writer from what it is to something else
+abbrev pub IsRun : Writer → List (Call × Outcome) → Writer → Type 0
+IsRun w [] v = w ≡ v
+IsRun w ((call, o) ∷ rest) v = MayEnd call o w.state × IsRun (writer_after call o w) rest v
 
 abbrev pub was_taken : Outcome → Bool
 was_taken is_taken = true
@@ -60,9 +73,17 @@ IsClosed finished_writer = Unit {0}
 IsClosed failed_writer = Unit {0}
 
 -- a closed writer takes no chunk more, and stays as it is
-pub record Stays (calls : List (Call × Outcome)) (s t : State) : Type 0 where
-  pub state : t ≡ s
+pub record Stays (calls : List (Call × Outcome)) (w v : Writer) : Type 0 where
+  pub writer : v ≡ w
   pub none_taken : taken (answered calls) ≡ []
 
 abbrev pub ClosedLaw : Type 0
-ClosedLaw = (s t : State) (calls : List (Call × Outcome)) → IsClosed s → IsRun s calls t → Stays calls s t
+ClosedLaw = (w v : Writer) (calls : List (Call × Outcome)) → IsClosed w.state → IsRun w calls v → Stays calls w v
+
+-- order and pairs stay through each run of calls
+pub record Keeps (w v : Writer) : Type 0 where
+  pub order : v.order ≡ w.order
+  pub pairs : v.pairs ≡ w.pairs
+
+abbrev pub KeepLaw : Type 0
+KeepLaw = (w v : Writer) (calls : List (Call × Outcome)) → IsRun w calls v → Keeps w v

@@ -5,19 +5,21 @@ ghost use Rattle.ipc_model.specs.WrittenBatches.{WrittenBatchLaw};
 ghost use Rattle.ipc_model.specs.HeldColumns.{ChosenHeldLaw};
 ghost use Rattle.ipc_model.specs.Needed.{BatchNeededLaw, ChosenNeededLaw};
 ghost use Rattle.ipc_model.specs.Offers.{EntryCountLaw};
-ghost use Rattle.ipc_model.specs.BatchLaws.{AgreeLaw, BatchTestLaw, PruneLaw};
+ghost use Rattle.ipc_model.specs.BatchLaws.{AgreeLaw, BatchTestLaw, NoProjectionLaw, ProjectionTestLaw, PruneLaw};
 
-/// Whether the entries of a batch have a meaning can be computed.
-#[tactic(auto, using(crate::proofs::Pruned::batch_decides))]
+/// Whether the entries of a batch have a meaning can be computed, and whether a projection chooses columns that are there, each once.
+#[tactic(auto, using(crate::proofs::Pruned::batch_decides, crate::proofs::Pruned::projection_decides))]
 pub fn test_of_batches()
-    ensures { BatchTestLaw }
+    ensures entries { BatchTestLaw }
+    ensures projection { ProjectionTestLaw }
 {}
 
-/// A batch that has a meaning has one for each projection and each limit: the first slots of the
-/// chosen columns, in the order in which they are chosen.
-#[tactic(auto, using(crate::proofs::Pruned::prune_law))]
+/// A batch that has a meaning has one for each projection to columns that are there, each once, and each limit: the first slots of the
+/// chosen columns, in the order in which they are chosen. For no other projection it has one.
+#[tactic(auto, using(crate::proofs::Pruned::prune_law, crate::proofs::Pruned::no_projection_law))]
 pub fn pruned_batches()
-    ensures { PruneLaw }
+    ensures pruned { PruneLaw }
+    ensures other { NoProjectionLaw }
 {}
 
 /// Sources that agree on the listed ranges of the chosen columns' buffers give one meaning.

@@ -2,8 +2,8 @@
 
 ghost use Rattle.ipc_model.specs.Extending.{ExtendLaw};
 ghost use Rattle.ipc_model.specs.HeldColumns.{ReadHeldLaw};
-ghost use Rattle.ipc_model.specs.KindLaws.{BufferCountLaw, NodeCountLaw};
-ghost use Rattle.ipc_model.specs.Laws.{LimitLaw, NeedLaw, NodeLaw};
+ghost use Rattle.ipc_model.specs.KindLaws.{BufferCountLaw, NoFloatLaw, NodeCountLaw};
+ghost use Rattle.ipc_model.specs.Laws.{LimitLaw, NeedLaw, NodeLaw, NumberLaw};
 ghost use Rattle.ipc_model.specs.Needed.{NeededLaw};
 ghost use Rattle.ipc_model.specs.ReadArrays.{ReadSlotsLaw};
 ghost use Rattle.ipc_model.specs.TestLaws.{WellTestLaw};
@@ -19,6 +19,18 @@ pub fn nodes_of_columns()
 pub fn counts_of_fields()
     ensures nodes { NodeCountLaw }
     ensures buffers { BufferCountLaw }
+{}
+
+/// No float is a number of a column: its kind is one of its own, which has no meaning.
+#[tactic(auto, using(crate::proofs::TypeKinds::no_float_law))]
+pub fn floats_of_fields()
+    ensures { NoFloatLaw }
+{}
+
+/// Each number of a buffer whose bytes are there is one that stands in the bytes, and each integer.
+#[tactic(auto, using(crate::proofs::Needs::number_law))]
+pub fn numbers_of_columns()
+    ensures { NumberLaw }
 {}
 
 /// The bytes of a buffer that are there are those that it lists and that the source has.

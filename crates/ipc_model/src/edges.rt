@@ -1,9 +1,9 @@
 //! What each word of the definitions decides, shown on what is written out: types, schemas, messages and blocks slot by slot, and the edges of
 //! each limit.
 
-ghost use Rattle.ipc_model.specs.AcceptedRows.{EdgeRows};
+ghost use Rattle.ipc_model.specs.AcceptedRows.{EdgeRows, EncodedRows};
 ghost use Rattle.ipc_model.specs.ArrayRows.{KeyTypeRows, OfferWidthRows};
-ghost use Rattle.ipc_model.specs.FileRows.{BlockRows, FooterRows};
+ghost use Rattle.ipc_model.specs.FileRows.{BlockRows, FooterPairRows, FooterRows};
 ghost use Rattle.ipc_model.specs.KindRows.{FixedRows, KeyRows, OffsetRows, PairRows, UnionEdgeRows, WidthRows};
 ghost use Rattle.ipc_model.specs.MessageRows.{CountRows, FirstPlaceRows, FrameRows, RecordRows, VersionRows, WhereRows};
 ghost use Rattle.ipc_model.specs.SchemaRows.{ChildRows, EncodingRows, IntegerRows, LastLevelRows, LevelRows, PastLevelRows, PlainRows, SizeRows, TimeRows};
@@ -69,10 +69,11 @@ pub fn messages_of_dictionaries()
     ensures places { WhereRows }
 {}
 
-/// A file's footer and its blocks.
-#[tactic(auto, using(crate::proofs::FileRows::footer_rows, crate::proofs::FileRows::block_rows))]
+/// A file's footer, its pairs and its blocks.
+#[tactic(auto, using(crate::proofs::FileRows::footer_rows, crate::proofs::FileRows::footer_pair_rows, crate::proofs::FileRows::block_rows))]
 pub fn footers_and_blocks()
     ensures footers { FooterRows }
+    ensures pairs { FooterPairRows }
     ensures blocks { BlockRows }
 {}
 
@@ -84,10 +85,11 @@ pub fn writable_schemas()
     ensures schemas { WritableSchemaRows }
 {}
 
-/// Chunks at the edges of what a writer takes.
-#[tactic(auto, using(crate::proofs::AcceptedRows::edge_rows))]
+/// Chunks at the edges of what a writer takes, and columns that are encoded without a schema.
+#[tactic(auto, using(crate::proofs::AcceptedRows::edge_rows, crate::proofs::AcceptedRows::encoded_rows))]
 pub fn chunks_at_the_edges()
-    ensures { EdgeRows }
+    ensures edges { EdgeRows }
+    ensures encoded { EncodedRows }
 {}
 
 /// The arrays that columns of keys and large lists are read to, and what arrays of each width bring to a writer.

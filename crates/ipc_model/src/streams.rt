@@ -3,7 +3,7 @@ ghost use Rattle.ipc_model.specs.CarriedStreams.{CarriedFinishLaw, CarriedFrontL
 ghost use Rattle.ipc_model.specs.Streams.{FrontLaw, ResumeLaw};
 ghost use Rattle.ipc_model.specs.Visits.{VisitLaw};
 ghost use Rattle.ipc_model.specs.WholeStreams.{GrowLaw};
-ghost use Rattle.ipc_model.specs.WriterStates.{ClosedLaw};
+ghost use Rattle.ipc_model.specs.WriterStates.{ClosedLaw, KeepLaw};
 ghost use Rattle.ipc_model.specs.Writers.{FinishLaw, StartLaw, WriteLaw};
 ghost use Rattle.ipc_model.specs.WrittenLaws.{WrittenFrameLaw, WrittenMarkLaw, WrittenRecordLaw};
 
@@ -52,6 +52,11 @@ pub fn visits_of_schemas()
 /// A writer that is finished, or whose device failed, takes no chunk more.
 pub fn closed_writers()
     ensures { ClosedLaw }
+{}
+
+/// The order of bytes and the pairs of a footer stay through each list of calls.
+pub fn kept_by_writers()
+    ensures { KeepLaw }
 {}
 
 /// A stream whose messages are carried stays so: a schema message starts one, and a record that is carried
