@@ -1,6 +1,8 @@
 -- Each row is computed.
-use Rattle.std.proofs.Common.{refl}
-use Rattle.ipc_model.specs.ArrayRows.{KeyTypeRows, OfferWidthRows}
+use Rattle.std.proofs.Common.{◌≡◌, ℕ, List, Option, Some, None, refl, ap, arith}
+use Rattle.lower_arrays.specs.Slots.{Slot}
+use Rattle.ipc_model.proofs.AcceptedRows.{first_byte}
+use Rattle.ipc_model.specs.ArrayRows.{KeyTypeRows, OfferWidthRows, KnownRows}
 
 pub key_type_rows : KeyTypeRows
 key_type_rows = record {
@@ -26,4 +28,18 @@ offer_width_rows = record {
   keys_of_two = refl;
   keys_of_eight = refl;
   nine_slots = refl;
+}
+
+-- the first byte of the first text
+abbrev byte_in : Option (List Slot) → ℕ
+byte_in None = 0
+byte_in (Some xs) = first_byte xs
+
+pub known_rows : KnownRows
+known_rows = record {
+  known_values = record { type = refl; slots_are = refl; values = (refl, tt) };
+  other_values = λ v. let e : 97 ≡ 120 = ap byte_in v.values.0 in absurd (omega arith);
+  nothing_known = λ v. let e : 0 ≡ 97 = ap byte_in v.values.0 in absurd (omega arith);
+  in_a_list = record { type = refl; slots_are = refl; values = (refl, tt) };
+  others_in_a_list = λ v. let e : 97 ≡ 120 = ap byte_in v.values.0 in absurd (omega arith);
 }

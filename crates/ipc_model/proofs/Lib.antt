@@ -46,3 +46,4 @@ pub mod KindRows
 pub mod MessageRows
 pub mod WritableRows
 pub mod ArrayRows
+pub mod ReadValues

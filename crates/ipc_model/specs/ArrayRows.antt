@@ -8,12 +8,15 @@ use Rattle.lower_types.specs.NumberTypes.{whole}
 use Rattle.lower_types.specs.declared.Endianness.TheVariants.{Little}
 use Rattle.lower_types.specs.declared.PrimitiveType.TheVariants.{Int16, Int32, Int64, Int128}
 use Rattle.lower_arrays.specs.Layouts.{Validity, Parts, nothing, numbers, fixed_bytes, bytes, lists, keys, Level, Layout, layout, no_layouts}
-use Rattle.ipc_base.specs.IdTrees.{no_ids}
+use Rattle.ipc_base.specs.IdTrees.{IdTree, ids, no_ids, more_ids}
+use Rattle.ipc_model.specs.AcceptedRows.{column_is}
 use Rattle.ipc_model.specs.ColumnRows.{node_is, buffer_is, entries, word}
-use Rattle.ipc_model.specs.Entries.{Entries}
+use Rattle.ipc_model.specs.DictionaryRows.{a, b, values_are, list_of_text}
+use Rattle.ipc_model.specs.Entries.{Entries, Dictionaries}
 use Rattle.ipc_model.specs.HeldRows.{read_array}
 use Rattle.ipc_model.specs.KindRows.{large_lists_of, three_long_offsets, list_field}
-use Rattle.ipc_model.specs.OfferRows.{array_is, one_child, texts_are, lengths_of, lengths_are}
+use Rattle.ipc_model.specs.ReadChunks.{IsArrayOf}
+use Rattle.ipc_model.specs.OfferRows.{array_is, one_child, field_is, list_of, dictionary_of_texts, keyed_texts, texts_are, lengths_of, lengths_are}
 use Rattle.ipc_model.specs.TypeKinds.{kind_of}
 
 abbrev pub own_parts : Layout → Parts
@@ -54,3 +57,30 @@ pub record OfferWidthRows : Type 0 where
   pub keys_of_two : lengths_of (keys_of integers.UInt16) ≡ lengths_are (3 ∷ []) (1 ∷ 6 ∷ [])
   pub keys_of_eight : lengths_of (keys_of integers.Int64) ≡ lengths_are (3 ∷ []) (1 ∷ 24 ∷ [])
   pub nine_slots : lengths_of (array_is (plain int16) 9 (Some (replicate 9 true)) (numbers Int16 (replicate 9 (whole (pos 1)))) no_layouts) ≡ lengths_are (9 ∷ []) (2 ∷ 18 ∷ [])
+
+-- ---- values that are known
+
+abbrev pub known_texts : Dictionaries
+known_texts = (pos 0, values_are (a ∷ b ∷ [])) ∷ []
+
+-- the text "b" by the key 1 of two texts
+abbrev pub second_of : List ℕ → Layout
+second_of letters = keyed_texts (pos 1 ∷ []) (texts_are 2 (0 ∷ 1 ∷ 2 ∷ []) letters)
+
+abbrev pub one_id : IdTree
+one_id = ids (Some (pos 0)) no_ids
+
+abbrev pub list_of_ids : IdTree
+list_of_ids = ids None (more_ids one_id no_ids)
+
+-- one list of the text "b"
+abbrev pub listed_second : List ℕ → Layout
+listed_second letters = list_of 1 (0 ∷ 1 ∷ []) (second_of letters) dictionary_of_texts
+
+-- The array of a column has at each dictionary place all values that are known, also those that no key names.
+pub record KnownRows : Type 0 where
+  pub known_values : IsArrayOf known_texts one_id (column_is dictionary_of_texts (b ∷ [])) (second_of (codes "ab"))
+  pub other_values : ¬ IsArrayOf known_texts one_id (column_is dictionary_of_texts (b ∷ [])) (second_of (codes "xb"))
+  pub nothing_known : ¬ IsArrayOf [] one_id (column_is dictionary_of_texts (b ∷ [])) (second_of (codes "ab"))
+  pub in_a_list : IsArrayOf known_texts list_of_ids (column_is (single list (field_is dictionary_of_texts)) (list_of_text (codes "b") ∷ [])) (listed_second (codes "ab"))
+  pub others_in_a_list : ¬ IsArrayOf known_texts list_of_ids (column_is (single list (field_is dictionary_of_texts)) (list_of_text (codes "b") ∷ [])) (listed_second (codes "xb"))

@@ -6,6 +6,7 @@ ghost use Rattle.ipc_model.specs.KindLaws.{BufferCountLaw, NoFloatLaw, NodeCount
 ghost use Rattle.ipc_model.specs.Laws.{LimitLaw, NeedLaw, NodeLaw, NumberLaw};
 ghost use Rattle.ipc_model.specs.Needed.{NeededLaw};
 ghost use Rattle.ipc_model.specs.ReadArrays.{ReadSlotsLaw};
+ghost use Rattle.ipc_model.specs.ReadChunks.{ReadValuesLaw};
 ghost use Rattle.ipc_model.specs.TestLaws.{WellTestLaw};
 
 /// Each column has at least one node.
@@ -74,4 +75,10 @@ pub fn bytes_of_arrays()
 #[tactic(auto, using(crate::proofs::ReadSlots::read_slots_law))]
 pub fn slots_of_arrays()
     ensures { ReadSlotsLaw }
+{}
+
+/// The array that a well formed column is read to has at its dictionary places the values that are known.
+#[tactic(auto, using(crate::proofs::ReadValues::read_values_law))]
+pub fn values_of_arrays()
+    ensures { ReadValuesLaw }
 {}

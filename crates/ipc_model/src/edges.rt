@@ -2,7 +2,7 @@
 //! each limit.
 
 ghost use Rattle.ipc_model.specs.AcceptedRows.{EdgeRows, EncodedRows};
-ghost use Rattle.ipc_model.specs.ArrayRows.{KeyTypeRows, OfferWidthRows};
+ghost use Rattle.ipc_model.specs.ArrayRows.{KeyTypeRows, KnownRows, OfferWidthRows};
 ghost use Rattle.ipc_model.specs.FileRows.{BlockRows, FooterPairRows, FooterRows};
 ghost use Rattle.ipc_model.specs.KindRows.{FixedRows, KeyRows, OffsetRows, PairRows, UnionEdgeRows, WidthRows};
 ghost use Rattle.ipc_model.specs.MessageRows.{CountRows, FirstPlaceRows, FrameRows, RecordRows, VersionRows, WhereRows};
@@ -92,9 +92,10 @@ pub fn chunks_at_the_edges()
     ensures encoded { EncodedRows }
 {}
 
-/// The arrays that columns of keys and large lists are read to, and what arrays of each width bring to a writer.
-#[tactic(auto, using(crate::proofs::ArrayRows::key_type_rows, crate::proofs::ArrayRows::offer_width_rows))]
+/// The arrays that columns of keys and large lists are read to, the values that they have, and what arrays of each width bring to a writer.
+#[tactic(auto, using(crate::proofs::ArrayRows::key_type_rows, crate::proofs::ArrayRows::known_rows, crate::proofs::ArrayRows::offer_width_rows))]
 pub fn arrays_of_types()
     ensures keys { KeyTypeRows }
+    ensures known { KnownRows }
     ensures widths { OfferWidthRows }
 {}
