@@ -1,65 +1,57 @@
 -- Columns that are read one after another.
-use Rattle.std.proofs.Common.{arith, ◌≡◌, ℕ, ◌+◌, ◌*◌, ◌<◌, List, [], ◌∷◌, ◌++◌, length, get_or, ap, sym, subst, ◌∙◌, inl, inr, length-append}
+use Rattle.std.proofs.Common.{arith, ◌≡◌, ℕ, ◌+◌, ◌<◌, List, [], ◌∷◌, ◌++◌, length, get_or, None, ap, sym, subst, ◌∙◌, inl, inr, length-append}
 use Rattle.std.proofs.lemmas.Bool.{cases_lt}
 use Rattle.std.proofs.Math.Seq.{get_or-append_seam}
-use Rattle.std.proofs.lemmas.List.{get_or_append_left, get_or_default}
-use Rattle.lower.specs.TypeViews.{type_view}
-use Rattle.lower.specs.declared.datatypes.Field.{Field}
+use Rattle.std.proofs.lemmas.List.{get_or_append_left}
+use Rattle.lower.specs.TypeTrees.{FieldTrees}
+use Rattle.lower_arrays.specs.AnyLayouts.{layout_of}
 use Rattle.lower_arrays.specs.declared.array.AnyArray.{AnyArray}
+use Rattle.ipc_model.specs.Batches.{kind_at, type_at, nodes_before, buffers_before}
+use Rattle.ipc_model.specs.Columns.{IsWell}
 use Rattle.ipc_model.specs.Entries.{Entries}
-use Rattle.ipc_read.specs.Carried.{HasColumn, IsColumn}
+use Rattle.ipc_model.specs.Kinds.{Kinds}
+use Rattle.ipc_columns.specs.ReadColumns.{IsColumn}
 use Rattle.ipc_read.specs.Columns.{HasColumns, AreColumns}
 
-pub no_columns : (s : Entries) (fs : List Field) → HasColumns s fs 0
-no_columns s fs = record { each = λ k d h. let no : ⊥ = omega arith in absurd no }
+pub no_columns : (s : Entries) (ts : Kinds) → HasColumns s ts 0
+no_columns s ts = record { each = λ k h. let no : ⊥ = omega arith in absurd no }
 
-pub no_arrays : (s : Entries) (fs : List Field) → AreColumns s fs []
-no_arrays s fs = record { each = λ k d x h. let no : ⊥ = omega arith in absurd no }
-
--- what holds of the field that stands at i
-at_field :
-    (s : Entries) (fs : List Field) (P : Field → ℕ → Type 0) (i k : ℕ) (f d : Field) → i < length fs → f ≡ get_or fs i f → k ≡ i
-    → P f i → P (get_or fs k d) k
-at_field s fs P i k f d h e at p =
-    subst (λ (j : ℕ). P (get_or fs j d) j) (sym at) (subst (λ (g : Field). P g i) (e ∙ get_or_default fs i f d h) p)
+pub no_arrays : (s : Entries) (fs : FieldTrees) (ts : Kinds) → AreColumns s fs ts []
+no_arrays s fs ts = record { each = λ k x h. let no : ⊥ = omega arith in absurd no }
 
 pub has_more :
-    (s : Entries) (fs : List Field) (i : ℕ) (f : Field) → i < length fs → f ≡ get_or fs i f → HasColumns s fs i
-    → HasColumn s (type_view f.data_type) i (2 * i) → HasColumns s fs (i + 1)
-has_more s fs i f h e has here = record {
-  each = λ k d l.
+    (s : Entries) (ts : Kinds) (i : ℕ) → HasColumns s ts i → IsWell s (kind_at ts i) (nodes_before ts i) (buffers_before s.extra ts i) None → HasColumns s ts (i + 1)
+has_more s ts i has here = record {
+  each = λ k l.
       elim (cases_lt k i) [
-        | inl below ↦ has.each k d below
+        | inl below ↦ has.each k below
         | inr past ↦
-            at_field s fs (λ g j. HasColumn s (type_view g.data_type) j (2 * j)) i k f d h e (omega (arith, l, past)) here
+            let at : i ≡ k = omega (arith, l, past) in
+            subst (λ (j : ℕ). IsWell s (kind_at ts j) (nodes_before ts j) (buffers_before s.extra ts j) None) at here
       ];
 }
 
-pub has_one :
-    (s : Entries) (fs : List Field) (n i : ℕ) (f : Field) → i < n → f ≡ get_or fs i f → HasColumns s fs n
-    → HasColumn s (type_view f.data_type) i (2 * i)
-has_one s fs n i f h e has =
-    subst (λ (g : Field). HasColumn s (type_view g.data_type) i (2 * i)) (sym e) (has.each i f h)
+abbrev IsColumnAt : Entries → FieldTrees → Kinds → ℕ → AnyArray → Type 0
+IsColumnAt s fs ts k x = IsColumn s (kind_at ts k) (type_at fs k) (nodes_before ts k) (buffers_before s.extra ts k) None (layout_of x)
 
 pub are_more :
-    (s : Entries) (fs : List Field) (i : ℕ) (f : Field) (xs ys : List AnyArray) (x : AnyArray) → i < length fs → f ≡ get_or fs i f
-    → length xs ≡ i → AreColumns s fs xs → IsColumn s (type_view f.data_type) i (2 * i) x → ys ≡ xs ++ x ∷ [] → AreColumns s fs ys
-are_more s fs i f xs ys x h e count are here pushed =
-    subst (λ (zs : List AnyArray). AreColumns s fs zs) (sym pushed)
+    (s : Entries) (fs : FieldTrees) (ts : Kinds) (i : ℕ) (xs ys : List AnyArray) (x : AnyArray) → length xs ≡ i → AreColumns s fs ts xs
+    → IsColumn s (kind_at ts i) (type_at fs i) (nodes_before ts i) (buffers_before s.extra ts i) None (layout_of x) → ys ≡ xs ++ x ∷ [] → AreColumns s fs ts ys
+are_more s fs ts i xs ys x count are here pushed =
+    subst (λ (zs : List AnyArray). AreColumns s fs ts zs) (sym pushed)
     (record {
-      each = λ k d y l.
+      each = λ k y l.
           let long = length-append xs (x ∷ []) in
           elim (cases_lt k i) [
             | inl below ↦
                 let lt : k < length xs = omega (arith, below, count) in
-                subst (λ (z : AnyArray). IsColumn s (type_view (get_or fs k d).data_type) k (2 * k) z) (sym (get_or_append_left xs (x ∷ []) y k lt)) (are.each k d y lt)
+                subst (λ (z : AnyArray). IsColumnAt s fs ts k z) (sym (get_or_append_left xs (x ∷ []) y k lt)) (are.each k y lt)
             | inr past ↦
-                let at : k ≡ i = omega (arith, l, long, past, count) in
+                let at : i ≡ k = omega (arith, l, long, past, count) in
                 let last : x ≡ get_or (xs ++ x ∷ []) k y =
                 sym (get_or-append_seam xs x [] y) ∙ ap (λ j. get_or (xs ++ x ∷ []) j y) (let z : length xs ≡ k = omega (arith, at, count) in z)
                 in
-                subst (λ (z : AnyArray). IsColumn s (type_view (get_or fs k d).data_type) k (2 * k) z) last
-                (at_field s fs (λ g j. IsColumn s (type_view g.data_type) j (2 * j) x) i k f d h e at here)
+                subst (λ (z : AnyArray). IsColumnAt s fs ts k z) last (subst (λ (j : ℕ). IsColumnAt s fs ts j x) at here)
           ];
     })
 

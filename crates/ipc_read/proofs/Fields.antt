@@ -1,6 +1,6 @@
--- Fields of whole numbers, and where their columns stand.
+-- Fields of whole numbers.
 use Rattle.std.specs.Prelude.{string_bytes}
-use Rattle.std.proofs.Common.{arith, All, sym, ◌≡◌, ℕ, zero, suc, ◌+◌, ◌*◌, ◌<◌, ◌&&◌, true, false, Bool, List, [], ◌∷◌, length, get_or, ℤ, Option, None, IsTrue, refl, ap, ◌∙◌}
+use Rattle.std.proofs.Common.{arith, All, sym, ◌≡◌, ℕ, zero, suc, ◌+◌, ◌<◌, ◌&&◌, true, false, Bool, List, [], ◌∷◌, length, get_or, ℤ, Option, IsTrue, refl, ap, ◌∙◌}
 use Rattle.std.proofs.lemmas.List.Elements.{All-cons}
 use Rattle.lower.specs.TypeTrees.{Plain, int8, int16, int32, int64, uint8, uint16, uint32, uint64, TypeTree, plain, FieldTree, field, FieldTrees, no_fields, more_fields}
 use Rattle.lower.specs.TypeViews.{type_step, field_step, type_view, field_view, fields_view, pairs_of}
@@ -8,10 +8,10 @@ use Rattle.lower.specs.declared.datatypes.Field.{Field}
 use Rattle.lower.specs.declared.datatypes.DataType.TheFolds.{fold_out-Field}
 use Rattle.lower_types.specs.declared.PrimitiveType.{PrimitiveType}
 use Rattle.lower_types.specs.declared.PrimitiveType.TheVariants as Numbers
-use Rattle.ipc_base.specs.IdTrees.{IdTree, ids, IdTrees, no_ids}
-use Rattle.ipc_model.specs.Batches.{field_type, kind_at, type_at, nodes_before, buffers_before}
+use Rattle.ipc_base.specs.IdTrees.{IdTree, ids, IdTrees}
+use Rattle.ipc_model.specs.Batches.{field_type, kind_at, type_at}
 use Rattle.ipc_model.specs.Carried.{is_whole, is_whole_type, is_whole_field, are_whole}
-use Rattle.ipc_model.specs.Kinds.{number_kind, count, nodes, all_nodes, buffers, all_buffers}
+use Rattle.ipc_model.specs.Kinds.{number_kind, count, nodes, all_nodes}
 use Rattle.ipc_model.specs.TypeKinds.{plain_kind, first_ids, other_ids, kind_of, field_kind, kinds_of}
 
 pub both_true : (a b : Bool) → IsTrue (a && b) → IsTrue a × IsTrue b
@@ -31,58 +31,27 @@ whole_plain uint32 h = (Numbers.UInt32, refl)
 whole_plain uint64 h = (Numbers.UInt64, refl)
 whole_plain _ h = absurd cc
 
--- a type of whole numbers has one kind, whatever ids stand beside it
-pub whole_type : (t : TypeTree) (id : Option ℤ) (is : IdTrees) → IsTrue (is_whole_type t)
-    → (f : PrimitiveType) × (kind_of t None no_ids ≡ number_kind f) × (kind_of t id is ≡ number_kind f)
-whole_type (plain p) id is h = let one = whole_plain p h in (one.0, one.1, one.1)
+-- a type of whole numbers has a kind of numbers, whatever ids stand beside it
+whole_type : (t : TypeTree) (id : Option ℤ) (is : IdTrees) → IsTrue (is_whole_type t) → (f : PrimitiveType) × (kind_of t id is ≡ number_kind f)
+whole_type (plain p) id is h = whole_plain p h
 whole_type _ id is h = absurd cc
 
-whole_field : (f : FieldTree) (i : IdTree) → IsTrue (is_whole_field f)
-    → (p : PrimitiveType) × (kind_of (field_type f) None no_ids ≡ number_kind p) × (field_kind f i ≡ number_kind p)
+whole_field : (f : FieldTree) (i : IdTree) → IsTrue (is_whole_field f) → (p : PrimitiveType) × (field_kind f i ≡ number_kind p)
 whole_field (field name t nullable metadata) (ids id is) h = whole_type t id is h
 
 -- ---- fields one by one
 
--- The column of field j is one of numbers, at node j and buffer 2 j.
-pub record AtField (extra : ℕ) (fs : FieldTrees) (is : IdTrees) (j : ℕ) : Type 0 where
-  pub form : PrimitiveType
-  pub own : kind_of (type_at fs j) None no_ids ≡ number_kind form
-  pub kind_is : kind_at (kinds_of fs is) j ≡ number_kind form
-  pub node_place : nodes_before (kinds_of fs is) j ≡ j
-  pub buffer_place : buffers_before extra (kinds_of fs is) j ≡ 2 * j
-
-pub at_field : (extra : ℕ) (fs : FieldTrees) (is : IdTrees) (j : ℕ) → IsTrue (are_whole fs) → j < count (kinds_of fs is) → AtField extra fs is j
-at_field extra no_fields is j w h = absurd (omega (arith, h))
-at_field extra (more_fields f fs) is zero w h =
-    let one = whole_field f (first_ids is) (both_true (is_whole_field f) (are_whole fs) w).0 in
-    record { form = one.0; own = one.1; kind_is = one.2; node_place = refl; buffer_place = refl }
-at_field extra (more_fields f fs) is (suc j) w h =
-    let all = both_true (is_whole_field f) (are_whole fs) w in
-    let one = whole_field f (first_ids is) all.0 in
-    let rest = at_field extra fs (other_ids is) j all.1 (omega (arith, h)) in
-    let node_one = ap nodes one.2 in
-    let buffers_two = ap (buffers extra) one.2 in
-    record {
-      form = rest.form;
-      own = rest.own;
-      kind_is = rest.kind_is;
-      node_place = omega (arith, node_one, rest.node_place);
-      buffer_place = omega (arith, buffers_two, rest.buffer_place);
-    }
+pub whole_kind : (fs : FieldTrees) (is : IdTrees) (j : ℕ) → IsTrue (are_whole fs) → j < count (kinds_of fs is) → (p : PrimitiveType) × (kind_at (kinds_of fs is) j ≡ number_kind p)
+whole_kind no_fields is j w h = absurd (omega (arith, h))
+whole_kind (more_fields f fs) is zero w h = whole_field f (first_ids is) (both_true (is_whole_field f) (are_whole fs) w).0
+whole_kind (more_fields f fs) is (suc j) w h = whole_kind fs (other_ids is) j (both_true (is_whole_field f) (are_whole fs) w).1 (omega (arith, h))
 
 pub node_total : (fs : FieldTrees) (is : IdTrees) → IsTrue (are_whole fs) → all_nodes (kinds_of fs is) ≡ count (kinds_of fs is)
 node_total no_fields is w = refl
 node_total (more_fields f fs) is w =
     let all = both_true (is_whole_field f) (are_whole fs) w in
-    let one = ap nodes (whole_field f (first_ids is) all.0).2 in
+    let one = ap nodes (whole_field f (first_ids is) all.0).1 in
     omega (arith, one, node_total fs (other_ids is) all.1)
-
-pub buffer_total : (extra : ℕ) (fs : FieldTrees) (is : IdTrees) → IsTrue (are_whole fs) → all_buffers extra (kinds_of fs is) ≡ 2 * count (kinds_of fs is)
-buffer_total extra no_fields is w = refl
-buffer_total extra (more_fields f fs) is w =
-    let all = both_true (is_whole_field f) (are_whole fs) w in
-    let two = ap (buffers extra) (whole_field f (first_ids is) all.0).2 in
-    omega (arith, two, buffer_total extra fs (other_ids is) all.1)
 
 -- ---- the fields of a schema
 
@@ -116,3 +85,5 @@ each_whole (f ∷ fs) w =
     let both = both_true (is_whole_field (field_view f)) (are_whole (fields_view fs)) w in
     let first : IsTrue (is_whole_type (type_view f.data_type)) = sym (ap is_whole_field (field_is f)) ∙ both.0 in
     All-cons (λ (g : Field). IsTrue (is_whole_type (type_view g.data_type))) f fs first (each_whole fs both.1)
+
+pub ruleset carried_fields = (whole_fields, each_whole)

@@ -1,5 +1,6 @@
 pub mod SizeLemmas
-pub mod WholeColumns
+pub mod ColumnPlaces
+pub mod NodeLists
 pub mod ColumnLists
 pub mod Batches
 pub mod Fields

@@ -1,44 +1,43 @@
 -- What is read of a batch is what it means.
-use Rattle.std.proofs.Common.{arith, ◌≡◌, ℕ, zero, suc, pos, ◌+◌, ◌*◌, ◌<◌, ◌≤◌, true, false, Bool, List, [], ◌∷◌, map, length, take, get_or, Option, None, Some, IsTrue, IsSome, IsNone, IsOk, IfOk, is_some, Result, Ok, Err, ◌↔◌, refl, sym, ap, subst, ◌∙◌, All, inl, inr}
+use Rattle.std.proofs.Common.{arith, ◌≡◌, ℕ, zero, suc, pos, ◌+◌, ◌<◌, ◌≤◌, true, false, List, [], ◌∷◌, map, length, get_or, Option, None, Some, IsTrue, IsSome, IsNone, IsOk, IfOk, is_some, Result, Ok, Err, ◌↔◌, refl, sym, ap, subst, ◌∙◌, All, inl, inr}
 use Rattle.std.specs.List.{range_with_len, fold}
 use Rattle.std.specs.Option.{option_and_then}
 use Rattle.std.proofs.lemmas.Bool.{cases_lt}
-use Rattle.std.proofs.lemmas.List.{get_or_default, get_or-take, get_or-map, length-map, length-take}
+use Rattle.std.proofs.lemmas.List.{get_or-map, length-map}
 use Rattle.std.proofs.lemmas.List.FromFn.{length-map-range_with_len}
-use Rattle.lower.specs.Counts.{fields_nodes}
+use Rattle.lower.specs.Counts.{fields_nodes, fields_buffers}
 use Rattle.lower.specs.TypeTrees.{Pairs, TypeTree, FieldTrees}
-use Rattle.lower.specs.TypeViews.{type_view, fields_view}
+use Rattle.lower.specs.TypeViews.{fields_view}
 use Rattle.lower.specs.declared.datatypes.Field.{Field}
 use Rattle.lower_types.specs.declared.Endianness.{Endianness}
-use Rattle.lower_types.specs.declared.Endianness.TheVariants.{Little}
 use Rattle.lower_types.specs.declared.PrimitiveType.{PrimitiveType}
 use Rattle.lower_arrays.specs.AnyLayouts.{layout_of}
-use Rattle.lower_arrays.specs.Layouts.{len_of, type_of}
+use Rattle.lower_arrays.specs.Layouts.{len_of}
 use Rattle.lower_arrays.specs.Slots.{Slot, slots, slots_from}
 use Rattle.lower_arrays.specs.declared.array.AnyArray.{AnyArray}
 use Rattle.ipc_devices.specs.Faults.{OwnFault}
 use Rattle.ipc_devices.specs.declared.fault.Fault.{Fault}
 use Rattle.ipc_devices.specs.declared.fault.Fault.TheVariants as Faults
 use Rattle.ipc_base.specs.Chunks.{row_count, AreEqualRows}
-use Rattle.ipc_base.specs.IdTrees.{IdTrees, no_ids}
+use Rattle.ipc_base.specs.IdTrees.{IdTrees}
 use Rattle.ipc_views.specs.Spot.{Spot}
 use Rattle.ipc_views.specs.declared.message.FieldNode.{FieldNode}
 use Rattle.ipc_views.specs.declared.schema.Buffer.{Buffer}
 use Rattle.ipc_model.proofs.Addresses.{own_node, address_law}
 use Rattle.ipc_model.proofs.Pruned.{batch_is, batch_some, read_first}
-use Rattle.ipc_model.proofs.TypeKinds.{node_count_law}
+use Rattle.ipc_model.proofs.TypeKinds.{node_count_law, buffer_count_law}
 use Rattle.ipc_model.specs.Batches.{Schema, Body, Lists, lists_of, entries_of, kind_at, type_at, nodes_before, buffers_before, IsWellAt, rows_at, slots_of_column, AllRead, first_rows, IsBatch, Column, Chunk, chunk_of, batch, record_meaning}
 use Rattle.ipc_model.specs.Carried.{are_whole, IsCarriedBatch}
 use Rattle.ipc_model.specs.Columns.{WithRows, IsWell, column}
 use Rattle.ipc_model.specs.Entries.{Entries, Part, IsSize, size, part_at, node, Dictionaries, rows}
 use Rattle.ipc_model.specs.Kinds.{Kind, number_kind, Kinds, count, nodes}
-use Rattle.ipc_model.specs.TypeKinds.{kind_of, kinds_of}
-use Rattle.ipc_read.specs.Carried.{HasColumn, IsColumn}
-use Rattle.ipc_read.specs.Chunks.{column_seen, chunk_seen, IsCarriedLists, HasMeaning, GivesBatch, order_of}
+use Rattle.ipc_model.specs.TypeKinds.{kinds_of}
+use Rattle.ipc_read.specs.Chunks.{column_seen, chunk_seen, IsCarriedLists, HasMeaning, GivesBatch}
 use Rattle.ipc_read.specs.Columns.{HasColumns, AreColumns}
 use Rattle.ipc_read.specs.Sizes.{AreSizes, total_of}
 use Rattle.ipc_columns.proofs.Fetches.{denies_through}
-use Rattle.ipc_read.proofs.Fields.{AtField, at_field, node_total, buffer_total, field_count, type_is, each_whole, AreWhole}
+use Rattle.ipc_columns.specs.ReadColumns.{IsColumn}
+use Rattle.ipc_read.proofs.Fields.{whole_kind, field_count}
 
 -- ---- options
 
@@ -52,40 +51,10 @@ some_is o x e = rw e refl
 
 -- ---- a column by its own entries and in the whole batch
 
-pub column_well : (s : Entries) (fs : FieldTrees) (is : IdTrees) (j : ℕ) (at : AtField s.extra fs is j) → IsWellAt s (kinds_of fs is) None j
-    → IsWell s (number_kind at.form) j (2 * j) None
-column_well s fs is j at v =
-    let ts = kinds_of fs is in
-    let whole : IsWell s (kind_at ts j) (nodes_before ts j) (buffers_before s.extra ts j) None = (address_law s ts None j).to_whole v in
-    subst (λ (n : ℕ). IsWell s (number_kind at.form) j n None) at.buffer_place
-    (subst (λ (n : ℕ). IsWell s (number_kind at.form) n (buffers_before s.extra ts j) None) at.node_place
-    (subst (λ (t : Kind). IsWell s t (nodes_before ts j) (buffers_before s.extra ts j) None) at.kind_is whole))
-
-pub well_column : (s : Entries) (fs : FieldTrees) (is : IdTrees) (j : ℕ) (at : AtField s.extra fs is j)
-    → IsWell s (number_kind at.form) j (2 * j) None → IsWellAt s (kinds_of fs is) None j
-well_column s fs is j at v =
-    let ts = kinds_of fs is in
-    (address_law s ts None j).from_whole
-    (subst (λ (t : Kind). IsWell s t (nodes_before ts j) (buffers_before s.extra ts j) None) (sym at.kind_is)
-    (subst (λ (n : ℕ). IsWell s (number_kind at.form) n (buffers_before s.extra ts j) None) (sym at.node_place)
-    (subst (λ (n : ℕ). IsWell s (number_kind at.form) j n None) (sym at.buffer_place) v)))
-
-pub column_rows : (s : Entries) (fs : FieldTrees) (is : IdTrees) (j : ℕ) (at : AtField s.extra fs is j)
-    → rows_at s (kinds_of fs is) None j ≡ size (node s j).length
-column_rows s fs is j at =
-    let ts = kinds_of fs is in
-    let first : 0 < nodes (kind_at ts j) = let e = ap nodes at.kind_is in omega (arith, e) in
+column_rows : (s : Entries) (ts : Kinds) (j : ℕ) → 0 < nodes (kind_at ts j) → rows_at s ts None j ≡ size (node s (nodes_before ts j)).length
+column_rows s ts j first =
     ap (λ (n : FieldNode). size n.length)
-    (own_node s ts j 0 first ∙ (let place : nodes_before ts j + 0 ≡ j = omega (arith, at.node_place) in ap (node s) place))
-
-pub column_slots : (s : Entries) (fs : FieldTrees) (is : IdTrees) (j : ℕ) (at : AtField s.extra fs is j) → IsWellAt s (kinds_of fs is) None j
-    → slots_of_column s (kinds_of fs is) None j ≡ column s (number_kind at.form) j (2 * j) None
-column_slots s fs is j at v =
-    let ts = kinds_of fs is in
-    (address_law s ts None j).slots v
-    ∙ ap (λ (t : Kind). column s t (nodes_before ts j) (buffers_before s.extra ts j) None) at.kind_is
-    ∙ ap (λ n. column s (number_kind at.form) n (buffers_before s.extra ts j) None) at.node_place
-    ∙ ap (λ n. column s (number_kind at.form) j n None) at.buffer_place
+    (own_node s ts j 0 first ∙ (let place : nodes_before ts j + 0 ≡ nodes_before ts j = omega arith in ap (node s) place))
 
 -- ---- the sizes of buffers
 
@@ -146,55 +115,44 @@ read_range s ts k n each a zero h = tt
 read_range s ts k n each a (suc m) h = (each a (omega (arith, h)), read_range s ts k n each (a + 1) m (omega (arith, h)))
 
 -- the batch can be read: k rows in each column
-pub record Judged (fs : List Field) (lists : Lists) (b : Body) (order : Endianness) (extra : ℕ) (k : ℕ) : Type 0 where
+pub record Judged (fs : List Field) (is : IdTrees) (lists : Lists) (b : Body) (order : Endianness) (extra : ℕ) (k : ℕ) : Type 0 where
   pub sizes : AreSizes lists.buffers
   pub total : total_of lists.buffers ≤ b.size
-  pub nodes : length fs ≤ length lists.nodes
-  pub buffers : 2 * length fs ≤ length lists.buffers
-  pub has : HasColumns (entries_of lists b order extra []) fs (length fs)
-  pub rows : (j : ℕ) → j < length fs → size (node (entries_of lists b order extra []) j).length ≡ k
+  pub nodes : fields_nodes (fields_view fs) ≤ length lists.nodes
+  pub buffers : fields_buffers extra (fields_view fs) ≤ length lists.buffers
+  pub has : HasColumns (entries_of lists b order extra []) (kinds_of (fields_view fs) is) (length fs)
+  pub rows : (j : ℕ) → j < length fs → size (node (entries_of lists b order extra []) (nodes_before (kinds_of (fields_view fs) is) j)).length ≡ k
 
--- what the model judges as carried and well formed can be read
+-- what the model judges as well formed can be read
 judged_batch :
-    (fs : List Field) (is : IdTrees) (lists : Lists) (b : Body) (order : Endianness) (extra : ℕ) (known : Dictionaries)
-    → IsTrue (are_whole (fields_view fs)) → All (λ (n : FieldNode). size n.null_count ≡ 0) (take (fields_nodes (fields_view fs)) lists.nodes)
+    (fs : List Field) (is : IdTrees) (lists : Lists) (b : Body) (order : Endianness) (extra : ℕ) (known : Dictionaries) → IsTrue (are_whole (fields_view fs))
     → IsBatch (entries_of lists b order extra known) b.size (kinds_of (fields_view fs) is) (range_with_len 0 (count (kinds_of (fields_view fs) is))) None
-    → (k : ℕ) × Judged fs lists b order extra k
+    → (k : ℕ) × Judged fs is lists b order extra k
 unfolding entries_of
-judged_batch fs is lists b order extra known w none v =
+judged_batch fs is lists b order extra known w v =
     let s = entries_of lists b order extra known in
+    let s0 = entries_of lists b order extra [] in
     let ts = kinds_of (fields_view fs) is in
     let counted = field_count fs is in
-    let listed = node_total (fields_view fs) is w in
     let k = first_rows s ts None (range_with_len 0 (count ts)) in
-    let m = fields_nodes (fields_view fs) in
-    let first : m ≡ length fs = sym (node_count_law (fields_view fs) is) ∙ listed ∙ counted in
-    let fits : length fs ≤ length lists.nodes = omega (arith, v.nodes_listed, listed, counted) in
-    let no_node : FieldNode = record { length = pos 0; null_count = pos 0 } in
-    let at : (j : ℕ) → j < length fs → AtField extra (fields_view fs) is j =
-    λ j h. at_field extra (fields_view fs) is j w (omega (arith, h, counted)) in
+    let one : (j : ℕ) → j < length fs → (p : PrimitiveType) × (kind_at ts j ≡ number_kind p) = λ j h. whole_kind (fields_view fs) is j w (omega (arith, h, counted)) in
     let each : (j : ℕ) → j < length fs → WithRows (IsWellAt s ts None j) (rows_at s ts None j) k =
-    λ j h. read_each s ts k 0 (count ts) v.columns j (omega arith) (omega (arith, h, counted)) in
-    let whole : (j : ℕ) → j < length fs → size (node s j).null_count ≡ 0 =
-    λ j h. sym (ap (λ (n : FieldNode). size n.null_count) (get_or-take m lists.nodes j no_node (omega (arith, h, first))))
-    ∙ none j no_node (omega (arith, length-take m lists.nodes, h, first, fits)) in (
+    λ j h. read_each s ts k 0 (count ts) v.columns j (omega arith) (omega (arith, h, counted)) in (
       k,
       record {
         sizes = lengths_are b.source b.base lists.buffers v.bounded.lengths;
         total = let e = total_from b.source b.base 0 lists.buffers in omega (arith, e, v.bounded.total);
-        nodes = fits;
-        buffers = omega (arith, v.buffers_listed, buffer_total extra (fields_view fs) is w, counted, length-map lists.buffers (part_at b.source b.base));
+        nodes = omega (arith, v.nodes_listed, node_count_law (fields_view fs) is);
+        buffers = omega (arith, v.buffers_listed, buffer_count_law extra (fields_view fs) is, length-map lists.buffers (part_at b.source b.base));
         has = record {
-          each = λ j d h.
-              let own : kind_of (type_view (get_or fs j d).data_type) None no_ids ≡ number_kind (at j h).form =
-              sym (ap (λ (u : TypeTree). kind_of u None no_ids) (type_is fs j d h)) ∙ (at j h).own in
-              let numbers = known_well lists b order extra known (at j h).form j (2 * j) (column_well s (fields_view fs) is j (at j h) (each j h).0) in
-              record {
-                well = subst (λ (q : Kind). IsWell (entries_of lists b order extra []) q j (2 * j) None) (sym own) numbers;
-                whole = whole j h;
-              };
+          each = λ j h.
+              let at = one j h in
+              let a = nodes_before ts j in
+              let d = buffers_before extra ts j in
+              let whole : IsWell s (kind_at ts j) a d None = (address_law s ts None j).to_whole (each j h).0 in
+              subst (λ (q : Kind). IsWell s0 q a d None) (sym at.1) (known_well lists b order extra known at.0 a d (subst (λ (q : Kind). IsWell s q a d None) at.1 whole));
         };
-        rows = λ j h. sym (column_rows s (fields_view fs) is j (at j h)) ∙ (each j h).1;
+        rows = λ j h. sym (column_rows s ts j (let e = ap nodes (one j h).1 in omega (arith, e))) ∙ (each j h).1;
       },
     )
 
@@ -205,9 +163,9 @@ length-slots_from : (f : ℕ → Slot) (a n : ℕ) → length (slots_from f a n)
 length-slots_from f a zero = refl
 length-slots_from f a (suc n) = ap suc (length-slots_from f (a + 1) n)
 
-array_rows : (s : Entries) (t : TypeTree) (i j : ℕ) (x : AnyArray) → IsColumn s t i j x → len_of (layout_of x) ≡ size (node s i).length
-array_rows s t i j x is =
-    sym (length-slots_from _ 0 (len_of (layout_of x))) ∙ ap length is.slots ∙ length-map-range_with_len _ 0 (rows s i None)
+array_rows : (s : Entries) (t : Kind) (u : TypeTree) (a d : ℕ) (x : AnyArray) → IsColumn s t u a d None (layout_of x) → len_of (layout_of x) ≡ size (node s a).length
+array_rows s t u a d x is =
+    sym (length-slots_from _ 0 (len_of (layout_of x))) ∙ ap length is.slots ∙ length-map-range_with_len _ 0 (rows s a None)
 
 -- the columns of a range are those of a list
 columns_listed :
@@ -232,51 +190,48 @@ array_in : (xs : List AnyArray) (j : ℕ) → j < length xs → AnyArray
 array_in [] j h = absurd (omega (arith, h))
 array_in (x ∷ xs) j h = x
 
--- a field, where there is one
-field_in : (fs : List Field) (j : ℕ) → j < length fs → Field
-field_in [] j h = absurd (omega (arith, h))
-field_in (f ∷ fs) j h = f
-
 -- column j of a batch is the array that was read of it
 record ReadColumn (s : Entries) (fs : FieldTrees) (is : IdTrees) (j k : ℕ) (x : AnyArray) : Type 0 where
   pub well : WithRows (IsWellAt s (kinds_of fs is) None j) (rows_at s (kinds_of fs is) None j) k
   pub seen : record { type = type_at fs j; slots = slots_of_column s (kinds_of fs is) None j } ≡ column_seen x
 
 read_column :
-    (fs : List Field) (is : IdTrees) (lists : Lists) (b : Body) (order : Endianness) (extra : ℕ) (known : Dictionaries) (j k : ℕ) (d : Field) (x : AnyArray)
-    → IsTrue (are_whole (fields_view fs)) → j < length fs
-    → HasColumn (entries_of lists b order extra []) (type_view (get_or fs j d).data_type) j (2 * j)
-    → IsColumn (entries_of lists b order extra []) (type_view (get_or fs j d).data_type) j (2 * j) x → any_rows x ≡ k
-    → ReadColumn (entries_of lists b order extra known) (fields_view fs) is j k x
+    (fs : List Field) (is : IdTrees) (lists : Lists) (b : Body) (order : Endianness) (extra : ℕ) (known : Dictionaries) (j k : ℕ) (x : AnyArray)
+    → IsTrue (are_whole (fields_view fs)) → j < count (kinds_of (fields_view fs) is)
+    → IsWell (entries_of lists b order extra []) (kind_at (kinds_of (fields_view fs) is) j) (nodes_before (kinds_of (fields_view fs) is) j) (buffers_before extra (kinds_of (fields_view fs) is) j) None
+    → IsColumn (entries_of lists b order extra []) (kind_at (kinds_of (fields_view fs) is) j) (type_at (fields_view fs) j) (nodes_before (kinds_of (fields_view fs) is) j)
+    (buffers_before extra (kinds_of (fields_view fs) is) j) None (layout_of x)
+    → any_rows x ≡ k → ReadColumn (entries_of lists b order extra known) (fields_view fs) is j k x
 unfolding entries_of
-read_column fs is lists b order extra known j k d x w h has col rows =
+read_column fs is lists b order extra known j k x w h has col rows =
     let s = entries_of lists b order extra known in
     let s0 = entries_of lists b order extra [] in
     let ts = kinds_of (fields_view fs) is in
-    let t = type_view (get_or fs j d).data_type in
-    let counted = field_count fs is in
-    let at : AtField extra (fields_view fs) is j = at_field extra (fields_view fs) is j w (omega (arith, h, counted)) in
-    let typed : type_at (fields_view fs) j ≡ t = type_is fs j d h in
-    let own : kind_of t None no_ids ≡ number_kind at.form = sym (ap (λ (u : TypeTree). kind_of u None no_ids) typed) ∙ at.own in
-    let numbers : IsWell s0 (number_kind at.form) j (2 * j) None = subst (λ (q : Kind). IsWell s0 q j (2 * j) None) own has.well in
-    let well : IsWellAt s ts None j = well_column s (fields_view fs) is j at (well_known lists b order extra known at.form j (2 * j) numbers) in
+    let a = nodes_before ts j in
+    let d = buffers_before extra ts j in
+    let at = whole_kind (fields_view fs) is j w h in
+    let numbers : IsWell s0 (number_kind at.0) a d None = subst (λ (q : Kind). IsWell s0 q a d None) at.1 has in
+    let well : IsWellAt s ts None j = (address_law s ts None j).from_whole
+    (subst (λ (q : Kind). IsWell s q a d None) (sym at.1) (well_known lists b order extra known at.0 a d numbers)) in
     let slots_are : slots_of_column s ts None j ≡ slots (layout_of x) =
-    column_slots s (fields_view fs) is j at well
-    ∙ same_column lists b order extra known at.form j (2 * j)
-    ∙ ap (λ (q : Kind). column s0 q j (2 * j) None) (sym own)
+    (address_law s ts None j).slots well
+    ∙ ap (λ (q : Kind). column s q a d None) at.1
+    ∙ same_column lists b order extra known at.0 a d
+    ∙ ap (λ (q : Kind). column s0 q a d None) (sym at.1)
     ∙ sym col.slots in
-    let type_same : type_at (fields_view fs) j ≡ type_of (layout_of x) = typed ∙ sym col.type in
+    let first : 0 < nodes (kind_at ts j) = let e = ap nodes at.1 in omega (arith, e) in
     record {
-      well = (well, column_rows s (fields_view fs) is j at ∙ sym (array_rows s0 t j (2 * j) x col) ∙ rows);
-      seen = λ i. record { type = type_same i; slots = slots_are i };
+      well = (well, column_rows s ts j first ∙ sym (array_rows s0 (kind_at ts j) (type_at (fields_view fs) j) a d x col) ∙ rows);
+      seen = λ i. record { type = sym col.type i; slots = slots_are i };
     }
 
 -- arrays that were read make a batch of the model
 batch_read :
     (fs : List Field) (is : IdTrees) (metadata : Pairs) (lists : Lists) (b : Body) (order : Endianness) (extra : ℕ) (known : Dictionaries) (xs : List AnyArray)
     → IsTrue (are_whole (fields_view fs)) → AreSizes lists.buffers → total_of lists.buffers ≤ b.size
-    → length fs ≤ length lists.nodes → 2 * length fs ≤ length lists.buffers → HasColumns (entries_of lists b order extra []) fs (length fs)
-    → AreColumns (entries_of lists b order extra []) fs xs → length xs ≡ length fs → AreEqualRows any_rows xs
+    → fields_nodes (fields_view fs) ≤ length lists.nodes → fields_buffers extra (fields_view fs) ≤ length lists.buffers
+    → HasColumns (entries_of lists b order extra []) (kinds_of (fields_view fs) is) (length fs)
+    → AreColumns (entries_of lists b order extra []) (fields_view fs) (kinds_of (fields_view fs) is) xs → length xs ≡ length fs → AreEqualRows any_rows xs
     → batch (entries_of lists b order extra known) b.size (record { fields = fields_view fs; metadata = metadata; ids = is; order = order }) None None ≡ Some (chunk_seen xs)
 unfolding entries_of
 batch_read fs is metadata lists b order extra known xs w sizes total nodes buffers has are count_is equal =
@@ -289,18 +244,16 @@ batch_read fs is metadata lists b order extra known xs w sizes total nodes buffe
     let read : (j : ℕ) (x : AnyArray) → j < length xs → ReadColumn s (fields_view fs) is j k (get_or xs j x) =
     λ j x h.
     let inside : j < length fs = omega (arith, h, count_is) in
-    let d = field_in fs j inside in
-    read_column fs is lists b order extra known j k d (get_or xs j x) w inside (has.each j d inside) (are.each j d x h) (equal j x h) in
+    read_column fs is lists b order extra known j k (get_or xs j x) w (omega (arith, inside, counted)) (has.each j inside) (are.each j x h) (equal j x h) in
     let any : (j : ℕ) → j < n → WithRows (IsWellAt s ts None j) (rows_at s ts None j) k =
     λ j h. let inside : j < length xs = omega (arith, h, counted, count_is) in (read j (array_in xs j inside) inside).well in
-    let listed = node_total (fields_view fs) is w in
     let is_batch : IsBatch s b.size ts (range_with_len 0 n) None = record {
       bounded = record {
         lengths = are_lengths b.source b.base lists.buffers sizes;
         total = let e = total_from b.source b.base 0 lists.buffers in omega (arith, e, total);
       };
-      nodes_listed = omega (arith, listed, counted, nodes);
-      buffers_listed = omega (arith, buffer_total extra (fields_view fs) is w, counted, length-map lists.buffers (part_at b.source b.base), buffers);
+      nodes_listed = omega (arith, node_count_law (fields_view fs) is, nodes);
+      buffers_listed = omega (arith, buffer_count_law extra (fields_view fs) is, length-map lists.buffers (part_at b.source b.base), buffers);
       columns = read_first s ts None k (range_with_len 0 n) (read_range s ts k n any 0 n (omega arith));
     } in
     batch_is s b.size schema None None is_batch
@@ -314,7 +267,7 @@ batch_read fs is metadata lists b order extra known xs w sizes total nodes buffe
 pub judged :
     (fs : List Field) (is : IdTrees) (metadata : Pairs) (order : Endianness) (lists : Lists) (b : Body) (t : Spot) (extra : ℕ) (known : Dictionaries)
     → lists_of t ≡ Some lists → HasMeaning (record { fields = fields_view fs; metadata = metadata; ids = is; order = order }) extra known b t
-    → (order ≡ Little) × IsTrue (are_whole (fields_view fs)) × ((k : ℕ) × Judged fs lists b order extra k)
+    → IsCarriedBatch (record { fields = fields_view fs; metadata = metadata; ids = is; order = order }) lists.nodes × ((k : ℕ) × Judged fs is lists b order extra k)
 unfolding record_meaning
 judged fs is metadata order lists b t extra known listed h =
     let schema : Schema = record { fields = fields_view fs; metadata = metadata; ids = is; order = order } in
@@ -323,14 +276,15 @@ judged fs is metadata order lists b t extra known listed h =
     let c = some_of (meant (Some lists)) there in
     let carried : IsCarriedBatch schema lists.nodes = subst (λ (o : Option Lists). IsCarriedLists schema o) listed h.carried in
     let found = batch_some (entries_of lists b schema.order extra known) b.size schema None None c.0 c.1 in
-    (carried.carried.order, carried.carried.fields, judged_batch fs is lists b order extra known carried.carried.fields carried.no_nulls found.0)
+    (carried, judged_batch fs is lists b order extra known carried.carried.fields found.0)
 
 -- what was read is what is meant
 pub meant :
     (fs : List Field) (is : IdTrees) (metadata : Pairs) (order : Endianness) (lists : Lists) (b : Body) (t : Spot) (extra : ℕ) (known : Dictionaries) (xs : List AnyArray)
     → lists_of t ≡ Some lists → IsTrue (are_whole (fields_view fs)) → AreSizes lists.buffers → total_of lists.buffers ≤ b.size
-    → length fs ≤ length lists.nodes → 2 * length fs ≤ length lists.buffers → HasColumns (entries_of lists b order extra []) fs (length fs)
-    → AreColumns (entries_of lists b order extra []) fs xs → length xs ≡ length fs → AreEqualRows any_rows xs
+    → fields_nodes (fields_view fs) ≤ length lists.nodes → fields_buffers extra (fields_view fs) ≤ length lists.buffers
+    → HasColumns (entries_of lists b order extra []) (kinds_of (fields_view fs) is) (length fs)
+    → AreColumns (entries_of lists b order extra []) (fields_view fs) (kinds_of (fields_view fs) is) xs → length xs ≡ length fs → AreEqualRows any_rows xs
     → record_meaning (record { fields = fields_view fs; metadata = metadata; ids = is; order = order }) extra known b t None None ≡ Some (chunk_seen xs)
 unfolding record_meaning
 meant fs is metadata order lists b t extra known xs listed w sizes total nodes buffers has are count_is equal =
@@ -348,38 +302,15 @@ unfolding record_meaning
 listed_of schema extra known b t h =
     some_listed (λ (l : Lists). batch (entries_of l b schema.order extra known) b.size schema None None) (lists_of t) h.some
 
--- columns of numbers have no nulls
-carried_batch :
-    (fs : List Field) (is : IdTrees) (metadata : Pairs) (lists : Lists) (b : Body) (order : Endianness) (extra : ℕ) → order ≡ Little → IsTrue (are_whole (fields_view fs))
-    → length fs ≤ length lists.nodes → HasColumns (entries_of lists b order extra []) fs (length fs)
-    → IsCarriedBatch (record { fields = fields_view fs; metadata = metadata; ids = is; order = order }) lists.nodes
-unfolding entries_of
-carried_batch fs is metadata lists b order extra little w nodes has =
-    let s0 = entries_of lists b order extra [] in
-    let m = fields_nodes (fields_view fs) in
-    let first : m ≡ length fs = sym (node_count_law (fields_view fs) is) ∙ node_total (fields_view fs) is w ∙ field_count fs is in
-    record {
-      carried = record { fields = w; order = little };
-      no_nulls = λ j d h.
-          let inside : j < length fs = omega (arith, h, length-take m lists.nodes, first) in
-          let f = field_in fs j inside in
-          let same : get_or (take m lists.nodes) j d ≡ node s0 j =
-          get_or-take m lists.nodes j d (omega (arith, inside, first)) ∙ get_or_default lists.nodes j d (record { length = pos 0; null_count = pos 0 }) (omega (arith, inside, nodes)) in
-          ap (λ (n : FieldNode). size n.null_count) same ∙ (has.each j f inside).whole;
-    }
-
 -- columns of equal rows
 equal_columns :
-    (fs : List Field) (s : Entries) (xs : List AnyArray) (k : ℕ) → AreColumns s fs xs → length xs ≡ length fs
-    → ((j : ℕ) → j < length fs → size (node s j).length ≡ k) → AreEqualRows any_rows xs
-equal_columns fs s [] k are count_is rows = λ j x h. absurd (omega (arith, h))
-equal_columns fs s (y ∷ ys) k are count_is rows = λ j x h.
-    let inside : j < length fs = omega (arith, h, count_is) in
-    let first : 0 < length fs = omega (arith, h, count_is) in
-    let f = field_in fs j inside in
-    array_rows s (type_view (get_or fs j f).data_type) j (2 * j) (get_or (y ∷ ys) j x) (are.each j f x h)
-    ∙ rows j inside ∙ sym (rows 0 first)
-    ∙ sym (array_rows s (type_view (get_or fs 0 f).data_type) 0 (2 * 0) y (are.each 0 f y (omega arith)))
+    (fs : FieldTrees) (s : Entries) (ts : Kinds) (xs : List AnyArray) (n k : ℕ) → AreColumns s fs ts xs → length xs ≡ n
+    → ((j : ℕ) → j < n → size (node s (nodes_before ts j)).length ≡ k) → AreEqualRows any_rows xs
+equal_columns fs s ts [] n k are count_is rows = λ j x h. absurd (omega (arith, h))
+equal_columns fs s ts (y ∷ ys) n k are count_is rows = λ j x h.
+    let at : (i : ℕ) → i < length (y ∷ ys) → any_rows (get_or (y ∷ ys) i x) ≡ k = λ i l.
+    array_rows s (kind_at ts i) (type_at fs i) (nodes_before ts i) (buffers_before s.extra ts i) (get_or (y ∷ ys) i x) (are.each i x l) ∙ rows i (omega (arith, l, count_is)) in
+    at j h ∙ sym (at 0 (omega arith))
 
 own_any : (e : Fault) (P : Type 0) → P → OwnFault e P
 own_any (Faults.OutOfSpec k) P h = h
@@ -396,36 +327,34 @@ own_any (Faults.Lower e) P h = h
 -- ---- the answer
 
 -- what was read of a batch: all but the count of the rows
-pub record Fetched (fs : List Field) (order : Endianness) (extra : ℕ) (lists : Lists) (b : Body) (t : Spot) (ys : List AnyArray) : Type 0 where
+pub record Fetched (fs : List Field) (is : IdTrees) (order : Endianness) (extra : ℕ) (lists : Lists) (b : Body) (t : Spot) (ys : List AnyArray) : Type 0 where
   pub listed : lists_of t ≡ Some lists
-  pub little : order ≡ Little
-  pub whole : IsTrue (are_whole (fields_view fs))
+  pub carried : IsCarriedBatch (record { fields = fields_view fs; metadata = []; ids = is; order = order }) lists.nodes
   pub sizes : AreSizes lists.buffers
   pub total : total_of lists.buffers ≤ b.size
-  pub nodes : length fs ≤ length lists.nodes
-  pub buffers : 2 * length fs ≤ length lists.buffers
-  pub has : HasColumns (entries_of lists b order extra []) fs (length fs)
-  pub are : AreColumns (entries_of lists b order extra []) fs ys
+  pub nodes : fields_nodes (fields_view fs) ≤ length lists.nodes
+  pub buffers : fields_buffers extra (fields_view fs) ≤ length lists.buffers
+  pub has : HasColumns (entries_of lists b order extra []) (kinds_of (fields_view fs) is) (length fs)
+  pub are : AreColumns (entries_of lists b order extra []) (fields_view fs) (kinds_of (fields_view fs) is) ys
   pub count : length ys ≡ length fs
 
 fetched_meaning :
     (fs : List Field) (is : IdTrees) (order : Endianness) (lists : Lists) (b : Body) (t : Spot) (extra : ℕ) (known : Dictionaries) (ys : List AnyArray)
-    → Fetched fs order extra lists b t ys → AreEqualRows any_rows ys
+    → Fetched fs is order extra lists b t ys → AreEqualRows any_rows ys
     → record_meaning (record { fields = fields_view fs; metadata = []; ids = is; order = order }) extra known b t None None ≡ Some (chunk_seen ys)
 fetched_meaning fs is order lists b t extra known ys f equal =
-    meant fs is [] order lists b t extra known ys f.listed f.whole f.sizes f.total f.nodes f.buffers f.has f.are f.count equal
+    meant fs is [] order lists b t extra known ys f.listed f.carried.carried.fields f.sizes f.total f.nodes f.buffers f.has f.are f.count equal
 
 fetched_carried :
-    (fs : List Field) (is : IdTrees) (order : Endianness) (extra : ℕ) (lists : Lists) (b : Body) (t : Spot) (ys : List AnyArray) → Fetched fs order extra lists b t ys
+    (fs : List Field) (is : IdTrees) (order : Endianness) (extra : ℕ) (lists : Lists) (b : Body) (t : Spot) (ys : List AnyArray) → Fetched fs is order extra lists b t ys
     → IsCarriedLists (record { fields = fields_view fs; metadata = []; ids = is; order = order }) (lists_of t)
 fetched_carried fs is order extra lists b t ys f =
-    subst (λ (o : Option Lists). IsCarriedLists (record { fields = fields_view fs; metadata = []; ids = is; order = order }) o) (sym f.listed)
-    (carried_batch fs is [] lists b order extra f.little f.whole f.nodes f.has)
+    subst (λ (o : Option Lists). IsCarriedLists (record { fields = fields_view fs; metadata = []; ids = is; order = order }) o) (sym f.listed) f.carried
 
 pub gives_batch :
     {A B : Type 0} (fs : List Field) (is : IdTrees) (order : Endianness) (lists : Lists) (b : Body) (t : Spot) (extra : ℕ)
     (projection : Option A) (limit : Option B) (ys : List AnyArray) (r : Result (List AnyArray) Fault)
-    → IsNone projection → IsNone limit → Fetched fs order extra lists b t ys → (IsOk r ↔ AreEqualRows any_rows ys) → IfOk r (λ xs. xs ≡ ys)
+    → IsNone projection → IsNone limit → Fetched fs is order extra lists b t ys → (IsOk r ↔ AreEqualRows any_rows ys) → IfOk r (λ xs. xs ≡ ys)
     → GivesBatch (record { fields = fields_view fs; metadata = []; ids = is; order = order }) extra b t projection limit r
 gives_batch fs is order lists b t extra projection limit ys (Ok xs) all some f ok told = record {
   each = λ known.
@@ -437,8 +366,8 @@ gives_batch fs is order lists b t extra projection limit ys (Ok xs) all some f o
 }
 gives_batch fs is order lists b t extra projection limit ys (Err e) all some f ok told = record {
   each = λ known. own_any e _ (λ h.
-      let j = judged fs is [] order lists b t extra known f.listed h.2 in
-      let no : false ≡ true = ok.1 (equal_columns fs (entries_of lists b order extra []) ys j.2.0 f.are f.count j.2.1.rows) in
+      let j = (judged fs is [] order lists b t extra known f.listed h.2).1 in
+      let no : false ≡ true = ok.1 (equal_columns (fields_view fs) (entries_of lists b order extra []) (kinds_of (fields_view fs) is) ys (length fs) j.0 f.are f.count j.1.rows) in
       absurd cc);
 }
 
@@ -451,18 +380,6 @@ refused e P schema extra b t projection limit denied f = record {
   each = λ known. denies_through e P (IsNone projection × IsNone limit × HasMeaning schema extra known b t) (λ h. f known h.2) denied;
 }
 
-order_true : (b : Bool) → order_of b ≡ Little → IsTrue b
-order_true true e = refl
-order_true false e = absurd cc
-
--- a batch with a meaning that is carried has the lowest byte first
-pub little_first :
-    (fs : List Field) (is : IdTrees) (little : Bool) (b : Body) (t : Spot) (extra : ℕ) (known : Dictionaries)
-    → HasMeaning (record { fields = fields_view fs; metadata = []; ids = is; order = order_of little }) extra known b t → IsTrue little
-little_first fs is little b t extra known h =
-    let lists = some_of (lists_of t) (listed_of (record { fields = fields_view fs; metadata = []; ids = is; order = order_of little }) extra known b t h) in
-    order_true little (judged fs is [] (order_of little) lists.0 b t extra known lists.1 h).0
-
 pub none_some : {A : Type 0} (o : Option A) → IsNone o → is_some o ≡ true → ⊥
 none_some (Some x) h e = absurd cc
 none_some None h e = absurd cc
@@ -471,12 +388,12 @@ none_some None h e = absurd cc
 pub judged_lists :
     (fs : List Field) (is : IdTrees) (order : Endianness) (lists : Lists) (b : Body) (t : Spot) (extra : ℕ) (known : Dictionaries)
     → lists_of t ≡ Some lists → HasMeaning (record { fields = fields_view fs; metadata = []; ids = is; order = order }) extra known b t
-    → (k : ℕ) × Judged fs lists b order extra k
-judged_lists fs is order lists b t extra known listed h = (judged fs is [] order lists b t extra known listed h).2
+    → (k : ℕ) × Judged fs is lists b order extra k
+judged_lists fs is order lists b t extra known listed h = (judged fs is [] order lists b t extra known listed h).1
 
--- so are its fields
-pub judged_fields :
+-- they are carried
+pub judged_carried :
     (fs : List Field) (is : IdTrees) (order : Endianness) (lists : Lists) (b : Body) (t : Spot) (extra : ℕ) (known : Dictionaries)
     → lists_of t ≡ Some lists → HasMeaning (record { fields = fields_view fs; metadata = []; ids = is; order = order }) extra known b t
-    → AreWhole fs
-judged_fields fs is order lists b t extra known listed h = each_whole fs (judged fs is [] order lists b t extra known listed h).1
+    → IsCarriedBatch (record { fields = fields_view fs; metadata = []; ids = is; order = order }) lists.nodes
+judged_carried fs is order lists b t extra known listed h = (judged fs is [] order lists b t extra known listed h).0

@@ -1,17 +1,13 @@
 -- The faults of a part are faults of the whole.
-use Rattle.std.proofs.Common.{◌≡◌, None, IsTrue, sym, subst}
-use Rattle.lower.specs.TypeTrees.{TypeTree}
+use Rattle.std.proofs.Common.{◌≡◌, sym, subst}
 use Rattle.ipc_devices.specs.Faults.{OwnFault}
 use Rattle.ipc_devices.specs.declared.fault.Fault.{Fault}
 use Rattle.ipc_devices.specs.declared.fault.Fault.TheVariants.{Ended, OutOfSpec, NotYetImplemented, Schema, Argument, State, TooManyDictionaries, Io, Memory, Lower}
 use Rattle.ipc_devices.specs.declared.fault.OutOfSpecKind.TheVariants.{NegativeFooterLength, InvalidBuffer}
-use Rattle.ipc_base.specs.IdTrees.{no_ids}
-use Rattle.ipc_model.specs.Carried.{is_whole_type}
-use Rattle.ipc_model.specs.Kinds.{Kind}
-use Rattle.ipc_model.specs.TypeKinds.{kind_of}
+use Rattle.lower_types.specs.declared.PrimitiveType.{PrimitiveType}
+use Rattle.ipc_model.specs.Kinds.{Kind, number_kind}
 use Rattle.ipc_columns.specs.Refusals.{IsBufferFault, IsFaultOf}
 use Rattle.ipc_read.specs.Refusals.{IsBatchFault}
-use Rattle.ipc_read.proofs.Fields.{whole_type}
 
 -- a claim of a fault by which another one holds
 claims_through : (e : Fault) (P Q : Type 0) → (P → Q) → OwnFault e P → OwnFault e Q
@@ -43,8 +39,7 @@ buffer_in_batch (Io e) h = absurd h
 buffer_in_batch Memory h = absurd h
 buffer_in_batch (Lower e) h = absurd h
 
--- of a column of whole numbers
-pub whole_fault : (t : TypeTree) (e : Fault) → IsTrue (is_whole_type t) → OwnFault e (IsFaultOf (kind_of t None no_ids) e) → OwnFault e (IsBatchFault e)
-whole_fault t e w h =
-    let one = whole_type t None no_ids w in
-    claims_through e (IsBufferFault e) (IsBatchFault e) (buffer_in_batch e) (subst (λ (k : Kind). OwnFault e (IsFaultOf k e)) one.1 h)
+-- of a column of numbers
+pub number_fault : (t : Kind) (f : PrimitiveType) (e : Fault) → t ≡ number_kind f → OwnFault e (IsFaultOf t e) → OwnFault e (IsBatchFault e)
+number_fault t f e same h =
+    claims_through e (IsBufferFault e) (IsBatchFault e) (buffer_in_batch e) (subst (λ (k : Kind). OwnFault e (IsFaultOf k e)) same h)

@@ -1,16 +1,20 @@
--- The columns of a batch, one behind the other: each has one node and two buffers.
-use Rattle.std.specs.Prelude.{ℕ, ◌*◌, ◌<◌, List, length, slice_index_or}
-use Rattle.lower.specs.TypeViews.{type_view}
-use Rattle.lower.specs.declared.datatypes.Field.{Field}
+-- The columns of a batch, each at its place: behind those before it.
+-- (Arrow columnar format, "RecordBatch message".)
+use Rattle.std.specs.Prelude.{ℕ, ◌<◌, List, length, slice_index_or, None}
+use Rattle.lower.specs.TypeTrees.{FieldTrees}
+use Rattle.lower_arrays.specs.AnyLayouts.{layout_of}
 use Rattle.lower_arrays.specs.declared.array.AnyArray.{AnyArray}
+use Rattle.ipc_model.specs.Batches.{kind_at, type_at, nodes_before, buffers_before}
+use Rattle.ipc_model.specs.Columns.{IsWell}
 use Rattle.ipc_model.specs.Entries.{Entries}
-use Rattle.ipc_read.specs.Carried.{HasColumn, IsColumn}
+use Rattle.ipc_model.specs.Kinds.{Kinds}
+use Rattle.ipc_columns.specs.ReadColumns.{IsColumn}
 
--- the columns of the first n fields are there, and are read
-pub record HasColumns (s : Entries) (fs : List Field) (n : ℕ) : Type 0 where
-  pub each : (k : ℕ) (d : Field) → k < n → HasColumn s (type_view (slice_index_or fs k d).data_type) k (2 * k)
+-- the first n columns are well formed
+pub record HasColumns (s : Entries) (ts : Kinds) (n : ℕ) : Type 0 where
+  pub each : (k : ℕ) → k < n → IsWell s (kind_at ts k) (nodes_before ts k) (buffers_before s.extra ts k) None
 
--- what was read are the columns of the first fields
-pub record AreColumns (s : Entries) (fs : List Field) (xs : List AnyArray) : Type 0 where
-  pub each : (k : ℕ) (d : Field) (x : AnyArray) → k < length xs
-      → IsColumn s (type_view (slice_index_or fs k d).data_type) k (2 * k) (slice_index_or xs k x)
+-- what was read are the first columns
+pub record AreColumns (s : Entries) (fs : FieldTrees) (ts : Kinds) (xs : List AnyArray) : Type 0 where
+  pub each : (k : ℕ) (x : AnyArray) → k < length xs
+      → IsColumn s (kind_at ts k) (type_at fs k) (nodes_before ts k) (buffers_before s.extra ts k) None (layout_of (slice_index_or xs k x))

@@ -1,4 +1,3 @@
-pub mod Carried
 pub mod Sizes
 pub mod Columns
 pub mod Chunks

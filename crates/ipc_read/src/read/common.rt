@@ -1,13 +1,16 @@
 //! Reads batches.
-ghost use Rattle.std.specs.Prelude.{◌≡◌, ◌+◌, ◌*◌, ◌<◌, ◌≤◌, ◌↔◌, All, length, IfOk, IfErr, IsSome, Some, IsTrue, MatchBool};
+ghost use Rattle.std.specs.Prelude.{◌≡◌, ◌≤◌, ◌↔◌, All, length, take, IfOk, IfErr, IsSome, Some, IsTrue};
 ghost use Rattle.ipc_devices.specs.Device.{Rises};
 ghost use Rattle.ipc_devices.specs.Faults.{OnIo, OwnFault, Answers};
-ghost use Rattle.lower.specs.TypeViews.{type_view};
+ghost use Rattle.lower.specs.Counts.{fields_nodes, fields_buffers};
+ghost use Rattle.lower.specs.TypeViews.{type_view, fields_view};
+ghost use Rattle.ipc_base.specs.IdTrees.{all_ids_view};
 ghost use Rattle.ipc_model.specs.Batches.{extra_of, lists_of};
-ghost use Rattle.ipc_model.specs.Carried.{is_whole_type};
+ghost use Rattle.ipc_model.specs.Carried.{is_whole_type, are_whole, IsCarriedBatch};
 ghost use Rattle.ipc_model.specs.Entries.{size};
-ghost use Rattle.ipc_columns.specs.Bodies.{Stands, entries};
-ghost use Rattle.ipc_read.specs.Carried.{HasColumn, IsColumn};
+ghost use Rattle.ipc_model.specs.Kinds.{all_nodes, all_buffers};
+ghost use Rattle.ipc_model.specs.TypeKinds.{kinds_of};
+ghost use Rattle.ipc_columns.specs.Bodies.{Stands, HasRoom, entries};
 ghost use Rattle.ipc_read.specs.Chunks.{GivesBatch, batch_schema, order_of};
 ghost use Rattle.ipc_read.specs.Columns.{AreColumns, HasColumns};
 ghost use Rattle.ipc_read.specs.Refusals.{IsBatchFault};
@@ -18,11 +21,12 @@ use ipc_base::chunk::Chunk;
 use ipc_base::ipc::IpcSchema;
 use ipc_columns::read::body::{Body, Place};
 use ipc_columns::read::deserialize::read;
+use ipc_columns::read::ids::{child_of, others_of};
 use ipc_columns::read::read_basic::natural;
 use ipc_devices::fault::{Fault, Nyi, OutOfSpecKind};
 use ipc_devices::{Reads, Seeks};
 use ipc_views::{Buffers, MetadataVersion, Nodes, RecordBatchRef};
-use lower::datatypes::{DataType, Field};
+use lower::datatypes::{DataType, Field, count_all_buffers, count_all_nodes};
 use lower::types::Endianness;
 use lower_arrays::array::AnyArray;
 use std::alloc::Global;
@@ -46,10 +50,33 @@ fn is_integer(data_type: &DataType) -> bool
 }
 
 // Whether all columns are read.
+#[tactic(auto, using(crate::proofs::Fields::carried_fields))]
 fn are_integers(fields: &[Field]) -> bool
-    ensures { IsTrue result ↔ All (λ field. IsTrue (is_whole_type (type_view field.data_type))) fields.now }
+    ensures { IsTrue result ↔ IsTrue (are_whole (fields_view fields.now)) }
 {
     fields.iter().all(|field| is_integer(&field.data_type))
+}
+
+// Whether none of the first nodes tells of nulls.
+#[tactic(auto, using(crate::proofs::NodeLists::null_lists))]
+fn have_no_nulls(nodes: &Nodes, count: usize) -> bool
+    ensures { IsTrue result ↔ All (λ node. size node.null_count ≡ 0) (take count nodes.now) }
+{
+    for index in 0..count.min(nodes.len()) {
+        if nodes.get(index).null_count > 0 {
+            return false;
+        }
+    }
+    true
+}
+
+// Whether this version carries the batch: its columns are of integers, whose lowest byte stands first, and have no
+// nulls. Such a column has one node.
+#[tactic(auto, using(crate::proofs::NodeLists::carried_batches))]
+fn is_carried(fields: &[Field], ipc_schema: &IpcSchema, nodes: &Nodes) -> bool
+    ensures { IsTrue result ↔ IsCarriedBatch (batch_schema fields.now ipc_schema.now) nodes.now }
+{
+    ipc_schema.is_little_endian && are_integers(fields) && have_no_nulls(nodes, fields.len())
 }
 
 // The entries of a batch, which isn't compressed.
@@ -106,19 +133,21 @@ fn check_lengths(buffers: &Buffers, file_size: u64) -> Result<(), Fault>
     Ok(())
 }
 
-// Refuses fewer entries than the columns need.
-fn check_counts(nodes: usize, buffers: usize, columns: usize) -> Result<(), Fault>
+// Refuses fewer entries than the columns of the fields need.
+fn check_counts(nodes: usize, buffers: usize, fields: &[Field], extra: usize) -> Result<(), Fault>
+    requires { extra ≤ 1 }
     ensures own { OnIo result ⊥ }
     ensures only { IfErr result (λ e. OwnFault e (IsBatchFault e)) }
-    ensures exact { Answers result ((columns ≤ nodes) × (2 * columns ≤ buffers)) (λ _. Unit {0}) }
+    ensures exact { let fs = fields_view fields.now in Answers result ((fields_nodes fs ≤ nodes) × (fields_buffers extra fs ≤ buffers)) (λ _. Unit {0}) }
 {
-    if nodes < columns {
-        return Err(OutOfSpecKind::MissingMessageNodes.into());
+    match count_all_nodes(fields) {
+        Some(needed) if needed <= nodes as u64 => {}
+        _ => return Err(OutOfSpecKind::MissingMessageNodes.into()),
     }
-    if buffers / 2 < columns {
-        return Err(OutOfSpecKind::ExpectedBuffer.into());
+    match count_all_buffers(fields, extra as u64) {
+        Some(needed) if needed <= buffers as u64 => Ok(()),
+        _ => Err(OutOfSpecKind::ExpectedBuffer.into()),
     }
-    Ok(())
 }
 
 // The order of the bytes of a number.
@@ -143,78 +172,45 @@ fn count_extra(version: MetadataVersion) -> usize
     }
 }
 
-// Whether a node tells of nulls.
-fn has_nulls(null_count: i64) -> bool
-    ensures { MatchBool result (0 < size null_count) (size null_count ≡ 0) }
-{
-    null_count > 0
-}
-
-// The column of a field of integers, which is the one at `index`: each before it has one node and two buffers.
-#[tactic(auto, using(crate::proofs::WholeColumns::one_column))]
-fn read_column<R: Reads + Seeks>(
-    alloc: Global,
-    field: &Field,
-    reader: &mut R,
-    body: &Body<R>,
-    index: usize,
-) -> Result<AnyArray, Fault>
-    requires whole { IsTrue (is_whole_type (type_view field.now.data_type)) }
-    requires node { index < length body.now.nodes }
-    requires buffers { 2 * index + 1 < length body.now.buffers }
-    requires stands { Stands R.still R.memory reader.old body.now }
-    ensures only { IfErr result (λ e. OwnFault e (IsBatchFault e)) }
-    ensures monotone { R.failures reader.old ≤ R.failures reader.new }
-    ensures failed { OnIo result (Rises (R.failures reader.old) (R.failures reader.new)) }
-    ensures stands { Stands R.still R.memory reader.new body.now }
-    ensures memory { IsTrue R.known → let s = entries R.memory body.now in let t = type_view field.now.data_type in
-        Answers result (HasColumn s t index (2 * index)) (IsColumn s t index (2 * index)) }
-{
-    let node = body.nodes.get(index);
-    if has_nulls(node.null_count) {
-        return Err(Fault::NotYetImplemented(Nyi::Pending));
-    }
-    let place = Place {
-        node: index,
-        buffer: 2 * index,
-    };
-    let (column, _) = read(
-        alloc,
-        &field.data_type,
-        None,
-        &[],
-        reader,
-        body,
-        place,
-        None,
-    )?;
-    Ok(column)
-}
-
-// The columns of fields of integers.
-#[tactic(auto, using(crate::proofs::ColumnLists::column_lists, crate::proofs::WholeColumns::whole_at))]
+// The columns of fields of integers, one behind the other.
+#[tactic(auto, using(crate::proofs::ColumnLists::column_lists))]
 fn read_columns<R: Reads + Seeks>(
     alloc: Global,
     fields: &[Field],
+    ipc_schema: &IpcSchema,
     reader: &mut R,
     body: &Body<R>,
 ) -> Result<Vec<AnyArray>, Fault>
-    requires whole { All (λ field. IsTrue (is_whole_type (type_view field.data_type))) fields.now }
-    requires nodes { length fields.now ≤ length body.now.nodes }
-    requires buffers { 2 * length fields.now ≤ length body.now.buffers }
+    requires whole { IsTrue (are_whole (fields_view fields.now)) }
+    requires room { let ts = kinds_of (fields_view fields.now) (all_ids_view ipc_schema.now.fields.items) in
+        HasRoom body.now (record { node = 0; buffer = 0 }) (all_nodes ts) (all_buffers body.now.extra ts) }
     requires stands { Stands R.still R.memory reader.old body.now }
     ensures only { IfErr result (λ e. OwnFault e (IsBatchFault e)) }
     ensures monotone { R.failures reader.old ≤ R.failures reader.new }
     ensures failed { OnIo result (Rises (R.failures reader.old) (R.failures reader.new)) }
     ensures stands { Stands R.still R.memory reader.new body.now }
     ensures count { IfOk result (λ v. length v.items ≡ length fields.now) }
-    ensures memory { IsTrue R.known → let s = entries R.memory body.now in
-        Answers result (HasColumns s fields.now (length fields.now)) (λ v. AreColumns s fields.now v.items) }
+    ensures memory { IsTrue R.known → let s = entries R.memory body.now in let ts = kinds_of (fields_view fields.now) (all_ids_view ipc_schema.now.fields.items) in
+        Answers result (HasColumns s ts (length fields.now)) (λ v. AreColumns s (fields_view fields.now) ts v.items) }
 {
     let mut columns = Vec::new(alloc);
-    for (index, field) in fields.iter().enumerate() {
-        let column = read_column(alloc, field, reader, body, index)?;
+    let mut place = Place { node: 0, buffer: 0 };
+    let mut left = ipc_schema.fields.as_slice();
+    for field in fields {
+        let (id, child_ids) = child_of(field, left);
+        let (column, next) = read(
+            alloc,
+            &field.data_type,
+            id,
+            child_ids,
+            reader,
+            body,
+            place,
+            None,
+        )?;
         columns.push(column)?;
+        place = next;
+        left = others_of(left);
     }
     Ok(columns)
 }
@@ -254,23 +250,24 @@ pub fn read_record_batch<R: Reads + Seeks>(
         projection.entry limit result }
     ensures whole { IsTrue R.still → (R.memory reader.new).whole ≡ (R.memory reader.old).whole }
 {
-    if projection.is_some() || limit.is_some() || !ipc_schema.is_little_endian {
+    if projection.is_some() || limit.is_some() {
         return Err(Fault::NotYetImplemented(Nyi::Pending));
     }
     let (nodes, buffers) = entries_of(&batch)?;
     check_lengths(&buffers, file_size)?;
-    if !are_integers(fields) {
+    if !is_carried(fields, ipc_schema, &nodes) {
         return Err(Fault::NotYetImplemented(Nyi::Pending));
     }
-    check_counts(nodes.len(), buffers.len(), fields.len())?;
+    let extra = count_extra(version);
+    check_counts(nodes.len(), buffers.len(), fields, extra)?;
     let body = Body {
         nodes,
         buffers,
         base: block_offset,
         order: byte_order(ipc_schema.is_little_endian),
-        extra: count_extra(version),
+        extra,
         device: Snapshot::of(&*reader),
     };
-    let columns = read_columns(alloc, fields, reader, &body)?;
+    let columns = read_columns(alloc, fields, ipc_schema, reader, &body)?;
     Chunk::try_new(columns)
 }
