@@ -395,3 +395,34 @@ impl<T: Drop> From<AllocFailed<T>> for Fault {
         Fault::Memory
     }
 }
+
+impl PartialEq for Fault {
+    ghost use Rattle.ipc_devices.specs.FaultEq.{same_fault, same_fault_per};
+
+    ghost eq = { same_fault };
+
+    ghost laws = { same_fault_per };
+
+    /// Whether both are of one case with the same part. Errors of devices are compared by their kinds.
+    fn eq(&self, other: &Fault) -> bool {
+        match (self, other) {
+            (Fault::OutOfSpec(one), Fault::OutOfSpec(two)) => one == two,
+            (Fault::Ended, Fault::Ended) => true,
+            (Fault::NotYetImplemented(one), Fault::NotYetImplemented(two)) => one == two,
+            (Fault::Schema(one), Fault::Schema(two)) => one == two,
+            (Fault::Argument(one), Fault::Argument(two)) => one == two,
+            (Fault::State(one), Fault::State(two)) => one == two,
+            (Fault::TooManyDictionaries, Fault::TooManyDictionaries) => true,
+            (Fault::Io(one), Fault::Io(two)) => one.kind() == two.kind(),
+            (Fault::Memory, Fault::Memory) => true,
+            (Fault::Lower(one), Fault::Lower(two)) => one == two,
+            _ => false,
+        }
+    }
+}
+
+impl Eq for Fault {
+    ghost use Rattle.ipc_devices.specs.FaultEq.{same_fault_equiv};
+
+    ghost laws = { same_fault_equiv };
+}
