@@ -1,6 +1,6 @@
 -- What is read of a whole stream is what its bytes mean.
-use Rattle.std.proofs.Common.{arith, ◌≡◌, ◌-◌, ℕ, length, append-nil, take_all, subst, List, [], ◌++◌, Option, None, Some, Result, Ok, Err, Bool, true, false, refl, sym, ap, ◌∙◌}
-use Rattle.std.specs.Prelude.{option_map, Vec}
+use Rattle.std.proofs.Common.{arith, inl, inr, ◌≡◌, ◌-◌, ℕ, length, append-nil, take_all, subst, List, [], ◌++◌, Option, None, Some, Result, Ok, Err, Bool, true, false, refl, sym, ap, ◌∙◌}
+use Rattle.std.specs.Prelude.{◌⊎◌, option_map, Vec, vec_capacity, vec_len}
 use Rattle.std.specs.declared.alloc.Global.{Global}
 use Rattle.std.specs.Result.{result_ok}
 use Rattle.lower.specs.TypeViews.{schema_view}
@@ -11,7 +11,9 @@ use Rattle.ipc_devices.specs.declared.memory.MemFile.{MemFile}
 use Rattle.ipc_devices.specs.Faults.{OwnFault}
 use Rattle.ipc_devices.specs.declared.fault.Fault.{Fault}
 use Rattle.ipc_devices.specs.declared.fault.Fault.TheVariants as faults
+use Rattle.ipc_devices.specs.declared.fault.StateFault.TheVariants.{NotStarted, Failed as StateFailed}
 use Rattle.ipc_devices.specs.declared.fault.TableFault.{TableFault}
+use Rattle.lower.specs.TypeTrees.{FieldTrees, Pairs}
 use Rattle.ipc_views.specs.MessageSlots.{message_version}
 use Rattle.ipc_views.specs.Spot.{Spot}
 use Rattle.ipc_views.specs.Tables.{root_at}
@@ -31,9 +33,14 @@ use Rattle.ipc_readers.specs.declared.read.stream.metadata.StreamMetadata.{Strea
 use Rattle.ipc_readers.specs.declared.read.stream.reader.StreamReader.{StreamReader}
 use Rattle.ipc_round_trip.specs.Reading.{EndsAs, IsReadable, RefusesAhead, meant_ahead}
 use Rattle.ipc_write.specs.Agreement.{Agrees, IsClosed, Remains, StreamIs}
+use Rattle.ipc_model.specs.WriterStates.{IsRun}
+use Rattle.ipc_write.specs.Calls.{AreMade, ended_as, state_seen}
 use Rattle.ipc_write.specs.Writers.{WriterSeen}
-use Rattle.ipc_write.specs.declared.stream.WriterState.TheVariants.{Finished}
-use Rattle.ipc_round_trip.specs.RoundTrip.{EndsStream, FinishedLaw, OpenLaw, ReadableLaw, RefusesRoundTrip, vector}
+use Rattle.ipc_write.specs.declared.calls.StreamCall.{StreamCall}
+use Rattle.ipc_write.specs.declared.stream.WriterState.{WriterState}
+use Rattle.ipc_write.specs.declared.stream.WriterState.TheVariants.{Failed, Finished, New, Started}
+use Rattle.ipc_write.proofs.CallLists.{made_run}
+use Rattle.ipc_round_trip.specs.RoundTrip.{EndsStream, FinishedLaw, OpenLaw, ReadableLaw, RefusesEnd, RefusesRoundTrip, RunsOverMemory, RunsToStream, vector}
 use Rattle.ipc_round_trip.specs.declared.read.WholeStream.{WholeStream}
 
 -- a stream that is there
@@ -226,13 +233,43 @@ ends_stream a b v remains over same = record {
         let all : v.items ≡ h.bytes = sym (vector_before v) ∙ ap (λ w. before (vector w)) same ∙ h.held in
         subst (λ xs. IsClosed xs head chunks) (sym all) stream
 
+-- ---- what the calls leave
+
+pub runs_over_memory : (a b : WriterSeen (Vec ℕ Global)) (fs : FieldTrees) (es : Pairs) (calls : List StreamCall) (answers : List (Result (Unit {0}) Fault)) (state : WriterState) → a.state ≡ New → a.device.items ≡ []
+    → AreMade true true (λ v. 0) (λ v. vec_capacity v - vec_len v) vector fs es a calls answers b → b.state ≡ state → RunsOverMemory fs es calls answers state
+runs_over_memory a b fs es calls answers state new empty made left = record {
+  first = a;
+  last = b;
+  new = new;
+  empty = empty;
+  made = made;
+  left = left;
+  run =
+      subst (λ s. IsRun (state_seen s) (ended_as calls answers) (state_seen state)) new
+      (subst (λ s. IsRun (state_seen a.state) (ended_as calls answers) (state_seen s)) left
+      (made_run true true (λ v. 0) (λ v. vec_capacity v - vec_len v) vector fs es a b calls answers made));
+}
+
+-- a writer that was ended, or refused to be
+pub runs_to_stream : (a b : WriterSeen (Vec ℕ Global)) (fs : FieldTrees) (es : Pairs) (calls : List StreamCall) (answers : List (Result (Unit {0}) Fault)) → a.state ≡ New → a.device.items ≡ []
+    → AreMade true true (λ v. 0) (λ v. vec_capacity v - vec_len v) vector fs es a calls answers b → (b.state ≡ Started) ⊎ (b.state ≡ Finished) → RunsToStream fs es calls answers
+runs_to_stream a b fs es calls answers new empty made (inl left) = inl (runs_over_memory a b fs es calls answers Started new empty made left)
+runs_to_stream a b fs es calls answers new empty made (inr left) = inr (runs_over_memory a b fs es calls answers Finished new empty made left)
+
+pub refused_end : (a b : WriterSeen (Vec ℕ Global)) (fs : FieldTrees) (es : Pairs) (calls : List StreamCall) (answers : List (Result (Unit {0}) Fault)) (e : Fault) → a.state ≡ New → a.device.items ≡ []
+    → AreMade true true (λ v. 0) (λ v. vec_capacity v - vec_len v) vector fs es a calls answers b → RefusesEnd b.state e → RefusesRoundTrip fs es calls e
+refused_end a b fs es calls answers (faults.State NotStarted) new empty made h = record { answers = answers; runs = runs_over_memory a b fs es calls answers New new empty made h }
+refused_end a b fs es calls answers (faults.State StateFailed) new empty made h = record { answers = answers; runs = runs_over_memory a b fs es calls answers Failed new empty made h }
+refused_end a b fs es calls answers (faults.Io x) new empty made h = tt
+refused_end a b fs es calls answers _ new empty made h = absurd h
+
 -- ---- what is never refused
 
-no_own_fault : (e : Fault) → OwnFault e ⊥ → RefusesRoundTrip e
-no_own_fault faults.Memory h = tt
-no_own_fault (faults.Io x) h = tt
-no_own_fault _ h = absurd h
+no_own_fault : (fs : FieldTrees) (es : Pairs) (calls : List StreamCall) (e : Fault) → OwnFault e ⊥ → RefusesRoundTrip fs es calls e
+no_own_fault fs es calls faults.Memory h = tt
+no_own_fault fs es calls (faults.Io x) h = tt
+no_own_fault fs es calls _ h = absurd h
 
 -- a stream that can be read is refused for want of memory, and for nothing else
-pub never_refused : (bytes : List ℕ) (e : Fault) → IsReadable bytes → OwnFault e (¬ (IsReadable bytes)) → RefusesRoundTrip e
-never_refused bytes e readable h = no_own_fault e (claims_through e _ _ (λ no. no readable) h)
+pub never_refused : (fs : FieldTrees) (es : Pairs) (calls : List StreamCall) (bytes : List ℕ) (e : Fault) → IsReadable bytes → OwnFault e (¬ (IsReadable bytes)) → RefusesRoundTrip fs es calls e
+never_refused fs es calls bytes e readable h = no_own_fault fs es calls e (claims_through e _ _ (λ no. no readable) h)

@@ -1,17 +1,23 @@
 -- What a writer of streams wrote is what a reader of streams reads.
 -- (Arrow columnar format, "IPC Streaming Format".)
-use Rattle.std.specs.Prelude.{◌≡◌, ℕ, List, [], Bool, true, false, Vec, vec_len}
+use Rattle.std.specs.Prelude.{◌≡◌, ℕ, ◌-◌, ◌⊎◌, List, [], Bool, true, false, Result, Vec, vec_capacity, vec_len}
 use Rattle.std.specs.declared.alloc.Global.{Global}
 use Rattle.ipc_devices.specs.Device as devices
 use Rattle.ipc_devices.specs.declared.fault.Fault.{Fault}
 use Rattle.ipc_devices.specs.declared.fault.Fault.TheVariants.{Io, Memory, State}
 use Rattle.ipc_devices.specs.declared.fault.StateFault.TheVariants.{Failed, NotStarted}
+use Rattle.lower.specs.TypeTrees.{FieldTrees, Pairs}
 use Rattle.ipc_model.specs.Batches.{Chunk}
 use Rattle.ipc_model.specs.Streams.{Head, nothing_known}
+use Rattle.ipc_model.specs.WriterStates.{IsRun, new_writer}
 use Rattle.ipc_model.specs.Writers.{IsFinished, IsStarted}
 use Rattle.ipc_readers.specs.Streams.{head_of}
 use Rattle.ipc_write.specs.Agreement.{Agrees, IsClosed}
+use Rattle.ipc_write.specs.Calls.{AreMade, ended_as, state_seen}
 use Rattle.ipc_write.specs.Writers.{WriterSeen}
+use Rattle.ipc_write.specs.declared.calls.StreamCall.{StreamCall}
+use Rattle.ipc_write.specs.declared.stream.WriterState.{WriterState}
+use Rattle.ipc_write.specs.declared.stream.WriterState.TheVariants as writer
 use Rattle.ipc_round_trip.specs.Reading.{IsReadable, IsWhole, chunks_seen}
 use Rattle.ipc_round_trip.specs.declared.read.WholeStream.{WholeStream}
 
@@ -46,11 +52,39 @@ vector v = record { whole = v.items; place = vec_len v }
 pub record EndsStream (w : WriterSeen (Vec ℕ Global)) (bytes : List ℕ) : Type 0 where
   pub stream : (head : Head) (chunks : List Chunk) → Agrees vector w [] head chunks → IsClosed bytes head chunks
 
--- why a round trip is refused: memory, of which a device that is memory tells by its own fault, or a writer that
--- wasn't started or has failed. What was written is never refused where it is read.
-abbrev pub RefusesRoundTrip : Fault → Type 0
-RefusesRoundTrip Memory = Unit {0}
-RefusesRoundTrip (Io e) = Unit {0}
-RefusesRoundTrip (State NotStarted) = Unit {0}
-RefusesRoundTrip (State Failed) = Unit {0}
-RefusesRoundTrip _ = ⊥
+-- ---- the calls
+
+-- Calls of a writer over an empty memory, each of the writer that the one before it left, with these answers: they leave it in this state.
+pub record RunsOverMemory (fields : FieldTrees) (metadata : Pairs) (calls : List StreamCall) (answers : List (Result Unit Fault)) (state : WriterState) : Type 0 where
+  pub first : WriterSeen (Vec ℕ Global)
+  pub last : WriterSeen (Vec ℕ Global)
+  pub new : first.state ≡ writer.New
+  pub empty : first.device.items ≡ []
+  pub made : AreMade true true (λ v. 0) (λ v. vec_capacity v - vec_len v) vector fields metadata first calls answers last
+  pub left : last.state ≡ state
+  pub run : IsRun new_writer (ended_as calls answers) (state_seen state)
+
+-- They leave a stream that is ended, or can be.
+abbrev pub RunsToStream : FieldTrees → Pairs → List StreamCall → List (Result Unit Fault) → Type 0
+RunsToStream fields metadata calls answers = RunsOverMemory fields metadata calls answers writer.Started ⊎ RunsOverMemory fields metadata calls answers writer.Finished
+
+-- with some answers they leave the writer in this state
+pub record MayLeave (fields : FieldTrees) (metadata : Pairs) (calls : List StreamCall) (state : WriterState) : Type 0 where
+  pub answers : List (Result Unit Fault)
+  pub runs : RunsOverMemory fields metadata calls answers state
+
+-- why a stream isn't ended
+abbrev pub RefusesEnd : WriterState → Fault → Type 0
+RefusesEnd s (State NotStarted) = s ≡ writer.New
+RefusesEnd s (State Failed) = s ≡ writer.Failed
+RefusesEnd s (Io e) = Unit {0}
+RefusesEnd s _ = ⊥
+
+-- Why a round trip is refused: memory, of which a device that is memory tells by its own fault, or a writer that the calls left
+-- not started or failed. What was written is never refused where it is read.
+abbrev pub RefusesRoundTrip : FieldTrees → Pairs → List StreamCall → Fault → Type 0
+RefusesRoundTrip fs es calls Memory = Unit {0}
+RefusesRoundTrip fs es calls (Io e) = Unit {0}
+RefusesRoundTrip fs es calls (State NotStarted) = MayLeave fs es calls writer.New
+RefusesRoundTrip fs es calls (State Failed) = MayLeave fs es calls writer.Failed
+RefusesRoundTrip fs es calls _ = ⊥

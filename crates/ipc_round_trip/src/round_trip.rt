@@ -1,12 +1,14 @@
 //! What a writer of streams wrote is what a reader of streams reads.
-ghost use Rattle.std.specs.Prelude.{IfErr, IfOk};
+ghost use Rattle.std.specs.Prelude.{◌≡◌, ◌⊎◌, IfErr, IfOk, OnOk};
 ghost use Rattle.lower.specs.TypeViews.{fields_view, pairs_of};
+ghost use Rattle.ipc_model.specs.WriterStates.{answered};
 ghost use Rattle.ipc_model.specs.Writers.{taken};
 ghost use Rattle.ipc_schema_write.specs.DefaultIds.{default_all};
 ghost use Rattle.ipc_schema_write.specs.WriterAnswers.{written_head};
-ghost use Rattle.ipc_write.specs.Calls.{answered};
+ghost use Rattle.ipc_write.specs.Calls.{ended_as};
 ghost use Rattle.ipc_write.specs.Writers.{seen};
-ghost use Rattle.ipc_round_trip.specs.RoundTrip.{ComesBack, EndsStream, FinishedLaw, OpenLaw, ReadableLaw, RefusesRoundTrip};
+ghost use Rattle.ipc_write.specs.declared.stream.WriterState.TheVariants.{Finished, Started};
+ghost use Rattle.ipc_round_trip.specs.RoundTrip.{ComesBack, EndsStream, FinishedLaw, OpenLaw, ReadableLaw, RefusesEnd, RefusesRoundTrip, RunsToStream};
 
 use crate::read::{WholeStream, read_stream};
 use ipc_devices::{Fault, StateFault};
@@ -16,19 +18,20 @@ use ipc_write::stream::StreamWriter;
 use lower::datatypes::Schema;
 use std::alloc::Global;
 
-/// What was read of a stream, and which calls of its writer were Ok.
+/// What was read of a stream, and what the calls of its writer answered.
 #[derive(Drop)]
 pub struct RoundTrip {
     /// All of the stream.
     pub stream: WholeStream,
-    /// For each call whether it was Ok.
-    pub answers: Vec<bool>,
+    /// What each call answered.
+    pub answers: Vec<Result<(), Fault>>,
 }
 
 // The bytes of a stream that is ended, now or by an earlier call.
 fn ended(mut writer: StreamWriter<Vec<u8>>) -> Result<Vec<u8>, Fault>
     ensures ok { IfOk result (λ bytes. EndsStream (seen writer) bytes.items) }
-    ensures only { IfErr result RefusesRoundTrip }
+    ensures state { OnOk result (((seen writer).state ≡ Started) ⊎ ((seen writer).state ≡ Finished)) }
+    ensures only { IfErr result (RefusesEnd (seen writer).state) }
 {
     match writer.finish() {
         Ok(()) | Err(Fault::State(StateFault::Finished)) => Ok(writer.into_inner()),
@@ -40,14 +43,17 @@ fn ended(mut writer: StreamWriter<Vec<u8>>) -> Result<Vec<u8>, Fault>
 /// of them did, and reads it back: it has the schema in its normal form, and exactly the chunks of the
 /// writes that were Ok.
 ///
-/// Faults: `State(NotStarted)` where no `start` was Ok, `State(Failed)` and `Io` where the memory that is
-/// written to was refused its growth, `Memory`. What was written is never refused where it is read.
+/// Faults: `State(NotStarted)` where no `start` was Ok, `State(Failed)` where a call answered `Io`, `Io`
+/// where the end can't be written, both of which come only where the memory that is written to was refused
+/// its growth; `Memory`. What was written is never refused where it is read.
 pub fn round_trip(alloc: Global, schema: &Schema, calls: &[StreamCall]) -> Result<RoundTrip, Fault>
     ensures back { let fields = fields_view schema.now.fields.items in
         IfOk result (λ r. ComesBack r.stream
         (written_head fields (pairs_of schema.now.metadata.entries) (default_all 0 fields))
-        (taken (answered calls.now r.answers.items))) }
-    ensures only { IfErr result RefusesRoundTrip }
+        (taken (answered (ended_as calls.now r.answers.items)))) }
+    ensures run { IfOk result (λ r. RunsToStream (fields_view schema.now.fields.items) (pairs_of schema.now.metadata.entries)
+        calls.now r.answers.items) }
+    ensures only { IfErr result (RefusesRoundTrip (fields_view schema.now.fields.items) (pairs_of schema.now.metadata.entries) calls.now) }
 {
     let mut writer = StreamWriter::new(alloc, Vec::new(alloc), WriteOptions::default());
     let answers = run_calls(alloc, &mut writer, schema, calls)?;

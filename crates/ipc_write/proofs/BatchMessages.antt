@@ -96,7 +96,7 @@ body_ends columns metadata sent is = subst (λ (xs : List ℕ). length xs % 64 �
 
 pub planned : (columns : List AnyArray) (r : Result Plan Fault) → AreArrays (layouts (map layout_of columns)) → IfOk r (λ p. PlansColumns Little (map layout_of columns) p) → AnswersColumns r (levels_of columns)
     → IfOk r (λ p. PlansChunk columns p)
-planned columns (Ok p) arrays plans takes = record { arrays = arrays; plans = plans; short = takes.0; small = takes.2 }
+planned columns (Ok p) arrays plans takes = record { arrays = arrays; plans = plans; short = takes.0; end_is = takes.1; small = takes.2 }
 planned columns (Err e) arrays plans takes = tt
 
 pub refused_plan : (columns : List AnyArray) (r : Result Plan Fault) → AnswersColumns r (levels_of columns) → IfErr r (RefusesChunk columns)

@@ -1,37 +1,117 @@
--- What lists of calls add to a stream.
-use Rattle.std.proofs.Common.{◌≡◌, Bool, true, false, List, [], ◌∷◌, ◌++◌, length, refl, sym, ap, ◌∙◌, subst, append_assoc}
+-- What calls do, one after the other.
+use Rattle.std.proofs.Common.{◌≡◌, ℕ, Bool, true, false, List, [], ◌∷◌, ◌++◌, Result, Ok, Err, refl, sym, ap, ◌∙◌, subst, append_assoc, append-nil}
+use Rattle.std.specs.Prelude.{OnErr}
 use Rattle.ipc_devices.specs.Device.{Memory}
+use Rattle.ipc_devices.specs.declared.fault.Fault.{Fault}
+use Rattle.ipc_devices.specs.declared.fault.Fault.TheVariants.{Io}
+use Rattle.lower.specs.TypeTrees.{FieldTrees, Pairs}
+use Rattle.ipc_model.specs.Batches.{Chunk}
 use Rattle.ipc_model.specs.Streams.{Head}
+use Rattle.ipc_model.specs.WriterStates.{IsRun, MayEnd, answered, state_after}
 use Rattle.ipc_model.specs.Writers.{Call, added_by, taken}
+use Rattle.ipc_schema_write.specs.DefaultIds.{default_all}
+use Rattle.ipc_schema_write.specs.WriterAnswers.{written_head}
 use Rattle.ipc_write.specs.Agreement.{Agrees, Follows}
-use Rattle.ipc_write.specs.Calls.{answered, call_seen}
-use Rattle.ipc_write.specs.Writers.{WriterSeen}
+use Rattle.ipc_write.specs.Calls.{AreMade, IsMade, call_seen, ended_as, outcome, state_seen}
+use Rattle.ipc_write.specs.Writers.{StateComesFirst, WriterSeen, fault_unless_new, fault_unless_started}
 use Rattle.ipc_write.specs.declared.calls.StreamCall.{StreamCall}
+use Rattle.ipc_write.specs.declared.calls.StreamCall.TheVariants.{Start, Write, Finish}
+use Rattle.ipc_write.specs.declared.stream.WriterState.{WriterState}
+use Rattle.ipc_write.specs.declared.stream.WriterState.TheVariants.{New, Started, Finished, Failed}
 
--- ---- more calls
+-- what holds whatever is answered
+pub on_err : {X E : Type 0} (r : Result X E) (P : Type 0) → P → OnErr r P
+on_err (Ok x) P p = tt
+on_err (Err e) P p = p
 
-taken_more : (ps : List (Call × Bool)) (p : Call × Bool) → taken (ps ++ p ∷ []) ≡ taken ps ++ taken (p ∷ [])
-taken_more [] p = refl
-taken_more ((call, true) ∷ ps) p = ap (λ cs. added_by call ++ cs) (taken_more ps p) ∙ sym (append_assoc (added_by call) (taken ps) (taken (p ∷ [])))
-taken_more ((call, false) ∷ ps) p = taken_more ps p
+-- ---- states
 
-answered_more : (calls : List StreamCall) (oks : List Bool) (call : StreamCall) (ok : Bool) → length calls ≡ length oks → answered (calls ++ call ∷ []) (oks ++ ok ∷ []) ≡ answered calls oks ++ (call_seen call, ok) ∷ []
-answered_more [] [] call ok h = refl
-answered_more [] (o ∷ oks) call ok h = absurd cc
-answered_more (c ∷ calls) [] call ok h = absurd cc
-answered_more (c ∷ calls) (o ∷ oks) call ok h = let rest : length calls ≡ length oks = cc in ap (λ ps. (call_seen c, o) ∷ ps) (answered_more calls oks call ok rest)
+-- only a new writer's start reaches the device, and only a started one's chunk or end
+was_new : {W : Type 0} (s : WriterState) (a b : WriterSeen W) (x : _) → StateComesFirst (fault_unless_new s) a (Err (Io x)) b → s ≡ New
+was_new New a b x h = refl
+was_new Started a b x h = let other = h.0 in absurd cc
+was_new Finished a b x h = let other = h.0 in absurd cc
+was_new Failed a b x h = let other = h.0 in absurd cc
 
--- one call more
-pub more_follow : {W : Type 0} (known : Bool) (memory : W → Memory) (a m b : WriterSeen W) (head : Head) (calls next : List StreamCall) (oks : List Bool) (call : StreamCall) (ok : Bool) → length calls ≡ length oks
-    → next ≡ calls ++ call ∷ [] → Follows known memory a m head (taken (answered calls oks)) → Follows known memory m b head (taken (answered (call ∷ []) (ok ∷ [])))
-    → Follows known memory a b head (taken (answered next (oks ++ ok ∷ [])))
-more_follow known memory a m b head calls next oks call ok long e f g =
-    let first = taken (answered calls oks) in
-    let last = taken ((call_seen call, ok) ∷ []) in
-    let all : first ++ last ≡ taken (answered next (oks ++ ok ∷ [])) =
-    sym (taken_more (answered calls oks) (call_seen call, ok)) ∙ sym (ap taken (answered_more calls oks call ok long)) ∙ sym (ap (λ cs. taken (answered cs (oks ++ ok ∷ []))) e) in
-    record {
-      followed = λ k base chunks at.
-          let joined : (chunks ++ first) ++ last ≡ chunks ++ taken (answered next (oks ++ ok ∷ [])) = append_assoc chunks first last ∙ ap (λ cs. chunks ++ cs) all in
-          subst (λ cs. Agrees memory b base head cs) joined (g.followed k base (chunks ++ first) (f.followed k base chunks at));
-    }
+was_started : {W : Type 0} (s : WriterState) (a b : WriterSeen W) (x : _) → StateComesFirst (fault_unless_started s) a (Err (Io x)) b → s ≡ Started
+was_started New a b x h = let other = h.0 in absurd cc
+was_started Started a b x h = refl
+was_started Finished a b x h = let other = h.0 in absurd cc
+was_started Failed a b x h = let other = h.0 in absurd cc
+
+module _ {W : Type 0} (known grows : Bool) (failures room : W → ℕ) (memory : W → Memory) (fs : FieldTrees) (es : Pairs) where
+  abbrev Made : WriterSeen W → StreamCall → Result (Unit {0}) Fault → WriterSeen W → Type 0
+  Made = IsMade known grows failures room memory fs es
+
+  abbrev AllMade : WriterSeen W → List StreamCall → List (Result (Unit {0}) Fault) → WriterSeen W → Type 0
+  AllMade = AreMade known grows failures room memory fs es
+
+  abbrev head : Head
+  head = written_head fs es (default_all 0 fs)
+
+  -- how a call moves the state
+  moves : (a b : WriterSeen W) (call : StreamCall) (r : Result (Unit {0}) Fault) → Made a call r b
+      → MayEnd (call_seen call) (outcome r) (state_seen a.state) × (state_seen b.state ≡ state_after (call_seen call) (outcome r) (state_seen a.state))
+  moves a b Start (Ok x) h = (ap state_seen h.ok.was, ap state_seen h.ok.is)
+  moves a b Start (Err (Io e)) h = (ap state_seen (was_new a.state a b e h.first), ap state_seen h.step.step.io.0)
+  moves a b Start (Err _) h = (tt, ap state_seen h.step.step.refused.state)
+  moves a b (Write chunk) (Ok x) h = (ap state_seen h.ok.was, ap state_seen h.ok.is)
+  moves a b (Write chunk) (Err (Io e)) h = (ap state_seen (was_started a.state a b e h.first), ap state_seen h.step.step.io.0)
+  moves a b (Write chunk) (Err _) h = (tt, ap state_seen h.step.step.refused.state)
+  moves a b Finish (Ok x) h = (ap state_seen h.ok.0, ap state_seen h.ok.1)
+  moves a b Finish (Err (Io e)) h = (ap state_seen (was_started a.state a b e h.first), ap state_seen h.step.io.0)
+  moves a b Finish (Err _) h = (tt, ap state_seen h.step.refused.state)
+
+  pub made_run : (a b : WriterSeen W) (calls : List StreamCall) (rs : List (Result (Unit {0}) Fault)) → AllMade a calls rs b → IsRun (state_seen a.state) (ended_as calls rs) (state_seen b.state)
+  made_run a b [] [] h = ap (λ (w : WriterSeen W). state_seen w.state) (sym h)
+  made_run a b [] (r ∷ rs) h = absurd h
+  made_run a b (call ∷ calls) [] h = absurd h
+  made_run a b (call ∷ calls) (r ∷ rs) h =
+      let moved = moves a h.0 call r h.1.0 in
+      (moved.0, subst (λ s. IsRun s (ended_as calls rs) (state_seen b.state)) moved.1 (made_run h.0 b calls rs h.1.1))
+
+  -- ---- chunks
+
+  -- a call that adds nothing
+  adds_none : (b : WriterSeen W) (base : List ℕ) (chunks : List Chunk) → Agrees memory b base head chunks → Agrees memory b base head (chunks ++ [])
+  adds_none b base chunks h = subst (λ (cs : List Chunk). Agrees memory b base head cs) (sym (append-nil chunks)) h
+
+  follows_one : (a b : WriterSeen W) (call : StreamCall) (r : Result (Unit {0}) Fault) → Made a call r b → Follows known memory a b head (taken (answered ((call_seen call, outcome r) ∷ [])))
+  follows_one a b Start (Ok x) h = record { followed = λ k base chunks at. adds_none b base chunks (h.means.begun k base chunks at) }
+  follows_one a b Start (Err (Io e)) h = record { followed = λ k base chunks at. adds_none b base chunks (h.means.kept k base head chunks at) }
+  follows_one a b Start (Err _) h = record { followed = λ k base chunks at. adds_none b base chunks (h.means.kept k base head chunks at) }
+  follows_one a b (Write chunk) (Ok x) h = record { followed = λ k base chunks at. h.means.appended k base head chunks at }
+  follows_one a b (Write chunk) (Err (Io e)) h = record { followed = λ k base chunks at. adds_none b base chunks (h.means.kept k base head chunks at) }
+  follows_one a b (Write chunk) (Err _) h = record { followed = λ k base chunks at. adds_none b base chunks (h.means.kept k base head chunks at) }
+  follows_one a b Finish (Ok x) h = record { followed = λ k base chunks at. adds_none b base chunks (h.means.kept k base head chunks at) }
+  follows_one a b Finish (Err (Io e)) h = record { followed = λ k base chunks at. adds_none b base chunks (h.means.kept k base head chunks at) }
+  follows_one a b Finish (Err _) h = record { followed = λ k base chunks at. adds_none b base chunks (h.means.kept k base head chunks at) }
+
+  taken_first : (call : Call) (ok : Bool) (ps : List (Call × Bool)) → taken ((call, ok) ∷ []) ++ taken ps ≡ taken ((call, ok) ∷ ps)
+  taken_first call true ps = ap (λ cs. cs ++ taken ps) (append-nil (added_by call))
+  taken_first call false ps = refl
+
+  pub made_follow : (a b : WriterSeen W) (calls : List StreamCall) (rs : List (Result (Unit {0}) Fault)) → AllMade a calls rs b → Follows known memory a b head (taken (answered (ended_as calls rs)))
+  made_follow a b [] [] h = record { followed = λ k base chunks at. subst (λ (w : WriterSeen W). Agrees memory w base head (chunks ++ [])) (sym h) (adds_none a base chunks at) }
+  made_follow a b [] (r ∷ rs) h = absurd h
+  made_follow a b (call ∷ calls) [] h = absurd h
+  made_follow a b (call ∷ calls) (r ∷ rs) h =
+      let one = follows_one a h.0 call r h.1.0 in
+      let more = made_follow h.0 b calls rs h.1.1 in
+      let first = taken (answered ((call_seen call, outcome r) ∷ [])) in
+      let rest = taken (answered (ended_as calls rs)) in
+      let all : first ++ rest ≡ taken (answered (ended_as (call ∷ calls) (r ∷ rs))) = taken_first (call_seen call) _ (answered (ended_as calls rs)) in
+      record {
+        followed = λ k base chunks at.
+            let joined : (chunks ++ first) ++ rest ≡ chunks ++ taken (answered (ended_as (call ∷ calls) (r ∷ rs))) = append_assoc chunks first rest ∙ ap (λ cs. chunks ++ cs) all in
+            subst (λ (cs : List Chunk). Agrees memory b base head cs) joined (more.followed k base (chunks ++ first) (one.followed k base chunks at));
+      }
+
+  -- ---- one call more
+
+  pub made_more : (a m b : WriterSeen W) (calls : List StreamCall) (rs : List (Result (Unit {0}) Fault)) (call : StreamCall) (r : Result (Unit {0}) Fault) → AllMade a calls rs m → Made m call r b
+      → AllMade a (calls ++ call ∷ []) (rs ++ r ∷ []) b
+  made_more a m b [] [] call r h last = (b, (subst (λ (w : WriterSeen W). Made w call r b) h last, refl))
+  made_more a m b [] (x ∷ rs) call r h last = absurd h
+  made_more a m b (c ∷ calls) [] call r h last = absurd h
+  made_more a m b (c ∷ calls) (x ∷ rs) call r h last = (h.0, (h.1.0, made_more h.0 m b calls rs call r h.1.1 last))

@@ -1,16 +1,18 @@
 -- A schema that is taken is carried, and has no dictionaries.
-use Rattle.std.proofs.Common.{◌≡◌, ℕ, List, [], Bool, IsTrue, refl, arith}
+use Rattle.std.proofs.Common.{◌≡◌, ℕ, ◌≤◌, ◌^◌, List, [], ◌++◌, length, Bool, IsTrue, Err, refl, arith}
 use Rattle.std.proofs.lemmas.Bool.{and_parts}
+use Rattle.lower.specs.Counts.{fields_places, inner_places, own_place}
 use Rattle.lower.specs.Normal.{norm, norm_fields}
 use Rattle.lower.specs.TypeTrees.{TypeTree, plain, single, group, dictionary, extension, field, FieldTrees, no_fields, more_fields, Pairs}
 use Rattle.ipc_base.specs.IdTrees.{IdTree, ids, IdTrees}
 use Rattle.ipc_model.specs.Batches.{field_places, places}
 use Rattle.ipc_model.specs.Carried.{IsCarried, are_whole, is_whole_type}
 use Rattle.ipc_model.specs.TypeKinds.{first_ids, other_ids}
-use Rattle.ipc_devices.specs.declared.fault.ArgFault.TheVariants.{FieldsShape, NotWritable}
+use Rattle.ipc_devices.specs.declared.fault.ArgFault.TheVariants.{FieldsShape, NotWritable, TooLarge}
 use Rattle.ipc_devices.specs.declared.fault.Fault.{Fault}
 use Rattle.ipc_devices.specs.declared.fault.Fault.TheVariants.{Argument, Memory, NotYetImplemented}
 use Rattle.ipc_devices.specs.declared.fault.Nyi.TheVariants.{Pending}
+use Rattle.ipc_schema_write.specs.Refusals.{RefusesCount}
 use Rattle.ipc_schema_write.specs.WriterAnswers.{RefusesSchema, ShareAnId, written}
 use Rattle.ipc_write.specs.Writers.{IsCarriedSchema, RefusesStart, are_carried}
 use Rattle.ipc_write.specs.declared.stream.WriterState.{WriterState}
@@ -47,6 +49,27 @@ placeless (more_fields (field name t nullable es) fs) is h =
     let (own, rest) = and_parts _ _ h in
     let (none, whole) = and_parts _ _ own in
     rw (field_placeless name t nullable es (first_ids is) whole, placeless fs (other_ids is) rest) refl
+
+-- fields of integers have no dictionary places
+no_inner : (t : TypeTree) → IsTrue (is_whole_type t) → own_place t ++ inner_places t ≡ []
+no_inner (plain p) h = refl
+no_inner (single s f) h = absurd cc
+no_inner (group g fs) h = absurd cc
+no_inner (dictionary keys t ordered) h = absurd cc
+no_inner (extension n t text) h = absurd cc
+
+no_places : (fs : FieldTrees) → IsTrue (are_carried fs) → fields_places fs ≡ []
+no_places no_fields h = refl
+no_places (more_fields (field name t nullable es) fs) h =
+    let (own, rest) = and_parts _ _ h in
+    let (none, whole) = and_parts _ _ own in
+    rw (no_inner t whole, no_places fs rest) refl
+
+-- so their ids by default are refused for want of memory alone
+pub refused_ids : (X : Type 0) (own : _) (fs : FieldTrees) (es : Pairs) (is : IdTrees) (e : Fault) → IsCarriedSchema fs es → RefusesCount {X = X} (Err e) (2 ^ 63 ≤ length (fields_places fs)) → RefusesStart own fs es is e
+refused_ids X own fs es is Memory k h = tt
+refused_ids X own fs es is (Argument TooLarge) k h = absurd (omega (arith, rw (no_places fs k.whole) at h))
+refused_ids X own fs es is _ k h = absurd h
 
 -- a schema in which dictionaries share an id isn't taken
 share_none : (fs : FieldTrees) (is : IdTrees) → IsTrue (are_carried fs) → ShareAnId fs is → ⊥

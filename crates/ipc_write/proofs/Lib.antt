@@ -1,3 +1,4 @@
+pub mod Acceptance
 pub mod Agreements
 pub mod CarriedColumns
 pub mod CarriedHeads

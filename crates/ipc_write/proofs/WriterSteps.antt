@@ -1,19 +1,23 @@
 -- Calls of a writer that send, or are refused before anything is sent.
-use Rattle.std.proofs.Common.{◌≡◌, ℕ, ◌<◌, ◌≤◌, ◌⊎◌, inl, inr, Bool, IsTrue, List, [], ◌++◌, ◌%◌, length, subst, sym, ◌∙◌, ap, Option, None, Some, Result, Ok, Err, IfErr, arith, IsSomeAnd}
+use Rattle.std.proofs.Common.{◌≡◌, ℕ, ◌<◌, ◌≤◌, ◌⊎◌, inl, inr, Bool, IsTrue, List, [], ◌++◌, ◌%◌, length, subst, sym, ◌∙◌, ap, Option, None, Result, Ok, Err, IfErr, arith, IsSomeAnd, refl}
 use Rattle.std.specs.Prelude.{OnOk}
 use Rattle.ipc_base.specs.IdTrees.{IdTrees}
 use Rattle.ipc_devices.specs.Device.{Memory, Rises}
 use Rattle.ipc_devices.specs.Faults.{OnIo, OnRefused}
 use Rattle.ipc_devices.specs.declared.fault.Fault.{Fault}
-use Rattle.ipc_devices.specs.declared.fault.Fault.TheVariants.{Argument, Io}
-use Rattle.ipc_devices.specs.declared.fault.ArgFault.TheVariants.{FieldsDiffer, TooLarge}
+use Rattle.ipc_devices.specs.declared.fault.Fault.TheVariants.{Argument, Io, Memory as NoMemory, NotYetImplemented, State}
+use Rattle.ipc_devices.specs.declared.fault.ArgFault.TheVariants.{ColumnCount, ColumnType, FieldsDiffer, TooLarge}
+use Rattle.ipc_devices.specs.declared.fault.Nyi.TheVariants.{Pending}
+use Rattle.ipc_devices.specs.declared.fault.StateFault.{StateFault}
+use Rattle.ipc_model.specs.Streams.{Head}
 use Rattle.lower.specs.TypeTrees.{FieldTrees, Pairs, TypeTree}
+use Rattle.ipc_schema_write.specs.Refusals.{RefusesCount}
 use Rattle.ipc_schema_write.specs.WriterAnswers.{RefusesSchema}
 use Rattle.lower_arrays.specs.declared.array.AnyArray.{AnyArray}
 use Rattle.ipc_write.specs.Batches.{HasLongMetadata, RefusesChunk}
 use Rattle.ipc_plan.specs.Sending.{Sends, seen_by}
 use Rattle.ipc_write.specs.Sending.{FailsOrIsFull, OnSent, SendsOrRefuses}
-use Rattle.ipc_write.specs.Writers.{Kept, LeavesState, RefusesState, RefusesTypes, RefusesWrite, SendStep, SendsChunk, WriterSeen}
+use Rattle.ipc_write.specs.Writers.{Kept, LeavesState, RefusesState, RefusesTypes, RefusesWrite, SendStep, SendsChunk, SendsSchema, StateComesFirst, WriterSeen, fault_unless_started}
 use Rattle.ipc_write.specs.declared.stream.WriterState.{WriterState}
 use Rattle.ipc_write.specs.declared.stream.WriterState.TheVariants.{Failed}
 use Rattle.ipc_write.specs.Framing.{head_bytes, message_bytes, message_len}
@@ -22,8 +26,19 @@ use Rattle.ipc_write.proofs.Sends.{some_none}
 
 pub refuses_ids : {W : Type 0} (w : WriterSeen W) (columns : List AnyArray) (ids : Option IdTrees) (e : Fault)
     → (e ≡ Argument FieldsDiffer) × IsSomeAnd ids (λ given. ¬ (given ≡ w.ids)) → RefusesWrite w columns ids e
-refuses_ids w columns None e h = absurd h.1
-refuses_ids w columns (Some ids) e h = rw h.0 h.1
+refuses_ids w columns ids e h = rw h.0 h.1
+
+-- a state that refuses
+pub refuses_state : {W : Type 0} (w : WriterSeen W) (columns : List AnyArray) (ids : Option IdTrees) (e : Fault) → RefusesState (fault_unless_started w.state) e → RefusesWrite w columns ids e
+refuses_state w columns ids (State x) h = h
+refuses_state w columns ids _ h = absurd h
+
+-- types that are refused
+pub refuses_types : {W : Type 0} (w : WriterSeen W) (columns : List AnyArray) (ids : Option IdTrees) (e : Fault) → RefusesTypes columns w.types e → RefusesWrite w columns ids e
+refuses_types w columns ids (Argument ColumnCount) h = h
+refuses_types w columns ids (Argument ColumnType) h = h
+refuses_types w columns ids NoMemory h = tt
+refuses_types w columns ids _ h = absurd h
 
 -- What refuses a chunk or a schema is no device.
 pub chunk_not_io : (columns : List AnyArray) (e : Fault) → RefusesChunk columns e → (P : Type 0) → OnIo {X = Unit {0}} (Err e) P
@@ -34,9 +49,25 @@ pub schema_not_io : (e : Fault) (fs : FieldTrees) (es : Pairs) (is : IdTrees) �
 schema_not_io (Io x) fs es is h P = absurd h
 schema_not_io _ fs es is h P = tt
 
-pub state_not_io : (s : WriterState) (e : Fault) → RefusesState s e → (P : Type 0) → OnIo {X = Unit {0}} (Err e) P
-state_not_io s (Io x) h P = absurd h
-state_not_io s _ h P = tt
+pub state_not_io : (own : Option StateFault) (e : Fault) → RefusesState own e → (P : Type 0) → OnIo {X = Unit {0}} (Err e) P
+state_not_io own (Io x) h P = absurd h
+state_not_io own _ h P = tt
+
+-- A state's own fault is what is answered.
+pub state_first : {W : Type 0} (own : Option StateFault) (a b : WriterSeen W) (e : Fault) → RefusesState own e → b ≡ a → StateComesFirst own a (Err e) b
+state_first own a b (State x) h same = rw h (refl, same)
+state_first own a b _ h same = absurd h
+
+-- A state without one says nothing of the answer.
+pub no_state_fault : {W : Type 0} (own : Option StateFault) (a b : WriterSeen W) (r : Result (Unit {0}) Fault) → own ≡ None → StateComesFirst own a r b
+no_state_fault own a b r h = rw h tt
+
+pub count_not_io : (e : Fault) (P : Type 0) → RefusesCount {X = Unit {0}} (Err e) P → (Q : Type 0) → OnIo {X = Unit {0}} (Err e) Q
+count_not_io (Io x) P h Q = absurd h
+count_not_io _ P h Q = tt
+
+pub pending_not_io : (e : Fault) → e ≡ NotYetImplemented Pending → (P : Type 0) → OnIo {X = Unit {0}} (Err e) P
+pending_not_io e same P = subst (λ (f : Fault). OnIo {X = Unit {0}} (Err f) P) (sym same) tt
 
 pub ids_not_io : (e : Fault) → e ≡ Argument FieldsDiffer → (P : Type 0) → OnIo {X = Unit {0}} (Err e) P
 ids_not_io e same P = subst (λ (f : Fault). OnIo {X = Unit {0}} (Err f) P) (sym same) tt
@@ -73,7 +104,17 @@ refused_step known grows failures room memory a b bytes count e kept not_io = re
 pub refused_chunk : {W : Type 0} (known grows : Bool) (failures room : W → ℕ) (memory : W → Memory) (a b : WriterSeen W) (e : Fault) (columns : List AnyArray)
     → Kept a b → ((P : Type 0) → OnIo {X = Unit {0}} (Err e) P) → SendsChunk known grows failures room memory a (Err e) b columns
 refused_chunk known grows failures room memory a b e columns kept not_io = record {
+  metadata = [];
   body = [];
+  is = none_sent e _ not_io;
+  step = refused_step known grows failures room memory a b _ _ e kept not_io;
+}
+
+-- a schema was refused before a message was made
+pub refused_schema : {W : Type 0} (known grows : Bool) (failures room : W → ℕ) (memory : W → Memory) (a b : WriterSeen W) (e : Fault) (head : Head)
+    → Kept a b → ((P : Type 0) → OnIo {X = Unit {0}} (Err e) P) → SendsSchema known grows failures room memory a (Err e) b head
+refused_schema known grows failures room memory a b e head kept not_io = record {
+  metadata = [];
   is = none_sent e _ not_io;
   step = refused_step known grows failures room memory a b _ _ e kept not_io;
 }
@@ -146,7 +187,6 @@ long_chunk columns far = inr far
 pub refused_send : {W V : Type 0} (known grows : Bool) (failures room : W → ℕ) (memory : W → Memory) (d d' : W) (w : WriterSeen V) (columns : List AnyArray) (ids : Option IdTrees) (r : Result (Unit {0}) Fault) (bytes : List ℕ) (reason : Type 0)
     → SendsOrRefuses known grows failures room memory d r d' bytes reason → (reason → HasLongMetadata columns) → IfErr r (RefusesWrite w columns ids)
 refused_send known grows failures room memory d d' w columns ids (Ok x) bytes reason h f = tt
-refused_send known grows failures room memory d d' w columns None (Err (Argument TooLarge)) bytes reason h f = long_chunk columns (f h.1)
-refused_send known grows failures room memory d d' w columns (Some given) (Err (Argument TooLarge)) bytes reason h f = long_chunk columns (f h.1)
+refused_send known grows failures room memory d d' w columns ids (Err (Argument TooLarge)) bytes reason h f = long_chunk columns (f h.1)
 refused_send known grows failures room memory d d' w columns ids (Err (Io e)) bytes reason h f = tt
 refused_send known grows failures room memory d d' w columns ids (Err _) bytes reason h f = absurd h.only

@@ -50,6 +50,7 @@ pub record PlansChunk (columns : List AnyArray) (p : Plan) : Type 0 where
   pub arrays : AreArrays (layouts (map layout_of columns))
   pub plans : PlansColumns Little (map layout_of columns) p
   pub short : AreShort (levels_of columns)
+  pub end_is : p.end ≡ body_length (body_lengths (levels_of columns))
   pub small : IsSayable p.end
 
 -- the message of a record batch of so many rows that lists what a plan does

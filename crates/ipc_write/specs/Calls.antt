@@ -1,16 +1,93 @@
--- Lists of calls of a writer of streams.
-use Rattle.std.specs.Prelude.{Bool, List, [], ◌∷◌}
+-- What the calls of a writer of streams do, one and many, and what is seen of them in the words of `ipc_model`.
+-- (Arrow columnar format, "IPC Streaming Format".)
+use Rattle.std.specs.Prelude.{◌≡◌, ℕ, pos, Bool, List, [], ◌∷◌, take, Option, None, Result, Ok, Err, IfErr, OnOk}
+use Rattle.ipc_base.specs.IdTrees.{IdTrees}
+use Rattle.ipc_devices.specs.Device.{Memory}
+use Rattle.ipc_devices.specs.declared.fault.Fault.{Fault}
+use Rattle.ipc_devices.specs.declared.fault.Fault.TheVariants.{Io}
+use Rattle.lower.specs.TypeTrees.{FieldTrees, Pairs}
+use Rattle.lower_arrays.specs.declared.array.AnyArray.{AnyArray}
+use Rattle.ipc_model.specs.WriterStates.{State, new_writer, started_writer, finished_writer, failed_writer, Outcome, is_taken, is_refused, is_broken}
 use Rattle.ipc_model.specs.Writers.{Call, start_call, write_call, finish_call}
+use Rattle.ipc_schema_write.specs.DefaultIds.{default_all}
+use Rattle.ipc_schema_write.specs.WriterAnswers.{written_head}
+use Rattle.ipc_write.specs.Agreement.{Appends, Begins, Remains}
+use Rattle.ipc_write.specs.Framing.{prefix_bytes}
 use Rattle.ipc_write.specs.Meaning.{chunk_written}
+use Rattle.ipc_write.specs.Writers.{RefusesFinish, RefusesStart, RefusesWrite, SendStep, SendsChunk, SendsSchema, StartsWith, StateComesFirst, TakesChunk, WriterSeen, WritesExactly, fault_unless_new, fault_unless_started}
 use Rattle.ipc_write.specs.declared.calls.StreamCall.{StreamCall}
 use Rattle.ipc_write.specs.declared.calls.StreamCall.TheVariants.{Start, Write, Finish}
+use Rattle.ipc_write.specs.declared.stream.WriterState.{WriterState}
+use Rattle.ipc_write.specs.declared.stream.WriterState.TheVariants.{New, Started, Finished, Failed}
+
+-- ---- what is seen of calls
 
 abbrev pub call_seen : StreamCall → Call
 call_seen Start = start_call
 call_seen (Write chunk) = write_call (chunk_written chunk.now)
 call_seen Finish = finish_call
 
--- the calls, each with whether it was Ok
-abbrev pub answered : List StreamCall → List Bool → List (Call × Bool)
-answered (call ∷ calls) (ok ∷ oks) = (call_seen call, ok) ∷ answered calls oks
-answered _ _ = []
+abbrev pub state_seen : WriterState → State
+state_seen New = new_writer
+state_seen Started = started_writer
+state_seen Finished = finished_writer
+state_seen Failed = failed_writer
+
+-- how a call ended that answered this
+abbrev pub outcome : Result Unit Fault → Outcome
+outcome (Ok x) = is_taken
+outcome (Err (Io e)) = is_broken
+outcome (Err _) = is_refused
+
+-- the calls, each with how it ended
+abbrev pub ended_as : List StreamCall → List (Result Unit Fault) → List (Call × Outcome)
+ended_as (call ∷ calls) (r ∷ rs) = (call_seen call, outcome r) ∷ ended_as calls rs
+ended_as _ _ = []
+
+-- ---- one call
+
+-- what `start` says of itself
+pub record DoesStart {W : Type 0} (known grows : Bool) (failures room : W → ℕ) (memory : W → Memory) (a : WriterSeen W) (fields : FieldTrees) (metadata : Pairs) (ids : IdTrees) (r : Result Unit Fault) (b : WriterSeen W) : Type 0 where
+  pub first : StateComesFirst (fault_unless_new a.state) a r b
+  pub step : SendsSchema known grows failures room memory a r b (written_head fields metadata ids)
+  pub ok : OnOk r (StartsWith a b fields metadata ids)
+  pub only : IfErr r (RefusesStart a.state fields metadata ids)
+  pub means : Begins known memory a r b (written_head fields metadata ids)
+
+-- what `write` says of itself
+pub record DoesWrite {W : Type 0} (known grows : Bool) (failures room : W → ℕ) (memory : W → Memory) (a : WriterSeen W) (columns : List AnyArray) (ids : Option IdTrees) (r : Result Unit Fault) (b : WriterSeen W) : Type 0 where
+  pub first : StateComesFirst (fault_unless_started a.state) a r b
+  pub step : SendsChunk known grows failures room memory a r b columns
+  pub ok : OnOk r (TakesChunk a b columns ids)
+  pub only : IfErr r (RefusesWrite a columns ids)
+  pub exact : WritesExactly a columns ids r
+  pub means : Appends known memory a r b (chunk_written columns)
+
+-- what `finish` says of itself
+pub record DoesFinish {W : Type 0} (known grows : Bool) (failures room : W → ℕ) (memory : W → Memory) (a : WriterSeen W) (r : Result Unit Fault) (b : WriterSeen W) : Type 0 where
+  pub first : StateComesFirst (fault_unless_started a.state) a r b
+  pub step : SendStep known grows failures room memory a r b (prefix_bytes (pos 0)) 8
+  pub ok : OnOk r ((a.state ≡ Started) × (b.state ≡ Finished))
+  pub only : IfErr r (RefusesFinish a.state)
+  pub means : Remains known memory a b
+
+-- A call of a writer is made and answers this: each `start` is of this schema, with ids by default.
+abbrev pub IsMade : {W : Type 0} → (known grows : Bool) (failures room : W → ℕ) (memory : W → Memory) (fields : FieldTrees) (metadata : Pairs) → WriterSeen W → StreamCall → Result Unit Fault → WriterSeen W → Type 0
+IsMade known grows failures room memory fs es a Start r b = DoesStart known grows failures room memory a fs es (default_all 0 fs) r b
+IsMade known grows failures room memory fs es a (Write chunk) r b = DoesWrite known grows failures room memory a chunk.now None r b
+IsMade known grows failures room memory fs es a Finish r b = DoesFinish known grows failures room memory a r b
+
+-- ---- calls one after the other
+
+-- Each call is made of the writer that the one before it left, and these are their answers.
+abbrev pub AreMade : {W : Type 0} → (known grows : Bool) (failures room : W → ℕ) (memory : W → Memory) (fields : FieldTrees) (metadata : Pairs) → WriterSeen W → List StreamCall → List (Result Unit Fault) → WriterSeen W → Type 0
+AreMade known grows failures room memory fs es a [] [] b = b ≡ a
+AreMade {W = W} known grows failures room memory fs es a (call ∷ calls) (r ∷ rs) b =
+    (m : WriterSeen W) × (IsMade known grows failures room memory fs es a call r m × AreMade known grows failures room memory fs es m calls rs b)
+AreMade known grows failures room memory fs es a _ _ b = ⊥
+
+-- The first of some calls are made.
+pub record FirstAreMade {W : Type 0} (known grows : Bool) (failures room : W → ℕ) (memory : W → Memory) (fields : FieldTrees) (metadata : Pairs) (a : WriterSeen W) (calls : List StreamCall) (b : WriterSeen W) : Type 0 where
+  pub count : ℕ
+  pub answers : List (Result Unit Fault)
+  pub made : AreMade known grows failures room memory fields metadata a (take count calls) answers b

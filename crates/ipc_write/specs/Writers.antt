@@ -1,29 +1,32 @@
 -- What the calls of a stream's writer do.
-use Rattle.std.specs.Prelude.{◌≡◌, ◌==◌, ◌&&◌, ℕ, ◌≤◌, ◌^◌, Bool, true, IsTrue, List, [], ◌∷◌, Vec, length, map, All, Option, Some, None, IfSome, Result, Ok, Err, OnOk}
+use Rattle.std.specs.Prelude.{◌≡◌, ◌==◌, ◌&&◌, ℕ, ◌≤◌, Bool, true, IsTrue, List, [], ◌∷◌, Vec, length, map, All, Option, Some, None, IfSome, IsSomeAnd, Result, Ok, Err, OnOk}
 use Rattle.std.specs.List.{AllZip}
 use Rattle.std.specs.Borrow.{Bor}
 use Rattle.std.specs.declared.alloc.Global.{Global}
 use Rattle.ipc_base.specs.IdTrees.{IdTrees, all_ids_view}
 use Rattle.ipc_base.specs.declared.ipc.IpcField.{IpcField}
 use Rattle.ipc_devices.specs.Device.{Memory, WritesOver}
-use Rattle.ipc_devices.specs.Faults.{OnIo, OnRefused}
+use Rattle.ipc_devices.specs.Faults.{OnIo, OnRefused, OwnFault}
 use Rattle.ipc_devices.specs.declared.fault.Fault.{Fault}
 use Rattle.ipc_devices.specs.declared.fault.Fault.TheVariants.{Argument, Io, Memory as NoMemory, NotYetImplemented, State}
 use Rattle.ipc_devices.specs.declared.fault.ArgFault.TheVariants.{ColumnCount, ColumnType, FieldsDiffer, TooLarge, TooLong}
 use Rattle.ipc_devices.specs.declared.fault.Nyi.TheVariants.{Pending}
+use Rattle.ipc_devices.specs.declared.fault.StateFault.{StateFault}
 use Rattle.ipc_devices.specs.declared.fault.StateFault.TheVariants as faults
 use Rattle.lower.specs.Normal.{norm}
-use Rattle.lower.specs.Counts.{fields_places}
 use Rattle.lower.specs.TypeTrees.{FieldTrees, Pairs, TypeTree, field, more_fields, no_fields}
 use Rattle.lower.specs.TypeViews.{type_view}
 use Rattle.ipc_schema_write.specs.DefaultIds.{default_all}
 use Rattle.ipc_model.specs.Carried.{is_whole_type}
+use Rattle.ipc_model.specs.Offers.{IsAcceptedChunk}
 use Rattle.ipc_model.specs.Schemas.{head_of}
+use Rattle.ipc_model.specs.Streams.{Head}
 use Rattle.ipc_model.specs.Writable.{IsWritable}
-use Rattle.ipc_schema_write.specs.WriterAnswers.{RefusesSchema, written_head}
+use Rattle.ipc_schema_write.specs.WriterAnswers.{RefusesSchema}
+use Rattle.lower_arrays.specs.AnyLayouts.{layout_of}
 use Rattle.lower_arrays.specs.declared.array.AnyArray.{AnyArray}
 use Rattle.ipc_plan.specs.Sending.{WritesSome}
-use Rattle.ipc_write.specs.Batches.{IsChunkMessage, RefusesChunk}
+use Rattle.ipc_write.specs.Batches.{HasLongMetadata, IsChunkMessage, RefusesChunk}
 use Rattle.ipc_write.specs.Columns.{IsCarried}
 use Rattle.ipc_write.specs.Framing.{message_bytes, message_len}
 use Rattle.ipc_write.specs.Meaning.{normal_type}
@@ -35,13 +38,12 @@ use Rattle.ipc_write.specs.declared.stream.WriterState.TheVariants.{New, Started
 -- ---- what is seen of a writer
 
 -- What a writer writes to, how far it is, the types of the columns that it takes, in their normal form,
--- the ids that it was started with, and the metadata of the message that it made last.
+-- and the ids that it was started with.
 pub record WriterSeen (W : Type 0) : Type 0 where
   pub device : W
   pub state : WriterState
   pub types : List TypeTree
   pub ids : IdTrees
-  pub metadata : List ℕ
 
 abbrev pub seen : {W : Type 0} → StreamWriter W → WriterSeen W
 seen w = record {
@@ -49,10 +51,14 @@ seen w = record {
   state = w.state;
   types = map type_view w.types.items;
   ids = all_ids_view w.ipc_fields.items;
-  metadata = w.metadata.items;
 }
 
 -- ---- types
+
+-- the types of fields, in their normal form
+abbrev pub normal_types : FieldTrees → List TypeTree
+normal_types no_fields = []
+normal_types (more_fields (field name t nullable metadata) fields) = norm t ∷ normal_types fields
 
 -- the column has this type, in its normal form
 abbrev pub HasType : AnyArray → TypeTree → Type 0
@@ -71,12 +77,28 @@ RefusesTypes columns types _ = ⊥
 
 -- ---- calls
 
--- a writer that isn't started refuses what only a started one takes
-abbrev pub RefusesState : WriterState → Fault → Type 0
-RefusesState s (State faults.NotStarted) = s ≡ New
-RefusesState s (State faults.Finished) = s ≡ Finished
-RefusesState s (State faults.Failed) = s ≡ Failed
-RefusesState s _ = ⊥
+-- the fault of a state in which a writer takes no chunk and no end
+abbrev pub fault_unless_started : WriterState → Option StateFault
+fault_unless_started New = Some faults.NotStarted
+fault_unless_started Started = None
+fault_unless_started Finished = Some faults.Finished
+fault_unless_started Failed = Some faults.Failed
+
+-- the fault of a state in which it takes no schema
+abbrev pub fault_unless_new : WriterState → Option StateFault
+fault_unless_new New = None
+fault_unless_new Started = Some faults.AlreadyStarted
+fault_unless_new Finished = Some faults.Finished
+fault_unless_new Failed = Some faults.Failed
+
+-- a state refuses with its own fault
+abbrev pub RefusesState : Option StateFault → Fault → Type 0
+RefusesState own (State e) = own ≡ Some e
+RefusesState own _ = ⊥
+
+-- The state comes first: where it has a fault, a call answers that one, whatever it is called with, and does nothing.
+abbrev pub StateComesFirst : {W : Type 0} → Option StateFault → WriterSeen W → Result Unit Fault → WriterSeen W → Type 0
+StateComesFirst own a r b = IfSome own (λ e. (r ≡ Err (State e)) × (b ≡ a))
 
 -- Nothing was sent, and the writer is as it was.
 pub record Kept {W : Type 0} (a b : WriterSeen W) : Type 0 where
@@ -99,20 +121,26 @@ LeavesState (Ok x) s s' = s' ≡ s
 LeavesState (Err (Io e)) s s' = s' ≡ Failed
 LeavesState (Err _) s s' = s' ≡ s
 
--- A call that sends the message of these columns: the writer's metadata and a body, which are a chunk's message where anything was sent.
+-- A call that sends the message of these columns: metadata and a body, which are a chunk's message where anything was sent.
 pub record SendsChunk {W : Type 0} (known grows : Bool) (failures room : W → ℕ) (memory : W → Memory) (a : WriterSeen W) (r : Result Unit Fault) (b : WriterSeen W) (columns : List AnyArray) : Type 0 where
+  pub metadata : List ℕ
   pub body : List ℕ
-  pub is : OnSent r (IsChunkMessage b.metadata body columns)
-  pub step : SendStep known grows failures room memory a r b (message_bytes b.metadata body) (message_len b.metadata body)
+  pub is : OnSent r (IsChunkMessage metadata body columns)
+  pub step : SendStep known grows failures room memory a r b (message_bytes metadata body) (message_len metadata body)
+
+-- A call that sends a schema's message: metadata without a body, which begin a stream with this head where anything was sent.
+pub record SendsSchema {W : Type 0} (known grows : Bool) (failures room : W → ℕ) (memory : W → Memory) (a : WriterSeen W) (r : Result Unit Fault) (b : WriterSeen W) (head : Head) : Type 0 where
+  pub metadata : List ℕ
+  pub is : OnSent r (head_of metadata ≡ Some head)
+  pub step : SendStep known grows failures room memory a r b (message_bytes metadata []) (message_len metadata [])
 
 -- why a writer refuses a chunk with these ids
 abbrev pub RefusesWrite : {W : Type 0} → WriterSeen W → List AnyArray → Option IdTrees → Fault → Type 0
-RefusesWrite w columns ids (State e) = RefusesState w.state (State e)
-RefusesWrite w columns None (Argument FieldsDiffer) = ⊥
-RefusesWrite w columns (Some ids) (Argument FieldsDiffer) = ¬ (ids ≡ w.ids)
+RefusesWrite w columns ids (State e) = fault_unless_started w.state ≡ Some e
+RefusesWrite w columns ids (Argument FieldsDiffer) = IsSomeAnd ids (λ given. ¬ (given ≡ w.ids))
 RefusesWrite w columns ids (Argument ColumnCount) = RefusesTypes columns w.types (Argument ColumnCount)
 RefusesWrite w columns ids (Argument ColumnType) = RefusesTypes columns w.types (Argument ColumnType)
-RefusesWrite w columns ids (NotYetImplemented e) = RefusesChunk columns (NotYetImplemented e)
+RefusesWrite w columns ids (NotYetImplemented Pending) = HaveTypes columns w.types × ¬ All IsCarried columns
 RefusesWrite w columns ids (Argument TooLong) = RefusesChunk columns (Argument TooLong)
 RefusesWrite w columns ids (Argument TooLarge) = RefusesChunk columns (Argument TooLarge)
 RefusesWrite w columns ids NoMemory = Unit {0}
@@ -129,6 +157,24 @@ pub record TakesChunk {W : Type 0} (a b : WriterSeen W) (columns : List AnyArray
   pub fits : HaveTypes columns a.types
   pub carried : All IsCarried columns
 
+-- A writer that was started with fields like these takes the columns with these ids: no ids are handed in, or those of the start, the
+-- columns are an accepted chunk, and they are carried.
+pub record MayBeWritten {W : Type 0} (w : WriterSeen W) (fields : FieldTrees) (columns : List AnyArray) (ids : Option IdTrees) : Type 0 where
+  pub started : w.state ≡ Started
+  pub same_ids : IfSome ids (λ given. given ≡ w.ids)
+  pub accepted : IsAcceptedChunk fields w.ids (map layout_of columns)
+  pub carried : All IsCarried columns
+
+-- Columns are written just where the writer takes them. Memory and devices aside, and where only their metadata would be too long.
+abbrev pub AnswersWrite : {W : Type 0} → WriterSeen W → FieldTrees → List AnyArray → Option IdTrees → Result Unit Fault → Type 0
+AnswersWrite w fs columns ids (Ok x) = MayBeWritten w fs columns ids
+AnswersWrite w fs columns ids (Err (Argument TooLarge)) = MayBeWritten w fs columns ids → HasLongMetadata columns
+AnswersWrite w fs columns ids (Err e) = OwnFault e (¬ MayBeWritten w fs columns ids)
+
+-- this of all fields whose types are those that the writer takes
+pub record WritesExactly {W : Type 0} (w : WriterSeen W) (columns : List AnyArray) (ids : Option IdTrees) (r : Result Unit Fault) : Type 0 where
+  pub exact : (fields : FieldTrees) → normal_types fields ≡ w.types → AnswersWrite w fields columns ids r
+
 -- the ids that are handed in, where any are
 abbrev pub seen_ids : Option (Bor (List IpcField)) → Option IdTrees
 seen_ids None = None
@@ -136,14 +182,9 @@ seen_ids (Some given) = Some (all_ids_view given.now)
 
 -- why a writer refuses the end
 abbrev pub RefusesFinish : WriterState → Fault → Type 0
-RefusesFinish s (State e) = RefusesState s (State e)
+RefusesFinish s (State e) = fault_unless_started s ≡ Some e
 RefusesFinish s (Io e) = Unit {0}
 RefusesFinish s _ = ⊥
-
--- the types of fields, in their normal form
-abbrev pub normal_types : FieldTrees → List TypeTree
-normal_types no_fields = []
-normal_types (more_fields (field name t nullable metadata) fields) = norm t ∷ normal_types fields
 
 -- the ids that are handed in, or those that fields get by default
 abbrev pub chosen_ids : Option (Vec IpcField Global) → FieldTrees → IdTrees
@@ -165,27 +206,18 @@ pub record IsTaken (fields : FieldTrees) (metadata : Pairs) (ids : IdTrees) : Ty
   pub carried : IsCarriedSchema fields metadata
   pub writable : IsWritable fields metadata ids
 
--- A writer was started: the message that was sent is that of the schema in its normal form.
+-- A writer was started.
 pub record StartsWith {W : Type 0} (a b : WriterSeen W) (fields : FieldTrees) (metadata : Pairs) (ids : IdTrees) : Type 0 where
   pub was : a.state ≡ New
   pub is : b.state ≡ Started
   pub types : b.types ≡ normal_types fields
   pub ids_are : b.ids ≡ ids
   pub writable : IsTaken fields metadata ids
-  pub means : head_of b.metadata ≡ Some (written_head fields metadata ids)
-
--- a writer that was started before refuses a start
-abbrev pub RefusesNew : WriterState → Fault → Type 0
-RefusesNew s (State faults.AlreadyStarted) = s ≡ Started
-RefusesNew s (State faults.Finished) = s ≡ Finished
-RefusesNew s (State faults.Failed) = s ≡ Failed
-RefusesNew s _ = ⊥
 
 -- why a writer refuses a schema with these ids
 abbrev pub RefusesStart : WriterState → FieldTrees → Pairs → IdTrees → Fault → Type 0
-RefusesStart s fs es is (State e) = RefusesNew s (State e)
+RefusesStart s fs es is (State e) = fault_unless_new s ≡ Some e
 RefusesStart s fs es is (NotYetImplemented Pending) = IsCarriedSchema fs es → ⊥
-RefusesStart s fs es is (Argument TooLarge) = 2 ^ 63 ≤ length (fields_places fs)
 RefusesStart s fs es is (Argument e) = RefusesSchema (Argument e) fs es is
 RefusesStart s fs es is NoMemory = Unit {0}
 RefusesStart s fs es is (Io e) = Unit {0}

@@ -1,16 +1,17 @@
-//! Lists of calls of a writer of streams, and what its bytes mean after them.
-ghost use Rattle.std.specs.Prelude.{[], ◌∷◌, IfOk};
+//! Lists of calls of a writer of streams, what they answer, and what its bytes mean after them.
+ghost use Rattle.std.specs.Prelude.{IfOk, OnErr};
 ghost use Rattle.lower.specs.TypeViews.{fields_view, pairs_of};
 ghost use Rattle.ipc_schema_write.specs.DefaultIds.{default_all};
 ghost use Rattle.ipc_schema_write.specs.WriterAnswers.{written_head};
+ghost use Rattle.ipc_model.specs.WriterStates.{IsRun, answered};
 ghost use Rattle.ipc_model.specs.Writers.{taken};
 ghost use Rattle.ipc_write.specs.Agreement.{Follows};
-ghost use Rattle.ipc_write.specs.Calls.{answered};
+ghost use Rattle.ipc_write.specs.Calls.{AreMade, FirstAreMade, IsMade, ended_as, state_seen};
 ghost use Rattle.ipc_write.specs.Writers.{seen};
 
 use crate::stream::StreamWriter;
 use ipc_base::chunk::Chunk;
-use ipc_devices::Writes;
+use ipc_devices::{Fault, Writes};
 use lower::datatypes::Schema;
 use lower_arrays::array::AnyArray;
 use std::alloc::{AllocError, Global};
@@ -20,42 +21,53 @@ use std::alloc::{AllocError, Global};
 pub enum StreamCall<'a> {
     /// `start`, with ids by default.
     Start,
-    /// `write`.
+    /// `write`, with the ids of the start.
     Write(&'a Chunk<AnyArray>),
     /// `finish`.
     Finish,
 }
 
-/// Makes a call, and answers whether it was Ok.
+/// Makes a call, and answers what it answers. Each `start` is of this schema.
+///
+/// Faults: those of the call, after which the writer is as that call leaves it.
 pub fn run_call<W: Writes + Drop>(
     writer: &mut StreamWriter<W>,
     schema: &Schema,
     call: &StreamCall,
-) -> bool
+) -> Result<(), Fault>
     ensures { let fields = fields_view schema.now.fields.items in
-        Follows W.known W.memory (seen writer.old) (seen writer.new)
-        (written_head fields (pairs_of schema.now.metadata.entries) (default_all 0 fields))
-        (taken (answered (call.now ∷ []) (result ∷ []))) }
+        IsMade W.known W.grows W.failures W.room W.memory fields (pairs_of schema.now.metadata.entries)
+        (seen writer.old) call.now result (seen writer.new) }
 {
     match call {
-        StreamCall::Start => writer.start(schema, None).is_ok(),
-        StreamCall::Write(chunk) => writer.write(*chunk, None).is_ok(),
-        StreamCall::Finish => writer.finish().is_ok(),
+        StreamCall::Start => writer.start(schema, None),
+        StreamCall::Write(chunk) => writer.write(*chunk, None),
+        StreamCall::Finish => writer.finish(),
     }
 }
 
-/// Makes the calls one after the other, those that come after a refused one too, and answers which were
-/// Ok: in memory, the bytes then have the chunks of the writes that were Ok, and no others.
+/// Makes the calls one after the other, those that come after a refused one too, and answers what each
+/// answered. In memory, the bytes then have the chunks of the writes that were Ok, and no others.
+///
+/// `AllocError` where no memory was left to keep an answer: the calls up to that one were made, and no
+/// other was.
 pub fn run_calls<W: Writes + Drop>(
     alloc: Global,
     writer: &mut StreamWriter<W>,
     schema: &Schema,
     calls: &[StreamCall],
-) -> Result<Vec<bool>, AllocError>
-    ensures { let fields = fields_view schema.now.fields.items in
+) -> Result<Vec<Result<(), Fault>>, AllocError>
+    ensures made { let fields = fields_view schema.now.fields.items in
+        IfOk result (λ answers. AreMade W.known W.grows W.failures W.room W.memory fields (pairs_of schema.now.metadata.entries)
+        (seen writer.old) calls.now answers.items (seen writer.new)) }
+    ensures run { IfOk result (λ answers. IsRun (state_seen (seen writer.old).state) (ended_as calls.now answers.items) (state_seen (seen writer.new).state)) }
+    ensures follows { let fields = fields_view schema.now.fields.items in
         IfOk result (λ answers. Follows W.known W.memory (seen writer.old) (seen writer.new)
         (written_head fields (pairs_of schema.now.metadata.entries) (default_all 0 fields))
-        (taken (answered calls.now answers.items))) }
+        (taken (answered (ended_as calls.now answers.items)))) }
+    ensures refused { let fields = fields_view schema.now.fields.items in
+        OnErr result (FirstAreMade W.known W.grows W.failures W.room W.memory fields (pairs_of schema.now.metadata.entries)
+        (seen writer.old) calls.now (seen writer.new)) }
 {
     let mut answers = Vec::new(alloc);
     for call in calls {

@@ -6,14 +6,14 @@ ghost use Rattle.ipc_base.specs.IdTrees.{all_ids_view, ids_view};
 ghost use Rattle.ipc_devices.specs.declared.fault.Fault.TheVariants.{Argument, NotYetImplemented};
 ghost use Rattle.ipc_devices.specs.declared.fault.Nyi.TheVariants.{Pending};
 ghost use Rattle.ipc_devices.specs.declared.fault.ArgFault.TheVariants.{FieldsDiffer, TooLarge};
-ghost use Rattle.ipc_write.specs.Framing.{head_bytes, message_bytes, message_len, prefix_bytes};
+ghost use Rattle.ipc_write.specs.Framing.{head_bytes, prefix_bytes};
 ghost use Rattle.ipc_plan.specs.Pieces.{pieces_bytes};
 ghost use Rattle.lower_types.specs.declared.Endianness.TheVariants.{Little};
 ghost use Rattle.ipc_write.specs.Sending.{SendsOrRefuses};
 ghost use Rattle.ipc_write.specs.declared.stream.WriterState.TheVariants.{Failed, Finished, New, Started};
 ghost use Rattle.ipc_write.specs.Agreement.{Appends, Begins, IsFresh, Remains};
 ghost use Rattle.ipc_write.specs.Meaning.{chunk_written};
-ghost use Rattle.ipc_write.specs.Writers.{HasType, HaveTypes, IsCarriedSchema, RefusesFinish, RefusesNew, RefusesStart, RefusesState, RefusesTypes, RefusesWrite, LeavesState, SendStep, SendsChunk, StartsWith, TakesChunk, are_carried, chosen_ids, normal_types, seen, seen_ids};
+ghost use Rattle.ipc_write.specs.Writers.{HasType, HaveTypes, IsCarriedSchema, RefusesFinish, RefusesStart, RefusesState, RefusesTypes, RefusesWrite, LeavesState, SendStep, SendsChunk, SendsSchema, StartsWith, StateComesFirst, TakesChunk, WritesExactly, are_carried, chosen_ids, fault_unless_new, fault_unless_started, normal_types, seen, seen_ids};
 ghost use Rattle.ipc_model.specs.Carried.{is_whole_type};
 ghost use Rattle.ipc_schema_write.specs.WriterAnswers.{written_head};
 
@@ -57,8 +57,6 @@ pub struct StreamWriter<W> {
     // the types of the columns, in their normal form
     pub(crate) types: Vec<DataType>,
     pub(crate) ipc_fields: Vec<IpcField>,
-    // the metadata of the message that was made last
-    pub(crate) metadata: Vec<u8>,
 }
 
 // Whether a column has this type, in its normal form.
@@ -192,7 +190,7 @@ impl<W: Writes + Drop> StreamWriter<W> {
     // Refuses a writer that isn't started.
     fn check_started(&self) -> Result<(), Fault>
         ensures ok { OnOk result (self.now.state ≡ Started) }
-        ensures only { IfErr result (RefusesState self.now.state) }
+        ensures only { IfErr result (RefusesState (fault_unless_started self.now.state)) }
     {
         match self.state {
             WriterState::New => Err(Fault::State(StateFault::NotStarted)),
@@ -205,7 +203,7 @@ impl<W: Writes + Drop> StreamWriter<W> {
     // Refuses a writer that was started before.
     fn check_new(&self) -> Result<(), Fault>
         ensures ok { OnOk result (self.now.state ≡ New) }
-        ensures only { IfErr result (RefusesNew self.now.state) }
+        ensures only { IfErr result (RefusesState (fault_unless_new self.now.state)) }
     {
         match self.state {
             WriterState::New => Ok(()),
@@ -242,8 +240,14 @@ impl<W: Writes + Drop> StreamWriter<W> {
             state: WriterState::New,
             types: Vec::new(alloc),
             ipc_fields: Vec::new(alloc),
-            metadata: Vec::new(alloc),
         }
+    }
+
+    /// How far the writer is.
+    pub fn state(&self) -> WriterState
+        ensures { result ≡ (seen self.now).state }
+    {
+        self.state
     }
 
     /// What was written to.
@@ -264,9 +268,10 @@ impl<W: Writes + Drop> StreamWriter<W> {
     /// some of the first bytes may have been sent, and each later `start`, `write` and `finish` answers
     /// `State(Failed)`.
     pub fn start(&mut self, schema: &Schema, ipc_fields: Option<Vec<IpcField>>) -> Result<(), Fault>
-        ensures step { SendStep W.known W.grows W.failures W.room W.memory (seen self.old) result (seen self.new)
-            (message_bytes (seen self.new).metadata [])
-            (message_len (seen self.new).metadata []) }
+        ensures first { StateComesFirst (fault_unless_new (seen self.old).state) (seen self.old) result (seen self.new) }
+        ensures step { let fields = fields_view schema.now.fields.items in
+            SendsSchema W.known W.grows W.failures W.room W.memory (seen self.old) result (seen self.new)
+            (written_head fields (pairs_of schema.now.metadata.entries) (chosen_ids ipc_fields fields)) }
         ensures ok { let fields = fields_view schema.now.fields.items in
             OnOk result (StartsWith (seen self.old) (seen self.new) fields (pairs_of schema.now.metadata.entries)
             (chosen_ids ipc_fields fields)) }
@@ -284,8 +289,8 @@ impl<W: Writes + Drop> StreamWriter<W> {
             None => default_ipc_fields(self.alloc, &schema.fields)?,
         };
         let types = types_of_fields(self.alloc, &schema.fields)?;
-        self.metadata = schema_to_bytes(self.alloc, schema, &ipc_fields)?;
-        send(&mut self.writer, &mut self.state, &self.metadata, &[])?;
+        let metadata = schema_to_bytes(self.alloc, schema, &ipc_fields)?;
+        send(&mut self.writer, &mut self.state, &metadata, &[])?;
         self.state = WriterState::Started;
         self.types = types;
         self.ipc_fields = ipc_fields;
@@ -308,22 +313,19 @@ impl<W: Writes + Drop> StreamWriter<W> {
         columns: &Chunk<AnyArray>,
         ipc_fields: Option<&[IpcField]>,
     ) -> Result<(), Fault>
+        ensures first { StateComesFirst (fault_unless_started (seen self.old).state) (seen self.old) result (seen self.new) }
         ensures step { SendsChunk W.known W.grows W.failures W.room W.memory (seen self.old) result (seen self.new) columns.now }
         ensures ok { OnOk result (TakesChunk (seen self.old) (seen self.new) columns.now (seen_ids ipc_fields.entry)) }
         ensures only { IfErr result (RefusesWrite (seen self.old) columns.now (seen_ids ipc_fields.entry)) }
+        ensures exact { WritesExactly (seen self.old) columns.now (seen_ids ipc_fields.entry) result }
         ensures means { Appends W.known W.memory (seen self.old) result (seen self.new) (chunk_written columns.now) }
     {
         self.check_started()?;
         self.check_ids(ipc_fields)?;
         check_types(columns.arrays(), &self.types)?;
         let mut plan = plan_chunk(self.alloc, columns)?;
-        self.metadata = chunk_to_metadata(self.alloc, columns, &mut plan)?;
-        send(
-            &mut self.writer,
-            &mut self.state,
-            &self.metadata,
-            &plan.pieces,
-        )
+        let metadata = chunk_to_metadata(self.alloc, columns, &mut plan)?;
+        send(&mut self.writer, &mut self.state, &metadata, &plan.pieces)
     }
 
     /// Writes the mark that ends a stream.
@@ -333,6 +335,7 @@ impl<W: Writes + Drop> StreamWriter<W> {
     /// memory whose growth was refused, after which each later `start`, `write` and `finish` answers
     /// `State(Failed)`.
     pub fn finish(&mut self) -> Result<(), Fault>
+        ensures first { StateComesFirst (fault_unless_started (seen self.old).state) (seen self.old) result (seen self.new) }
         ensures step { SendStep W.known W.grows W.failures W.room W.memory (seen self.old) result (seen self.new)
             (prefix_bytes (pos 0)) 8 }
         ensures ok { OnOk result (((seen self.old).state ≡ Started) × ((seen self.new).state ≡ Finished)) }

@@ -1,6 +1,8 @@
-use Rattle.std.proofs.Common.{arith, ◌≡◌, ◌+◌, ◌∷◌, [], ◌++◌, take, length, sym, ap, ◌∙◌}
-use Rattle.std.proofs.lemmas.List.{length-take, take_more}
-use Rattle.ipc_write.proofs.CallLists.{more_follow}
+use Rattle.std.proofs.Common.{◌≡◌, ◌+◌, ◌∷◌, [], ◌++◌, take, sym, ap, ◌∙◌}
+use Rattle.std.proofs.lemmas.List.{take_all, take_more}
+use Rattle.lower.specs.TypeViews.{fields_view, pairs_of}
+use Rattle.ipc_write.specs.Writers.{seen}
+use Rattle.ipc_write.proofs.CallLists.{made_follow, made_more, made_run, on_err}
 use Rattle.ipc_write.proofs.calls.run_calls.Goals as goal
 
 pub loop-call-preserved : goal.loop-call-preserved
@@ -8,12 +10,31 @@ loop-call-preserved g c =
     let calls = c.args.calls.now in
     let i = c.loop-call.call-index in
     let call = c.call-item.result in
-    let inside = c.loop-call-test.true in
-    let count = c.loop-call.invariant.count in
-    let long : length (take i calls) ≡ length c.loop-call.answers.items = omega (arith, length-take i calls, count, inside) in
     let next : take (i + 1) calls ≡ take i calls ++ call ∷ [] =
-    take_more calls i call inside ∙ sym (ap (λ x. take i calls ++ x ∷ []) c.call-item.is) in
-    record {
-      count = omega (arith, c.in_ok-push.ensures.len, count);
-      follows = rw c.in_ok-push.ensures.items (more_follow _ _ _ _ _ _ (take i calls) (take (i + 1) calls) c.loop-call.answers.items call c.run_call.result long next c.loop-call.invariant.follows c.run_call.ensures);
-    }
+    take_more calls i call c.loop-call-test.true ∙ sym (ap (λ x. take i calls ++ x ∷ []) c.call-item.is) in
+    rw (next, c.in_ok-push.ensures.items) (made_more _ _ _ _ _ _ _ _ _ _ (take i calls) c.loop-call.answers.items call c.run_call.result c.loop-call.invariant c.run_call.ensures)
+
+pub returns-in_err-push-clause-refused : goal.returns-in_err-push-clause-refused
+returns-in_err-push-clause-refused g c =
+    let calls = c.args.calls.now in
+    let i = c.loop-call.call-index in
+    let call = c.call-item.result in
+    let next : take (i + 1) calls ≡ take i calls ++ call ∷ [] =
+    take_more calls i call c.loop-call-test.true ∙ sym (ap (λ x. take i calls ++ x ∷ []) c.call-item.is) in
+    on_err c.from_residual.result _ (record {
+      count = i + 1;
+      answers = c.loop-call.answers.items ++ c.run_call.result ∷ [];
+      made = rw next (made_more _ _ _ _ _ _ _ _ _ _ (take i calls) c.loop-call.answers.items call c.run_call.result c.loop-call.invariant c.run_call.ensures);
+    })
+
+pub returns-clause-run : goal.returns-clause-run
+returns-clause-run g c =
+    let whole : take c.loop-call.call-index c.args.calls.now ≡ c.args.calls.now = take_all _ _ c.loop-call-test.false in
+    made_run g.W.Failures.known g.W.Writes.grows g.W.Failures.failures g.W.Writes.room g.W.Failures.memory (fields_view c.args.schema.now.fields.items) (pairs_of c.args.schema.now.metadata.entries)
+    (seen c.args.writer.now) (seen c.loop-call.writer) c.args.calls.now c.loop-call.answers.items (rw whole at c.loop-call.invariant)
+
+pub returns-clause-follows : goal.returns-clause-follows
+returns-clause-follows g c =
+    let whole : take c.loop-call.call-index c.args.calls.now ≡ c.args.calls.now = take_all _ _ c.loop-call-test.false in
+    made_follow g.W.Failures.known g.W.Writes.grows g.W.Failures.failures g.W.Writes.room g.W.Failures.memory (fields_view c.args.schema.now.fields.items) (pairs_of c.args.schema.now.metadata.entries)
+    (seen c.args.writer.now) (seen c.loop-call.writer) c.args.calls.now c.loop-call.answers.items (rw whole at c.loop-call.invariant)
