@@ -1,6 +1,7 @@
 -- Clones of columns with one number of rows have that number of rows.
-use Rattle.std.proofs.Common.{◌≡◌, ℕ, List, [], ◌∷◌, ◌∙◌, sym}
+use Rattle.std.proofs.Common.{◌≡◌, ℕ, Bool, IsTrue, refl, List, [], ◌∷◌, ◌∙◌, sym}
 use Rattle.std.specs.List.{All, AllZip}
+use Rattle.std.specs.Cmp.Lexicographic.{pointwise}
 use Rattle.std.proofs.lemmas.List.Elements.{All-nil, All-cons, All-head, All-tail}
 use Rattle.ipc_base.specs.Chunks.{AreEqualRows, row_count}
 
@@ -22,3 +23,11 @@ module _ {A : Type 0} (rows : A → ℕ) (is_clone : A → A → Type 0) (kept :
     where
       subst_rows : {m n : ℕ} → m ≡ n → All (λ x. rows x ≡ m) (x ∷ xs) → All (λ x. rows x ≡ n) (x ∷ xs)
       subst_rows e all = λ k d inside. all k d inside ∙ e
+
+-- a test that takes a clone for its source takes clones one by one for theirs
+pub same_clones : {A : Type 0} (is_clone : A → A → Type 0) (test : A → A → Bool) (takes : (x y : A) → is_clone x y → IsTrue (test x y)) (xs ys : List A)
+    → AllZip is_clone xs ys → IsTrue (pointwise test xs ys)
+same_clones is_clone test takes [] [] h = refl
+same_clones is_clone test takes [] (y ∷ ys) h = absurd h
+same_clones is_clone test takes (x ∷ xs) [] h = absurd h
+same_clones is_clone test takes (x ∷ xs) (y ∷ ys) h = rw (takes x y h.0, same_clones is_clone test takes xs ys h.1)

@@ -1,5 +1,5 @@
 //! Chunks: columns of one length, the unit in which data is written and read.
-ghost use Rattle.std.specs.Prelude.{◌≡◌, ◌↔◌, ◌<◌, ◌^◌, ℕ, length, IsTrue, IsOk, IfOk, IfErr};
+ghost use Rattle.std.specs.Prelude.{◌≡◌, ◌↔◌, ◌<◌, ◌^◌, ℕ, Bool, length, IsTrue, IsOk, IfOk, IfErr};
 ghost use Rattle.std.specs.Cmp.Lexicographic.{pointwise, lists_per, lists_equiv};
 ghost use Rattle.std.specs.List.{AllZip};
 ghost use Rattle.std.specs.Slice.Iter.{iter_rest};
@@ -176,10 +176,13 @@ impl<A: Rows> From<Chunk<A>> for Vec<A> {
 
 impl<A: Rows + Clone> Chunk<A> {
     /// The same columns once more, where a clone of a column keeps its number of rows. Each is a
-    /// clone of the column at its place. It fails where there is no memory.
+    /// clone of the column at its place. So the copy equals this chunk by each test of columns that
+    /// takes a clone for its source, as `==` of arrays does. It fails where there is no memory.
     pub fn clone(&self) -> Result<Self, AllocError>
         requires { (array copy : A) → A.is_clone array copy → A.rows copy ≡ A.rows array }
-        ensures { IfOk result (λ copy. AllZip A.is_clone self.now copy) }
+        ensures clones { IfOk result (λ copy. AllZip A.is_clone self.now copy) }
+        ensures equal { (test : A → A → Bool) → ((array copy : A) → A.is_clone array copy → IsTrue (test array copy))
+            → IfOk result (λ copy. IsTrue (pointwise test self.now copy)) }
     {
         let arrays = self.arrays.clone()?;
         Ok(Chunk { arrays })

@@ -68,7 +68,7 @@ keys_mean s h k ks (more_layouts c no_layouts) o n a b limit id is (m ∷ x ∷ 
         begins s a b n _ mask,
         need_part s (b + 1) x (width_of p * n) q room,
         record {
-          known = kn.0 ∙ ap (λ t. Some (norm t)) fit.1;
+          known = kn.0 ∙ ap (λ t. Some t) fit.1;
           inside = λ i l valid.
               let e : array_valid h.validity (o + i) ≡ true = sym (valid_at s a b n _ i mask l ∙ valid-cut o n h.validity i l) ∙ valid in
               subst (λ (z : ℤ). IsIndex z (length (values_slots s id))) (sym (key i l))

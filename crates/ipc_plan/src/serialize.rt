@@ -132,6 +132,7 @@ pub fn plan_array<'a>(
         AnyArray::Utf8(array) => plan_small_utf8(plan, array, offset, len),
         AnyArray::LargeUtf8(array) => plan_large_utf8(plan, array, offset, len),
         AnyArray::List(array) => plan_list(plan, array, offset, len),
+        AnyArray::LargeList(array) => plan_list(plan, array, offset, len),
         AnyArray::FixedSizeList(array) => plan_fixed_size_list(plan, array, offset, len),
         AnyArray::Struct(array) => plan_struct(plan, array, offset, len),
         AnyArray::Map(array) => plan_map(plan, array, offset, len),

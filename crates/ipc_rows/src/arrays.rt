@@ -270,7 +270,7 @@ fn list(
         data_type,
         validity,
     } = head_of(alloc, value)?;
-    Ok(AnyArray::List(ListArray::try_new(data_type, offsets, child, validity)?))
+    Ok(ListArray::try_new(data_type, offsets, child, validity)?.boxed())
 }
 
 fn fixed_size_list(

@@ -29,7 +29,7 @@ pub fn put_parts(out: &mut Text, array: &AnyArray, levels: usize) {
     out.put("{");
     put_counts(out, array);
     match array {
-        AnyArray::List(lists) => {
+        AnyArray::List(lists) | AnyArray::LargeList(lists) => {
             put_list_offsets(out, lists.offsets());
             put_child(out, ",\"child\":", lists.values(), levels - 1);
         }

@@ -8,7 +8,7 @@ use Rattle.lower_arrays.specs.Unions.{union_layout}
 use Rattle.lower_rules.specs.AnyNumbers.{numbers_seen}
 use Rattle.lower_rules.specs.declared.numbers.AnyPrimitive.{AnyPrimitive}
 use Rattle.lower_arrays.specs.declared.array.AnyArray.{AnyArray}
-use Rattle.lower_arrays.specs.declared.array.AnyArray.TheVariants.{Null, Boolean, Primitive, FixedSizeBinary, Binary, LargeBinary, Utf8, LargeUtf8, Dictionary, Union, List as ListOf, FixedSizeList, Struct, Map}
+use Rattle.lower_arrays.specs.declared.array.AnyArray.TheVariants.{Null, Boolean, Primitive, FixedSizeBinary, Binary, LargeBinary, Utf8, LargeUtf8, Dictionary, Union, List as ListOf, LargeList, FixedSizeList, Struct, Map}
 use Rattle.lower_arrays.specs.Lists.{list_layout}
 use Rattle.lower_arrays.specs.FixedLists.{fixed_list_layout}
 use Rattle.lower_arrays.specs.Structs.{struct_layout}
@@ -28,6 +28,7 @@ layout_of (LargeBinary a) = bytes_layout Named.Int64 a
 layout_of (Utf8 a) = texts_layout Named.Int32 a
 layout_of (LargeUtf8 a) = texts_layout Named.Int64 a
 layout_of (ListOf a) = list_layout a
+layout_of (LargeList a) = list_layout a
 layout_of (FixedSizeList a) = fixed_list_layout a
 layout_of (Struct a) = struct_layout a
 layout_of (Union a) = union_layout a

@@ -4,6 +4,7 @@ use Rattle.std.specs.Prelude.{◌≡◌, ℕ, ℤ, List, length, refl}
 use Rattle.std.specs.Coded.{Coded, code_by, coded_list, coded_ℤ, coded×}
 use Rattle.lower.specs.TypeTrees.{TypeTree}
 use Rattle.lower.specs.Physical.{physical}
+use Rattle.lower.specs.Normal.{norm}
 use Rattle.lower.specs.declared.datatypes.IntegerType.{IntegerType}
 use Rattle.lower.specs.declared.datatypes.physical_type.PhysicalType.TheVariants.{Dictionary}
 use Rattle.lower.specs.declared.error.Error.{Error}
@@ -48,12 +49,12 @@ abbrev pub HasKeys : Parts → Type 0
 HasKeys (keys k ks) = Unit {0}
 HasKeys _ = ⊥
 
--- the type is one of a dictionary with such keys, the values are an array of the type that it names, and each key that is not null
--- is a place among them
+-- the type is one of a dictionary with such keys, the values are an array of the type that it names, both in their normal form, and each
+-- key that is not null is a place among them
 pub record IsDictionary (a : DictionarySeen) : Type 0 where
   pub lies : physical a.type ≡ Dictionary a.keys.key
   pub keys : IsKeys a.keys
-  pub named : type_of a.values ≡ values_type a.type
+  pub named : norm (type_of a.values) ≡ norm (values_type a.type)
   pub places : KeysFit a.keys.validity a.keys.integers (len_of a.values)
   pub values : IsArray a.values
 

@@ -5,7 +5,7 @@ use denote.Param.Weighed.{most}
 use Rattle.lower_arrays.specs.Layouts.{layouts, height, heights}
 use Rattle.lower_arrays.specs.AnyLayouts.{layout_of}
 use Rattle.lower_arrays.specs.declared.array.AnyArray.{AnyArray}
-use Rattle.lower_arrays.specs.declared.array.AnyArray.TheVariants.{Null, Boolean, Primitive, FixedSizeBinary, Binary, LargeBinary, Utf8, LargeUtf8, Dictionary, Union, List as ListOf, FixedSizeList, Struct, Map}
+use Rattle.lower_arrays.specs.declared.array.AnyArray.TheVariants.{Null, Boolean, Primitive, FixedSizeBinary, Binary, LargeBinary, Utf8, LargeUtf8, Dictionary, Union, List as ListOf, LargeList, FixedSizeList, Struct, Map}
 use Rattle.lower_arrays.specs.declared.array.dictionary.DictionaryArray.TheDeep.{deep-AnyArray}
 
 pub deep_le-height : (a : AnyArray) → deep-AnyArray a ≤ height (layout_of a) + 1
@@ -18,6 +18,7 @@ deep_le-height (LargeBinary a) = omega arith
 deep_le-height (Utf8 a) = omega arith
 deep_le-height (LargeUtf8 a) = omega arith
 deep_le-height (ListOf a) = omega arith
+deep_le-height (LargeList a) = omega arith
 deep_le-height (FixedSizeList a) = omega arith
 deep_le-height (Struct a) = omega arith
 deep_le-height (Union a) = omega arith

@@ -17,3 +17,4 @@ pub mod Falls
 pub mod Held
 pub mod Values
 pub mod Sameness
+pub mod CloneLaws

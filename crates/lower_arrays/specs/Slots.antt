@@ -3,6 +3,7 @@ use Rattle.std.specs.Prelude.{◌≡◌, ℕ, ℤ, pos, ◌+◌, ◌*◌, ◌<�
 use Rattle.std.proofs.Common.{zero, suc}
 use Rattle.lower_types.specs.NumberTypes.{Number, whole}
 use Rattle.lower.specs.Physical.{physical}
+use Rattle.lower.specs.Normal.{norm}
 use Rattle.lower.specs.Offsets.{IsOffsets}
 use Rattle.lower.specs.declared.datatypes.IntegerType.{IntegerType}
 use Rattle.lower.specs.declared.datatypes.physical_type.PhysicalType.TheVariants as Physicals
@@ -74,10 +75,10 @@ pub record SpansFit (os xs : List ℕ) (n : ℕ) : Type 0 where
   pub within : EndsWithin os xs
   pub count : span_count os ≡ n
 
--- keys of a type, one for each slot, whose one child has the values that they name
+-- keys of a type, one for each slot, whose one child has the values that they name, of the type that is named once both are normal
 abbrev pub DictionaryFits : Level → IntegerType → List ℤ → Layouts → Type 0
 DictionaryFits h k ks (more_layouts c no_layouts) =
-    (physical h.type ≡ Physicals.Dictionary k) × (type_of c ≡ values_type h.type) × (length ks ≡ h.len)
+    (physical h.type ≡ Physicals.Dictionary k) × (norm (type_of c) ≡ norm (values_type h.type)) × (length ks ≡ h.len)
     × KeysFit h.validity ks (len_of c)
 DictionaryFits h k ks _ = ⊥
 

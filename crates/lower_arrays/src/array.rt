@@ -38,7 +38,10 @@ use std::mem;
 pub use struct_::StructArray;
 pub use union::UnionArray;
 
-/// An array of any kind.
+/// An array of any kind: a case for each physical type.
+///
+/// One struct serves `List` and `LargeList`, and both stand for the same slots: which of them an array
+/// of lists belongs to is said by its offsets, and [`ListArray::boxed`] chooses by them.
 #[cycle(arrays)]
 #[derive(Drop)]
 pub enum AnyArray {
@@ -50,7 +53,10 @@ pub enum AnyArray {
     LargeBinary(BinaryArray<i64>),
     Utf8(Utf8Array<i32>),
     LargeUtf8(Utf8Array<i64>),
+    /// Lists with offsets of 32 bits.
     List(ListArray),
+    /// Lists with offsets of 64 bits.
+    LargeList(ListArray),
     FixedSizeList(FixedSizeListArray),
     Struct(StructArray),
     Union(UnionArray),
@@ -74,6 +80,7 @@ impl AnyArray {
             AnyArray::Utf8(array) => array.data_type(),
             AnyArray::LargeUtf8(array) => array.data_type(),
             AnyArray::List(array) => array.data_type(),
+            AnyArray::LargeList(array) => array.data_type(),
             AnyArray::FixedSizeList(array) => array.data_type(),
             AnyArray::Struct(array) => array.data_type(),
             AnyArray::Union(array) => array.data_type(),
@@ -99,6 +106,7 @@ impl AnyArray {
             AnyArray::Utf8(array) => array.validity(),
             AnyArray::LargeUtf8(array) => array.validity(),
             AnyArray::List(array) => array.validity(),
+            AnyArray::LargeList(array) => array.validity(),
             AnyArray::FixedSizeList(array) => array.validity(),
             AnyArray::Struct(array) => array.validity(),
             AnyArray::Union(array) => array.validity(),
@@ -122,6 +130,7 @@ impl AnyArray {
             AnyArray::Utf8(array) => array.len(),
             AnyArray::LargeUtf8(array) => array.len(),
             AnyArray::List(array) => array.len(),
+            AnyArray::LargeList(array) => array.len(),
             AnyArray::FixedSizeList(array) => array.len(),
             AnyArray::Struct(array) => array.len(),
             AnyArray::Union(array) => array.len(),
@@ -145,6 +154,7 @@ impl AnyArray {
             AnyArray::Utf8(array) => array.null_count(),
             AnyArray::LargeUtf8(array) => array.null_count(),
             AnyArray::List(array) => array.null_count(),
+            AnyArray::LargeList(array) => array.null_count(),
             AnyArray::FixedSizeList(array) => array.null_count(),
             AnyArray::Struct(array) => array.null_count(),
             AnyArray::Union(array) => array.null_count(),
@@ -204,6 +214,7 @@ impl AnyArray {
             AnyArray::Utf8(array) => AnyArray::Utf8(array.sliced(offset, len)),
             AnyArray::LargeUtf8(array) => AnyArray::LargeUtf8(array.sliced(offset, len)),
             AnyArray::List(array) => AnyArray::List(array.sliced(offset, len)),
+            AnyArray::LargeList(array) => AnyArray::LargeList(array.sliced(offset, len)),
             AnyArray::FixedSizeList(array) => AnyArray::FixedSizeList(array.sliced(offset, len)),
             AnyArray::Struct(array) => AnyArray::Struct(array.sliced(offset, len)),
             AnyArray::Union(array) => AnyArray::Union(array.sliced(offset, len)),
@@ -227,6 +238,7 @@ impl AnyArray {
             AnyArray::Utf8(array) => Ok(AnyArray::Utf8(array.clone()?)),
             AnyArray::LargeUtf8(array) => Ok(AnyArray::LargeUtf8(array.clone()?)),
             AnyArray::List(array) => Ok(AnyArray::List(array.copy()?)),
+            AnyArray::LargeList(array) => Ok(AnyArray::LargeList(array.copy()?)),
             AnyArray::FixedSizeList(array) => Ok(AnyArray::FixedSizeList(array.copy()?)),
             AnyArray::Struct(array) => Ok(AnyArray::Struct(array.copy()?)),
             AnyArray::Union(array) => Ok(AnyArray::Union(array.copy()?)),

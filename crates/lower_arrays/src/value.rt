@@ -151,6 +151,7 @@ pub fn value_at(array: &AnyArray, index: usize) -> Value<'_>
         AnyArray::Utf8(array) => text_value(array, index),
         AnyArray::LargeUtf8(array) => text_value(array, index),
         AnyArray::List(array) => list_value(array, index),
+        AnyArray::LargeList(array) => list_value(array, index),
         AnyArray::FixedSizeList(array) => fixed_list_value(array, index),
         AnyArray::Struct(array) => record_value(array, index),
         AnyArray::Union(array) => union_value(array, index),

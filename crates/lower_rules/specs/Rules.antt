@@ -4,6 +4,7 @@ use Rattle.std.specs.Prelude.{◌≡◌, ℕ, ℤ, ◌*◌, ◌/◌, ◌<◌, �
 use Rattle.lower_types.specs.declared.PrimitiveType.{PrimitiveType}
 use Rattle.lower.specs.TypeTrees.{TypeTree, plain}
 use Rattle.lower.specs.Physical.{physical, integer}
+use Rattle.lower.specs.Normal.{norm}
 use Rattle.lower.specs.Offsets.{IsOffsets}
 use Rattle.lower.specs.declared.datatypes.physical_type.PhysicalType.TheVariants as Physicals
 use Rattle.lower.specs.declared.error.Error.{Error}
@@ -66,16 +67,16 @@ BreaksMapRules t os c n v (OutOfSpec OffsetsPastValues) = ¬ (last_offset os ≤
 BreaksMapRules t os c n v (OutOfSpec ValidityLength) = ¬ (ValidityFits v (span_count os))
 BreaksMapRules t os c n v (OutOfSpec _) = ⊥
 
--- keys ks that are places among n values of the type c
+-- keys ks that are places among n values of the type c, whose normal form is that of the type that t names
 pub record DictionaryRules (t : TypeTree) (ks : KeysSeen) (c : TypeTree) (n : ℕ) : Type 0 where
   pub lies : physical t ≡ Physicals.Dictionary ks.key
   pub keys : IsKeys ks
-  pub named : c ≡ values_type t
+  pub named : norm c ≡ norm (values_type t)
   pub places : KeysFit ks.validity ks.integers n
 
 abbrev pub BreaksDictionaryRules : TypeTree → KeysSeen → TypeTree → ℕ → Error → Type 0
 BreaksDictionaryRules t ks c n (OutOfSpec WrongType) = ¬ ((physical t ≡ Physicals.Dictionary ks.key) × (ks.type ≡ plain (integer ks.key)))
-BreaksDictionaryRules t ks c n (OutOfSpec DictionaryValues) = ¬ (c ≡ values_type t)
+BreaksDictionaryRules t ks c n (OutOfSpec DictionaryValues) = ¬ (norm c ≡ norm (values_type t))
 BreaksDictionaryRules t ks c n (OutOfSpec DictionaryKey) = ¬ (KeysFit ks.validity ks.integers n)
 BreaksDictionaryRules t ks c n (OutOfSpec _) = ⊥
 

@@ -13,7 +13,6 @@ use crate::types::LEVELS;
 use ipc_base::chunk::{Chunk, equal_rows};
 use ipc_base::ipc::{IpcSchema, clone_ipc_fields, fits};
 use lower_arrays::array::AnyArray;
-use lower_arrays::equal;
 use serde_json::Value;
 use std::alloc::Global;
 
@@ -39,21 +38,9 @@ fn put_both(out: &mut Text, chunk: &Chunk<AnyArray>, copy: &Chunk<AnyArray>) {
     out.put(",\"columns\":");
     put_columns(out, copy.columns());
     out.put(",\"is_clone_same\":");
-    out.show(&are_same(chunk.arrays(), copy.arrays()));
+    out.show(&(*chunk == *copy));
     out.put(",\"is_empty\":");
     out.show(&chunk.is_empty());
-}
-
-fn are_same(columns: &[AnyArray], others: &[AnyArray]) -> bool {
-    if columns.len() != others.len() {
-        return false;
-    }
-    for (column, other) in columns.iter().zip(others) {
-        if !equal(column, other) {
-            return false;
-        }
-    }
-    true
 }
 
 /// Whether columns have the same number of rows.

@@ -70,8 +70,8 @@ impl DictionaryArray {
     ///
     /// `PhysicalType` where the data type isn't a dictionary with keys of this type, or the keys have
     /// another data type than their integers; `DictionaryValues` where the values haven't the type
-    /// that the dictionary's type names; `DictionaryKey` where a key that isn't null is negative, or
-    /// not less than there are values.
+    /// that the dictionary's type names, both in their normal form (see [`DataType::normal`]);
+    /// `DictionaryKey` where a key that isn't null is negative, or not less than there are values.
     #[tactic(auto, using(crate::proofs::Checked::dictionaries))]
     pub fn try_new(
         data_type: DataType,

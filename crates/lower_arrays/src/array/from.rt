@@ -182,7 +182,7 @@ impl From<ListArray> for AnyArray {
     ghost from_gives = { λ array any. layout_of any ≡ list_layout array };
 
     fn from(array: ListArray) -> AnyArray {
-        AnyArray::List(array)
+        array.boxed()
     }
 }
 

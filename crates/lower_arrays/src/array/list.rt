@@ -8,6 +8,8 @@ ghost use Rattle.lower_arrays.specs.Slots.{IsArray};
 ghost use Rattle.lower_arrays.specs.Cuts.{cut};
 ghost use Rattle.lower_arrays.specs.Lists.{list_places, list_width, list_seen, list_layout, cut_list, BreaksList};
 ghost use Rattle.lower_arrays.specs.AnyLayouts.{layout_of};
+ghost use Rattle.lower_types.specs.declared.PrimitiveType.TheVariants.{Int32, Int64};
+ghost use Rattle.lower_arrays.specs.declared.array.AnyArray.TheVariants.{List as ListOf, LargeList};
 
 use super::AnyArray;
 use lower::bitmap::Bitmap;
@@ -181,6 +183,18 @@ impl ListArray {
         let start = self.offsets.get(index);
         let end = self.offsets.get(index + 1);
         Ok(self.values().clone()?.sliced(start, end - start))
+    }
+
+    /// It as an array of any kind: `LargeList` where its offsets are of 64 bits, else `List`.
+    pub fn boxed(self) -> AnyArray
+        ensures layout { layout_of result ≡ list_layout self }
+        ensures small { self.width ≡ Int32 → result ≡ ListOf self }
+        ensures large { self.width ≡ Int64 → result ≡ LargeList self }
+    {
+        match &self.offsets {
+            ListOffsets::Small(_) => AnyArray::List(self),
+            ListOffsets::Large(_) => AnyArray::LargeList(self),
+        }
     }
 
     // The same slots once more.

@@ -1,21 +1,22 @@
 //! The rules of dictionaries.
 ghost use Rattle.std.specs.Prelude.{◌≡◌, ◌↔◌, IsTrue, MatchResult};
 ghost use Rattle.lower.specs.TypeViews.{type_view};
+ghost use Rattle.lower.specs.Normal.{norm};
 ghost use Rattle.lower_rules.specs.Keys.{values_type};
 ghost use Rattle.lower_rules.specs.AnyKeys.{keys_seen};
 ghost use Rattle.lower_rules.specs.Rules.{DictionaryRules, BreaksDictionaryRules};
 
 use crate::keys::DictionaryKeys;
-use lower::datatypes::{DataType, PhysicalType, is_same_type};
+use lower::datatypes::{DataType, PhysicalType, is_same_normal_type, is_same_type};
 use lower::error::{Error, Rule};
 
-// Whether the type is one of a dictionary whose values have this type.
+// Whether the type is one of a dictionary whose values have this type, both in their normal form.
 fn is_dictionary_of(data_type: &DataType, values: &DataType) -> bool
-    ensures { IsTrue result ↔ type_view values.now ≡ values_type (type_view data_type.now) }
+    ensures { IsTrue result ↔ norm (type_view values.now) ≡ norm (values_type (type_view data_type.now)) }
 {
     match data_type.to_logical_type() {
-        DataType::Dictionary(_, inner, _) => is_same_type(values, inner),
-        _ => is_same_type(values, &DataType::Null),
+        DataType::Dictionary(_, inner, _) => is_same_normal_type(values, inner),
+        _ => is_same_normal_type(values, &DataType::Null),
     }
 }
 
@@ -23,7 +24,7 @@ fn is_dictionary_of(data_type: &DataType, values: &DataType) -> bool
 ///
 /// `PhysicalType` where the data type isn't a dictionary with keys of this type, or the keys have
 /// another data type than their integers; `DictionaryValues` where the values haven't the type that
-/// the dictionary's type names; `DictionaryKey` where a key that isn't null is negative, or not
+/// the dictionary's type names, both in their normal form; `DictionaryKey` where a key that isn't null is negative, or not
 /// less than `len`.
 pub fn check_dictionary(
     data_type: &DataType,
