@@ -1,3 +1,5 @@
 pub mod Device
 pub mod Faults
+pub mod Gives
+pub mod GivesLaws
 pub mod Reading
