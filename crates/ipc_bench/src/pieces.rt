@@ -1,5 +1,7 @@
 //! A device with breaks between its pieces.
-ghost use Rattle.std.specs.Prelude.{◌≡◌, true, false, IfOk};
+ghost use Rattle.std.specs.Prelude.{◌≡◌, drop, true, false, IfOk};
+ghost use Rattle.ipc_bench.specs.Pieces.{PiecesGive, pieces_nothing, pieces_in_order};
+ghost use Rattle.ipc_devices.specs.GivesLaws.{never};
 
 use ipc_devices::{Failures, Fault, MemFile, Reads};
 use ipc_readers::read::begun::{Begun, Frame};
@@ -52,6 +54,25 @@ impl Failures for Pieces {
 }
 
 impl Reads for Pieces {
+    ghost gives = { λ a xs e b. PiecesGive (drop a.piece.position a.piece.inner.items) a.given xs e
+        (drop b.piece.position b.piece.inner.items) b.given };
+
+    // It shows none of its bytes.
+    ghost shows = { λ _ _. ⊥ };
+
+    ghost gives_nothing = { λ a. pieces_nothing (drop a.piece.position a.piece.inner.items) a.given };
+
+    ghost gives_in_order = { λ a xs b ys e c. pieces_in_order (drop a.piece.position a.piece.inner.items)
+        (drop b.piece.position b.piece.inner.items) (drop c.piece.position c.piece.inner.items) a.given b.given c.given xs ys e };
+
+    ghost gives_counted = { λ a xs e b g. g.counts };
+
+    ghost gives_fails = { λ a xs e b g. g.succeeds };
+
+    ghost gives_ahead = { λ a xs e b k g. g.takes };
+
+    ghost gives_still = { λ a xs e b k. never k };
+
     fn given(&self) -> u64 {
         self.given
     }
@@ -65,6 +86,11 @@ impl Reads for Pieces {
             }
         }
         Ok(n)
+    }
+
+    fn pass(&mut self, count: usize) -> Option<&[u8]> {
+        let _ = count;
+        None
     }
 }
 

@@ -1,4 +1,6 @@
 pub mod Device
 pub mod Faults
+pub mod Gives
+pub mod GivesLaws
 pub mod Reading
 pub mod FaultEq

@@ -3,9 +3,12 @@
 //! The standard devices don't say when a call of theirs may fail. These do: a call answers an error
 //! only where the device counted a failure in it, or where the growth of a writer over memory was
 //! refused. A call that failed isn't tried again.
-ghost use Rattle.std.specs.Prelude.{◌≡◌, ℕ, ◌+◌, ◌<◌, ◌≤◌, Bool, length, take, drop, IsTrue, ◌⊎◌, IfOk, IfSome, OnOk, OnErr, MatchResult};
+ghost use Rattle.std.specs.Prelude.{◌≡◌, ℕ, ◌+◌, ◌<◌, ◌≤◌, ◌↔◌, Bool, List, [], length, take, drop, IsTrue, IsSome, ◌⊎◌, IfOk, IfSome, OnOk, OnErr, MatchResult, MatchOption};
 ghost use Rattle.std.specs.Io.{ReadsAtMost, WritesAtMost};
 ghost use Rattle.ipc_devices.specs.Device.{Rises, after, counted, Memory, ReadsFront, WritesOver, GoesTo};
+ghost use Rattle.ipc_devices.specs.Gives.{Stop, going, failed, ReadGives, SkipGives, GivesNothing, GivesInOrder, GivesCounted, GivesFails, GivesAhead, GivesStill};
+ghost use Rattle.std.specs.Io.BufRead.{Rests};
+ghost use types.Logic.{sem};
 
 use std::io;
 
@@ -34,6 +37,12 @@ pub trait Failures {
 
 /// A device that gives bytes.
 pub trait Reads: Failures {
+    // Which bytes the reads gave that went from one state to another, and how the last of them ended.
+    ghost gives: { Self → List ℕ → Stop → Self → Type 0 };
+
+    // Whether the device holds the next bytes, this many, in memory, and shows them.
+    ghost shows: { Self → ℕ → Type 0 };
+
     /// How many bytes the reads gave. The count stops at `u64::MAX`.
     fn given(&self) -> u64
         ensures { result ≡ Self.given self.now };
@@ -42,6 +51,9 @@ pub trait Reads: Failures {
     /// where none are left: of memory no more come then, a device of another kind may have more later.
     fn read(&mut self, buf: &mut [u8]) -> io::Result<usize>
         ensures bound { ReadsAtMost result buf.new }
+        ensures gives { MatchResult result
+            (λ n. ReadGives gives self.old n buf.new self.new)
+            (λ _. gives self.old [] failed self.new) }
         ensures monotone { Self.failures self.old ≤ Self.failures self.new }
         ensures failed { OnErr result (Rises (Self.failures self.old) (Self.failures self.new)) }
         ensures given { MatchResult result
@@ -52,29 +64,18 @@ pub trait Reads: Failures {
         ensures whole { IsTrue Self.still
             → (Self.memory self.new).whole ≡ (Self.memory self.old).whole };
 
-    /// The next bytes, this many, where the device holds them in memory: to be looked at without a copy. None where it
-    /// doesn't, or where it holds fewer. They are still to be read. No clause asks a device to show any: one that answers
-    /// None is read from.
-    fn ahead(&self, count: usize) -> Option<&[u8]>
+    /// The next bytes, this many, where the device holds them in memory and shows them: they are given without a copy, and
+    /// the next call goes on behind them. Where it doesn't show them the answer is None, and nothing is given.
+    fn pass(&mut self, count: usize) -> Option<&[u8]>
         ensures count { IfSome result (λ bytes. length bytes.now ≡ count) }
-        ensures memory { IsTrue Self.known → IfSome result (λ bytes.
-            (count ≤ length (after (Self.memory self.now)))
-            × (bytes.now ≡ take count (after (Self.memory self.now)))) }
-    {
-        let _ = count;
-        None
-    }
+        ensures shows { shows self.old count ↔ IsSome result }
+        ensures* after_borrow { sem 𝓛 (Rests Self.row self.entry (λ new. MatchOption result
+            (gives self.old [] going new)
+            (λ bytes. gives self.old bytes.now going new))) };
 
-    /// Goes past the next bytes, this many, or past all where there are fewer, of which no clause
-    /// speaks.
+    /// Goes past the next bytes, this many, or past all where there are fewer.
     fn skip(&mut self, count: usize) -> io::Result<()>
-        ensures monotone { Self.failures self.old ≤ Self.failures self.new }
-        ensures failed { OnErr result (Rises (Self.failures self.old) (Self.failures self.new)) }
-        ensures given { Self.given self.new ≤ Self.given self.old + count }
-        ensures memory { IsTrue Self.known → count ≤ length (after (Self.memory self.old))
-            → OnOk result (after (Self.memory self.new) ≡ drop count (after (Self.memory self.old))) }
-        ensures whole { IsTrue Self.still
-            → (Self.memory self.new).whole ≡ (Self.memory self.old).whole }
+        ensures gives { SkipGives gives self.old count result self.new }
     {
         let mut piece = [0; 512];
         let mut left = count;
@@ -88,6 +89,19 @@ pub trait Reads: Failures {
         }
         Ok(())
     }
+
+    // Laws: no call gives nothing, what two runs of reads gave stands one behind the other, and both counts and memory follow.
+    ghost gives_nothing: { GivesNothing gives };
+
+    ghost gives_in_order: { GivesInOrder gives };
+
+    ghost gives_counted: { GivesCounted gives Self.given };
+
+    ghost gives_fails: { GivesFails gives Self.failures };
+
+    ghost gives_ahead: { GivesAhead Self.known gives Self.memory };
+
+    ghost gives_still: { GivesStill Self.still gives Self.memory };
 }
 
 /// A device that takes bytes.
@@ -103,7 +117,7 @@ pub trait Writes: Failures {
     const GROWS: bool;
 
     /// Writes bytes of the front of `buf`, and answers how many: of a nonempty `buf` at least one.
-    /// Where memory can't grow, nothing is changed.
+    /// Where memory can't grow, and where `buf` is empty, nothing is changed.
     fn write(&mut self, buf: &[u8]) -> io::Result<usize>
         ensures bound { WritesAtMost result buf.now }
         ensures some { IfOk result (λ n. 0 < length buf.now → 0 < n) }
@@ -112,6 +126,8 @@ pub trait Writes: Failures {
             ⊎ (IsTrue grows × (room self.old < length buf.now))) }
         ensures memory { IsTrue Self.known → IfOk result (λ n.
             WritesOver (Self.memory self.old) (Self.memory self.new) (take n buf.now)) }
+        ensures nothing { IsTrue Self.known → IfOk result (λ n.
+            n ≡ 0 → Self.memory self.new ≡ Self.memory self.old) }
         ensures room { IfOk result (λ n. Self.room self.old ≤ Self.room self.new + n) }
         ensures refused { IsTrue Self.known
             → OnErr result (Self.memory self.new ≡ Self.memory self.old) };
@@ -177,6 +193,22 @@ impl<D: Failures> Failures for &mut D {
 }
 
 impl<R: Reads> Reads for &mut R {
+    ghost gives = { λ a xs e b. R.gives a.now xs e b.now };
+
+    ghost shows = { λ a n. R.shows a.now n };
+
+    ghost gives_nothing = { λ a. R.gives_nothing a.now };
+
+    ghost gives_in_order = { λ a xs b ys e c. R.gives_in_order a.now xs b.now ys e c.now };
+
+    ghost gives_counted = { λ a xs e b. R.gives_counted a.now xs e b.now };
+
+    ghost gives_fails = { λ a xs e b. R.gives_fails a.now xs e b.now };
+
+    ghost gives_ahead = { λ a xs e b. R.gives_ahead a.now xs e b.now };
+
+    ghost gives_still = { λ a xs e b. R.gives_still a.now xs e b.now };
+
     fn given(&self) -> u64 {
         Reads::given(&**self)
     }
@@ -185,8 +217,8 @@ impl<R: Reads> Reads for &mut R {
         Reads::read(&mut **self, buf)
     }
 
-    fn ahead(&self, count: usize) -> Option<&[u8]> {
-        Reads::ahead(&**self, count)
+    fn pass(&mut self, count: usize) -> Option<&[u8]> {
+        Reads::pass(&mut **self, count)
     }
 
     fn skip(&mut self, count: usize) -> io::Result<()> {

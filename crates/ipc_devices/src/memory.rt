@@ -1,6 +1,8 @@
 //! Devices over memory. They count no failures, and give and take their bytes exactly.
 ghost use Rattle.std.specs.Prelude.{◌≡◌, ℕ, ◌+◌, ◌-◌, ◌<◌, ◌≤◌, true, List, [], ◌++◌, length, take, drop, replicate, min, OnOk, OnErr, vec_len, vec_capacity};
 ghost use Rattle.ipc_devices.specs.Device.{before};
+ghost use Rattle.ipc_devices.specs.Gives.{MemoryGives};
+ghost use Rattle.ipc_devices.specs.GivesLaws.{memory_nothing, memory_in_order};
 
 use crate::device::{Failures, Reads, Seeks, Writes};
 use std::alloc::AllocError;
@@ -130,6 +132,25 @@ fn copy_front(from: &[u8], to: &mut [u8]) -> usize
 }
 
 impl<B: Bytes> Reads for MemFile<B> {
+    ghost gives = { λ a xs e b. MemoryGives (record { whole = B.bytes a.inner; place = a.position }) a.given xs e
+        (record { whole = B.bytes b.inner; place = b.position }) b.given };
+
+    ghost shows = { λ a n. n ≤ length (drop a.position (B.bytes a.inner)) };
+
+    ghost gives_nothing = { λ a. memory_nothing (record { whole = B.bytes a.inner; place = a.position }) a.given };
+
+    ghost gives_in_order = { λ a xs b ys e c. memory_in_order (record { whole = B.bytes a.inner; place = a.position })
+        (record { whole = B.bytes b.inner; place = b.position }) (record { whole = B.bytes c.inner; place = c.position })
+        a.given b.given c.given xs ys e };
+
+    ghost gives_counted = { λ a xs e b g. g.counts };
+
+    ghost gives_fails = { λ a xs e b g. g.succeeds };
+
+    ghost gives_ahead = { λ a xs e b k g. g.takes };
+
+    ghost gives_still = { λ a xs e b k g. g.moves };
+
     fn given(&self) -> u64 {
         self.given
     }
@@ -141,8 +162,14 @@ impl<B: Bytes> Reads for MemFile<B> {
         Ok(n)
     }
 
-    fn ahead(&self, count: usize) -> Option<&[u8]> {
-        rest_of(self.inner.bytes(), self.position).get(..count)
+    fn pass(&mut self, count: usize) -> Option<&[u8]> {
+        let place = self.position;
+        if rest_of(self.inner.bytes(), place).len() < count {
+            return None;
+        }
+        self.position += count as u64;
+        self.given = self.given.saturating_add(count as u64);
+        Some(&rest_of(self.inner.bytes(), place)[..count])
     }
 
     fn skip(&mut self, count: usize) -> io::Result<()> {

@@ -1,7 +1,8 @@
 //! Reads runs of bytes from a device.
-ghost use Rattle.std.specs.Prelude.{◌≡◌, ◌+◌, ◌^◌, ◌<◌, ◌≤◌, length, take, drop, IsTrue, IfOk, IfErr, OnOk, OnErr};
+ghost use Rattle.std.specs.Prelude.{◌≡◌, ◌+◌, ◌^◌, ◌<◌, ◌≤◌, length, take, drop, IsTrue, IfOk, IfErr, OnOk, OnErr, MatchResult};
 ghost use Rattle.ipc_devices.specs.Device.{Rises, after};
 ghost use Rattle.ipc_devices.specs.Faults.{OnIo, OwnFault, Answers};
+ghost use Rattle.ipc_devices.specs.Gives.{FillGives, IntoGives, PieceGives, StopsBefore, going};
 ghost use Rattle.ipc_devices.specs.Reading.{Filled, MovesBytes};
 ghost use Rattle.ipc_devices.specs.declared.fault.Fault.TheVariants.{Ended};
 
@@ -16,6 +17,7 @@ const MOST_AT_ONCE: usize = 65_536;
 /// Reads until the buffer is full or no bytes are left, and answers how many it read.
 pub fn fill<R: Reads>(reader: &mut R, buf: &mut [u8]) -> io::Result<usize>
     ensures bound { IfOk result (λ n. n ≤ length buf.new) }
+    ensures gives { FillGives R.gives reader.old result buf.new reader.new }
     ensures monotone { R.failures reader.old ≤ R.failures reader.new }
     ensures failed { OnErr result (Rises (R.failures reader.old) (R.failures reader.new)) }
     ensures given { R.given reader.new ≤ R.given reader.old + length buf.old }
@@ -36,9 +38,11 @@ pub fn fill<R: Reads>(reader: &mut R, buf: &mut [u8]) -> io::Result<usize>
 
 // Adds the next bytes, this many.
 fn add_piece<R: Reads>(reader: &mut R, bytes: &mut Vec<u8>, count: usize) -> Result<(), Fault>
-    requires { length bytes.old.items + count < 2 ^ 63 }
+    requires small { length bytes.old.items + count < 2 ^ 63 }
+    requires some { 0 < count }
     ensures grown { OnOk result (length bytes.new.items ≡ length bytes.old.items + count) }
     ensures only { IfErr result (λ e. OwnFault e (e ≡ Ended)) }
+    ensures gives { PieceGives R.gives reader.old bytes.old.items count result bytes.new.items reader.new }
     ensures monotone { R.failures reader.old ≤ R.failures reader.new }
     ensures failed { OnIo result (Rises (R.failures reader.old) (R.failures reader.new)) }
     ensures given { R.given reader.new ≤ R.given reader.old + count }
@@ -73,6 +77,7 @@ pub fn read_into<R: Reads>(reader: &mut R, bytes: &mut Vec<u8>, count: usize) ->
     requires { count < 2 ^ 63 }
     ensures count { OnOk result (length bytes.new.items ≡ count) }
     ensures only { IfErr result (λ e. OwnFault e (e ≡ Ended)) }
+    ensures gives { IntoGives R.gives reader.old count result bytes.new.items reader.new }
     ensures monotone { R.failures reader.old ≤ R.failures reader.new }
     ensures failed { OnIo result (Rises (R.failures reader.old) (R.failures reader.new)) }
     ensures given { R.given reader.new ≤ R.given reader.old + count }
@@ -98,6 +103,9 @@ pub fn read_bytes<R: Reads>(alloc: Global, reader: &mut R, count: usize) -> Resu
     requires { count < 2 ^ 63 }
     ensures count { IfOk result (λ v. length v.items ≡ count) }
     ensures only { IfErr result (λ e. OwnFault e (e ≡ Ended)) }
+    ensures gives { MatchResult result
+        (λ v. R.gives reader.old v.items going reader.new)
+        (λ e. StopsBefore R.gives reader.old count e reader.new) }
     ensures monotone { R.failures reader.old ≤ R.failures reader.new }
     ensures failed { OnIo result (Rises (R.failures reader.old) (R.failures reader.new)) }
     ensures given { R.given reader.new ≤ R.given reader.old + count }

@@ -1,6 +1,8 @@
 //! Devices of any that the standard library has.
 ghost use Rattle.std.specs.Prelude.{◌≡◌, ◌≤◌, false, [], OnErr};
 ghost use Rattle.ipc_devices.specs.Device.{Rises};
+ghost use Rattle.ipc_devices.specs.Gives.{CountsGive};
+ghost use Rattle.ipc_devices.specs.GivesLaws.{counts_nothing, counts_in_order, never};
 
 use crate::device::{Failures, Reads, Seeks, Writes};
 use std::io;
@@ -67,8 +69,29 @@ impl<T> Failures for Watched<T> {
 }
 
 impl<T: io::Read> Reads for Watched<T> {
+    ghost gives = { λ a xs e b. CountsGive a.failures a.given xs e b.failures b.given };
+
+    ghost shows = { λ _ _. ⊥ };
+
+    ghost gives_nothing = { λ a. counts_nothing a.failures a.given };
+
+    ghost gives_in_order = { λ a xs b ys e c. counts_in_order a.failures a.given b.failures b.given c.failures c.given xs ys e };
+
+    ghost gives_counted = { λ a xs e b g. g.counts };
+
+    ghost gives_fails = { λ a xs e b g. g.fails };
+
+    ghost gives_ahead = { λ a xs e b k. never k };
+
+    ghost gives_still = { λ a xs e b k. never k };
+
     fn given(&self) -> u64 {
         self.given
+    }
+
+    fn pass(&mut self, count: usize) -> Option<&[u8]> {
+        let _ = count;
+        None
     }
 
     fn read(&mut self, buf: &mut [u8]) -> io::Result<usize> {

@@ -1,7 +1,7 @@
 -- What was read of a message's body is what the message means.
-use Rattle.std.proofs.Common.{arith, cond, ◌≡◌, ◌==◌, ℕ, ◌<◌, ◌≤◌, nat_lt, true, false, Bool, List, [], length, take, drop, ◌++◌, subst, Option, None, Some, IsSome, IsNone, Result, Ok, Err, refl, sym, ap, inl, inr, ◌∙◌, length-append, length-take, take-append-drop}
+use Rattle.std.proofs.Common.{arith, cond, ◌≡◌, ◌≢◌, ◌==◌, ℕ, ◌<◌, ◌≤◌, nat_lt, true, false, Bool, List, [], length, take, drop, ◌++◌, subst, Option, None, Some, IsSome, IsNone, IfErr, Result, Ok, Err, refl, sym, ap, inl, inr, ◌∙◌, length-append, length-take}
 use Rattle.std.proofs.lemmas.Bool.{cases_lt, le-ltb, lt-ltb}
-use Rattle.std.proofs.lemmas.List.{drop_at, length-take-le, take_at}
+use Rattle.std.proofs.lemmas.List.{drop_at, take_at}
 use Rattle.lower.specs.TypeTrees.{Pairs, FieldTrees}
 use Rattle.lower_types.specs.declared.Endianness.{Endianness}
 use Rattle.lower_arrays.specs.declared.array.AnyArray.{AnyArray}
@@ -9,14 +9,17 @@ use Rattle.ipc_base.specs.IdTrees.{IdTrees}
 use Rattle.ipc_devices.specs.Faults.{OwnFault}
 use Rattle.ipc_devices.specs.declared.fault.Fault.{Fault}
 use Rattle.ipc_devices.specs.declared.fault.Fault.TheVariants as Faults
+use Rattle.ipc_devices.specs.declared.fault.Nyi.TheVariants.{Pending}
+use Rattle.ipc_devices.specs.declared.fault.OutOfSpecKind.TheVariants.{UnexpectedMessageType}
 use Rattle.ipc_views.specs.Spot.{Spot}
 use Rattle.ipc_views.specs.Unions.{header_parts}
 use Rattle.ipc_views.specs.declared.message.MessageHeaderRef.{MessageHeaderRef}
 use Rattle.ipc_views.specs.declared.message.MessageHeaderRef.TheVariants as headers
 use Rattle.ipc_model.specs.Batches.{Schema, Body, Lists, lists_of, Chunk, batch, record_meaning}
 use Rattle.ipc_model.specs.Streams.{Head, Header, done, faulty, whole, with_chunk, body_item, nothing_known}
+use Rattle.ipc_read.specs.Refusals.{IsBatchFault}
 use Rattle.ipc_read.specs.Chunks.{chunk_seen, IsCarriedLists, HasMeaning, GivesBatch}
-use Rattle.ipc_readers.specs.Streams.{IsCarriedMessage, GivesBody, GivesColumns}
+use Rattle.ipc_readers.specs.Streams.{BlamesBody, IsCarriedMessage, GivesBody, GivesColumns}
 
 -- a claim of a fault by which another one holds
 pub claims_through : (e : Fault) (P Q : Type 0) → (P → Q) → OwnFault e P → OwnFault e Q
@@ -30,6 +33,19 @@ claims_through Faults.TooManyDictionaries P Q f h = f h
 claims_through (Faults.Io e) P Q f h = tt
 claims_through Faults.Memory P Q f h = tt
 claims_through (Faults.Lower e) P Q f h = f h
+
+-- two claims of a fault
+pub both_claims : (e : Fault) (P Q : Type 0) → OwnFault e P → OwnFault e Q → OwnFault e (P × Q)
+both_claims (Faults.OutOfSpec k) P Q p q = (p, q)
+both_claims Faults.Ended P Q p q = (p, q)
+both_claims (Faults.NotYetImplemented n) P Q p q = (p, q)
+both_claims (Faults.Schema s) P Q p q = (p, q)
+both_claims (Faults.Argument a) P Q p q = (p, q)
+both_claims (Faults.State s) P Q p q = (p, q)
+both_claims Faults.TooManyDictionaries P Q p q = (p, q)
+both_claims (Faults.Io e) P Q p q = tt
+both_claims Faults.Memory P Q p q = tt
+both_claims (Faults.Lower e) P Q p q = (p, q)
 
 -- what isn't there is none
 none_there : {X : Type 0} (o : Option X) → (IsSome o → ⊥) → o ≡ None
@@ -75,9 +91,9 @@ body_is n xs bytes long e =
 pub record_gives :
     {A B : Type 0} (fs : FieldTrees) (ms : Pairs) (is : IdTrees) (o : Endianness) (extra : ℕ) (t : Spot) (n : ℕ) (xs bytes : List ℕ)
     (projection : Option A) (limit : Option B) (r : Result (List AnyArray) Fault) → n ≤ length xs → bytes ≡ take n xs → IsNone projection → IsNone limit
-    → GivesBatch (record { fields = fs; metadata = []; ids = is; order = o }) extra (record { source = bytes; base = 0; size = n }) t projection limit r
+    → IfErr r (λ e. OwnFault e (IsBatchFault e)) → GivesBatch (record { fields = fs; metadata = []; ids = is; order = o }) extra (record { source = bytes; base = 0; size = n }) t projection limit r
     → GivesBody (record { schema = record { fields = fs; metadata = ms; ids = is; order = o }; extra = extra }) (record { tag = 3; table = t; body = n }) xs r (drop n xs)
-record_gives fs ms is o extra t n xs bytes projection limit (Ok chunk) long e all some g =
+record_gives fs ms is o extra t n xs bytes projection limit (Ok chunk) long e all some only g =
     let h : Head = record { schema = record { fields = fs; metadata = ms; ids = is; order = o }; extra = extra } in
     let read = g.each [] in
     let means : record_meaning h.schema extra [] (whole (take n xs)) t None None ≡ Some (chunk_seen chunk) =
@@ -87,12 +103,13 @@ record_gives fs ms is o extra t n xs bytes projection limit (Ok chunk) long e al
       record_body h t n xs (Some (chunk_seen chunk)) long means,
       record { no_dictionary = λ q. absurd cc; lists = λ q. carried_lists fs [] ms is o (lists_of t) read.0.2.carried },
     )
-record_gives fs ms is o extra t n xs bytes projection limit (Err e') long e all some g =
+record_gives fs ms is o extra t n xs bytes projection limit (Err e') long e all some only g =
     let h : Head = record { schema = record { fields = fs; metadata = ms; ids = is; order = o }; extra = extra } in
     let b : Body = record { source = bytes; base = 0; size = n } in
     let plain_schema : Schema = record { fields = fs; metadata = []; ids = is; order = o } in
     let well : Type 0 = IsNone projection × IsNone limit × HasMeaning plain_schema extra [] b t in
-    claims_through e' (well → ⊥) (IsCarriedMessage h.schema (record { tag = 3; table = t; body = n }) → body_item h nothing_known (record { tag = 3; table = t; body = n }) xs ≡ done faulty)
+    both_claims e' (IsCarriedMessage h.schema (record { tag = 3; table = t; body = n }) → body_item h nothing_known (record { tag = 3; table = t; body = n }) xs ≡ done faulty) (BlamesBody 3 e')
+    (claims_through e' (well → ⊥) (IsCarriedMessage h.schema (record { tag = 3; table = t; body = n }) → body_item h nothing_known (record { tag = 3; table = t; body = n }) xs ≡ done faulty)
     (λ denied carried.
     let none : record_meaning plain_schema extra [] b t None None ≡ None =
     none_there (record_meaning plain_schema extra [] b t None None)
@@ -101,29 +118,20 @@ record_gives fs ms is o extra t n xs bytes projection limit (Err e') long e all 
     (same_meaning fs ms [] is o extra (whole (take n xs)) t
     ∙ sym (ap (λ (b : Body). record_meaning plain_schema extra [] b t None None) (body_is n xs bytes long e))
     ∙ none))
-    (g.each [])
+    (g.each []))
+    (claims_through e' (IsBatchFault e') (BlamesBody 3 e') (λ fault. record { record_batch = λ q. fault; dictionary_batch = λ q. absurd (omega (arith, q)); other = λ q r. absurd (r refl) }) only)
 
 -- of these bytes, whatever is ahead of them then
 pub columns_give :
     {A B : Type 0} (fs : FieldTrees) (ms : Pairs) (is : IdTrees) (o : Endianness) (extra : ℕ) (t : Spot) (body : List ℕ)
     (projection : Option A) (limit : Option B) (r : Result (List AnyArray) Fault) → IsNone projection → IsNone limit
-    → GivesBatch (record { fields = fs; metadata = []; ids = is; order = o }) extra (record { source = body; base = 0; size = length body }) t projection limit r
+    → IfErr r (λ e. OwnFault e (IsBatchFault e)) → GivesBatch (record { fields = fs; metadata = []; ids = is; order = o }) extra (record { source = body; base = 0; size = length body }) t projection limit r
     → GivesColumns (record { schema = record { fields = fs; metadata = ms; ids = is; order = o }; extra = extra }) t body r
-columns_give fs ms is o extra t body projection limit r all some g = λ ys.
+columns_give fs ms is o extra t body projection limit r all some only g = λ ys.
     let h : Head = record { schema = record { fields = fs; metadata = ms; ids = is; order = o }; extra = extra } in
     let long : length body ≤ length (body ++ ys) = omega (arith, length-append body ys) in
     subst (λ (zs : List ℕ). GivesBody h (record { tag = 3; table = t; body = length body }) (body ++ ys) r zs) (drop_at body ys (length body) refl)
-    (record_gives fs ms is o extra t (length body) (body ++ ys) body projection limit r long (sym (take_at body ys (length body) refl)) all some g)
-
--- the bytes are the front of xs
-pub front_gives :
-    (h : Head) (t : Spot) (n : ℕ) (xs body : List ℕ) (r : Result (List AnyArray) Fault) → n ≤ length xs → body ≡ take n xs → GivesColumns h t body r
-    → GivesBody h (record { tag = 3; table = t; body = n }) xs r (drop n xs)
-front_gives h t n xs body r long e given =
-    let size : length body ≡ n = rw e (length-take-le n xs long) in
-    let all : body ++ drop n xs ≡ xs = rw e (take-append-drop n xs) in
-    subst (λ (zs : List ℕ). GivesBody h (record { tag = 3; table = t; body = n }) zs r (drop n xs)) all
-    (subst (λ (k : ℕ). GivesBody h (record { tag = 3; table = t; body = k }) (body ++ drop n xs) r (drop n xs)) size (given (drop n xs)))
+    (record_gives fs ms is o extra t (length body) (body ++ ys) body projection limit r long (sym (take_at body ys (length body) refl)) all some only g)
 
 -- ---- bodies that aren't there, and other messages
 
@@ -161,3 +169,27 @@ other_message h (headers.DictionaryBatch t) n xs no_dictionary no_record = absur
 other_message h (headers.RecordBatch t) n xs no_dictionary no_record = absurd (no_record t refl)
 other_message h (headers.Tensor t) n xs no_dictionary no_record = other_tag h (record { tag = 4; table = t; body = n }) xs refl refl
 other_message h (headers.SparseTensor t) n xs no_dictionary no_record = other_tag h (record { tag = 5; table = t; body = n }) xs refl refl
+
+-- ---- why they are refused
+
+no_batch : (tag : ℕ) → tag ≢ 2 → tag ≢ 3 → BlamesBody tag (Faults.OutOfSpec UnexpectedMessageType)
+no_batch tag no_dictionary no_record = record {
+  record_batch = λ q. absurd (no_record q);
+  dictionary_batch = λ q. absurd (no_dictionary q);
+  other = λ q r. refl;
+}
+
+pub other_blames : (header : MessageHeaderRef) → ((t : Spot) → header ≡ headers.DictionaryBatch t → ⊥) → ((t : Spot) → header ≡ headers.RecordBatch t → ⊥)
+    → BlamesBody (header_parts header).0 (Faults.OutOfSpec UnexpectedMessageType)
+other_blames (headers.Schema t) no_dictionary no_record = no_batch 1 (λ q. omega (arith, q)) (λ q. omega (arith, q))
+other_blames (headers.DictionaryBatch t) no_dictionary no_record = absurd (no_dictionary t refl)
+other_blames (headers.RecordBatch t) no_dictionary no_record = absurd (no_record t refl)
+other_blames (headers.Tensor t) no_dictionary no_record = no_batch 4 (λ q. omega (arith, q)) (λ q. omega (arith, q))
+other_blames (headers.SparseTensor t) no_dictionary no_record = no_batch 5 (λ q. omega (arith, q)) (λ q. omega (arith, q))
+
+pub dictionary_blames : (tag : ℕ) → tag ≡ 2 → BlamesBody tag (Faults.NotYetImplemented Pending)
+dictionary_blames tag e = record {
+  record_batch = λ q. absurd (omega (arith, e, q));
+  dictionary_batch = λ q. refl;
+  other = λ q r. absurd (q e);
+}

@@ -1,5 +1,11 @@
-pub mod Words
 pub mod Openings
+pub mod Sized
+pub mod Prefixes
 pub mod Steps
 pub mod Bodies
+pub mod BodyRuns
+pub mod Items
+pub mod MetadataRuns
+pub mod OfMemory
+pub mod Waiting
 pub mod Runs

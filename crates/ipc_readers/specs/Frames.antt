@@ -1,13 +1,14 @@
 -- What the reads of a frame give.
-use Rattle.std.specs.Prelude.{◌≡◌, ℕ, ◌<◌, ◌≤◌, List, [], length, take, drop, Option, None, Some, Result, Ok, Err}
+use Rattle.std.specs.Prelude.{◌≡◌, ℕ, ◌+◌, ◌^◌, ◌==◌, ◌<◌, ◌≤◌, nat_lt, if◌then◌else◌, List, [], ◌++◌, length, take, drop, Option, None, Some, Result, Ok, Err}
 use Rattle.ipc_devices.specs.Faults.{OwnFault}
+use Rattle.ipc_devices.specs.Gives.{Stop, going, ended, failed, stop_of, Gives, Gave}
 use Rattle.ipc_devices.specs.declared.fault.Fault.{Fault}
 use Rattle.ipc_devices.specs.declared.fault.Fault.TheVariants.{Ended, OutOfSpec}
 use Rattle.ipc_devices.specs.declared.fault.OutOfSpecKind.TheVariants.{NegativeFooterLength}
 use Rattle.ipc_readers.specs.declared.read.begun.Begun.{Begun}
 use Rattle.ipc_readers.specs.declared.read.begun.Frame as read
 use Rattle.ipc_readers.specs.declared.read.begun.Frame.TheVariants as frames
-use Rattle.ipc_model.specs.Frame.{Frame, message, mark, waiting, broken, word}
+use Rattle.ipc_model.specs.Frame.{Frame, message, mark, waiting, broken, word, frame, sized, marked}
 
 -- the bytes of a prefix that were read before
 abbrev pub begun_bytes : Begun → List ℕ
@@ -17,6 +18,10 @@ begun_bytes b = take b.count b.bytes
 abbrev pub GivesWord : List ℕ → Option ℕ → (begun rest : List ℕ) → Type 0
 GivesWord xs (Some n) begun rest = (4 ≤ length xs) × (n ≡ word xs) × (begun ≡ []) × (rest ≡ drop 4 xs)
 GivesWord xs None begun rest = (length xs < 4) × (begun ≡ xs)
+
+abbrev pub WordGiven : {E : Type 0} → List ℕ → Result (Option ℕ) E → (begun rest : List ℕ) → Type 0
+WordGiven xs (Ok w) begun rest = GivesWord xs w begun rest
+WordGiven xs (Err e) begun rest = Unit {0}
 
 -- What was read stood at the front: metadata is that of a message, begun is what is kept for a later
 -- call, and rest what is left. Where it waits the device may have more later.
@@ -35,3 +40,48 @@ abbrev pub IsFramingFault : Fault → Type 0
 IsFramingFault Ended = Unit {0}
 IsFramingFault (OutOfSpec NegativeFooterLength) = Unit {0}
 IsFramingFault _ = ⊥
+
+-- ---- how the device stopped
+
+abbrev pub word_stop : {E : Type 0} → Result (Option ℕ) E → Stop
+word_stop (Ok (Some n)) = going
+word_stop (Ok None) = ended
+word_stop (Err e) = failed
+
+abbrev pub frame_stop : Result read.Frame Fault → Stop
+frame_stop (Ok frames.Waiting) = ended
+frame_stop (Ok _) = going
+frame_stop (Err e) = stop_of e
+
+-- ---- how many bytes a frame has, as far as these say
+
+abbrev pub due_sized : ℕ → ℕ
+due_sized n = if nat_lt n (2 ^ 31) then n else 0
+
+unfoldable pub due_marked : List ℕ → ℕ
+due_marked bytes = if nat_lt (length bytes) 4 then 4 else 4 + due_sized (word bytes)
+
+unfoldable pub due : List ℕ → ℕ
+due bytes =
+    if nat_lt (length bytes) 4 then 4
+    else if word bytes == 0xFFFF_FFFF then 4 + due_marked (drop 4 bytes)
+    else 4 + due_sized (word bytes)
+
+-- ---- what a device gave
+
+-- Behind the begun bytes p, at most the rest of 4 bytes were given.
+abbrev pub WordGave : {S E : Type 0} → Gives S → (p : List ℕ) → S → Result (Option ℕ) E → (q : List ℕ) → S → Type 0
+WordGave gives p a r q b = Gave gives (λ xs. length (p ++ xs) ≤ 4) (λ all rest. WordGiven (p ++ all) r q rest) a (word_stop r) b
+
+-- At most so many bytes were given, a message of them or none.
+abbrev pub SizedGave : {S : Type 0} → Gives S → ℕ → S → Result read.Frame Fault → (metadata : List ℕ) → S → Type 0
+SizedGave gives n a r m b = Gave gives (λ xs. length xs ≤ due_sized n) (λ all rest. GivesFrame (sized n all) r m [] rest) a (frame_stop r) b
+
+-- the same behind the marker, and its begun bytes p
+abbrev pub MarkedGave : {S : Type 0} → Gives S → (p : List ℕ) → S → Result read.Frame Fault → (metadata q : List ℕ) → S → Type 0
+MarkedGave gives p a r m q b = Gave gives (λ xs. length (p ++ xs) ≤ due_marked (p ++ xs)) (λ all rest. GivesFrame (marked (p ++ all)) r m q rest) a (frame_stop r) b
+
+-- Behind the begun bytes p, at most the rest of a frame was given: the whole of it, where it is a message or the mark, and
+-- all that there is, which is kept, where it waits.
+abbrev pub FrameGave : {S : Type 0} → Gives S → (p : List ℕ) → S → Result read.Frame Fault → (metadata q : List ℕ) → S → Type 0
+FrameGave gives p a r m q b = Gave gives (λ xs. length (p ++ xs) ≤ due (p ++ xs)) (λ all rest. GivesFrame (frame (p ++ all)) r m q rest) a (frame_stop r) b

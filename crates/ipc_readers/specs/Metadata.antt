@@ -1,7 +1,8 @@
 -- What the schema message at the front of a stream says.
-use Rattle.std.specs.Prelude.{◌≡◌, ℕ, List, Option, Some, None, option_map, Result, Ok, Err}
+use Rattle.std.specs.Prelude.{◌≡◌, ◌≤◌, ℕ, length, List, Option, Some, None, option_map, Result, Ok, Err}
 use Rattle.std.specs.Result.{result_ok}
 use Rattle.ipc_devices.specs.Faults.{OwnFault}
+use Rattle.ipc_devices.specs.Gives.{AnswerStop, Gives, GaveTo}
 use Rattle.ipc_devices.specs.declared.fault.Fault.{Fault}
 use Rattle.ipc_devices.specs.declared.fault.Fault.TheVariants.{Ended, OutOfSpec, Schema as BadSchema}
 use Rattle.ipc_devices.specs.declared.fault.OutOfSpecKind.TheVariants.{InvalidFlatbufferVersion}
@@ -14,9 +15,9 @@ use Rattle.ipc_views.specs.Tables.{root_at}
 use Rattle.ipc_schema.specs.Views.{schema_seen}
 use Rattle.ipc_model.specs.Batches.{Schema}
 use Rattle.ipc_model.specs.Schemas.{given, schema_of}
-use Rattle.ipc_model.specs.Frame.{Frame, message, mark, waiting, broken}
+use Rattle.ipc_model.specs.Frame.{Frame, message, mark, waiting, broken, frame}
 use Rattle.ipc_readers.specs.declared.read.stream.metadata.StreamMetadata.{StreamMetadata}
-use Rattle.ipc_readers.specs.Frames.{IsFramingFault}
+use Rattle.ipc_readers.specs.Frames.{IsFramingFault, due}
 
 abbrev pub version_slot : Result MetadataVersion TableFault → Result MetadataVersion Fault
 version_slot (Ok v) = Ok v
@@ -49,3 +50,8 @@ GivesMetadata (mark behind) (Err e) rest = OwnFault e (e ≡ BadSchema NotASchem
 GivesMetadata (waiting begun) (Err e) rest = OwnFault e (e ≡ Ended)
 GivesMetadata broken (Err e) rest = OwnFault e (IsFramingFault e)
 GivesMetadata _ (Ok x) rest = ⊥
+
+-- Of a device, whatever it is, no more was given than one frame, and all of that where the answer is Ok. It is what
+-- GivesMetadata says of it, whatever follows.
+abbrev pub MetadataGave : {S : Type 0} → Gives S → S → Result StreamMetadata Fault → S → Type 0
+MetadataGave gives a r b = GaveTo gives (AnswerStop r) (λ xs. length xs ≤ due xs) (λ all rest. GivesMetadata (frame all) r rest) a b

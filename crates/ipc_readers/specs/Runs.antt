@@ -1,14 +1,15 @@
 -- Calls of `next`, one after the other, over bytes that are known.
 -- (Arrow columnar format, "IPC Streaming Format".)
-use Rattle.std.specs.Prelude.{◌≡◌, ◌≢◌, ℕ, List, [], ◌∷◌, length, Option, None, Some, Result, Ok, Err, Bool, false, IsTrue}
-use Rattle.ipc_devices.specs.Device.{Memory}
-use Rattle.ipc_devices.specs.Faults.{OwnFault}
+use Rattle.std.specs.Prelude.{◌≡◌, ◌≢◌, ℕ, ◌≤◌, List, [], ◌∷◌, ◌++◌, length, Option, None, Some, Result, Ok, Err, Bool, false, IsTrue}
+use Rattle.ipc_devices.specs.Device.{Memory, Rises}
+use Rattle.ipc_devices.specs.Faults.{OnIo, OwnFault}
+use Rattle.ipc_devices.specs.Gives.{ended, Counts, Gives}
 use Rattle.ipc_devices.specs.declared.fault.Fault.{Fault}
 use Rattle.ipc_model.specs.Batches.{Chunk}
 pub use Rattle.ipc_model.specs.CarriedStreams.{Behind, IsCarriedWithin}
 use Rattle.ipc_model.specs.Streams.{End, marked, waits, faulty, meaning, nothing_known}
 use Rattle.ipc_read.specs.Chunks.{chunk_seen}
-use Rattle.ipc_readers.specs.Streams.{NextStep, ahead, head_of, is_over, metadata_of}
+use Rattle.ipc_readers.specs.Streams.{NextStep, ahead, begun_of, device_of, head_of, is_over, metadata_of, next_result}
 use Rattle.ipc_readers.specs.declared.read.stream.reader.StreamReader.{StreamReader}
 use Rattle.ipc_readers.specs.declared.read.stream.reader.StreamState.{StreamState}
 use Rattle.ipc_readers.specs.declared.read.stream.reader.StreamState.TheVariants as states
@@ -18,10 +19,10 @@ abbrev pub Answer : Type 0
 Answer = Option (Result StreamState Fault)
 
 -- the answers of some calls, one after the other, from a reader on
-abbrev pub Calls : {R : Type 0} → Bool → (R → ℕ) → (R → Memory) → StreamReader R → List Answer → Type 0
-Calls known failures memory a [] = Unit {0}
-Calls {R} known failures memory a (r ∷ rs) =
-    (b : StreamReader R) × NextStep known failures memory a r b × Calls known failures memory b rs
+abbrev pub Calls : {R : Type 0} → Gives R → Bool → (R → Memory) → StreamReader R → List Answer → Type 0
+Calls gives known memory a [] = Unit {0}
+Calls {R} gives known memory a (r ∷ rs) =
+    (b : StreamReader R) × NextStep gives known memory a r b × Calls gives known memory b rs
 
 abbrev pub AreNone : List Answer → Type 0
 AreNone [] = Unit {0}
@@ -40,8 +41,26 @@ AreAnswers [] marked (None ∷ rs) = AreNone rs
 AreAnswers _ _ _ = ⊥
 
 -- A stream whose messages are carried, and which doesn't end in a fault, is read as what it means.
-abbrev pub ReadLaw : {R : Type 0} → Bool → (R → ℕ) → (R → Memory) → StreamReader R → Type 0
-ReadLaw known failures memory a = (rs : List Answer) (cs : List Chunk) (e : End) → IsTrue known → is_over a ≡ false
+abbrev pub ReadLaw : {R : Type 0} → Gives R → Bool → (R → Memory) → StreamReader R → Type 0
+ReadLaw gives known memory a = (rs : List Answer) (cs : List Chunk) (e : End) → IsTrue known → is_over a ≡ false
     → e ≢ faulty → meaning (head_of (metadata_of a)) nothing_known (ahead memory a) ≡ record { chunks = cs; end = e }
-    → IsCarriedWithin (head_of (metadata_of a)) (length rs) nothing_known (ahead memory a) → Calls known failures memory a rs
+    → IsCarriedWithin (head_of (metadata_of a)) (length rs) nothing_known (ahead memory a) → Calls gives known memory a rs
     → AreAnswers cs e rs
+
+-- ---- calls of any device
+
+-- What the device gave before it had no more stands begun, behind what stood there: nothing is lost.
+pub record Waits {R : Type 0} (gives : Gives R) (given : R → ℕ) (a b : StreamReader R) : Type 0 where
+  pub bytes : List ℕ
+  pub gave : gives (device_of a) bytes ended (device_of b)
+  pub kept : begun_of b ≡ begun_of a ++ bytes
+  pub counted : Counts (given (device_of a)) (length bytes) (given (device_of b))
+
+abbrev pub WaitsLaw : {R : Type 0} → Gives R → Bool → (R → Memory) → (R → ℕ) → StreamReader R → Type 0
+WaitsLaw {R} gives known memory given a = (b : StreamReader R) → is_over a ≡ false → NextStep gives known memory a (Some (Ok states.Waiting)) b
+    → Waits gives given a b
+
+-- Where a fault is a device's, a call of it failed; and the count of those never falls.
+abbrev pub FailsLaw : {R : Type 0} → Gives R → Bool → (R → Memory) → (R → ℕ) → StreamReader R → Type 0
+FailsLaw {R} gives known memory failures a = (r : Answer) (b : StreamReader R) → NextStep gives known memory a r b
+    → OnIo (next_result r) (Rises (failures (device_of a)) (failures (device_of b))) × (failures (device_of a) ≤ failures (device_of b))

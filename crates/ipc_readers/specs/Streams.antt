@@ -1,18 +1,25 @@
 -- What the calls of a stream's reader do.
 -- (Arrow columnar format, "IPC Streaming Format".)
-use Rattle.std.specs.Prelude.{◌≡◌, ℕ, ◌≤◌, List, [], ◌∷◌, ◌++◌, length, Option, None, Some, Result, Ok, Err, IfErr, Bool, true, false, IsTrue}
+use Rattle.std.specs.Prelude.{◌≡◌, ◌≢◌, ◌⊎◌, ℕ, ◌≤◌, List, [], ◌∷◌, ◌++◌, length, Option, None, Some, Result, Ok, Err, IfErr, Bool, true, false, IsTrue}
 use Rattle.lower.specs.TypeViews.{fields_view, pairs_of}
 use Rattle.lower_arrays.specs.declared.array.AnyArray.{AnyArray}
 use Rattle.ipc_base.specs.IdTrees.{all_ids_view}
-use Rattle.ipc_devices.specs.Device.{Memory, after, Rises}
-use Rattle.ipc_devices.specs.Faults.{OnIo, OwnFault}
+use Rattle.ipc_devices.specs.Device.{Memory, after}
+use Rattle.ipc_devices.specs.Faults.{OwnFault}
+use Rattle.ipc_devices.specs.Gives.{Stop, going, ended, FaultStop, AnswerStop, Gives, GaveTo}
 use Rattle.ipc_devices.specs.declared.fault.Fault.{Fault}
+use Rattle.ipc_devices.specs.declared.fault.Fault.TheVariants.{NotYetImplemented, OutOfSpec}
+use Rattle.ipc_devices.specs.declared.fault.Nyi.TheVariants.{Pending}
+use Rattle.ipc_devices.specs.declared.fault.OutOfSpecKind.TheVariants.{UnexpectedMessageType}
 use Rattle.ipc_views.specs.Spot.{Spot}
 use Rattle.ipc_model.specs.Batches.{extra_of}
-use Rattle.ipc_model.specs.Streams.{Head, Header, more, done, faulty, body_item, item, marked, with_chunks, meaning, nothing_known, waits}
+use Rattle.ipc_model.specs.Frame.{Frame, broken, frame, message, mark}
+use Rattle.ipc_model.specs.Streams.{Head, Header, header_of, more, done, faulty, body_item, item, marked, with_chunks, meaning, nothing_known, waits}
 pub use Rattle.ipc_model.specs.CarriedStreams.{IsCarriedMessage, IsCarriedHeader, IsCarriedFrame, IsCarriedFront}
 use Rattle.ipc_read.specs.Chunks.{chunk_seen, order_of}
-use Rattle.ipc_readers.specs.Frames.{begun_bytes}
+use Rattle.ipc_read.specs.Refusals.{IsBatchFault}
+use Rattle.ipc_readers.specs.Frames.{IsFramingFault, begun_bytes, due}
+use Rattle.ipc_readers.specs.Messages.{opened}
 use Rattle.ipc_readers.specs.Refusals.{IsStreamFault}
 use Rattle.ipc_readers.specs.declared.read.stream.metadata.StreamMetadata.{StreamMetadata}
 use Rattle.ipc_readers.specs.declared.read.stream.reader.StreamReader.{StreamReader}
@@ -66,26 +73,63 @@ head_of m = record {
 
 -- ---- one message
 
+-- Which faults of the input's a message with a header of this tag can have, if its header is well made.
+pub record BlamesBody (tag : ℕ) (e : Fault) : Type 0 where
+  pub record_batch : tag ≡ 3 → IsBatchFault e
+  pub dictionary_batch : tag ≡ 2 → e ≡ NotYetImplemented Pending
+  pub other : tag ≢ 2 → tag ≢ 3 → e ≡ OutOfSpec UnexpectedMessageType
+
+abbrev pub BlamesOpened : Result Header Fault → Fault → Type 0
+BlamesOpened (Ok m) e = BlamesBody m.tag e
+BlamesOpened (Err f) e = e ≡ f
+
+-- Which fault of the input's what stands at the front has: that of the frame, that of its metadata, or one of its kind.
+abbrev pub BlamesFront : Frame → Fault → Type 0
+BlamesFront (message metadata behind) e = BlamesOpened (opened metadata) e
+BlamesFront broken e = IsFramingFault e
+BlamesFront _ e = ⊥
+
 -- The body of a message was read of xs, which leaves ys: its chunk is what the record batch means. A fault of the
--- input's says that it means none, or isn't carried.
+-- input's says that it means none, or isn't carried, and is one of its kind.
 abbrev pub GivesBody : Head → Header → List ℕ → Result (List AnyArray) Fault → List ℕ → Type 0
 GivesBody h m xs (Ok chunk) ys = (body_item h nothing_known m xs ≡ more (Some (chunk_seen chunk)) nothing_known ys)
     × IsCarriedMessage h.schema m
-GivesBody h m xs (Err e) ys = OwnFault e (IsCarriedMessage h.schema m
-    → body_item h nothing_known m xs ≡ done faulty)
+GivesBody h m xs (Err e) ys = OwnFault e ((IsCarriedMessage h.schema m → body_item h nothing_known m xs ≡ done faulty) × BlamesBody m.tag e)
 
 -- Of these bytes the columns of a record batch were read, as the message gives them whose body they are, whatever is ahead
 -- of it then.
 abbrev pub GivesColumns : Head → Spot → List ℕ → Result (List AnyArray) Fault → Type 0
 GivesColumns h t body r = (ys : List ℕ) → GivesBody h (record { tag = 3; table = t; body = length body }) (body ++ ys) r ys
 
--- What was read is what stands at the front of xs, for a schema h. begun is what is kept then, and ys what is ahead.
+-- What was read is what stands at the front of xs, for a schema h. begun is what is kept then, and ys what is ahead: behind
+-- the mark all that follows it, which another can read.
 abbrev pub GivesItem : Head → List ℕ → Result (Option StreamState) Fault → (begun ys : List ℕ) → Type 0
 GivesItem h xs (Ok (Some (states.Some chunk))) begun ys =
     (item h nothing_known xs ≡ more (Some (chunk_seen chunk)) nothing_known ys) × IsCarriedFront h xs
 GivesItem h xs (Ok (Some states.Waiting)) begun ys = item h nothing_known xs ≡ done (waits nothing_known begun)
-GivesItem h xs (Ok None) begun ys = item h nothing_known xs ≡ done marked
-GivesItem h xs (Err e) begun ys = OwnFault e (IsCarriedFront h xs → item h nothing_known xs ≡ done faulty)
+GivesItem h xs (Ok None) begun ys = (item h nothing_known xs ≡ done marked) × (frame xs ≡ mark ys)
+GivesItem h xs (Err e) begun ys = OwnFault e ((IsCarriedFront h xs → item h nothing_known xs ≡ done faulty) × BlamesFront (frame xs) e)
+
+-- ---- what a device gave
+
+-- The bytes of a body were given, or the first of them.
+abbrev pub BodyGave : {S : Type 0} → Gives S → Head → Header → S → Result (List AnyArray) Fault → S → Type 0
+BodyGave gives h m a r b = GaveTo gives (AnswerStop r) (λ xs. length xs ≤ m.body) (λ all rest. GivesBody h m all r rest) a b
+
+-- It waits exactly where the device gave no more.
+abbrev pub ItemStop : Result (Option StreamState) Fault → Stop → Type 0
+ItemStop (Ok (Some states.Waiting)) s = s ≡ ended
+ItemStop (Ok _) s = s ≡ going
+ItemStop (Err e) s = FaultStop e s
+
+-- no more than the first message
+pub record IsWithinMessage (bytes : List ℕ) : Type 0 where
+  pub within : (length bytes ≤ due bytes) ⊎
+      ((m : List ℕ) × (rest : List ℕ) × (h : Header) × (frame bytes ≡ message m rest) × (header_of m ≡ Some h) × (length rest ≤ h.body))
+
+-- Behind the begun bytes p, no more was given than the rest of a message. It is what GivesItem says of it, whatever follows.
+abbrev pub ItemGave : {S : Type 0} → Gives S → Head → (p : List ℕ) → S → Result (Option StreamState) Fault → (q : List ℕ) → S → Type 0
+ItemGave gives h p a r q b = GaveTo gives (ItemStop r) (λ xs. IsWithinMessage (p ++ xs)) (λ all rest. GivesItem h (p ++ all) r q (q ++ rest)) a b
 
 -- ---- calls of `next`
 
@@ -118,14 +162,13 @@ ends None = true
 ends (Some (Ok x)) = false
 ends (Some (Err e)) = true
 
--- What a call of `next` gives, and what stands then.
-pub record NextStep {R : Type 0} (known : Bool) (failures : R → ℕ) (memory : R → Memory) (a : StreamReader R) (r : Option (Result StreamState Fault)) (b : StreamReader R) : Type 0 where
-  pub monotone : failures (device_of a) ≤ failures (device_of b)
-  pub failed : OnIo (next_result r) (Rises (failures (device_of a)) (failures (device_of b)))
+-- What a call of `next` takes and answers, and what stands then. Where nothing comes any more, the device isn't asked.
+pub record NextStep {R : Type 0} (gives : Gives R) (known : Bool) (memory : R → Memory) (a : StreamReader R) (r : Option (Result StreamState Fault)) (b : StreamReader R) : Type 0 where
   pub only : IfErr (next_result r) (λ e. OwnFault e (IsStreamFault e))
   pub described : metadata_of b ≡ metadata_of a
-  pub over : is_over a ≡ true → (r ≡ None) × (is_over b ≡ true)
+  pub over : is_over a ≡ true → (r ≡ None) × (is_over b ≡ true) × (device_of b ≡ device_of a)
   pub finished : is_over a ≡ false → is_over b ≡ ends r
+  pub gave : is_over a ≡ false → ItemGave gives (head_of (metadata_of a)) (begun_of a) (device_of a) (next_result r) (begun_of b) (device_of b)
   pub front : IsTrue known → is_over a ≡ false
       → GivesItem (head_of (metadata_of a)) (ahead memory a) (next_result r) (begun_of b) (ahead memory b)
   pub next : IsTrue known → is_over a ≡ false

@@ -8,7 +8,8 @@ use Rattle.ipc_base.specs.IdTrees.{ipc_schema_view}
 use Rattle.std.specs.Borrow.{Bor}
 use Rattle.ipc_devices.specs.Device.{Memory, after, before}
 use Rattle.ipc_devices.specs.declared.memory.MemFile.{MemFile}
-use Rattle.ipc_devices.specs.Faults.{OwnFault}
+use Rattle.ipc_devices.specs.Faults.{OnIo, OwnFault}
+use Rattle.ipc_devices.specs.Gives.{Gives, MemoryGives}
 use Rattle.ipc_devices.specs.declared.fault.Fault.{Fault}
 use Rattle.ipc_devices.specs.declared.fault.Fault.TheVariants as faults
 use Rattle.ipc_devices.specs.declared.fault.StateFault.TheVariants.{NotStarted, Failed as StateFailed}
@@ -26,12 +27,13 @@ use Rattle.ipc_model.specs.Schemas.{head_of as head_at}
 use Rattle.ipc_model.specs.Streams.{End, Head, marked, waits, faulty, Known, Meant, meaning, nothing_known}
 use Rattle.ipc_model.specs.WholeStreams.{Stream, stream_from, stream_of}
 use Rattle.ipc_read.specs.Chunks.{order_of}
-use Rattle.ipc_readers.specs.Metadata.{GivesMetadata, MetadataSeen, metadata_at, metadata_seen, table_version, version_at, version_slot}
+use Rattle.ipc_readers.specs.Metadata.{GivesMetadata, MetadataGave, MetadataSeen, metadata_at, metadata_seen, table_version, version_at, version_slot}
 use Rattle.ipc_readers.proofs.Bodies.{claims_through}
+use Rattle.ipc_readers.proofs.OfMemory.{metadata_ahead, metadata_fails, no_failure}
 use Rattle.ipc_readers.specs.Streams.{Begins, ahead, device_of, head_of, metadata_of}
 use Rattle.ipc_readers.specs.declared.read.stream.metadata.StreamMetadata.{StreamMetadata}
 use Rattle.ipc_readers.specs.declared.read.stream.reader.StreamReader.{StreamReader}
-use Rattle.ipc_round_trip.specs.Reading.{EndsAs, IsReadable, RefusesAhead, meant_ahead}
+use Rattle.ipc_round_trip.specs.Reading.{EndsAs, IsReadable, RefusesAhead, RefusesStream, meant_ahead}
 use Rattle.ipc_write.specs.Agreement.{Agrees, IsClosed, Remains, StreamIs}
 use Rattle.ipc_model.specs.WriterStates.{IsRun}
 use Rattle.ipc_write.specs.Calls.{AreMade, ended_as, state_seen}
@@ -126,6 +128,30 @@ unreadable bytes xs rest e same h =
 -- bytes in memory, from the place on that was reached
 abbrev pub slice_memory : MemFile (Bor (List ℕ)) → Memory
 slice_memory f = record { whole = f.inner.now; place = f.position }
+
+-- what its reads give
+abbrev pub slice_gives : Gives (MemFile (Bor (List ℕ)))
+slice_gives a xs e b = MemoryGives (slice_memory a) a.given xs e (slice_memory b) b.given
+
+pub slice_metadata : (r : Result StreamMetadata Fault) (a b : MemFile (Bor (List ℕ))) → MetadataGave slice_gives a r b
+    → GivesMetadata (frame (after (slice_memory a))) r (after (slice_memory b))
+slice_metadata r a b g = metadata_ahead slice_gives true slice_memory (λ a xs e b k g. g.takes) refl r a b g
+
+-- over memory no device's fault comes
+pub refuses_stream : (e : Fault) (P : Type 0) → OnIo {X = WholeStream} (Err e) ⊥ → OwnFault e P → RefusesStream e P
+refuses_stream faults.Memory P own h = tt
+refuses_stream (faults.Io e) P own h = own
+refuses_stream (faults.OutOfSpec k) P own h = h
+refuses_stream faults.Ended P own h = h
+refuses_stream (faults.NotYetImplemented n) P own h = h
+refuses_stream (faults.Schema s) P own h = h
+refuses_stream (faults.Argument a) P own h = h
+refuses_stream (faults.State s) P own h = h
+refuses_stream faults.TooManyDictionaries P own h = h
+refuses_stream (faults.Lower e) P own h = h
+
+pub slice_metadata_own : (Y : Type 0) (e : Fault) (a b : MemFile (Bor (List ℕ))) → MetadataGave slice_gives a (Err e) b → OnIo {X = Y} (Err e) ⊥
+slice_metadata_own Y e a b g = no_failure StreamMetadata Y e (metadata_fails slice_gives (λ f. 0) (λ a xs e b g. g.succeeds) (Err e) a b g)
 
 pub head_same : (a b : StreamMetadata) → schema_view a.schema ≡ schema_view b.schema → a.version ≡ b.version → ipc_schema_view a.ipc_schema ≡ ipc_schema_view b.ipc_schema
     → head_of a ≡ head_of b
@@ -265,11 +291,8 @@ refused_end a b fs es calls answers _ new empty made h = absurd h
 
 -- ---- what is never refused
 
-no_own_fault : (fs : FieldTrees) (es : Pairs) (calls : List StreamCall) (e : Fault) → OwnFault e ⊥ → RefusesRoundTrip fs es calls e
-no_own_fault fs es calls faults.Memory h = tt
-no_own_fault fs es calls (faults.Io x) h = tt
-no_own_fault fs es calls _ h = absurd h
-
 -- a stream that can be read is refused for want of memory, and for nothing else
-pub never_refused : (fs : FieldTrees) (es : Pairs) (calls : List StreamCall) (bytes : List ℕ) (e : Fault) → IsReadable bytes → OwnFault e (¬ (IsReadable bytes)) → RefusesRoundTrip fs es calls e
-never_refused fs es calls bytes e readable h = no_own_fault fs es calls e (claims_through e _ _ (λ no. no readable) h)
+pub never_refused : (fs : FieldTrees) (es : Pairs) (calls : List StreamCall) (bytes : List ℕ) (e : Fault) → IsReadable bytes → RefusesStream e (¬ (IsReadable bytes)) → RefusesRoundTrip fs es calls e
+never_refused fs es calls bytes faults.Memory readable h = tt
+never_refused fs es calls bytes (faults.Io e) readable h = absurd h
+never_refused fs es calls bytes _ readable h = absurd (h readable)

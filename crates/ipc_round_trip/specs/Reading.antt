@@ -1,16 +1,18 @@
 -- What is read of a whole stream.
 -- (Arrow columnar format, "IPC Streaming Format".)
-use Rattle.std.specs.Prelude.{◌≡◌, ◌≢◌, ℕ, List, [], map, Bool, true, false, IsTrue, Some, Result, Ok, Err}
-use Rattle.ipc_devices.specs.Device.{Memory}
-use Rattle.ipc_devices.specs.Faults.{OwnFault}
+use Rattle.std.specs.Prelude.{◌≡◌, ◌≢◌, ℕ, ◌≤◌, List, [], map, Bool, true, false, IsTrue, Some, Result, Ok, Err}
+use Rattle.ipc_devices.specs.Device as devices
+use Rattle.ipc_devices.specs.Device.{Rises}
+use Rattle.ipc_devices.specs.Faults.{OnIo, OwnFault}
 use Rattle.ipc_devices.specs.declared.fault.Fault.{Fault}
+use Rattle.ipc_devices.specs.declared.fault.Fault.TheVariants.{Io, Memory}
 use Rattle.lower_arrays.specs.declared.array.AnyArray.{AnyArray}
 use Rattle.ipc_model.specs.Batches.{Chunk}
 use Rattle.ipc_model.specs.CarriedStreams.{IsCarriedOn, IsCarriedStream}
 use Rattle.ipc_model.specs.Streams.{Head, End, marked, waits, faulty, Meant, meaning, nothing_known, with_chunks}
 use Rattle.ipc_model.specs.WholeStreams.{stream_of}
 use Rattle.ipc_read.specs.Chunks.{chunk_seen}
-use Rattle.ipc_readers.specs.Streams.{ahead, head_of, is_over, metadata_of}
+use Rattle.ipc_readers.specs.Streams.{ahead, device_of, head_of, is_over, metadata_of}
 use Rattle.ipc_readers.specs.declared.read.stream.reader.StreamReader.{StreamReader}
 use Rattle.ipc_round_trip.specs.declared.read.WholeStream.{WholeStream}
 
@@ -19,7 +21,7 @@ abbrev pub chunks_seen : List (List AnyArray) → List Chunk
 chunks_seen xs = map chunk_seen xs
 
 -- what is ahead of a reader
-abbrev pub meant_ahead : {R : Type 0} → (R → Memory) → StreamReader R → Meant
+abbrev pub meant_ahead : {R : Type 0} → (R → devices.Memory) → StreamReader R → Meant
 meant_ahead memory r = meaning (head_of (metadata_of r)) nothing_known (ahead memory r)
 
 -- a stream ends by its mark, or it waits for more
@@ -33,27 +35,29 @@ abbrev pub EndsNow : Bool → Meant → Type 0
 EndsNow over m = (m.chunks ≡ []) × EndsAs over m.end
 
 -- what is ahead of a reader is carried
-abbrev pub IsCarriedAhead : {R : Type 0} → (R → Memory) → StreamReader R → Type 0
+abbrev pub IsCarriedAhead : {R : Type 0} → (R → devices.Memory) → StreamReader R → Type 0
 IsCarriedAhead memory r = IsCarriedOn (head_of (metadata_of r)) nothing_known (ahead memory r)
 
 -- a fault of the input's: what is ahead ends in a fault, or isn't carried
-abbrev pub RefusesAhead : {R : Type 0} → (R → Memory) → StreamReader R → Fault → Type 0
+abbrev pub RefusesAhead : {R : Type 0} → (R → devices.Memory) → StreamReader R → Fault → Type 0
 RefusesAhead memory r e = OwnFault e (IsCarriedAhead memory r → (meant_ahead memory r).end ≡ faulty)
 
 -- What was read so far, and what is ahead, is what it was before. Without a chunk more the stream ends, or waits.
-abbrev pub GivesPush : {R : Type 0} → (R → Memory) → StreamReader R → List (List AnyArray) → Result Bool Fault → StreamReader R → List (List AnyArray) → Type 0
+abbrev pub GivesPush : {R : Type 0} → (R → devices.Memory) → StreamReader R → List (List AnyArray) → Result Bool Fault → StreamReader R → List (List AnyArray) → Type 0
 GivesPush memory a xs (Ok true) b ys = (is_over b ≡ false)
     × (with_chunks (chunks_seen xs) (meant_ahead memory a) ≡ with_chunks (chunks_seen ys) (meant_ahead memory b))
     × (IsCarriedAhead memory a → IsCarriedAhead memory b)
 GivesPush memory a xs (Ok false) b ys = (ys ≡ xs) × EndsNow (is_over b) (meant_ahead memory a)
 GivesPush memory a xs (Err e) b ys = RefusesAhead memory a e
 
-pub record PushesNext {R : Type 0} (known : Bool) (memory : R → Memory) (a : StreamReader R) (xs : List (List AnyArray)) (r : Result Bool Fault) (b : StreamReader R) (ys : List (List AnyArray)) : Type 0 where
+pub record PushesNext {R : Type 0} (known : Bool) (failures : R → ℕ) (memory : R → devices.Memory) (a : StreamReader R) (xs : List (List AnyArray)) (r : Result Bool Fault) (b : StreamReader R) (ys : List (List AnyArray)) : Type 0 where
   pub described : metadata_of b ≡ metadata_of a
   pub push : IsTrue known → is_over a ≡ false → GivesPush memory a xs r b ys
+  pub failed : OnIo r (Rises (failures (device_of a)) (failures (device_of b)))
+  pub monotone : failures (device_of a) ≤ failures (device_of b)
 
 -- All chunks were read up to where the stream ends, or waits.
-pub record GivesAll {R : Type 0} (memory : R → Memory) (a : StreamReader R) (xs : List (List AnyArray)) (b : StreamReader R) : Type 0 where
+pub record GivesAll {R : Type 0} (memory : R → devices.Memory) (a : StreamReader R) (xs : List (List AnyArray)) (b : StreamReader R) : Type 0 where
   pub chunks : (meant_ahead memory a).chunks ≡ chunks_seen xs
   pub end : EndsAs (is_over b) (meant_ahead memory a).end
 
@@ -74,7 +78,13 @@ pub record IsReadable (bytes : List ℕ) : Type 0 where
   pub sound : meant.end ≢ faulty
   pub carried : IsCarriedStream bytes head
 
+-- Memory was refused, or a fault of the input's: then P holds. A device's fault never comes.
+abbrev pub RefusesStream : Fault → Type 0 → Type 0
+RefusesStream Memory P = Unit {0}
+RefusesStream (Io e) P = ⊥
+RefusesStream _ P = P
+
 -- All of a stream was read, or, memory aside, it can't be read.
 abbrev pub ReadsStream : List ℕ → Result WholeStream Fault → Type 0
 ReadsStream bytes (Ok s) = IsWhole bytes s
-ReadsStream bytes (Err e) = OwnFault e (¬ (IsReadable bytes))
+ReadsStream bytes (Err e) = RefusesStream e (¬ (IsReadable bytes))

@@ -1,6 +1,8 @@
 //! Reads whole streams.
-ghost use Rattle.std.specs.Prelude.{◌≡◌, ◌<◌, false, IsTrue, IfErr, IfOk, vec_len};
-ghost use Rattle.ipc_readers.specs.Streams.{is_over, metadata_of};
+ghost use Rattle.std.specs.Prelude.{◌≡◌, ◌<◌, ◌≤◌, false, IsTrue, IfErr, IfOk, vec_len};
+ghost use Rattle.ipc_devices.specs.Device.{Rises};
+ghost use Rattle.ipc_devices.specs.Faults.{OnIo};
+ghost use Rattle.ipc_readers.specs.Streams.{device_of, is_over, metadata_of};
 ghost use Rattle.ipc_round_trip.specs.Reading.{GivesAll, PushesNext, ReadsStream, RefusesAhead};
 
 use ipc_base::chunk::Chunk;
@@ -26,7 +28,7 @@ fn push_next<R: Reads + Drop>(
     chunks: &mut Vec<Chunk<AnyArray>>,
 ) -> Result<bool, Fault>
     ensures more { IfOk result (λ b. IsTrue b → vec_len chunks.old < vec_len chunks.new) }
-    ensures memory { PushesNext R.known R.memory reader.old chunks.old.items result reader.new chunks.new.items }
+    ensures memory { PushesNext R.known R.failures R.memory reader.old chunks.old.items result reader.new chunks.new.items }
 {
     match reader.next() {
         Some(Ok(StreamState::Some(chunk))) => {
@@ -44,6 +46,8 @@ fn read_chunks<R: Reads + Drop>(
     reader: &mut StreamReader<R>,
 ) -> Result<Vec<Chunk<AnyArray>>, Fault>
     ensures described { metadata_of reader.new ≡ metadata_of reader.old }
+    ensures monotone { R.failures (device_of reader.old) ≤ R.failures (device_of reader.new) }
+    ensures failed { OnIo result (Rises (R.failures (device_of reader.old)) (R.failures (device_of reader.new))) }
     ensures memory { IsTrue R.known → is_over reader.old ≡ false
         → IfOk result (λ chunks. GivesAll R.memory reader.old chunks.items reader.new) }
     ensures refused { IsTrue R.known → is_over reader.old ≡ false → IfErr result (RefusesAhead R.memory reader.old) }
@@ -56,7 +60,7 @@ fn read_chunks<R: Reads + Drop>(
 /// Reads a stream to its mark, or to where it waits for more.
 ///
 /// Faults: those of [`read_stream_metadata`] and of the calls of [`StreamReader`], each of which but `Memory`
-/// says that the bytes mean no stream, or one that ends in a fault, or one that is not carried.
+/// says that the bytes mean no stream, or one that ends in a fault, or one that is not carried. `Io` never comes.
 pub fn read_stream(alloc: Global, bytes: &[u8]) -> Result<WholeStream, Fault>
     ensures { ReadsStream bytes.now result }
 {

@@ -2,6 +2,7 @@
 ghost use Rattle.std.specs.Prelude.{◌≡◌, ◌+◌, ◌*◌, ◌<◌, ◌≤◌, ◌^◌, ◌↔◌, length, take, drop, vec_len, IsTrue, IfOk, IfErr, IfSome, IsNone, MatchBool, ℕ, pos, List, [], ◌∷◌, refl};
 ghost use Rattle.ipc_devices.specs.Device.{Rises, after};
 ghost use Rattle.ipc_devices.specs.Faults.{OnIo, OwnFault, Answers};
+ghost use Rattle.ipc_devices.specs.Gives.{going};
 ghost use Rattle.ipc_devices.specs.declared.fault.Fault.TheVariants.{Ended, OutOfSpec};
 ghost use Rattle.ipc_devices.specs.declared.fault.OutOfSpecKind.TheVariants.{NegativeFooterLength};
 ghost use Rattle.lower_types.specs.Numbers.{values_of, unsigned_in};
@@ -73,7 +74,7 @@ pub fn read_numbers<T: NativeType, R: Reads>(
     }
 }
 
-// The next `count` numbers, where the device shows their bytes. None where it doesn't, and nothing is read then.
+// The next `count` numbers, where the device shows their bytes. None where it doesn't, and nothing is given then.
 fn take_shown<T: NativeType, R: Reads>(
     alloc: Global,
     reader: &mut R,
@@ -85,7 +86,8 @@ fn take_shown<T: NativeType, R: Reads>(
     ensures monotone { R.failures reader.old ≤ R.failures reader.new }
     ensures failed { OnIo result (Rises (R.failures reader.old) (R.failures reader.new)) }
     ensures given { R.given reader.new ≤ R.given reader.old + T.width * count }
-    ensures none { IfOk result (λ r. IsNone r → reader.new ≡ reader.old) }
+    ensures none { IfOk result (λ r. IsNone r → R.gives reader.old [] going reader.new) }
+    ensures idle { IfOk result (λ r. IsNone r → R.given reader.new ≤ R.given reader.old) }
     ensures memory { IsTrue R.known → IfOk result (λ r. IfSome r (λ v.
         (T.width * count ≤ length (after (R.memory reader.old)))
         × (v.items ≡ values_of (T.value order) T.width (take (T.width * count) (after (R.memory reader.old)))))) }
@@ -94,12 +96,14 @@ fn take_shown<T: NativeType, R: Reads>(
     let Some(length) = count.checked_mul(T::width()) else {
         return Ok(None);
     };
-    let Some(bytes) = reader.ahead(length) else {
+    let mut numbers = Vec::new(alloc);
+    let Some(bytes) = reader.pass(length) else {
+        let _given = reader.given();
         return Ok(None);
     };
-    let mut numbers = Vec::new(alloc);
-    T::append(&mut numbers, bytes, order)?;
-    reader.skip(length)?;
+    let appended = T::append(&mut numbers, bytes, order);
+    let _given = reader.given();
+    appended?;
     Ok(Some(numbers))
 }
 

@@ -2,7 +2,7 @@
 //! `{"answers": [..], "bytes": HEX}`: what each answers, and the bytes behind them. A device is a file in memory, `"memory"`, the same through a borrow, `"lent"`, or
 //! one of the standard library, `"watched"`; to a `"vector"` can only be written.
 //!
-//! A call is `{"read": 2}` or `{"ahead": 2}`, which answer bytes, where `ahead` answers null if it shows none; `{"skip": 2}`, `{"seek": 2}`,
+//! A call is `{"read": 2}` or `{"pass": 2}`, which answer bytes, where `pass` answers null if it shows none; `{"skip": 2}`, `{"seek": 2}`,
 //! `"flush"`, which answer `"ok"`; `{"write": BYTES}`, `"end"`, `"position"`, `"given"`, `"failures"`, which answer a number.
 
 use crate::bytes::bytes;
@@ -129,8 +129,8 @@ fn put_move<D: Reads + Writes + Seeks>(
         out.put("\"ok\"");
         return Ok(());
     }
-    if let Some(wanted) = call.get("ahead") {
-        match device.ahead(count(Some(wanted), "ahead")?) {
+    if let Some(wanted) = call.get("pass") {
+        match device.pass(count(Some(wanted), "pass")?) {
             Some(bytes) => out.hex(bytes),
             None => out.put("null"),
         }

@@ -1,10 +1,12 @@
 use Rattle.std.proofs.Common.{length, ◌-◌, ◌+◌, ◌≡◌, ◌≤◌, ◌++◌, IsTrue}
 use Rattle.ipc_devices.specs.Device.{after}
+use Rattle.ipc_devices.specs.Gives.{going}
 use Rattle.ipc_devices.proofs.reading.read_into.Given as goal
 
 abbrev pub invariant-loop-bytes : goal.invariant-loop-bytes
 invariant-loop-bytes g l = record {
   inside : length l.bytes.items ≤ l.count;
+  gave : g.R.Reads.gives l.fn.reader l.bytes.items going l.reader;
   monotone : g.R.Failures.failures l.fn.reader ≤ g.R.Failures.failures l.reader;
   given : g.R.Failures.given l.reader ≤ g.R.Failures.given l.fn.reader + length l.bytes.items;
   whole : IsTrue g.R.Failures.still → (g.R.Failures.memory l.reader).whole ≡ (g.R.Failures.memory l.fn.reader).whole;

@@ -1,12 +1,10 @@
 //! The schema at the front of a stream.
-ghost use Rattle.std.specs.Prelude.{◌≡◌, ◌≤◌, IsTrue, IfOk};
-ghost use Rattle.ipc_devices.specs.Device.{Rises, after};
+ghost use Rattle.std.specs.Prelude.{◌≡◌, IfOk};
 ghost use Rattle.ipc_devices.specs.Faults.{OnIo};
 ghost use Rattle.lower.specs.TypeViews.{fields_view, schema_view};
 ghost use Rattle.ipc_base.specs.Fitting.{AllFit};
 ghost use Rattle.ipc_base.specs.IdTrees.{all_ids_view, ipc_schema_view};
-ghost use Rattle.ipc_model.specs.Frame.{frame};
-ghost use Rattle.ipc_readers.specs.Metadata.{version_at, GivesMetadata};
+ghost use Rattle.ipc_readers.specs.Metadata.{version_at, MetadataGave};
 
 use crate::read::begun::{Begun, Frame};
 use crate::read::frame::read_frame;
@@ -61,8 +59,9 @@ fn version_of(message: &[u8]) -> Result<MetadataVersion, Fault>
     }
 }
 
-/// Reads the schema message at the front of a stream. What follows it is the next to read. The ids
-/// that it answers have the shape of the fields.
+/// Reads the schema message at the front of a stream. What follows it is the next to read: of a device, whatever it is,
+/// exactly its frame is taken, or the first bytes of that before a fault. The ids that it answers have the shape of the
+/// fields.
 ///
 /// Faults: those of [`read_frame`] and [`deserialize_schema`]; `Ended` where the input ends inside of
 /// the message, or before it; `Schema(NotASchema)` where the mark stands in its place;
@@ -72,14 +71,9 @@ pub fn read_stream_metadata<R: Reads>(
     alloc: Global,
     reader: &mut R,
 ) -> Result<StreamMetadata, Fault>
-    ensures monotone { R.failures reader.old ≤ R.failures reader.new }
-    ensures failed { OnIo result (Rises (R.failures reader.old) (R.failures reader.new)) }
+    ensures gives { MetadataGave R.gives reader.old result reader.new }
     ensures fits { IfOk result (λ m. AllFit (fields_view m.schema.fields.items)
         (all_ids_view m.ipc_schema.fields.items)) }
-    ensures memory { IsTrue R.known → GivesMetadata (frame (after (R.memory reader.old))) result
-        (after (R.memory reader.new)) }
-    ensures whole { IsTrue R.still
-        → (R.memory reader.new).whole ≡ (R.memory reader.old).whole }
 {
     let mut message = Vec::new(alloc);
     match read_frame(reader, &mut Begun::new(), &mut message)? {

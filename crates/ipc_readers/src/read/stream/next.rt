@@ -1,7 +1,6 @@
 //! Reads the next chunk of a stream.
-ghost use Rattle.std.specs.Prelude.{◌≡◌, ◌≤◌, ◌<◌, ◌^◌, ◌↔◌, IsTrue, IsSome, IfOk, IfErr, OnOk, None, false};
+ghost use Rattle.std.specs.Prelude.{◌≡◌, ◌<◌, ◌^◌, ◌↔◌, IsTrue, IsSome, IfOk, IfErr, OnOk, None, false, vec_capacity};
 ghost use Rattle.std.specs.Iterator.{endless};
-ghost use Rattle.ipc_devices.specs.Device.{Rises, after};
 ghost use Rattle.ipc_devices.specs.Faults.{OnIo, OwnFault};
 ghost use Rattle.ipc_devices.specs.declared.fault.Fault.TheVariants.{NotYetImplemented};
 ghost use Rattle.ipc_devices.specs.declared.fault.Nyi.TheVariants.{Pending};
@@ -10,7 +9,7 @@ ghost use Rattle.ipc_base.specs.IdTrees.{all_ids_view};
 ghost use Rattle.lower.specs.TypeViews.{fields_view};
 ghost use Rattle.ipc_readers.specs.Messages.{header_seen};
 ghost use Rattle.ipc_readers.specs.Refusals.{IsStreamFault};
-ghost use Rattle.ipc_readers.specs.Streams.{NextStep, IsWaiting, HasChunk, Begins, GivesBody, GivesColumns, GivesItem, ahead, begun_of, device_of, head_of, is_over, metadata_of};
+ghost use Rattle.ipc_readers.specs.Streams.{NextStep, IsWaiting, HasChunk, Begins, BodyGave, GivesColumns, ItemGave, begun_of, device_of, head_of, is_over, metadata_of};
 
 use crate::read::begun::{Begun, Frame};
 use crate::read::frame::read_frame;
@@ -86,18 +85,13 @@ impl Batches {
         requires { body_length < 2 ^ 63 }
         ensures described { self.new.metadata ≡ self.old.metadata }
         ensures only { IfErr result (λ e. OwnFault e (IsStreamFault e)) }
-        ensures monotone { R.failures reader.old ≤ R.failures reader.new }
-        ensures failed { OnIo result (Rises (R.failures reader.old) (R.failures reader.new)) }
-        ensures memory { IsTrue R.known → GivesBody (head_of self.old.metadata)
-            (record { tag = 3; table = batch.entry; body = body_length }) (after (R.memory reader.old)) result
-            (after (R.memory reader.new)) }
-        ensures whole { IsTrue R.still
-            → (R.memory reader.new).whole ≡ (R.memory reader.old).whole }
+        ensures gives { BodyGave R.gives (head_of self.old.metadata)
+            (record { tag = 3; table = batch.entry; body = body_length }) reader.old result reader.new }
+        ensures shown { R.shows reader.old body_length
+            → (body.new.items ≡ body.old.items) × (vec_capacity body.new ≡ vec_capacity body.old) }
     {
-        if let Some(shown) = reader.ahead(body_length) {
-            let chunk = self.columns(batch, shown)?;
-            reader.skip(body_length)?;
-            return Ok(chunk);
+        if let Some(shown) = reader.pass(body_length) {
+            return self.columns(batch, shown);
         }
         read_into(reader, body, body_length)?;
         self.columns(batch, body.as_slice())
@@ -113,13 +107,10 @@ impl Batches {
         requires { message.body_length < 2 ^ 63 }
         ensures described { self.new.metadata ≡ self.old.metadata }
         ensures only { IfErr result (λ e. OwnFault e (IsStreamFault e)) }
-        ensures monotone { R.failures reader.old ≤ R.failures reader.new }
-        ensures failed { OnIo result (Rises (R.failures reader.old) (R.failures reader.new)) }
-        ensures memory { IsTrue R.known
-            → GivesBody (head_of self.old.metadata) (header_seen message.entry) (after (R.memory reader.old))
-            result (after (R.memory reader.new)) }
-        ensures whole { IsTrue R.still
-            → (R.memory reader.new).whole ≡ (R.memory reader.old).whole }
+        ensures gives { BodyGave R.gives (head_of self.old.metadata) (header_seen message.entry)
+            reader.old result reader.new }
+        ensures shown { R.shows reader.old message.entry.body_length
+            → (body.new.items ≡ body.old.items) × (vec_capacity body.new ≡ vec_capacity body.old) }
     {
         let Message {
             header,
@@ -202,18 +193,12 @@ impl<R: Reads + Drop> StreamReader<R> {
     }
 
     // The next chunk, or None at the mark.
-    #[tactic(auto, unfolding(ipc_model::specs::Streams::item, crate::specs::Streams::IsCarriedFront))]
     fn read_item(&mut self) -> Result<Option<StreamState>, Fault>
-        ensures monotone { R.failures (device_of self.old) ≤ R.failures (device_of self.new) }
-        ensures failed { OnIo result (Rises (R.failures (device_of self.old)) (R.failures (device_of self.new))) }
         ensures only { IfErr result (λ e. OwnFault e (IsStreamFault e)) }
         ensures finished { is_over self.new ≡ is_over self.old }
         ensures described { metadata_of self.new ≡ metadata_of self.old }
-        ensures memory { IsTrue R.known
-            → GivesItem (head_of (metadata_of self.old)) (ahead R.memory self.old) result
-            (begun_of self.new) (ahead R.memory self.new) }
-        ensures whole { IsTrue R.still
-            → (R.memory (device_of self.new)).whole ≡ (R.memory (device_of self.old)).whole }
+        ensures gives { ItemGave R.gives (head_of (metadata_of self.old)) (begun_of self.old)
+            (device_of self.old) result (begun_of self.new) (device_of self.new) }
     {
         match read_frame(&mut self.reader, &mut self.begun, &mut self.message)? {
             Frame::Waiting => Ok(Some(StreamState::Waiting)),
@@ -235,7 +220,7 @@ impl<R: Reads + Drop> Iterator for StreamReader<R> {
     // It may wait again and again.
     ghost remaining = { λ _. endless };
 
-    ghost next_gives = { λ a r b. NextStep R.known R.failures R.memory a r b };
+    ghost next_gives = { λ a r b. NextStep R.gives R.known R.memory a r b };
 
     fn next(&mut self) -> Option<Result<StreamState, Fault>> {
         if self.finished {

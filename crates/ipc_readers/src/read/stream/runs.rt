@@ -1,5 +1,5 @@
 //! Laws of streams that are read: the functions do no work.
-ghost use Rattle.ipc_readers.specs.Runs.{ReadLaw};
+ghost use Rattle.ipc_readers.specs.Runs.{FailsLaw, ReadLaw, WaitsLaw};
 
 use crate::read::stream::reader::StreamReader;
 use ipc_devices::Reads;
@@ -8,5 +8,16 @@ use ipc_devices::Reads;
 /// stream means, in order, and then None or that it waits, where its messages are carried and it doesn't
 /// end in a fault. A call that found no memory answers so, and then nothing comes.
 pub fn reading_of_streams<R: Reads + Drop>(reader: &StreamReader<R>)
-    ensures { ReadLaw R.known R.failures R.memory reader.now }
+    ensures { ReadLaw R.gives R.known R.memory reader.now }
+{}
+
+/// Of any device, a call of `next` that waits loses nothing: what was given since is begun, and the next call goes on from
+/// there.
+pub fn waiting_loses_nothing<R: Reads + Drop>(reader: &StreamReader<R>)
+    ensures { WaitsLaw R.gives R.known R.memory R.given reader.now }
+{}
+
+/// Of any device, a call of `next` answers `Io` only where a call of the device failed.
+pub fn faults_of_devices<R: Reads + Drop>(reader: &StreamReader<R>)
+    ensures { FailsLaw R.gives R.known R.memory R.failures reader.now }
 {}

@@ -18,4 +18,4 @@ returns-clause-memory c ys =
     let Read : List Field → List ℕ → Type 0 = λ ds bs. GivesBatch (batch_schema ds m.ipc_schema) (extra_of m.version) (record { source = bs; base = 0; size = length body }) c.args.batch None None c.read_record_batch.result in
     let given : Read c.deref.result.now bytes = c.read_record_batch.ensures.memory refl in
     columns_give (fields_view fs) (pairs_of m.schema.metadata.entries) (all_ids_view m.ipc_schema.fields.items) (order_of m.ipc_schema.is_little_endian) (extra_of m.version)
-    c.args.batch body None None c.read_record_batch.result refl refl (subst (λ bs. Read fs bs) bytes_are (subst (λ ds. Read ds bytes) fields_are given)) ys
+    c.args.batch body None None c.read_record_batch.result refl refl c.read_record_batch.ensures.only (subst (λ bs. Read fs bs) bytes_are (subst (λ ds. Read ds bytes) fields_are given)) ys

@@ -1,44 +1,30 @@
-use Rattle.std.proofs.Common.{rules, ◌≡◌, ◌≤◌, Err, length}
-use Rattle.ipc_devices.specs.Device.{after}
-use Rattle.ipc_devices.specs.Faults.{OwnFault}
+use Rattle.std.proofs.Common.{rules, ◌≡◌, ℕ, Err, List, [], length, refl, subst}
+use Rattle.ipc_devices.specs.Gives.{going}
 use Rattle.ipc_model.specs.Streams.{Header}
 use Rattle.ipc_readers.specs.Streams.{head_of}
-use Rattle.ipc_readers.proofs.Bodies.{front_gives, cut_body}
+use Rattle.ipc_readers.proofs.BodyRuns.{body_read, body_stopped, stopped_behind}
 use Rattle.ipc_readers.proofs.read.stream.reader.Batches.read_record.Goals as goal
 
-pub returns-in_err-read_into-clause-memory : goal.returns-in_err-read_into-clause-memory
-returns-in_err-read_into-clause-memory g c = λ k.
+pub returns-in_err-read_into-clause-gives : goal.returns-in_err-read_into-clause-gives
+returns-in_err-read_into-clause-gives g c =
     let fault = c.in_err-read_into.field-0.0 in
-    let e : c.from_residual-in_err-read_into.result ≡ Err fault = search rules in
-    let xs = after (g.R.Failures.memory c.args.reader.now) in
-    let m : Header = record { tag = 3; table = c.args.batch; body = c.args.body_length } in
-    let denied : OwnFault fault (c.args.body_length ≤ length xs → ⊥) = c.in_err-read_into.ensures.memory k in
-    rw e (cut_body (head_of c.args.self.now.metadata) m xs xs fault denied)
-
-pub returns-clause-memory : goal.returns-clause-memory
-returns-clause-memory g c = λ k.
-    let n = c.args.body_length in
-    let xs = after (g.R.Failures.memory c.args.reader.now) in
-    let read = c.in_ok-read_into.ensures.memory k in
-    let left = c.in_ok-read_into.ensures.left k in
-    rw left (front_gives (head_of c.args.self.now.metadata) c.args.batch n xs _ c.columns-2.result read.0 (search rules) c.columns-2.ensures.memory)
-
-pub returns-in_err-chunk-clause-memory : goal.returns-in_err-chunk-clause-memory
-returns-in_err-chunk-clause-memory g c = λ k.
-    let n = c.args.body_length in
-    let xs = after (g.R.Failures.memory c.args.reader.now) in
-    let fault = c.in_err-chunk.field-0.0 in
     let e : c.from_residual.result ≡ Err fault = search rules in
-    let refused : c.columns.result ≡ Err fault = search rules in
-    let shown = c.in-Some.ensures.memory k in
-    let given = front_gives (head_of c.args.self.now.metadata) c.args.batch n xs _ c.columns.result shown.0 shown.1 c.columns.ensures.memory in
-    rw e (rw refused at given)
+    let m : Header = record { tag = 3; table = c.args.batch; body = c.args.body_length } in
+    let mid = c.pass.follows.lender-at-none in
+    let none : g.R.Reads.gives c.args.reader.now [] going mid = search rules in
+    rw e (body_stopped g.R.Reads.gives (head_of c.args.self.now.metadata) m c.args.reader.now c.read_into.new.reader fault refl c.in_err-read_into.ensures.only
+    (stopped_behind g.R.Reads.gives g.met.R.Reads.gives_in_order c.args.reader.now mid c.read_into.new.reader c.args.body_length fault none c.in_err-read_into.ensures.gives))
 
-pub returns-in-Some-clause-memory : goal.returns-in-Some-clause-memory
-returns-in-Some-clause-memory g c = λ k.
-    let n = c.args.body_length in
-    let xs = after (g.R.Failures.memory c.args.reader.now) in
-    let shown = c.in-Some.ensures.memory k in
-    let left = c.in_ok-skip.ensures.memory k shown.0 in
-    let given = front_gives (head_of c.args.self.now.metadata) c.args.batch n xs _ c.columns.result shown.0 shown.1 c.columns.ensures.memory in
-    rw left (rw c.in_ok-chunk.was at given)
+pub returns-clause-gives : goal.returns-clause-gives
+returns-clause-gives g c =
+    let items : List ℕ = c.read_into.new.bytes.items in
+    let body : List ℕ = c.as_slice.result.now in
+    let same : items ≡ body = search rules in
+    let mid = c.pass.follows.lender-at-none in
+    let new = c.read_into.new.reader in
+    let none : g.R.Reads.gives c.args.reader.now [] going mid = search rules in
+    let read = c.in_ok-read_into.ensures.gives in
+    let all : g.R.Reads.gives c.args.reader.now items going new = g.met.R.Reads.gives_in_order c.args.reader.now [] mid items going new none read.1 in
+    body_read g.R.Reads.gives (head_of c.args.self.now.metadata) c.args.batch c.args.body_length c.args.reader.now new body c.columns-2.result
+    (subst (λ (l : List ℕ). length l ≡ c.args.body_length) same read.0) (subst (λ (l : List ℕ). g.R.Reads.gives c.args.reader.now l going new) same all)
+    c.columns-2.ensures.own c.columns-2.ensures.memory

@@ -1,0 +1,101 @@
+-- What reads of the schema message give.
+use Rattle.std.proofs.Common.{◌≡◌, ℕ, ◌≤◌, List, [], length, Some, None, Result, Ok, Err, refl, subst}
+use Rattle.ipc_devices.specs.Faults.{OwnFault}
+use Rattle.ipc_devices.specs.Gives.{going, ended, stop_of, FaultStop, Gives, Gave}
+use Rattle.ipc_devices.specs.declared.fault.Fault.{Fault}
+use Rattle.ipc_devices.specs.declared.fault.Fault.TheVariants.{Ended, Schema as BadSchema}
+use Rattle.ipc_devices.specs.declared.fault.SchemaFault.TheVariants.{NotASchema}
+use Rattle.ipc_devices.proofs.Gave.{gave_as}
+use Rattle.ipc_devices.proofs.Stops.{fault_stop}
+use Rattle.ipc_model.specs.Frame.{Frame, message, mark, waiting, broken, frame}
+use Rattle.ipc_readers.proofs.Bodies.{claims_through}
+use Rattle.ipc_readers.specs.Frames.{FrameGave, GivesFrame, IsFrame, IsFramingFault, begun_bytes, due, frame_stop}
+use Rattle.ipc_readers.specs.Metadata.{GivesMetadata, MetadataGave, metadata_at, metadata_seen}
+use Rattle.ipc_readers.specs.declared.read.begun.Begun.{Begun}
+use Rattle.ipc_readers.specs.declared.read.begun.Frame as read
+use Rattle.ipc_readers.specs.declared.read.begun.Frame.TheVariants as frames
+use Rattle.ipc_readers.specs.declared.read.stream.metadata.StreamMetadata.{StreamMetadata}
+
+pub none_begun_yet : (b : Begun) → b.count ≡ 0 → begun_bytes b ≡ []
+none_begun_yet b h = rw h refl
+
+-- ---- what a frame says of the metadata
+
+broken_says : (f : Frame) (e : Fault) (rest : List ℕ) → OwnFault e (IsFramingFault e) → OwnFault e (f ≡ broken) → GivesMetadata f (Err e) rest
+broken_says (message m behind) e rest only h = claims_through e (message m behind ≡ broken) (metadata_at m ≡ None) (λ x. absurd (cc x)) h
+broken_says (mark behind) e rest only h = claims_through e (mark behind ≡ broken) (e ≡ BadSchema NotASchema) (λ x. absurd (cc x)) h
+broken_says (waiting bytes) e rest only h = claims_through e (waiting bytes ≡ broken) (e ≡ Ended) (λ x. absurd (cc x)) h
+broken_says broken e rest only h = only
+
+mark_says : (f : Frame) (m q rest : List ℕ) → IsFrame f frames.Mark m q rest → GivesMetadata f (Err (BadSchema NotASchema)) rest
+mark_says (message m' behind) m q rest h = absurd h
+mark_says (mark behind) m q rest h = refl
+mark_says (waiting bytes) m q rest h = absurd h
+mark_says broken m q rest h = absurd h
+
+waiting_says : (f : Frame) (m q rest : List ℕ) → IsFrame f frames.Waiting m q rest → GivesMetadata f (Err Ended) rest
+waiting_says (message m' behind) m q rest h = absurd h
+waiting_says (mark behind) m q rest h = absurd h
+waiting_says (waiting bytes) m q rest h = refl
+waiting_says broken m q rest h = absurd h
+
+refused_says : (f : Frame) (m q rest : List ℕ) (e : Fault) → OwnFault e (metadata_at m ≡ None) → IsFrame f frames.Message m q rest → GivesMetadata f (Err e) rest
+refused_says (message m' behind) m q rest e none h = subst (λ (l : List ℕ). OwnFault e (metadata_at l ≡ None)) h.0 none
+refused_says (mark behind) m q rest e none h = absurd h
+refused_says (waiting bytes) m q rest e none h = absurd h
+refused_says broken m q rest e none h = absurd h
+
+made_says : (f : Frame) (m q rest : List ℕ) (x : StreamMetadata) → metadata_at m ≡ Some (metadata_seen x) → IsFrame f frames.Message m q rest → GivesMetadata f (Ok x) rest
+made_says (message m' behind) m q rest x some h = (subst (λ (l : List ℕ). metadata_at l ≡ Some (metadata_seen x)) h.0 some, h.2)
+made_says (mark behind) m q rest x some h = absurd h
+made_says (waiting bytes) m q rest x some h = absurd h
+made_says broken m q rest x some h = absurd h
+
+-- ---- what was given
+
+module _ {S : Type 0} (gives : Gives S) (a b : S) (m q : List ℕ) where
+  frame_says : (r : Result read.Frame Fault) (s : Result StreamMetadata Fault) → ((f : Frame) (rest : List ℕ) → GivesFrame f r m q rest → GivesMetadata f s rest)
+      → FrameGave gives [] a r m q b → Gave gives (λ xs. length xs ≤ due xs) (λ all rest. GivesMetadata (frame all) s rest) a (frame_stop r) b
+  frame_says r s says g = gave_as gives (λ xs. length xs ≤ due xs) (λ xs. length xs ≤ due xs)
+      (λ all rest. GivesFrame (frame all) r m q rest) (λ all rest. GivesMetadata (frame all) s rest) a (frame_stop r) b
+      (λ xs v k. v) (λ all rest k. says (frame all) rest k) g
+
+  unbegun : (p : List ℕ) (r : Result read.Frame Fault) → p ≡ [] → FrameGave gives p a r m q b → FrameGave gives [] a r m q b
+  unbegun p r e g = subst (λ (l : List ℕ). FrameGave gives l a r m q b) e g
+
+  pub metadata_breaks : (p : List ℕ) (e : Fault) → p ≡ [] → OwnFault e (IsFramingFault e) → FrameGave gives p a (Err e) m q b → MetadataGave gives a (Err e) b
+  metadata_breaks p e none only g = record {
+    stop = stop_of e;
+    stops = fault_stop e;
+    run = frame_says (Err e) (Err e) (λ f rest k. broken_says f e rest only k) (unbegun p (Err e) none g);
+  }
+
+  pub metadata_marked : (p : List ℕ) → p ≡ [] → FrameGave gives p a (Ok frames.Mark) m q b → MetadataGave gives a (Err (BadSchema NotASchema)) b
+  metadata_marked p none g = record {
+    stop = going;
+    stops = tt;
+    run = frame_says (Ok frames.Mark) (Err (BadSchema NotASchema)) (λ f rest k. mark_says f m q rest k) (unbegun p (Ok frames.Mark) none g);
+  }
+
+  pub metadata_waits : (p : List ℕ) → p ≡ [] → FrameGave gives p a (Ok frames.Waiting) m q b → MetadataGave gives a (Err Ended) b
+  metadata_waits p none g = record {
+    stop = ended;
+    stops = tt;
+    run = frame_says (Ok frames.Waiting) (Err Ended) (λ f rest k. waiting_says f m q rest k) (unbegun p (Ok frames.Waiting) none g);
+  }
+
+  pub metadata_refused : (p : List ℕ) (e : Fault) → p ≡ [] → FaultStop e going → OwnFault e (metadata_at m ≡ None) → FrameGave gives p a (Ok frames.Message) m q b
+      → MetadataGave gives a (Err e) b
+  metadata_refused p e none own refused g = record {
+    stop = going;
+    stops = own;
+    run = frame_says (Ok frames.Message) (Err e) (λ f rest k. refused_says f m q rest e refused k) (unbegun p (Ok frames.Message) none g);
+  }
+
+  pub metadata_made : (p : List ℕ) (x : StreamMetadata) → p ≡ [] → metadata_at m ≡ Some (metadata_seen x) → FrameGave gives p a (Ok frames.Message) m q b
+      → MetadataGave gives a (Ok x) b
+  metadata_made p x none some g = record {
+    stop = going;
+    stops = refl;
+    run = frame_says (Ok frames.Message) (Ok x) (λ f rest k. made_says f m q rest x some k) (unbegun p (Ok frames.Message) none g);
+  }

@@ -1,0 +1,132 @@
+-- Of memory: what was given stood ahead. Of any device: which calls failed.
+use Rattle.std.proofs.Common.{◌≡◌, ℕ, ◌≤◌, List, [], ◌++◌, length, Option, Some, None, Result, Ok, Err, Bool, IsTrue, true, false, refl, arith, ap, sym, subst}
+use Rattle.ipc_devices.specs.Device.{Memory, Rises, after}
+use Rattle.ipc_devices.specs.Faults.{OnIo}
+use Rattle.ipc_devices.specs.Gives.{Stop, ended, failed, AnswerStop, Fails, Gives, GivesAhead, GivesFails}
+use Rattle.ipc_devices.specs.declared.fault.Fault.{Fault}
+use Rattle.ipc_devices.specs.declared.fault.Fault.TheVariants as Faults
+use Rattle.ipc_devices.specs.declared.fault.Fault.TheVariants.{Ended, Schema as BadSchema}
+use Rattle.ipc_devices.specs.declared.fault.SchemaFault.TheVariants.{NotASchema}
+use Rattle.ipc_devices.proofs.Gave.{to_memory}
+use Rattle.ipc_devices.proofs.Stops.{answer_risen, fault_risen, not_below, nothing_claimed}
+use Rattle.ipc_model.specs.Frame.{Frame, message, mark, waiting, broken, frame}
+use Rattle.ipc_model.specs.Streams.{Head, done, faulty, item, nothing_known}
+use Rattle.ipc_readers.specs.Frames.{IsFramingFault, due}
+use Rattle.ipc_readers.specs.Metadata.{GivesMetadata, MetadataGave, metadata_at}
+use Rattle.ipc_readers.specs.Runs.{Answer, FailsLaw}
+use Rattle.ipc_readers.specs.Streams.{BlamesFront, GivesItem, IsCarriedFront, ItemGave, ItemStop, IsWithinMessage, NextStep, device_of, is_over, next_result}
+use Rattle.ipc_readers.specs.declared.read.stream.metadata.StreamMetadata.{StreamMetadata}
+use Rattle.ipc_readers.specs.declared.read.stream.reader.StreamReader.{StreamReader}
+use Rattle.ipc_readers.specs.declared.read.stream.reader.StreamState.{StreamState}
+use Rattle.ipc_readers.specs.declared.read.stream.reader.StreamState.TheVariants as states
+
+-- ---- messages
+
+-- what an end leaves isn't asked of
+item_at_end : (h : Head) (xs q zs ys : List ℕ) (r : Result (Option StreamState) Fault) → ItemStop r ended → GivesItem h xs r q zs → GivesItem h xs r q ys
+item_at_end h xs q zs ys (Ok (Some (states.Some chunk))) s g = absurd (cc s)
+item_at_end h xs q zs ys (Ok (Some states.Waiting)) s g = g
+item_at_end h xs q zs ys (Ok None) s g = absurd (cc s)
+item_at_end h xs q zs ys (Err e) s g = g
+
+-- a device's failure says nothing of the bytes
+item_at_failure : (h : Head) (xs q ys : List ℕ) (r : Result (Option StreamState) Fault) → ItemStop r failed → GivesItem h xs r q ys
+item_at_failure h xs q ys (Ok (Some (states.Some chunk))) s = absurd (cc s)
+item_at_failure h xs q ys (Ok (Some states.Waiting)) s = absurd (cc s)
+item_at_failure h xs q ys (Ok None) s = absurd (cc s)
+item_at_failure h xs q ys (Err e) s = nothing_claimed e ((IsCarriedFront h xs → item h nothing_known xs ≡ done faulty) × BlamesFront (frame xs) e) s
+
+pub item_ahead : {S : Type 0} (gives : Gives S) (known : Bool) (memory : S → Memory) → GivesAhead known gives memory → IsTrue known
+    → (h : Head) (p q : List ℕ) (r : Result (Option StreamState) Fault) (a b : S) → ItemGave gives h p a r q b
+    → GivesItem h (p ++ after (memory a)) r q (q ++ after (memory b))
+item_ahead gives known memory law k h p q r a b g =
+    to_memory gives known memory law k (λ xs. IsWithinMessage (p ++ xs)) (λ all rest. GivesItem h (p ++ all) r q (q ++ rest)) (ItemStop r) a b
+    (λ xs ys s i. item_at_end h (p ++ xs) q (q ++ []) (q ++ ys) r s i)
+    (λ xs ys s. item_at_failure h (p ++ xs) q (q ++ ys) r s) g
+
+-- ---- the schema message
+
+same_refusal : (f : Frame) (e : Fault) (zs ys : List ℕ) → GivesMetadata f (Err e) zs → GivesMetadata f (Err e) ys
+same_refusal (message m behind) e zs ys g = g
+same_refusal (mark behind) e zs ys g = g
+same_refusal (waiting begun) e zs ys g = g
+same_refusal broken e zs ys g = g
+
+no_refusal : (f : Frame) (e : Fault) (ys : List ℕ) → AnswerStop {X = StreamMetadata} (Err e) failed → GivesMetadata f (Err e) ys
+no_refusal (message m behind) e ys s = nothing_claimed e (metadata_at m ≡ None) s
+no_refusal (mark behind) e ys s = nothing_claimed e (e ≡ BadSchema NotASchema) s
+no_refusal (waiting begun) e ys s = nothing_claimed e (e ≡ Ended) s
+no_refusal broken e ys s = nothing_claimed e (IsFramingFault e) s
+
+metadata_at_end : (f : Frame) (r : Result StreamMetadata Fault) (zs ys : List ℕ) → AnswerStop r ended → GivesMetadata f r zs → GivesMetadata f r ys
+metadata_at_end f (Ok x) zs ys s g = absurd (cc s)
+metadata_at_end f (Err e) zs ys s g = same_refusal f e zs ys g
+
+metadata_at_failure : (f : Frame) (r : Result StreamMetadata Fault) (ys : List ℕ) → AnswerStop r failed → GivesMetadata f r ys
+metadata_at_failure f (Ok x) ys s = absurd (cc s)
+metadata_at_failure f (Err e) ys s = no_refusal f e ys s
+
+pub metadata_ahead : {S : Type 0} (gives : Gives S) (known : Bool) (memory : S → Memory) → GivesAhead known gives memory → IsTrue known
+    → (r : Result StreamMetadata Fault) (a b : S) → MetadataGave gives a r b → GivesMetadata (frame (after (memory a))) r (after (memory b))
+metadata_ahead gives known memory law k r a b g =
+    to_memory gives known memory law k (λ xs. length xs ≤ due xs) (λ all rest. GivesMetadata (frame all) r rest) (AnswerStop r) a b
+    (λ xs ys s i. metadata_at_end (frame xs) r [] ys s i)
+    (λ xs ys s. metadata_at_failure (frame xs) r ys s) g
+
+-- ---- counts of failures
+
+item_risen : (r : Result (Option StreamState) Fault) (s : Stop) (old new : ℕ) → ItemStop r s → Fails s old new → OnIo r (Rises old new)
+item_risen (Ok x) s old new h f = tt
+item_risen (Err e) s old new h f = fault_risen (Option StreamState) e s old new h f
+
+module _ {R : Type 0} (gives : Gives R) (known : Bool) (memory : R → Memory) (failures : R → ℕ) (fails : GivesFails gives failures)
+    (a : StreamReader R) (r : Answer) (b : StreamReader R) (step : NextStep gives known memory a r b) where
+  by_over : (over : Bool) → is_over a ≡ over → OnIo (next_result r) (Rises (failures (device_of a)) (failures (device_of b))) × (failures (device_of a) ≤ failures (device_of b))
+  by_over true e =
+      let none : r ≡ None = (step.over e).0 in
+      let same : failures (device_of b) ≡ failures (device_of a) = ap failures (step.over e).2 in
+      (subst (λ (x : Answer). OnIo (next_result x) (Rises (failures (device_of a)) (failures (device_of b)))) (sym none) tt, omega (arith, same))
+  by_over false e =
+      let g = step.gave e in
+      let f = fails (device_of a) g.run.bytes g.stop (device_of b) g.run.gave in
+      (item_risen (next_result r) g.stop (failures (device_of a)) (failures (device_of b)) g.stops f, not_below g.stop (failures (device_of a)) (failures (device_of b)) f)
+
+pub next_fails : {R : Type 0} (gives : Gives R) (known : Bool) (memory : R → Memory) (failures : R → ℕ) → GivesFails gives failures → (a : StreamReader R)
+    → FailsLaw gives known memory failures a
+next_fails gives known memory failures fails a r b step = by_over gives known memory failures fails a r b step (is_over a) refl
+
+-- a fault of metadata that is a device's: a call of it failed
+pub metadata_fails : {S : Type 0} (gives : Gives S) (failures : S → ℕ) → GivesFails gives failures → (r : Result StreamMetadata Fault) (a b : S) → MetadataGave gives a r b
+    → OnIo r (Rises (failures a) (failures b))
+metadata_fails gives failures fails r a b g =
+    answer_risen StreamMetadata r g.stop (failures a) (failures b) g.stops (fails a g.run.bytes g.stop b g.run.gave)
+
+-- ---- a device's fault, seen in another answer
+
+pub other_answer : (X Y : Type 0) (e : Fault) (P : Type 0) → OnIo {X = X} (Err e) P → OnIo {X = Y} (Err e) P
+other_answer X Y (Faults.OutOfSpec k) P h = tt
+other_answer X Y Faults.Ended P h = tt
+other_answer X Y (Faults.NotYetImplemented n) P h = tt
+other_answer X Y (Faults.Schema k) P h = tt
+other_answer X Y (Faults.Argument k) P h = tt
+other_answer X Y (Faults.State k) P h = tt
+other_answer X Y Faults.TooManyDictionaries P h = tt
+other_answer X Y (Faults.Io e) P h = h
+other_answer X Y Faults.Memory P h = tt
+other_answer X Y (Faults.Lower e) P h = tt
+
+-- a device that counts no failures fails in none
+never_fails : Rises 0 0 → ⊥
+never_fails h = omega (arith, h)
+
+pub no_failure : (X Y : Type 0) (e : Fault) → OnIo {X = X} (Err e) (Rises 0 0) → OnIo {X = Y} (Err e) ⊥
+no_failure X Y (Faults.OutOfSpec k) h = tt
+no_failure X Y Faults.Ended h = tt
+no_failure X Y (Faults.NotYetImplemented n) h = tt
+no_failure X Y (Faults.Schema k) h = tt
+no_failure X Y (Faults.Argument k) h = tt
+no_failure X Y (Faults.State k) h = tt
+no_failure X Y Faults.TooManyDictionaries h = tt
+no_failure X Y (Faults.Io e) h = never_fails h
+no_failure X Y Faults.Memory h = tt
+no_failure X Y (Faults.Lower e) h = tt
