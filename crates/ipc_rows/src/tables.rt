@@ -18,7 +18,7 @@ use crate::trouble::Trouble;
 use crate::types::{LEVELS, nullable};
 use ipc_tables::file::Footer;
 use ipc_tables::message::{DictionaryBatch, Message, MessageHeader, RecordBatch};
-use ipc_tables::schema::{DictionaryEncoding, Field, KeyValue, Schema};
+use ipc_tables::schema::{DictionaryEncoding, DictionaryKind, Field, KeyValue, Schema};
 use ipc_tables::types::FieldType;
 use ipc_views::{Block, Buffer, Endianness, FieldNode, MetadataVersion};
 use serde_json::Value;
@@ -35,6 +35,7 @@ pub fn message(alloc: Global, value: &Value) -> Result<Vec<u8>, Trouble> {
         version,
         header: header(alloc, member(value, "header")?)?,
         body_length,
+        custom_metadata: None,
     };
     Ok(message.to_bytes(alloc)?)
 }
@@ -88,6 +89,7 @@ fn record_batch(alloc: Global, value: &Value) -> Result<RecordBatch, Trouble> {
         length: number(value.get("length"), "length")?,
         nodes: values(alloc, member(value, "nodes")?, "nodes")?,
         buffers: values(alloc, member(value, "buffers")?, "buffers")?,
+        compression: None,
     })
 }
 
@@ -135,6 +137,7 @@ fn schema(alloc: Global, value: &Value) -> Result<Schema, Trouble> {
         endianness: endianness(value)?,
         fields: fields(alloc, member(value, "fields")?, LEVELS)?,
         custom_metadata: pairs(alloc, value)?,
+        features: None,
     })
 }
 
@@ -236,5 +239,6 @@ fn dictionary(value: &Value) -> Result<Option<DictionaryEncoding>, Trouble> {
         id: number(value.get("id"), "id")?,
         index_type: types::int(items(value.get("index_type"), "index_type")?)?,
         is_ordered: truth(value.get("is_ordered"), "is_ordered")?,
+        dictionary_kind: DictionaryKind::DenseArray,
     }))
 }

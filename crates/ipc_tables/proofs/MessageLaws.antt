@@ -1,34 +1,40 @@
 -- The tables of messages and footers that are built read as these.
-use Rattle.std.proofs.Common.{◌≡◌, ℕ, ◌<◌, ◌≤◌, List, Result, Ok, Err, IfOk, ap, ◌∙◌, arith, Vec}
+use Rattle.std.proofs.Common.{◌≡◌, ℕ, ◌<◌, ◌≤◌, List, Option, None, Some, Result, Ok, Err, IfOk, ap, ◌∙◌, arith, Vec}
+use Rattle.std.specs.Prelude.{option_map}
 use Rattle.ipc_devices.specs.declared.fault.Fault.{Fault}
 use Rattle.ipc_views.specs.Enumerations.{version_of}
 use Rattle.ipc_views.specs.Structs.{block_of, buffer_of, node_of}
 use Rattle.ipc_views.specs.Tables.{and_then, number_at, root_at, spot_at}
 use Rattle.ipc_parts.specs.Encodes.{Encodes}
 use Rattle.ipc_parts.specs.Holds.{HoldsPart, HoldsRoot, spot}
+use Rattle.ipc_parts.specs.Readers.{HoldsOptional}
 use Rattle.ipc_parts.specs.Tree.{Slots, no_slots, table}
 use Rattle.ipc_parts.proofs.ReaderLaws.{absent-read, number-read, optional-read, spot-read, structs-read, table-read, union-read}
 use Rattle.ipc_tables.specs.declared.file.Footer.{Footer}
+use Rattle.ipc_tables.specs.declared.message.BodyCompression.{BodyCompression}
 use Rattle.ipc_tables.specs.declared.message.DictionaryBatch.{DictionaryBatch}
 use Rattle.ipc_tables.specs.declared.message.Message.{Message}
 use Rattle.ipc_tables.specs.declared.message.MessageHeader.{MessageHeader}
 use Rattle.ipc_tables.specs.declared.message.MessageHeader.TheVariants.{Schema as a_schema, DictionaryBatch as a_dictionary_batch, RecordBatch as a_record_batch}
 use Rattle.ipc_tables.specs.declared.message.RecordBatch.{RecordBatch}
 use Rattle.ipc_tables.specs.Files.{block_bytes, footer_slots}
-use Rattle.ipc_tables.specs.Messages.{buffer_bytes, dictionary_batch_slots, header_slots, header_tag, message_slots, node_bytes, record_batch_slots}
-use Rattle.ipc_tables.specs.Reads.{HaveRoot, IsDictionaryBatch, IsFooter, IsHeader, IsMessage, IsRecordBatch, kept_block, kept_buffer, kept_node}
-use Rattle.ipc_tables.specs.Schemas.{pairs_part, schema_slots, version_number}
-use Rattle.ipc_tables.specs.Slots.{bits64}
-use Rattle.ipc_tables.proofs.Lengths.{length-block, length-pair}
+use Rattle.ipc_tables.specs.Messages.{buffer_bytes, compression_slots, dictionary_batch_slots, header_slots, header_tag, message_slots, node_bytes, record_batch_slots}
+use Rattle.ipc_tables.specs.Reads.{HaveRoot, IsCompression, IsDictionaryBatch, IsFooter, IsHeader, IsMessage, IsRecordBatch, kept_block, kept_buffer, kept_node}
+use Rattle.ipc_tables.specs.Schemas.{pairs_part, pairs_vector, schema_slots, version_number}
+use Rattle.ipc_tables.specs.ElementLaws.{length-block, length-buffer, length-node}
 use Rattle.ipc_tables.proofs.Numbers.{long-read, flag-read, unit-read, version-back, node-is, buffer-is, block-is}
-use Rattle.ipc_tables.proofs.SchemaLaws.{ArePairs-holds, IsSchema-holds}
+use Rattle.ipc_tables.proofs.SchemaLaws.{AreOptionalPairs-holds, ArePairs-holds, IsSchema-holds}
+
+IsCompression-holds : (m : List ℕ) (p : ℕ) (c : Option BodyCompression) → HoldsOptional m p 3 (option_map (λ c. table (compression_slots c)) c) → IsCompression (spot m p) c
+IsCompression-holds m p None e = absent-read m p 3 _ e
+IsCompression-holds m p (Some c) (q, t, e, f, h) = (spot m t, table-read m p 3 q t (compression_slots c) e f h)
 
 pub IsRecordBatch-holds : (m : List ℕ) (p : ℕ) (b : RecordBatch) → HoldsPart m p (table (record_batch_slots b)) → IsRecordBatch (spot m p) b
-IsRecordBatch-holds m p b (v, size, e, f, ((q0, e0, f0, g0), ((q1, t1, e1, f1, g1, h1), ((q2, t2, e2, f2, g2, h2), past)))) = record {
+IsRecordBatch-holds m p b (v, size, e, f, ((q0, e0, f0, g0), ((q1, t1, e1, f1, g1, h1), ((q2, t2, e2, f2, g2, h2), rest)))) = record {
   rows = long-read m p 0 q0 b.length e0 f0;
-  nodes = structs-read node_of 8 16 node_bytes kept_node (λ n. length-pair (bits64 n.length) (bits64 n.null_count)) node-is m p 1 q1 t1 b.nodes.items e1 f1 h1;
-  buffers = structs-read buffer_of 8 16 buffer_bytes kept_buffer (λ b. length-pair (bits64 b.offset) (bits64 b.length)) buffer-is m p 2 q2 t2 b.buffers.items e2 f2 h2;
-  uncompressed = absent-read m p 3 _ (past 0);
+  nodes = structs-read node_of 8 16 node_bytes kept_node length-node node-is m p 1 q1 t1 b.nodes.items e1 f1 h1;
+  buffers = structs-read buffer_of 8 16 buffer_bytes kept_buffer length-buffer buffer-is m p 2 q2 t2 b.buffers.items e2 f2 h2;
+  compression = IsCompression-holds m p b.compression (optional-read m p size 3 (option_map (λ c. table (compression_slots c)) b.compression) no_slots rest).0;
 }
 
 pub IsDictionaryBatch-holds : (m : List ℕ) (p : ℕ) (b : DictionaryBatch) → HoldsPart m p (table (dictionary_batch_slots b)) → IsDictionaryBatch (spot m p) b
@@ -49,7 +55,7 @@ header-low (a_dictionary_batch b) = (omega arith, omega arith)
 header-low (a_record_batch b) = (omega arith, omega arith)
 
 IsMessage-holds : (levels : ℕ) (m : List ℕ) (p : ℕ) (x : Message) → HoldsPart m p (table (message_slots x)) → IsMessage levels (spot m p) x
-IsMessage-holds levels m p x (v, size, e, f, ((q0, e0, f0, g0), ((q1, e1, f1, g1), ((q2, t2, e2, f2, g2, h2), ((q3, e3, f3, g3), past))))) = record {
+IsMessage-holds levels m p x (v, size, e, f, ((q0, e0, f0, g0), ((q1, e1, f1, g1), ((q2, t2, e2, f2, g2, h2), ((q3, e3, f3, g3), rest))))) = record {
   version = unit-read version_number version_of version-back 0 m p 0 q0 x.version e0 f0;
   header = (
     spot m t2,
@@ -58,7 +64,7 @@ IsMessage-holds levels m p x (v, size, e, f, ((q0, e0, f0, g0), ((q1, e1, f1, g1
     IsHeader-holds levels m t2 x.header h2,
   );
   body_length = long-read m p 3 q3 x.body_length e3 f3;
-  no_pairs = absent-read m p 4 _ (past 0);
+  pairs = AreOptionalPairs-holds m p 4 x.custom_metadata (optional-read m p size 4 (option_map (λ v. pairs_vector v.items) x.custom_metadata) no_slots rest).0;
 }
 
 IsFooter-holds : (levels : ℕ) (m : List ℕ) (p : ℕ) (x : Footer) → HoldsPart m p (table (footer_slots x)) → IsFooter levels (spot m p) x

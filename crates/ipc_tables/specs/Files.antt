@@ -1,10 +1,10 @@
 -- The table of File.fbs: which slot is to hold what.
-use Rattle.std.specs.Prelude.{ℕ, List, ◌++◌, length}
-use Rattle.std.specs.List.{flat_map}
+use Rattle.std.specs.Prelude.{ℕ, List, ◌++◌}
 use Rattle.ipc_parts.specs.Pads.{le}
-use Rattle.ipc_parts.specs.Tree.{Part, Slots, elements, no_slots, number, offset, table}
+use Rattle.ipc_parts.specs.Tree.{Part, Slots, no_slots, number, offset, table}
 use Rattle.ipc_views.specs.declared.file.Block.{Block}
 use Rattle.ipc_tables.specs.declared.file.Footer.{Footer}
+use Rattle.ipc_tables.specs.Elements.{elements_of}
 use Rattle.ipc_tables.specs.Schemas.{pairs_part, schema_slots, version_number}
 use Rattle.ipc_tables.specs.Slots.{bits32, bits64, optional}
 
@@ -12,11 +12,8 @@ use Rattle.ipc_tables.specs.Slots.{bits32, bits64, optional}
 abbrev pub block_bytes : Block → List ℕ
 block_bytes b = le 8 (bits64 b.offset) ++ (le 4 (bits32 b.meta_data_length) ++ (le 4 0 ++ le 8 (bits64 b.body_length)))
 
-abbrev pub blocks_bytes : List Block → List ℕ
-blocks_bytes bs = flat_map block_bytes bs
-
 abbrev pub blocks_part : List Block → Part
-blocks_part bs = elements 8 24 (length bs) (blocks_bytes bs)
+blocks_part bs = elements_of 8 24 block_bytes bs
 
 -- Footer: version, schema, dictionaries, recordBatches, custom_metadata
 abbrev pub footer_slots : Footer → Slots

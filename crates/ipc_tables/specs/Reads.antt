@@ -1,5 +1,6 @@
 -- A table of a message reads as a value: each named reader gives what the value says.
-use Rattle.std.specs.Prelude.{ℕ, zero, suc, ◌≡◌, List, [], ◌∷◌, length, map, Option, Some, None, option_map, slice_get, string_bytes, Result, Ok}
+use Rattle.std.specs.Prelude.{ℕ, zero, suc, ◌≡◌, List, [], ◌∷◌, length, map, Option, Some, None, option_map, slice_get, string_bytes, Result, Ok, Vec}
+use Rattle.std.specs.declared.alloc.Global.{Global}
 use Rattle.ipc_devices.specs.declared.fault.TableFault.{TableFault}
 use Rattle.ipc_views.specs.declared.file.Block.{Block}
 use Rattle.ipc_views.specs.declared.message.FieldNode.{FieldNode}
@@ -11,6 +12,7 @@ use Rattle.ipc_views.specs.Spot.{Spot, Vector}
 use Rattle.ipc_views.specs.Tables.{root_at, table_in}
 use Rattle.ipc_views.specs.TypeSlots.{date_unit, decimal_bit_width, decimal_precision, decimal_scale, duration_unit, fixed_size_binary_byte_width, fixed_size_list_list_size, floating_point_precision, int_bit_width, int_is_signed, interval_unit, map_keys_sorted, time_bit_width, time_unit, timestamp_timezone, timestamp_unit, union_mode, union_type_ids}
 use Rattle.ipc_tables.specs.declared.file.Footer.{Footer}
+use Rattle.ipc_tables.specs.declared.message.BodyCompression.{BodyCompression}
 use Rattle.ipc_tables.specs.declared.message.DictionaryBatch.{DictionaryBatch}
 use Rattle.ipc_tables.specs.declared.message.Message.{Message}
 use Rattle.ipc_tables.specs.declared.message.MessageHeader.{MessageHeader}
@@ -68,6 +70,11 @@ abbrev pub ArePairs : Result (Option Vector) TableFault → List KeyValue → Ty
 ArePairs r [] = r ≡ Ok None
 ArePairs r (p ∷ ps) = (v : Vector) × (r ≡ Ok (Some v)) × AreTables v IsPair (p ∷ ps)
 
+-- the vector of the pairs, where it is there
+abbrev pub AreOptionalPairs : Result (Option Vector) TableFault → Option (Vec KeyValue Global) → Type 0
+AreOptionalPairs r None = r ≡ Ok None
+AreOptionalPairs r (Some ps) = (v : Vector) × (r ≡ Ok (Some v)) × AreTables v IsPair ps.items
+
 pub record IsEncodedBy (t : Spot) (d : DictionaryEncoding) : Type 0 where
   pub id : dictionary_encoding_id t ≡ Ok (kept64 d.id)
   pub index_type : (i : Spot) × (dictionary_encoding_index_type t ≡ Ok (Some i)) × IsInt i d.index_type
@@ -106,11 +113,16 @@ kept_buffer b = record { offset = kept_bytes64 b.offset; length = kept_bytes64 b
 abbrev pub kept_block : Block → Block
 kept_block b = record { offset = kept_bytes64 b.offset; meta_data_length = kept_bytes32 b.meta_data_length; body_length = kept_bytes64 b.body_length }
 
+-- the table of the compression, which has no reader of its own, or none
+abbrev pub IsCompression : Spot → Option BodyCompression → Type 0
+IsCompression t None = record_batch_compression t ≡ Ok None
+IsCompression t (Some c) = (s : Spot) × (record_batch_compression t ≡ Ok (Some s))
+
 pub record IsRecordBatch (t : Spot) (b : RecordBatch) : Type 0 where
   pub rows : record_batch_length t ≡ Ok (kept64 b.length)
   pub nodes : record_batch_nodes t ≡ Ok (Some (map kept_node b.nodes.items))
   pub buffers : record_batch_buffers t ≡ Ok (Some (map kept_buffer b.buffers.items))
-  pub uncompressed : record_batch_compression t ≡ Ok None
+  pub compression : IsCompression t b.compression
 
 pub record IsDictionaryBatch (t : Spot) (b : DictionaryBatch) : Type 0 where
   pub id : dictionary_batch_id t ≡ Ok (kept64 b.id)
@@ -127,7 +139,7 @@ pub record IsMessage (levels : ℕ) (t : Spot) (m : Message) : Type 0 where
   pub version : message_version t ≡ Ok m.version
   pub header : (h : Spot) × (message_header t ≡ Ok (Some (header_tag m.header, h))) × IsHeader levels h m.header
   pub body_length : message_body_length t ≡ Ok (kept64 m.body_length)
-  pub no_pairs : message_custom_metadata t ≡ Ok None
+  pub pairs : AreOptionalPairs (message_custom_metadata t) m.custom_metadata
 
 pub record IsFooter (levels : ℕ) (t : Spot) (f : Footer) : Type 0 where
   pub version : footer_version t ≡ Ok f.version
