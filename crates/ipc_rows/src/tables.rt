@@ -44,10 +44,10 @@ pub fn message(alloc: Global, value: &Value) -> Result<Vec<u8>, Trouble> {
 pub fn footer(alloc: Global, value: &Value) -> Result<Vec<u8>, Trouble> {
     let footer = Footer {
         version: version(value)?,
-        schema: schema(alloc, member(value, "schema")?)?,
-        dictionaries: values(alloc, member(value, "dictionaries")?, "dictionaries")?,
-        record_batches: values(alloc, member(value, "record_batches")?, "record_batches")?,
-        custom_metadata: pairs(alloc, value)?,
+        schema: Some(schema(alloc, member(value, "schema")?)?),
+        dictionaries: Some(values(alloc, member(value, "dictionaries")?, "dictionaries")?),
+        record_batches: Some(values(alloc, member(value, "record_batches")?, "record_batches")?),
+        custom_metadata: stated_pairs(alloc, value)?,
     };
     Ok(footer.to_bytes(alloc)?)
 }
@@ -78,7 +78,7 @@ fn header(alloc: Global, value: &Value) -> Result<MessageHeader, Trouble> {
     Ok(MessageHeader::DictionaryBatch(DictionaryBatch {
         id: number(table.get("id"), "id")?,
         is_delta: truth(table.get("is_delta"), "is_delta")?,
-        data_: record_batch(alloc, member(table, "data")?)?,
+        data_: Some(record_batch(alloc, member(table, "data")?)?),
     }))
 }
 
@@ -160,6 +160,14 @@ fn pairs(alloc: Global, value: &Value) -> Result<Vec<KeyValue>, Trouble> {
         out.push(key_value(alloc, items(Some(pair), "metadata")?)?)?;
     }
     Ok(out)
+}
+
+// The same, or none where that member is left out.
+fn stated_pairs(alloc: Global, value: &Value) -> Result<Option<Vec<KeyValue>>, Trouble> {
+    if value.get("metadata").is_none() {
+        return Ok(None);
+    }
+    Ok(Some(pairs(alloc, value)?))
 }
 
 fn key_value(alloc: Global, pair: &[Value]) -> Result<KeyValue, Trouble> {

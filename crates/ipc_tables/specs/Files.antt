@@ -1,11 +1,11 @@
 -- The table of File.fbs: which slot is to hold what.
-use Rattle.std.specs.Prelude.{ℕ, List, ◌++◌}
+use Rattle.std.specs.Prelude.{ℕ, List, ◌++◌, option_map}
 use Rattle.ipc_parts.specs.Pads.{le}
-use Rattle.ipc_parts.specs.Tree.{Part, Slots, no_slots, number, offset, table}
+use Rattle.ipc_parts.specs.Tree.{Part, Slots, no_slots, number, table}
 use Rattle.ipc_views.specs.declared.file.Block.{Block}
 use Rattle.ipc_tables.specs.declared.file.Footer.{Footer}
 use Rattle.ipc_tables.specs.Elements.{elements_of}
-use Rattle.ipc_tables.specs.Schemas.{pairs_part, schema_slots, version_number}
+use Rattle.ipc_tables.specs.Schemas.{pairs_vector, schema_slots, version_number}
 use Rattle.ipc_tables.specs.Slots.{bits32, bits64, optional}
 
 -- with four bytes unused
@@ -18,5 +18,6 @@ blocks_part bs = elements_of 8 24 block_bytes bs
 -- Footer: version, schema, dictionaries, recordBatches, custom_metadata
 abbrev pub footer_slots : Footer → Slots
 footer_slots f =
-    number 2 (version_number f.version) (offset (table (schema_slots f.schema)) (offset (blocks_part f.dictionaries.items)
-    (offset (blocks_part f.record_batches.items) (optional (pairs_part f.custom_metadata.items) no_slots))))
+    number 2 (version_number f.version) (optional (option_map (λ s. table (schema_slots s)) f.schema)
+    (optional (option_map (λ v. blocks_part v.items) f.dictionaries) (optional (option_map (λ v. blocks_part v.items) f.record_batches)
+    (optional (option_map (λ v. pairs_vector v.items) f.custom_metadata) no_slots))))

@@ -50,7 +50,7 @@ record_batch_slots b =
 -- DictionaryBatch: id, data, isDelta
 abbrev pub dictionary_batch_slots : DictionaryBatch → Slots
 dictionary_batch_slots b =
-    number 8 (bits64 b.id) (offset (table (record_batch_slots b.data_)) (number 1 (bit b.is_delta) no_slots))
+    number 8 (bits64 b.id) (optional (option_map (λ d. table (record_batch_slots d)) b.data_) (number 1 (bit b.is_delta) no_slots))
 
 -- the number of a header in the union MessageHeader
 abbrev pub header_tag : MessageHeader → ℕ

@@ -35,6 +35,11 @@ pub record AreTables {V : Type 0} (v : Vector) (IsValue : Spot → V → Type 0)
   pub count : v.count ≡ length values
   pub each : (k : ℕ) (x : V) → slice_get values k ≡ Some x → (t : Spot) × (table_in v k ≡ Ok t) × IsValue t x
 
+-- the table, where it is there
+abbrev pub IsOptionalTable : {V : Type 0} → Result (Option Spot) TableFault → (Spot → V → Type 0) → Option V → Type 0
+IsOptionalTable r IsValue None = r ≡ Ok None
+IsOptionalTable r IsValue (Some x) = (t : Spot) × (r ≡ Ok (Some t)) × IsValue t x
+
 abbrev pub IsInt : Spot → int_table → Type 0
 IsInt t i = (int_bit_width t ≡ Ok (kept32 i.bit_width)) × (int_is_signed t ≡ Ok i.is_signed)
 
@@ -126,7 +131,7 @@ pub record IsRecordBatch (t : Spot) (b : RecordBatch) : Type 0 where
 
 pub record IsDictionaryBatch (t : Spot) (b : DictionaryBatch) : Type 0 where
   pub id : dictionary_batch_id t ≡ Ok (kept64 b.id)
-  pub values : (d : Spot) × (dictionary_batch_data t ≡ Ok (Some d)) × IsRecordBatch d b.data_
+  pub values : IsOptionalTable (dictionary_batch_data t) IsRecordBatch b.data_
   pub delta : dictionary_batch_is_delta t ≡ Ok b.is_delta
 
 abbrev pub IsHeader : ℕ → Spot → MessageHeader → Type 0
@@ -143,10 +148,10 @@ pub record IsMessage (levels : ℕ) (t : Spot) (m : Message) : Type 0 where
 
 pub record IsFooter (levels : ℕ) (t : Spot) (f : Footer) : Type 0 where
   pub version : footer_version t ≡ Ok f.version
-  pub schema : (s : Spot) × (footer_schema t ≡ Ok (Some s)) × IsSchema levels s f.schema
-  pub dictionaries : footer_dictionaries t ≡ Ok (Some (map kept_block f.dictionaries.items))
-  pub record_batches : footer_record_batches t ≡ Ok (Some (map kept_block f.record_batches.items))
-  pub pairs : ArePairs (footer_custom_metadata t) f.custom_metadata.items
+  pub schema : IsOptionalTable (footer_schema t) (IsSchema levels) f.schema
+  pub dictionaries : footer_dictionaries t ≡ Ok (option_map (λ v. map kept_block v.items) f.dictionaries)
+  pub record_batches : footer_record_batches t ≡ Ok (option_map (λ v. map kept_block v.items) f.record_batches)
+  pub pairs : AreOptionalPairs (footer_custom_metadata t) f.custom_metadata
 
 -- the bytes have a root that reads as the value
 pub record HaveRoot {V : Type 0} (bytes : List ℕ) (IsValue : Spot → V → Type 0) (value : V) : Type 0 where

@@ -5,12 +5,11 @@ ghost use Rattle.ipc_parts.specs.Parts.{IsPart};
 ghost use Rattle.ipc_parts.specs.Tree.{table};
 ghost use Rattle.ipc_tables.specs.Messages.{codec_number, compression_slots, dictionary_batch_slots, header_slots, header_tag, message_slots, method_number, record_batch_slots};
 ghost use Rattle.ipc_tables.specs.Reads.{HaveRoot, IsMessage};
-ghost use Rattle.ipc_tables.specs.Schemas.{pairs_vector};
 ghost use Rattle.ipc_tables.specs.Slots.{IsOptional};
 ghost use Rattle.ipc_tables.specs.Weights.{schema_weight};
 
 use crate::elements::{Element, elements_part};
-use crate::schema::{KeyValue, Schema, pairs_vector, schema_part, version_number};
+use crate::schema::{KeyValue, Schema, optional_pairs, schema_part, version_number};
 use crate::slots::{flag, long};
 use ipc_devices::fault::Fault;
 use ipc_parts::{Built, Slot, message, put_u64, table};
@@ -54,7 +53,7 @@ pub struct RecordBatch {
 pub struct DictionaryBatch {
     pub id: i64,
     /// The values, as a record batch of one column.
-    pub data_: RecordBatch,
+    pub data_: Option<RecordBatch>,
     pub is_delta: bool,
 }
 
@@ -179,15 +178,24 @@ fn record_batch_part(alloc: Global, batch: &RecordBatch) -> Result<Built, AllocE
     )
 }
 
+fn record_batch_slot(alloc: Global, batch: &Option<RecordBatch>) -> Result<Slot, AllocError>
+    ensures { IfOk result (λ slot. IsOptional slot (option_map (λ b. table (record_batch_slots b)) batch.now)) }
+{
+    match batch {
+        None => Ok(Slot::Absent),
+        Some(batch) => Ok(Slot::Offset(record_batch_part(alloc, batch)?)),
+    }
+}
+
 fn dictionary_batch_part(alloc: Global, batch: &DictionaryBatch) -> Result<Built, AllocError>
     ensures { IfOk result (λ built. IsPart built (table (dictionary_batch_slots batch.now))) }
 {
-    let data_ = record_batch_part(alloc, &batch.data_)?;
+    let data_ = record_batch_slot(alloc, &batch.data_)?;
     table(
         alloc,
         &[
             Slot::Number(long(batch.id)),
-            Slot::Offset(data_),
+            data_,
             Slot::Number(flag(batch.is_delta)),
         ],
     )
@@ -214,20 +222,11 @@ fn header_part(alloc: Global, header: &MessageHeader) -> Result<Built, AllocErro
     }
 }
 
-fn message_pairs(alloc: Global, pairs: &Option<Vec<KeyValue>>) -> Result<Slot, AllocError>
-    ensures { IfOk result (λ slot. IsOptional slot (option_map (λ v. pairs_vector v.items) pairs.now)) }
-{
-    match pairs {
-        None => Ok(Slot::Absent),
-        Some(pairs) => Ok(Slot::Offset(pairs_vector(alloc, pairs.as_slice())?)),
-    }
-}
-
 fn message_part(alloc: Global, message: &Message) -> Result<Built, AllocError>
     ensures { IfOk result (λ built. IsPart built (table (message_slots message.now))) }
 {
     let header = header_part(alloc, &message.header)?;
-    let pairs = message_pairs(alloc, &message.custom_metadata)?;
+    let pairs = optional_pairs(alloc, &message.custom_metadata)?;
     table(
         alloc,
         &[

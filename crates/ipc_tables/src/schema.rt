@@ -151,7 +151,7 @@ fn pair_parts(alloc: Global, pairs: &[KeyValue]) -> Result<Vec<Built>, AllocErro
 }
 
 // The vector of some pairs.
-pub(crate) fn pairs_vector(alloc: Global, pairs: &[KeyValue]) -> Result<Built, AllocError>
+fn pairs_vector(alloc: Global, pairs: &[KeyValue]) -> Result<Built, AllocError>
     ensures { IfOk result (λ built. IsPart built (pairs_vector pairs.now)) }
 {
     let parts = pair_parts(alloc, pairs)?;
@@ -159,13 +159,26 @@ pub(crate) fn pairs_vector(alloc: Global, pairs: &[KeyValue]) -> Result<Built, A
 }
 
 // The pairs, or nothing where there is none.
-pub(crate) fn pairs_slot(alloc: Global, pairs: &[KeyValue]) -> Result<Slot, AllocError>
+fn pairs_slot(alloc: Global, pairs: &[KeyValue]) -> Result<Slot, AllocError>
     ensures { IfOk result (λ slot. IsOptional slot (pairs_part pairs.now)) }
 {
     if pairs.is_empty() {
         return Ok(Slot::Absent);
     }
     Ok(Slot::Offset(pairs_vector(alloc, pairs)?))
+}
+
+// The vector of some pairs, where it is there.
+pub(crate) fn optional_pairs(
+    alloc: Global,
+    pairs: &Option<Vec<KeyValue>>,
+) -> Result<Slot, AllocError>
+    ensures { IfOk result (λ slot. IsOptional slot (option_map (λ v. pairs_vector v.items) pairs.now)) }
+{
+    match pairs {
+        None => Ok(Slot::Absent),
+        Some(pairs) => Ok(Slot::Offset(pairs_vector(alloc, pairs.as_slice())?)),
+    }
 }
 
 fn dictionary_part(alloc: Global, dictionary: DictionaryEncoding) -> Result<Built, AllocError>
