@@ -18,7 +18,7 @@ use crate::trouble::Trouble;
 use crate::types::{LEVELS, nullable};
 use ipc_tables::file::Footer;
 use ipc_tables::message::{DictionaryBatch, Message, MessageHeader, RecordBatch};
-use ipc_tables::schema::{DictionaryEncoding, Field, KeyValue, Schema};
+use ipc_tables::schema::{DictionaryEncoding, DictionaryKind, Field, KeyValue, Schema};
 use ipc_tables::types::FieldType;
 use ipc_views::{Block, Buffer, Endianness, FieldNode, MetadataVersion};
 use serde_json::Value;
@@ -35,6 +35,7 @@ pub fn message(alloc: Global, value: &Value) -> Result<Vec<u8>, Trouble> {
         version,
         header: header(alloc, member(value, "header")?)?,
         body_length,
+        custom_metadata: None,
     };
     Ok(message.to_bytes(alloc)?)
 }
@@ -43,10 +44,10 @@ pub fn message(alloc: Global, value: &Value) -> Result<Vec<u8>, Trouble> {
 pub fn footer(alloc: Global, value: &Value) -> Result<Vec<u8>, Trouble> {
     let footer = Footer {
         version: version(value)?,
-        schema: schema(alloc, member(value, "schema")?)?,
-        dictionaries: values(alloc, member(value, "dictionaries")?, "dictionaries")?,
-        record_batches: values(alloc, member(value, "record_batches")?, "record_batches")?,
-        custom_metadata: pairs(alloc, value)?,
+        schema: Some(schema(alloc, member(value, "schema")?)?),
+        dictionaries: Some(values(alloc, member(value, "dictionaries")?, "dictionaries")?),
+        record_batches: Some(values(alloc, member(value, "record_batches")?, "record_batches")?),
+        custom_metadata: stated_pairs(alloc, value)?,
     };
     Ok(footer.to_bytes(alloc)?)
 }
@@ -77,7 +78,7 @@ fn header(alloc: Global, value: &Value) -> Result<MessageHeader, Trouble> {
     Ok(MessageHeader::DictionaryBatch(DictionaryBatch {
         id: number(table.get("id"), "id")?,
         is_delta: truth(table.get("is_delta"), "is_delta")?,
-        data_: record_batch(alloc, member(table, "data")?)?,
+        data_: Some(record_batch(alloc, member(table, "data")?)?),
     }))
 }
 
@@ -88,6 +89,7 @@ fn record_batch(alloc: Global, value: &Value) -> Result<RecordBatch, Trouble> {
         length: number(value.get("length"), "length")?,
         nodes: values(alloc, member(value, "nodes")?, "nodes")?,
         buffers: values(alloc, member(value, "buffers")?, "buffers")?,
+        compression: None,
     })
 }
 
@@ -135,6 +137,7 @@ fn schema(alloc: Global, value: &Value) -> Result<Schema, Trouble> {
         endianness: endianness(value)?,
         fields: fields(alloc, member(value, "fields")?, LEVELS)?,
         custom_metadata: pairs(alloc, value)?,
+        features: None,
     })
 }
 
@@ -157,6 +160,14 @@ fn pairs(alloc: Global, value: &Value) -> Result<Vec<KeyValue>, Trouble> {
         out.push(key_value(alloc, items(Some(pair), "metadata")?)?)?;
     }
     Ok(out)
+}
+
+// The same, or none where that member is left out.
+fn stated_pairs(alloc: Global, value: &Value) -> Result<Option<Vec<KeyValue>>, Trouble> {
+    if value.get("metadata").is_none() {
+        return Ok(None);
+    }
+    Ok(Some(pairs(alloc, value)?))
 }
 
 fn key_value(alloc: Global, pair: &[Value]) -> Result<KeyValue, Trouble> {
@@ -236,5 +247,6 @@ fn dictionary(value: &Value) -> Result<Option<DictionaryEncoding>, Trouble> {
         id: number(value.get("id"), "id")?,
         index_type: types::int(items(value.get("index_type"), "index_type")?)?,
         is_ordered: truth(value.get("is_ordered"), "is_ordered")?,
+        dictionary_kind: DictionaryKind::DenseArray,
     }))
 }

@@ -41,11 +41,11 @@ message-eighth slots = omega (arith, size-eighth (table slots))
 
 -- a schema message of version 5 begins a stream
 pub head-written : (m : List ℕ) (slots : Slots) (long : ℕ) (schema : Schema) → schema_of m ≡ Some schema
-    → HoldsRoot m (number 2 4 (number 1 1 (offset (table slots) (number 8 long no_slots)))) → head_of m ≡ Some (record { schema = schema; extra = 0 })
+    → HoldsRoot m (number 2 4 (number 1 1 (offset (table slots) (number 8 long (absent no_slots))))) → head_of m ≡ Some (record { schema = schema; extra = 0 })
 unfolding head_of
 head-written m slots long schema means (p, root, (v, size, opened, sized, ((q0, e0, f0, g0), rest))) =
     let at_root : root_at m ≡ Ok (spot m p) =
     ap (λ r. and_then r (spot_at m)) root
-    ∙ spot-held m p (number 2 4 (number 1 1 (offset (table slots) (number 8 long no_slots)))) (v, size, opened, sized, ((q0, e0, f0, g0), rest)) in
+    ∙ spot-held m p (number 2 4 (number 1 1 (offset (table slots) (number 8 long (absent no_slots))))) (v, size, opened, sized, ((q0, e0, f0, g0), rest)) in
     let version : message_version (spot m p) ≡ Ok V5 = ap (λ r. and_then r version_of) (number-read 2 0 m p 0 q0 4 e0 f0) in
     rw (means, at_root, version) refl

@@ -1,7 +1,7 @@
 -- The table of a schema, and its message, mean the schema and are no longer than its weight.
 use Rattle.std.proofs.Common.{◌≡◌, ℕ, ℤ, ◌+◌, ◌≤◌, ◌++◌, cond, Bool, true, false, nat_le, List, [], length, map, Option, None, Some, Result, Ok, Err, Vec, Global, refl, ap, sym, ◌∙◌, arith, inl, inr, rules}
 use Rattle.std.proofs.lemmas.Bool.Decides.{nat_tests}
-use Rattle.std.specs.Prelude.{pos}
+use Rattle.std.specs.Prelude.{option_map, pos}
 use Rattle.lower.specs.Counts.{fields_levels, is_dictionary}
 use Rattle.lower.specs.Normal.{norm, norm_field, norm_fields}
 use Rattle.lower.specs.TypeTrees.{Pairs, TypeTree, plain, single, group, dictionary, extension, FieldTree, field, FieldTrees, no_fields, more_fields}
@@ -10,15 +10,15 @@ use Rattle.ipc_base.specs.IdTrees.{IdTree, ids, IdTrees}
 use Rattle.ipc_devices.specs.declared.fault.Fault.{Fault}
 use Rattle.ipc_parts.specs.Encodes.{Encodes}
 use Rattle.ipc_parts.specs.Holds.{HoldsPart, spot}
-use Rattle.ipc_parts.specs.Readers.{parts_of}
+use Rattle.ipc_parts.specs.Readers.{optional, parts_of}
 use Rattle.ipc_parts.specs.Sizes.{parts_size, size_of}
 use Rattle.ipc_parts.specs.Tree.{no_slots, offset, table, tables}
 use Rattle.ipc_views.specs.SchemaSlots.{schema_custom_metadata, schema_endianness, schema_fields}
 use Rattle.ipc_views.specs.declared.schema.Endianness.TheVariants.{Little}
 use Rattle.ipc_views.specs.declared.schema.MetadataVersion.TheVariants.{V5}
 use Rattle.ipc_tables.specs.Messages.{message_slots}
-use Rattle.ipc_tables.specs.Schemas.{field_part, pairs_part, schema_slots}
-use Rattle.ipc_tables.specs.Weights.{schema_weight}
+use Rattle.ipc_tables.specs.Schemas.{features_part, field_part, pairs_part, schema_slots}
+use Rattle.ipc_tables.specs.Weights.{features_weight, schema_weight}
 use Rattle.ipc_tables.specs.declared.message.MessageHeader.TheVariants.{Schema as a_schema}
 use Rattle.ipc_tables.specs.declared.schema.Schema.{Schema as SchemaTable}
 use Rattle.ipc_tables.proofs.SchemaLaws.{IsSchema-holds}
@@ -67,12 +67,14 @@ mutual
   fields_count-norm (more_fields f fs) = rw (field_count-norm f, fields_count-norm fs) refl
 
 schema-size : (s : SchemaTable) → parts_size (parts_of (map field_part s.fields.items)) ≤ size_of (table (schema_slots s))
-schema-size s = omega (arith, optional-more (pairs_part s.custom_metadata.items) no_slots)
+schema-size s =
+    let features = optional (option_map (λ v. features_part v.items) s.features) no_slots in
+    omega (arith, optional-more (pairs_part s.custom_metadata.items) features)
 
 test-le : (a b : ℕ) → a ≤ b → nat_le a b ≡ true
 test-le a b h = grind (arith, nat_tests)
 
-module _ (s : SchemaTable) (fs : FieldTrees) (es : Pairs) (is : IdTrees) (little : s.endianness ≡ Little) (fields : AreFieldTables s.fields.items fs is) (pairs : ArePairsOf s.custom_metadata.items es) (deep : fields_levels fs ≤ 64) where
+module _ (s : SchemaTable) (fs : FieldTrees) (es : Pairs) (is : IdTrees) (little : s.endianness ≡ Little) (plain_features : s.features ≡ None) (fields : AreFieldTables s.fields.items fs is) (pairs : ArePairsOf s.custom_metadata.items es) (deep : fields_levels fs ≤ 64) where
   schema-reads : (m : List ℕ) (p : ℕ) → HoldsPart m p (table (schema_slots s)) → size_of (table (schema_slots s)) ≤ length m → schema_at (spot m p) ≡ Some (written fs es is)
   unfolding schema_at
   schema-reads m p held inside =
@@ -97,28 +99,29 @@ module _ (s : SchemaTable) (fs : FieldTrees) (es : Pairs) (is : IdTrees) (little
     weighs =
         let total_is = fields-weigh s.fields.items fs is fields in
         let pairs_is = tables-weigh s.custom_metadata.items ∙ pairs.weighs in
-        omega (arith, total_is, pairs_is);
+        omega (arith, total_is, pairs_is, ap features_weight plain_features);
   }
 
 -- the bytes of the message of a schema
 pub bytes-written : (r : Result (Vec ℕ Global) Fault) (s : SchemaTable) (fs : FieldTrees) (es : Pairs) (is : IdTrees) → IsWritable fs es is → IsSchemaTable s fs es is
-    → Encodes r (message_slots (record { version = V5; header = a_schema s; body_length = pos 0 })) → WritesSchema r fs es is
+    → Encodes r (message_slots (record { version = V5; header = a_schema s; body_length = pos 0; custom_metadata = None })) → WritesSchema r fs es is
 bytes-written (Ok bytes) s fs es is w t encoded =
     let size = encoded.size in
-    let weighs = schema-weighs (record { version = V5; header = a_schema s; body_length = pos 0 }) s refl in
+    let weighs = schema-weighs (record { version = V5; header = a_schema s; body_length = pos 0; custom_metadata = None }) s refl refl in
     let small = t.weighs in
     let inside : size_of (table (schema_slots s)) ≤ length bytes.items = omega (arith, size) in
     let read = message-reads bytes.items _ _ (schema_slots s) (written fs es is) (λ p held. t.reads bytes.items p held inside) encoded.holds in
-    let whole = message-eighth (message_slots (record { version = V5; header = a_schema s; body_length = pos 0 })) in (
+    let whole = message-eighth (message_slots (record { version = V5; header = a_schema s; body_length = pos 0; custom_metadata = None })) in (
       w,
       read,
       omega (arith, size, weighs, small),
       head-written bytes.items (schema_slots s) _ (written fs es is) read encoded.holds,
       omega (arith, size, whole),
+      record { message = record { version = V5; header = a_schema s; body_length = pos 0; custom_metadata = None }; version = refl; bare = refl; encoding = encoded },
     )
 bytes-written (Err e) s fs es is w t (inl memory) = rw memory tt
 bytes-written (Err e) s fs es is w t (inr (large, long)) = absurd (
-    let weighs = schema-weighs (record { version = V5; header = a_schema s; body_length = pos 0 }) s refl in
+    let weighs = schema-weighs (record { version = V5; header = a_schema s; body_length = pos 0; custom_metadata = None }) s refl refl in
     let small = t.weighs in
     let light = w.light in
     omega (arith, weighs, small, light, long))

@@ -15,6 +15,7 @@ use Rattle.ipc_parts.specs.Sizes.{size_of}
 use Rattle.ipc_parts.specs.Tree.{table}
 use Rattle.ipc_tables.specs.Schemas.{schema_slots}
 use Rattle.ipc_tables.specs.Weights.{schema_weight}
+use Rattle.ipc_tables.specs.Written.{IsWritten}
 use Rattle.ipc_tables.specs.declared.schema.Schema.{Schema as SchemaTable}
 use Rattle.ipc_model.specs.Batches.{Place, Schema, places}
 use Rattle.ipc_model.specs.Schemas.{head_of, schema_at, schema_of}
@@ -55,9 +56,9 @@ WritesTable (Err e) fs es is = RefusesSchema e fs es is
 abbrev pub written_head : FieldTrees → Pairs → IdTrees → Head
 written_head fs es is = record { schema = written fs es is; extra = 0 }
 
--- the bytes mean the schema, are no more than its weight, begin a stream, and need no padding
+-- the bytes mean the schema, are no more than its weight, begin a stream, need no padding, and are a message as it is written
 abbrev pub WritesSchema : Result (Vec ℕ Global) Fault → FieldTrees → Pairs → IdTrees → Type 0
 WritesSchema (Ok bytes) fs es is =
     IsWritable fs es is × (schema_of bytes.items ≡ Some (written fs es is)) × (length bytes.items ≤ weight fs es)
-    × (head_of bytes.items ≡ Some (written_head fs es is)) × (length bytes.items % 8 ≡ 0)
+    × (head_of bytes.items ≡ Some (written_head fs es is)) × (length bytes.items % 8 ≡ 0) × IsWritten bytes.items
 WritesSchema (Err e) fs es is = RefusesSchema e fs es is

@@ -61,6 +61,7 @@ pub fn serialize_schema(
         endianness: Endianness::Little,
         fields,
         custom_metadata,
+        features: None,
     };
     if !is_light(&table) {
         return Err(Fault::Argument(ArgFault::NotWritable));
@@ -69,7 +70,8 @@ pub fn serialize_schema(
 }
 
 /// The message of a schema with these ids, without its prefix. The fields are in their normal form,
-/// and numbers have their lowest byte first.
+/// and numbers have their lowest byte first. Its version is V5, it has no metadata of its own, and its
+/// parts are laid out as Flatbuffers asks of a writer.
 ///
 /// Faults: `Argument(FieldsShape)` where the ids don't fit; `NotYetImplemented(Pending)` where two
 /// dictionaries have one id; `Argument(NotWritable)` where there are more than 65,536 dictionaries,
@@ -93,6 +95,7 @@ pub fn schema_to_bytes(
         version: MetadataVersion::V5,
         header: MessageHeader::Schema(schema),
         body_length: 0,
+        custom_metadata: None,
     };
     message.to_bytes(alloc)
 }

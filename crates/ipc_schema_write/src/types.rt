@@ -8,7 +8,7 @@ ghost use Rattle.ipc_model.specs.Schemas.{date_of, float_of, integers, interval_
 ghost use Rattle.ipc_model.specs.Writable.{IsShort, IsWritableType};
 ghost use Rattle.ipc_schema_write.specs.Meanings.{AreShortIds, IsEncodingTable, IsGroupTable, IsKeysTable, IsSingleTable, IsTypeTable, encoding_of};
 
-use ipc_tables::schema::DictionaryEncoding;
+use ipc_tables::schema::{DictionaryEncoding, DictionaryKind};
 use ipc_tables::types::{
     Date, Decimal, Duration, FieldType, FixedSizeBinary, FixedSizeList, FloatingPoint, Int,
     Interval, Map, Time, Timestamp, Union,
@@ -90,6 +90,7 @@ pub(crate) fn serialize_encoding(
             id,
             index_type: serialize_integer(*keys),
             is_ordered: *is_ordered,
+            dictionary_kind: DictionaryKind::DenseArray,
         }),
         _ => None,
     }

@@ -1,9 +1,9 @@
 //! What bounds the message of a schema, told by its tables.
 ghost use Rattle.std.specs.Prelude.{◌≡◌, ◌^◌, ◌≤◌, ◌↔◌, IsTrue, MatchOption, map};
-ghost use Rattle.ipc_tables.specs.Weights.{field_weight, ids_weight, pairs_weight, schema_weight, total, type_weight, zone_weight};
+ghost use Rattle.ipc_tables.specs.Weights.{features_weight, field_weight, ids_weight, pairs_weight, schema_weight, total, type_weight, zone_weight};
 ghost use Rattle.ipc_schema_write.specs.WriterAnswers.{max_weight};
 
-use ipc_tables::schema::{Field, KeyValue, Schema};
+use ipc_tables::schema::{Feature, Field, KeyValue, Schema};
 use ipc_tables::types::FieldType;
 
 /// The greatest weight of a schema that is written: `2^30`.
@@ -71,15 +71,26 @@ fn weigh_fields(fields: &[Field]) -> Option<u64>
     Some(sum)
 }
 
+fn weigh_features(features: &Option<Vec<Feature>>) -> Option<u64>
+    ensures { MatchOption result (2 ^ 64 ≤ features_weight features.now) (λ weight. weight ≡ features_weight features.now) }
+{
+    match features {
+        None => Some(0),
+        Some(features) => (features.len() as u64).checked_mul(8),
+    }
+}
+
 /// The weight of a schema, or None where a `u64` is too small for it. The message of the schema has no more bytes.
 ///
 /// It is 1,024, and for each field at any level 512, the bytes of its name and of its timezone, and 8 for each id of a
-/// union; and 64 for each pair of metadata, of the schema's and of the fields', with the bytes of its key and its value.
+/// union; 64 for each pair of metadata, of the schema's and of the fields', with the bytes of its key and its value; and 8
+/// for each feature.
 pub fn weigh_schema(schema: &Schema) -> Option<u64>
     ensures { MatchOption result (2 ^ 64 ≤ schema_weight schema.now) (λ weight. weight ≡ schema_weight schema.now) }
 {
     let own = weigh_pairs(&schema.custom_metadata)?.checked_add(1024)?;
-    own.checked_add(weigh_fields(&schema.fields)?)
+    let with_fields = own.checked_add(weigh_fields(&schema.fields)?)?;
+    with_fields.checked_add(weigh_features(&schema.features)?)
 }
 
 /// Whether the weight of a schema is at most the greatest.

@@ -1,5 +1,5 @@
 -- The tables of a schema that are built read as the schema.
-use Rattle.std.proofs.Common.{◌≡◌, ℕ, zero, suc, List, [], ◌∷◌, map, Option, None, Some, Ok, refl, subst}
+use Rattle.std.proofs.Common.{◌≡◌, ℕ, zero, suc, List, [], ◌∷◌, map, Option, None, Some, Ok, refl, subst, Vec, Global}
 use Rattle.std.specs.Prelude.{option_map, string_bytes}
 use Rattle.ipc_views.specs.Enumerations.{endianness_of}
 use Rattle.ipc_views.specs.Spot.{Spot, Vector}
@@ -13,8 +13,8 @@ use Rattle.ipc_tables.specs.declared.schema.Field.{Field}
 use Rattle.ipc_tables.specs.declared.schema.Field.TheViews.{out-Field}
 use Rattle.ipc_tables.specs.declared.schema.KeyValue.{KeyValue}
 use Rattle.ipc_tables.specs.declared.schema.Schema.{Schema}
-use Rattle.ipc_tables.specs.Reads.{AreTables, ArePairs, IsDictionary, IsEncodedBy, IsField, IsFieldHead, IsPair, IsSchema}
-use Rattle.ipc_tables.specs.Schemas.{dictionary_slots, endianness_number, field_part, field_slots, pair_part, pairs_part, schema_slots}
+use Rattle.ipc_tables.specs.Reads.{AreOptionalPairs, AreTables, ArePairs, IsDictionary, IsEncodedBy, IsField, IsFieldHead, IsPair, IsSchema}
+use Rattle.ipc_tables.specs.Schemas.{dictionary_slots, endianness_number, features_part, field_part, field_slots, pair_part, pairs_part, pairs_vector, schema_slots}
 use Rattle.ipc_tables.specs.Types.{int_slots, type_slots, type_tag}
 use Rattle.ipc_tables.proofs.BuiltLists.{field_part-out}
 use Rattle.ipc_tables.proofs.Numbers.{long-read, flag-read, unit-read, endianness-back}
@@ -32,14 +32,23 @@ IsPair-holds : (m : List ℕ) (t : ℕ) (p : KeyValue) → HoldsPart m t (pair_p
 IsPair-holds m t p (v, size, e, f, ((q0, t0, e0, f0, g0, h0), ((q1, t1, e1, f1, g1, h1), past))) =
     (text-read m t 0 q0 t0 (string_bytes p.key) e0 f0 h0, text-read m t 1 q1 t1 (string_bytes p.value) e1 f1 h1)
 
+-- the vector of some pairs
+pairs-read : (m : List ℕ) (p i q t : ℕ) (ps : List KeyValue) → slot_at m p i ≡ Ok (Some q) → target_at m q ≡ Ok t → HoldsPart m t (pairs_vector ps)
+    → (v : Vector) × (vector_slot 4 m p i ≡ Ok (Some v)) × AreTables v IsPair ps
+pairs-read m p i q t ps e f h =
+    let r = tables-read pair_part (λ y. (offset (text (string_bytes y.key)) (offset (text (string_bytes y.value)) no_slots), refl)) m p i q t ps e f h in
+    (r.0, r.1, AreTables-from r.0 pair_part IsPair ps (λ k y. IsPair-holds r.0.message k y) r.3)
+
 pub ArePairs-holds : (m : List ℕ) (p i : ℕ) (ps : List KeyValue) → HoldsOptional m p i (pairs_part ps) → ArePairs (vector_slot 4 m p i) ps
 ArePairs-holds m p i [] e = absent-read m p i _ e
-ArePairs-holds m p i (x ∷ ps) (q, t, e, f, h) =
-    let r = tables-read pair_part (λ y. (offset (text (string_bytes y.key)) (offset (text (string_bytes y.value)) no_slots), refl)) m p i q t (x ∷ ps) e f h in
-    (r.0, r.1, AreTables-from r.0 pair_part IsPair (x ∷ ps) (λ k y. IsPair-holds r.0.message k y) r.3)
+ArePairs-holds m p i (x ∷ ps) (q, t, e, f, h) = pairs-read m p i q t (x ∷ ps) e f h
+
+pub AreOptionalPairs-holds : (m : List ℕ) (p i : ℕ) (ps : Option (Vec KeyValue Global)) → HoldsOptional m p i (option_map (λ v. pairs_vector v.items) ps) → AreOptionalPairs (vector_slot 4 m p i) ps
+AreOptionalPairs-holds m p i None e = absent-read m p i _ e
+AreOptionalPairs-holds m p i (Some ps) (q, t, e, f, h) = pairs-read m p i q t ps.items e f h
 
 IsEncodedBy-holds : (m : List ℕ) (t : ℕ) (d : DictionaryEncoding) → HoldsPart m t (table (dictionary_slots d)) → IsEncodedBy (spot m t) d
-IsEncodedBy-holds m t d (v, size, e, f, ((q0, e0, f0, g0), ((q1, t1, e1, f1, g1, h1), ((q2, e2, f2, g2), past)))) = record {
+IsEncodedBy-holds m t d (v, size, e, f, ((q0, e0, f0, g0), ((q1, t1, e1, f1, g1, h1), ((q2, e2, f2, g2), rest)))) = record {
   id = long-read m t 0 q0 d.id e0 f0;
   index_type = (spot m t1, table-read m t 1 q1 t1 (int_slots d.index_type) e1 f1 h1, IsInt-holds m t1 d.index_type h1);
   ordered = flag-read m t 2 q2 d.is_ordered e2 f2;
@@ -85,7 +94,7 @@ pub IsSchema-holds : (levels : ℕ) (m : List ℕ) (p : ℕ) (s : Schema) → Ho
 IsSchema-holds levels m p s (v, size, a, b, ((q0, e0, f0, g0), ((q1, t1, e1, f1, g1, h1), rest))) =
     let fields = s.fields.items in
     let c = tables-read field_part (λ g. (field_slots g (map field_part (out-Field g).children.items), field_part-out g)) m p 1 q1 t1 fields e1 f1 h1 in
-    let pairs = optional-read m p size 2 (pairs_part s.custom_metadata.items) no_slots rest in
+    let pairs = optional-read m p size 2 (pairs_part s.custom_metadata.items) (optional (option_map (λ v. features_part v.items) s.features) no_slots) rest in
     record {
       endianness = unit-read endianness_number endianness_of endianness-back 0 m p 0 q0 s.endianness e0 f0;
       fields = (c.0, c.1, AreTables-from c.0 field_part (IsField levels) fields (λ t g. IsField-holds levels c.0.message t g) c.3);

@@ -6,11 +6,12 @@ use Rattle.ipc_parts.specs.Encodes.{Encodes}
 use Rattle.ipc_parts.specs.Holds.{count_parts, count_slots}
 use Rattle.ipc_parts.specs.Readers.{optional, parts_of}
 use Rattle.ipc_parts.specs.Sizes.{message_size, parts_size, size_of, slots_size}
-use Rattle.ipc_parts.specs.Tree.{Part, Slots, no_slots, number, offset, table, tables, text}
+use Rattle.ipc_parts.specs.Tree.{Part, Slots, absent, no_slots, number, offset, table, tables, text}
 use Rattle.ipc_parts.proofs.ReaderLaws.{count-map}
 use Rattle.ipc_tables.specs.declared.message.Message.{Message}
 use Rattle.ipc_tables.specs.declared.message.MessageHeader.TheVariants.{Schema as a_schema}
 use Rattle.ipc_tables.specs.declared.schema.DictionaryEncoding.{DictionaryEncoding}
+use Rattle.ipc_tables.specs.declared.schema.Feature.{Feature}
 use Rattle.ipc_tables.specs.declared.schema.Field.{Field}
 use Rattle.ipc_tables.specs.declared.schema.Field.TheOpen.{Field-F}
 use Rattle.ipc_tables.specs.declared.schema.Field.TheFolds.{fold-roll-Field, ind-Field}
@@ -20,10 +21,11 @@ use Rattle.ipc_tables.specs.declared.schema.Schema.{Schema}
 use Rattle.ipc_tables.specs.declared.types.FieldType.{FieldType}
 use Rattle.ipc_tables.specs.declared.types.FieldType.TheVariants.{Null, Int, FloatingPoint, Binary, Utf8, Bool as a_bool, Decimal, Date, Time, Timestamp, Interval, List as a_list, Struct, Union, FixedSizeBinary, FixedSizeList, Map, Duration, LargeBinary, LargeUtf8, LargeList}
 use Rattle.ipc_tables.specs.Messages.{header_slots, message_slots}
-use Rattle.ipc_tables.specs.Schemas.{dictionary_slots, field_part, field_step, pair_part, pairs_part, slots_of_field}
-use Rattle.ipc_tables.specs.Types.{ids_part, time_unit_number, type_slots, union_mode_number}
-use Rattle.ipc_tables.specs.Weights.{field_weight, ids_weight, pairs_weight, schema_weight, total, type_weight, weight_step, zone_weight}
-use Rattle.ipc_tables.proofs.Lengths.{length-ids}
+use Rattle.ipc_tables.specs.Schemas.{dictionary_slots, feature_bytes, features_part, field_part, field_step, pair_part, pairs_part, pairs_vector, slots_of_field}
+use Rattle.ipc_tables.specs.Types.{id_bytes, ids_part, time_unit_number, type_slots, union_mode_number}
+use Rattle.ipc_tables.specs.Weights.{features_weight, field_weight, ids_weight, pairs_weight, schema_weight, total, type_weight, weight_step, zone_weight}
+use Rattle.ipc_tables.specs.ElementLaws.{length-feature, length-id}
+use Rattle.ipc_tables.proofs.Lengths.{length-elements}
 
 abbrev optional_size : Option Part → ℕ
 optional_size None = 0
@@ -47,7 +49,7 @@ zone-size unit (Some zone) = omega (arith, text-size (string_bytes zone))
 
 ids-size : (mode : ℕ) (ids : Option (Vec ℤ Global)) → size_of (table (number 2 mode (optional (option_map (λ v. ids_part v.items) ids) no_slots))) ≤ 48 + ids_weight ids
 ids-size mode None = omega arith
-ids-size mode (Some ids) = omega (arith, length-ids ids.items)
+ids-size mode (Some ids) = omega (arith, length-elements id_bytes 4 length-id ids.items)
 
 type-size : (y : FieldType) → size_of (table (type_slots y)) ≤ 48 + type_weight y
 type-size Null = omega arith
@@ -72,7 +74,7 @@ type-size LargeBinary = omega arith
 type-size LargeUtf8 = omega arith
 type-size LargeList = omega arith
 
-dictionary-size : (d : Option DictionaryEncoding) → optional_size (option_map (λ d. table (dictionary_slots d)) d) ≤ 80
+dictionary-size : (d : Option DictionaryEncoding) → optional_size (option_map (λ d. table (dictionary_slots d)) d) ≤ 88
 dictionary-size None = omega arith
 dictionary-size (Some d) = omega arith
 
@@ -146,21 +148,32 @@ fields-weigh : (fs : List Field) → AreWithinWeight fs
 fields-weigh [] = omega arith
 fields-weigh (f ∷ fs) = omega (arith, field-weighs f, fields-weigh fs)
 
+features-size : (features : Option (Vec Feature Global)) → optional_size (option_map (λ v. features_part v.items) features) ≤ 16 + features_weight features
+features-size None = omega arith
+features-size (Some features) = omega (arith, length-elements feature_bytes 8 length-feature features.items)
+
 -- the message of a schema
-pub schema-weighs : (m : Message) (s : Schema) → m.header ≡ a_schema s → message_size (message_slots m) ≤ schema_weight s
-schema-weighs m s e =
+pub schema-weighs : (m : Message) (s : Schema) → m.header ≡ a_schema s → m.custom_metadata ≡ None → message_size (message_slots m) ≤ schema_weight s
+schema-weighs m s e bare =
     let fields = s.fields.items in
     let ps = s.custom_metadata.items in
+    let features = option_map (λ v. features_part v.items) s.features in
+    let alone : optional (option_map (λ v. pairs_vector v.items) m.custom_metadata) no_slots ≡ absent no_slots = ap (λ o. optional (option_map (λ v. pairs_vector v.items) o) no_slots) bare in
     omega (
       arith,
+      ap count_slots alone,
+      ap slots_size alone,
       ap (λ h. size_of (table (header_slots h))) e,
       count-map field_part fields,
       fields-weigh fields,
       pairs-size ps,
-      count-optional (pairs_part ps) no_slots,
-      size-optional (pairs_part ps) no_slots,
+      count-optional (pairs_part ps) (optional features no_slots),
+      size-optional (pairs_part ps) (optional features no_slots),
+      count-optional features no_slots,
+      size-optional features no_slots,
+      features-size s.features,
     )
 
-pub weight-from : {A : Type 0} (result : Result (Vec ℕ A) Fault) (m : Message) (s : Schema) → m.header ≡ a_schema s → Encodes result (message_slots m) → IfOk result (λ bytes. length bytes.items ≤ schema_weight s)
-weight-from (Ok bytes) m s e is = omega (arith, is.size, schema-weighs m s e)
-weight-from (Err fault) m s e is = tt
+pub weight-from : {A : Type 0} (result : Result (Vec ℕ A) Fault) (m : Message) (s : Schema) → m.header ≡ a_schema s → m.custom_metadata ≡ None → Encodes result (message_slots m) → IfOk result (λ bytes. length bytes.items ≤ schema_weight s)
+weight-from (Ok bytes) m s e bare is = omega (arith, is.size, schema-weighs m s e bare)
+weight-from (Err fault) m s e bare is = tt

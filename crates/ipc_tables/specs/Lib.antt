@@ -1,3 +1,5 @@
+pub mod ElementLaws
+pub mod Elements
 pub mod Files
 pub mod Messages
 pub mod Reads
@@ -5,3 +7,4 @@ pub mod Schemas
 pub mod Slots
 pub mod Types
 pub mod Weights
+pub mod Written

@@ -1,5 +1,6 @@
 -- A table of a message reads as a value: each named reader gives what the value says.
-use Rattle.std.specs.Prelude.{ℕ, zero, suc, ◌≡◌, List, [], ◌∷◌, length, map, Option, Some, None, option_map, slice_get, string_bytes, Result, Ok}
+use Rattle.std.specs.Prelude.{ℕ, zero, suc, ◌≡◌, List, [], ◌∷◌, length, map, Option, Some, None, option_map, slice_get, string_bytes, Result, Ok, Vec}
+use Rattle.std.specs.declared.alloc.Global.{Global}
 use Rattle.ipc_devices.specs.declared.fault.TableFault.{TableFault}
 use Rattle.ipc_views.specs.declared.file.Block.{Block}
 use Rattle.ipc_views.specs.declared.message.FieldNode.{FieldNode}
@@ -11,6 +12,7 @@ use Rattle.ipc_views.specs.Spot.{Spot, Vector}
 use Rattle.ipc_views.specs.Tables.{root_at, table_in}
 use Rattle.ipc_views.specs.TypeSlots.{date_unit, decimal_bit_width, decimal_precision, decimal_scale, duration_unit, fixed_size_binary_byte_width, fixed_size_list_list_size, floating_point_precision, int_bit_width, int_is_signed, interval_unit, map_keys_sorted, time_bit_width, time_unit, timestamp_timezone, timestamp_unit, union_mode, union_type_ids}
 use Rattle.ipc_tables.specs.declared.file.Footer.{Footer}
+use Rattle.ipc_tables.specs.declared.message.BodyCompression.{BodyCompression}
 use Rattle.ipc_tables.specs.declared.message.DictionaryBatch.{DictionaryBatch}
 use Rattle.ipc_tables.specs.declared.message.Message.{Message}
 use Rattle.ipc_tables.specs.declared.message.MessageHeader.{MessageHeader}
@@ -32,6 +34,11 @@ use Rattle.ipc_tables.specs.Types.{type_tag}
 pub record AreTables {V : Type 0} (v : Vector) (IsValue : Spot → V → Type 0) (values : List V) : Type 0 where
   pub count : v.count ≡ length values
   pub each : (k : ℕ) (x : V) → slice_get values k ≡ Some x → (t : Spot) × (table_in v k ≡ Ok t) × IsValue t x
+
+-- the table, where it is there
+abbrev pub IsOptionalTable : {V : Type 0} → Result (Option Spot) TableFault → (Spot → V → Type 0) → Option V → Type 0
+IsOptionalTable r IsValue None = r ≡ Ok None
+IsOptionalTable r IsValue (Some x) = (t : Spot) × (r ≡ Ok (Some t)) × IsValue t x
 
 abbrev pub IsInt : Spot → int_table → Type 0
 IsInt t i = (int_bit_width t ≡ Ok (kept32 i.bit_width)) × (int_is_signed t ≡ Ok i.is_signed)
@@ -67,6 +74,11 @@ IsPair t p = (key_value_key t ≡ Ok (Some (string_bytes p.key))) × (key_value_
 abbrev pub ArePairs : Result (Option Vector) TableFault → List KeyValue → Type 0
 ArePairs r [] = r ≡ Ok None
 ArePairs r (p ∷ ps) = (v : Vector) × (r ≡ Ok (Some v)) × AreTables v IsPair (p ∷ ps)
+
+-- the vector of the pairs, where it is there
+abbrev pub AreOptionalPairs : Result (Option Vector) TableFault → Option (Vec KeyValue Global) → Type 0
+AreOptionalPairs r None = r ≡ Ok None
+AreOptionalPairs r (Some ps) = (v : Vector) × (r ≡ Ok (Some v)) × AreTables v IsPair ps.items
 
 pub record IsEncodedBy (t : Spot) (d : DictionaryEncoding) : Type 0 where
   pub id : dictionary_encoding_id t ≡ Ok (kept64 d.id)
@@ -106,15 +118,20 @@ kept_buffer b = record { offset = kept_bytes64 b.offset; length = kept_bytes64 b
 abbrev pub kept_block : Block → Block
 kept_block b = record { offset = kept_bytes64 b.offset; meta_data_length = kept_bytes32 b.meta_data_length; body_length = kept_bytes64 b.body_length }
 
+-- the table of the compression, which has no reader of its own, or none
+abbrev pub IsCompression : Spot → Option BodyCompression → Type 0
+IsCompression t None = record_batch_compression t ≡ Ok None
+IsCompression t (Some c) = (s : Spot) × (record_batch_compression t ≡ Ok (Some s))
+
 pub record IsRecordBatch (t : Spot) (b : RecordBatch) : Type 0 where
   pub rows : record_batch_length t ≡ Ok (kept64 b.length)
   pub nodes : record_batch_nodes t ≡ Ok (Some (map kept_node b.nodes.items))
   pub buffers : record_batch_buffers t ≡ Ok (Some (map kept_buffer b.buffers.items))
-  pub uncompressed : record_batch_compression t ≡ Ok None
+  pub compression : IsCompression t b.compression
 
 pub record IsDictionaryBatch (t : Spot) (b : DictionaryBatch) : Type 0 where
   pub id : dictionary_batch_id t ≡ Ok (kept64 b.id)
-  pub values : (d : Spot) × (dictionary_batch_data t ≡ Ok (Some d)) × IsRecordBatch d b.data_
+  pub values : IsOptionalTable (dictionary_batch_data t) IsRecordBatch b.data_
   pub delta : dictionary_batch_is_delta t ≡ Ok b.is_delta
 
 abbrev pub IsHeader : ℕ → Spot → MessageHeader → Type 0
@@ -127,14 +144,14 @@ pub record IsMessage (levels : ℕ) (t : Spot) (m : Message) : Type 0 where
   pub version : message_version t ≡ Ok m.version
   pub header : (h : Spot) × (message_header t ≡ Ok (Some (header_tag m.header, h))) × IsHeader levels h m.header
   pub body_length : message_body_length t ≡ Ok (kept64 m.body_length)
-  pub no_pairs : message_custom_metadata t ≡ Ok None
+  pub pairs : AreOptionalPairs (message_custom_metadata t) m.custom_metadata
 
 pub record IsFooter (levels : ℕ) (t : Spot) (f : Footer) : Type 0 where
   pub version : footer_version t ≡ Ok f.version
-  pub schema : (s : Spot) × (footer_schema t ≡ Ok (Some s)) × IsSchema levels s f.schema
-  pub dictionaries : footer_dictionaries t ≡ Ok (Some (map kept_block f.dictionaries.items))
-  pub record_batches : footer_record_batches t ≡ Ok (Some (map kept_block f.record_batches.items))
-  pub pairs : ArePairs (footer_custom_metadata t) f.custom_metadata.items
+  pub schema : IsOptionalTable (footer_schema t) (IsSchema levels) f.schema
+  pub dictionaries : footer_dictionaries t ≡ Ok (option_map (λ v. map kept_block v.items) f.dictionaries)
+  pub record_batches : footer_record_batches t ≡ Ok (option_map (λ v. map kept_block v.items) f.record_batches)
+  pub pairs : AreOptionalPairs (footer_custom_metadata t) f.custom_metadata
 
 -- the bytes have a root that reads as the value
 pub record HaveRoot {V : Type 0} (bytes : List ℕ) (IsValue : Spot → V → Type 0) (value : V) : Type 0 where

@@ -1,8 +1,7 @@
 -- The tables of Schema.fbs that describe a type: which slot is to hold what.
-use Rattle.std.specs.Prelude.{ℕ, ℤ, List, option_map, length, string_bytes}
-use Rattle.std.specs.List.{flat_map}
+use Rattle.std.specs.Prelude.{ℕ, ℤ, List, option_map, string_bytes}
 use Rattle.ipc_parts.specs.Pads.{le}
-use Rattle.ipc_parts.specs.Tree.{Part, Slots, elements, no_slots, number, text}
+use Rattle.ipc_parts.specs.Tree.{Part, Slots, no_slots, number, text}
 use Rattle.ipc_views.specs.declared.types.Precision.{Precision}
 use Rattle.ipc_views.specs.declared.types.Precision.TheVariants.{Half, Single, Double}
 use Rattle.ipc_views.specs.declared.types.DateUnit.{DateUnit}
@@ -21,6 +20,7 @@ use Rattle.ipc_tables.specs.declared.types.Union.{Union as union_table}
 use Rattle.ipc_tables.specs.declared.types.Map.{Map as map_table}
 use Rattle.ipc_tables.specs.declared.types.FieldType.{FieldType}
 use Rattle.ipc_tables.specs.declared.types.FieldType.TheVariants.{Null, Int, FloatingPoint, Binary, Utf8, Bool, Decimal, Date, Time, Timestamp, Interval, List as a_list, Struct, Union, FixedSizeBinary, FixedSizeList, Map, Duration, LargeBinary, LargeUtf8, LargeList}
+use Rattle.ipc_tables.specs.Elements.{elements_of}
 use Rattle.ipc_tables.specs.Slots.{bit, bits32, number_slots, optional}
 
 abbrev pub precision_number : Precision → ℕ
@@ -66,11 +66,8 @@ timestamp_slots t = number 2 (time_unit_number t.unit) (optional (option_map (λ
 abbrev pub id_bytes : ℤ → List ℕ
 id_bytes id = le 4 (bits32 id)
 
-abbrev pub ids_bytes : List ℤ → List ℕ
-ids_bytes ids = flat_map id_bytes ids
-
 abbrev pub ids_part : List ℤ → Part
-ids_part ids = elements 4 4 (length ids) (ids_bytes ids)
+ids_part ids = elements_of 4 4 id_bytes ids
 
 -- Union: mode, typeIds
 abbrev pub union_slots : union_table → Slots

@@ -1,5 +1,6 @@
 -- A bound on how many bytes the message of a schema takes, told by the schema alone.
 use Rattle.std.specs.Prelude.{ℕ, ℤ, String, Vec, ◌+◌, ◌*◌, List, [], ◌∷◌, Option, Some, None, length, map, string_bytes}
+use Rattle.ipc_tables.specs.declared.schema.Feature.{Feature}
 use Rattle.ipc_tables.specs.declared.schema.Field.{Field}
 use Rattle.ipc_tables.specs.declared.schema.Field.TheOpen.{Field-F}
 use Rattle.ipc_tables.specs.declared.schema.Field.TheFolds.{fold-Field}
@@ -37,5 +38,9 @@ weight_step f = 512 + length (string_bytes f.name) + type_weight f.type_ + pairs
 unfoldable pub field_weight : Field → ℕ
 field_weight = fold-Field ℕ weight_step
 
+abbrev pub features_weight : {A : Type 0} → Option (Vec Feature A) → ℕ
+features_weight None = 0
+features_weight (Some features) = 8 * length features.items
+
 abbrev pub schema_weight : Schema → ℕ
-schema_weight s = 1024 + pairs_weight s.custom_metadata.items + total (map field_weight s.fields.items)
+schema_weight s = 1024 + pairs_weight s.custom_metadata.items + total (map field_weight s.fields.items) + features_weight s.features

@@ -1,14 +1,17 @@
 //! The table of Arrow's `File.fbs`, as a value and as bytes.
-ghost use Rattle.std.specs.Prelude.{ℕ, ◌≡◌, ◌++◌, IfOk, OnOk};
+ghost use Rattle.std.specs.Prelude.{ℕ, IfOk, option_map};
 ghost use Rattle.ipc_parts.specs.Encodes.{Encodes};
 ghost use Rattle.ipc_parts.specs.Parts.{IsPart};
 ghost use Rattle.ipc_parts.specs.Tree.{table};
-ghost use Rattle.ipc_tables.specs.Files.{block_bytes, blocks_bytes, blocks_part, footer_slots};
+ghost use Rattle.ipc_tables.specs.Files.{footer_slots};
 ghost use Rattle.ipc_tables.specs.Reads.{HaveRoot, IsFooter};
+ghost use Rattle.ipc_tables.specs.Schemas.{schema_slots};
+ghost use Rattle.ipc_tables.specs.Slots.{IsOptional};
 
-use crate::schema::{KeyValue, Schema, pairs_slot, schema_part, version_number};
+use crate::elements::{Element, elements_slot};
+use crate::schema::{KeyValue, Schema, optional_pairs, schema_part, version_number};
 use ipc_devices::fault::Fault;
-use ipc_parts::{Built, Slot, elements, message, put_u32, put_u64, table};
+use ipc_parts::{Built, Slot, message, put_u32, put_u64, table};
 use ipc_views::{Block, MetadataVersion};
 use std::alloc::{AllocError, Global};
 
@@ -16,56 +19,63 @@ use std::alloc::{AllocError, Global};
 #[derive(Drop)]
 pub struct Footer {
     pub version: MetadataVersion,
-    pub schema: Schema,
+    pub schema: Option<Schema>,
     /// Where the dictionary batches stand in the file.
-    pub dictionaries: Vec<Block>,
+    pub dictionaries: Option<Vec<Block>>,
     /// Where the record batches stand in the file.
-    pub record_batches: Vec<Block>,
-    /// Written where there is a pair.
-    pub custom_metadata: Vec<KeyValue>,
+    pub record_batches: Option<Vec<Block>>,
+    pub custom_metadata: Option<Vec<KeyValue>>,
 }
 
-// Adds a block: 24 bytes, of which four are unused.
-fn put_block(bytes: &mut Vec<u8>, block: Block) -> Result<(), AllocError>
-    ensures { OnOk result (bytes.new.items ≡ bytes.old.items ++ block_bytes block) }
-{
-    put_u64(bytes, block.offset.cast_unsigned())?;
-    put_u32(bytes, block.meta_data_length.cast_unsigned())?;
-    put_u32(bytes, 0)?;
-    put_u64(bytes, block.body_length.cast_unsigned())
-}
+impl Element for Block {
+    ghost use Rattle.std.proofs.Common.{refl};
+    ghost use Rattle.ipc_tables.specs.Files.{block_bytes};
+    ghost use Rattle.ipc_tables.specs.ElementLaws.{length-block, some-24};
 
-fn blocks_bytes(alloc: Global, blocks: &[Block]) -> Result<Vec<u8>, AllocError>
-    ensures { IfOk result (λ bytes. bytes.items ≡ blocks_bytes blocks.now) }
-{
-    let mut bytes = Vec::new(alloc);
-    for block in blocks {
-        put_block(&mut bytes, *block)?;
+    ghost size = { 24 };
+
+    ghost align = { 8 };
+
+    ghost spelt = { block_bytes };
+
+    ghost sized = { length-block };
+
+    ghost some = { some-24 };
+
+    ghost aligned = { refl };
+
+    // 24 bytes, of which four are unused.
+    fn put(self, bytes: &mut Vec<u8>) -> Result<(), AllocError> {
+        put_u64(bytes, self.offset.cast_unsigned())?;
+        put_u32(bytes, self.meta_data_length.cast_unsigned())?;
+        put_u32(bytes, 0)?;
+        put_u64(bytes, self.body_length.cast_unsigned())
     }
-    Ok(bytes)
 }
 
-fn blocks_part(alloc: Global, blocks: &[Block]) -> Result<Built, AllocError>
-    ensures { IfOk result (λ built. IsPart built (blocks_part blocks.now)) }
+fn schema_slot(alloc: Global, schema: &Option<Schema>) -> Result<Slot, AllocError>
+    ensures { IfOk result (λ slot. IsOptional slot (option_map (λ s. table (schema_slots s)) schema.now)) }
 {
-    let bytes = blocks_bytes(alloc, blocks)?;
-    elements(alloc, blocks.len(), bytes.as_slice())
+    match schema {
+        None => Ok(Slot::Absent),
+        Some(schema) => Ok(Slot::Offset(schema_part(alloc, schema)?)),
+    }
 }
 
 fn footer_part(alloc: Global, footer: &Footer) -> Result<Built, AllocError>
     ensures { IfOk result (λ built. IsPart built (table (footer_slots footer.now))) }
 {
-    let schema = schema_part(alloc, &footer.schema)?;
-    let dictionaries = blocks_part(alloc, footer.dictionaries.as_slice())?;
-    let record_batches = blocks_part(alloc, footer.record_batches.as_slice())?;
-    let pairs = pairs_slot(alloc, footer.custom_metadata.as_slice())?;
+    let schema = schema_slot(alloc, &footer.schema)?;
+    let dictionaries = elements_slot(alloc, &footer.dictionaries)?;
+    let record_batches = elements_slot(alloc, &footer.record_batches)?;
+    let pairs = optional_pairs(alloc, &footer.custom_metadata)?;
     table(
         alloc,
         &[
             Slot::Number(version_number(footer.version)),
-            Slot::Offset(schema),
-            Slot::Offset(dictionaries),
-            Slot::Offset(record_batches),
+            schema,
+            dictionaries,
+            record_batches,
             pairs,
         ],
     )

@@ -5,6 +5,7 @@
 //! `ipc_views`.
 #![tactic(auto)]
 
+mod elements;
 pub mod file;
 pub mod message;
 pub mod schema;

@@ -1,26 +1,51 @@
 //! The tables of Arrow's `Message.fbs`, as values and as bytes.
-ghost use Rattle.std.specs.Prelude.{ℕ, ◌≡◌, ◌<◌, ◌≤◌, IfOk, length};
+ghost use Rattle.std.specs.Prelude.{ℕ, ◌≡◌, ◌<◌, ◌≤◌, IfOk, None, length, option_map};
 ghost use Rattle.ipc_parts.specs.Encodes.{Encodes};
 ghost use Rattle.ipc_parts.specs.Parts.{IsPart};
 ghost use Rattle.ipc_parts.specs.Tree.{table};
-ghost use Rattle.ipc_tables.specs.Messages.{buffers_bytes, buffers_part, dictionary_batch_slots, header_slots, header_tag, message_slots, nodes_bytes, nodes_part, record_batch_slots};
+ghost use Rattle.ipc_tables.specs.Messages.{codec_number, compression_slots, dictionary_batch_slots, header_slots, header_tag, message_slots, method_number, record_batch_slots};
 ghost use Rattle.ipc_tables.specs.Reads.{HaveRoot, IsMessage};
+ghost use Rattle.ipc_tables.specs.Slots.{IsOptional};
 ghost use Rattle.ipc_tables.specs.Weights.{schema_weight};
 
-use crate::schema::{Schema, schema_part, version_number};
+use crate::elements::{Element, elements_part};
+use crate::schema::{KeyValue, Schema, optional_pairs, schema_part, version_number};
 use crate::slots::{flag, long};
 use ipc_devices::fault::Fault;
-use ipc_parts::{Built, Slot, elements, message, put_u64, table};
+use ipc_parts::{Built, Slot, message, put_u64, table};
 use ipc_views::{Buffer, FieldNode, MetadataVersion};
 use std::alloc::{AllocError, Global};
 
-/// A table `RecordBatch`, whose buffers aren't compressed.
+/// How bytes are compressed: the enumeration `CompressionType`.
+#[derive(Clone, Copy, Debug, PartialEq, Eq)]
+pub enum CompressionType {
+    Lz4Frame,
+    Zstd,
+}
+
+/// What of a body is compressed: the enumeration `BodyCompressionMethod`.
+#[derive(Clone, Copy, Debug, PartialEq, Eq)]
+pub enum BodyCompressionMethod {
+    /// Each buffer by itself.
+    Buffer,
+}
+
+/// A table `BodyCompression`.
+#[derive(Clone, Copy, Debug, PartialEq, Eq)]
+pub struct BodyCompression {
+    pub codec: CompressionType,
+    pub method: BodyCompressionMethod,
+}
+
+/// A table `RecordBatch`.
 #[derive(Drop)]
 pub struct RecordBatch {
     /// The number of rows.
     pub length: i64,
     pub nodes: Vec<FieldNode>,
     pub buffers: Vec<Buffer>,
+    /// How the buffers are compressed, None where they aren't.
+    pub compression: Option<BodyCompression>,
 }
 
 /// A table `DictionaryBatch`.
@@ -28,7 +53,7 @@ pub struct RecordBatch {
 pub struct DictionaryBatch {
     pub id: i64,
     /// The values, as a record batch of one column.
-    pub data_: RecordBatch,
+    pub data_: Option<RecordBatch>,
     pub is_delta: bool,
 }
 
@@ -40,75 +65,137 @@ pub enum MessageHeader {
     RecordBatch(RecordBatch),
 }
 
-/// A table `Message`, without metadata of its own.
+/// A table `Message`.
 #[derive(Drop)]
 pub struct Message {
     pub version: MetadataVersion,
     pub header: MessageHeader,
     /// The number of bytes of the body.
     pub body_length: i64,
+    pub custom_metadata: Option<Vec<KeyValue>>,
 }
 
-fn nodes_bytes(alloc: Global, nodes: &[FieldNode]) -> Result<Vec<u8>, AllocError>
-    ensures { IfOk result (λ bytes. bytes.items ≡ nodes_bytes nodes.now) }
-{
-    let mut bytes = Vec::new(alloc);
-    for node in nodes {
-        put_u64(&mut bytes, node.length.cast_unsigned())?;
-        put_u64(&mut bytes, node.null_count.cast_unsigned())?;
+impl Element for FieldNode {
+    ghost use Rattle.std.proofs.Common.{refl};
+    ghost use Rattle.ipc_tables.specs.Messages.{node_bytes};
+    ghost use Rattle.ipc_tables.specs.ElementLaws.{length-node, some-16};
+
+    ghost size = { 16 };
+
+    ghost align = { 8 };
+
+    ghost spelt = { node_bytes };
+
+    ghost sized = { length-node };
+
+    ghost some = { some-16 };
+
+    ghost aligned = { refl };
+
+    fn put(self, bytes: &mut Vec<u8>) -> Result<(), AllocError> {
+        put_u64(bytes, self.length.cast_unsigned())?;
+        put_u64(bytes, self.null_count.cast_unsigned())
     }
-    Ok(bytes)
 }
 
-fn nodes_part(alloc: Global, nodes: &[FieldNode]) -> Result<Built, AllocError>
-    ensures { IfOk result (λ built. IsPart built (nodes_part nodes.now)) }
-{
-    let bytes = nodes_bytes(alloc, nodes)?;
-    elements(alloc, nodes.len(), bytes.as_slice())
-}
+impl Element for Buffer {
+    ghost use Rattle.std.proofs.Common.{refl};
+    ghost use Rattle.ipc_tables.specs.Messages.{buffer_bytes};
+    ghost use Rattle.ipc_tables.specs.ElementLaws.{length-buffer, some-16};
 
-fn buffers_bytes(alloc: Global, buffers: &[Buffer]) -> Result<Vec<u8>, AllocError>
-    ensures { IfOk result (λ bytes. bytes.items ≡ buffers_bytes buffers.now) }
-{
-    let mut bytes = Vec::new(alloc);
-    for buffer in buffers {
-        put_u64(&mut bytes, buffer.offset.cast_unsigned())?;
-        put_u64(&mut bytes, buffer.length.cast_unsigned())?;
+    ghost size = { 16 };
+
+    ghost align = { 8 };
+
+    ghost spelt = { buffer_bytes };
+
+    ghost sized = { length-buffer };
+
+    ghost some = { some-16 };
+
+    ghost aligned = { refl };
+
+    fn put(self, bytes: &mut Vec<u8>) -> Result<(), AllocError> {
+        put_u64(bytes, self.offset.cast_unsigned())?;
+        put_u64(bytes, self.length.cast_unsigned())
     }
-    Ok(bytes)
 }
 
-fn buffers_part(alloc: Global, buffers: &[Buffer]) -> Result<Built, AllocError>
-    ensures { IfOk result (λ built. IsPart built (buffers_part buffers.now)) }
+fn codec_number(codec: CompressionType) -> u64
+    ensures value { result ≡ codec_number codec }
+    ensures small { result < 256 }
 {
-    let bytes = buffers_bytes(alloc, buffers)?;
-    elements(alloc, buffers.len(), bytes.as_slice())
+    match codec {
+        CompressionType::Lz4Frame => 0,
+        CompressionType::Zstd => 1,
+    }
+}
+
+fn method_number(method: BodyCompressionMethod) -> u64
+    ensures value { result ≡ method_number method }
+    ensures small { result < 256 }
+{
+    match method {
+        BodyCompressionMethod::Buffer => 0,
+    }
+}
+
+fn compression_part(alloc: Global, compression: BodyCompression) -> Result<Built, AllocError>
+    ensures { IfOk result (λ built. IsPart built (table (compression_slots compression))) }
+{
+    table(
+        alloc,
+        &[
+            Slot::Number(codec_number(compression.codec)),
+            Slot::Number(method_number(compression.method)),
+        ],
+    )
+}
+
+fn compression_slot(alloc: Global, compression: Option<BodyCompression>) -> Result<Slot, AllocError>
+    ensures { IfOk result (λ slot. IsOptional slot (option_map (λ c. table (compression_slots c)) compression)) }
+{
+    match compression {
+        None => Ok(Slot::Absent),
+        Some(compression) => Ok(Slot::Offset(compression_part(alloc, compression)?)),
+    }
 }
 
 fn record_batch_part(alloc: Global, batch: &RecordBatch) -> Result<Built, AllocError>
     ensures { IfOk result (λ built. IsPart built (table (record_batch_slots batch.now))) }
 {
-    let nodes = nodes_part(alloc, batch.nodes.as_slice())?;
-    let buffers = buffers_part(alloc, batch.buffers.as_slice())?;
+    let nodes = elements_part(alloc, batch.nodes.as_slice())?;
+    let buffers = elements_part(alloc, batch.buffers.as_slice())?;
+    let compression = compression_slot(alloc, batch.compression)?;
     table(
         alloc,
         &[
             Slot::Number(long(batch.length)),
             Slot::Offset(nodes),
             Slot::Offset(buffers),
+            compression,
         ],
     )
+}
+
+fn record_batch_slot(alloc: Global, batch: &Option<RecordBatch>) -> Result<Slot, AllocError>
+    ensures { IfOk result (λ slot. IsOptional slot (option_map (λ b. table (record_batch_slots b)) batch.now)) }
+{
+    match batch {
+        None => Ok(Slot::Absent),
+        Some(batch) => Ok(Slot::Offset(record_batch_part(alloc, batch)?)),
+    }
 }
 
 fn dictionary_batch_part(alloc: Global, batch: &DictionaryBatch) -> Result<Built, AllocError>
     ensures { IfOk result (λ built. IsPart built (table (dictionary_batch_slots batch.now))) }
 {
-    let data_ = record_batch_part(alloc, &batch.data_)?;
+    let data_ = record_batch_slot(alloc, &batch.data_)?;
     table(
         alloc,
         &[
             Slot::Number(long(batch.id)),
-            Slot::Offset(data_),
+            data_,
             Slot::Number(flag(batch.is_delta)),
         ],
     )
@@ -139,6 +226,7 @@ fn message_part(alloc: Global, message: &Message) -> Result<Built, AllocError>
     ensures { IfOk result (λ built. IsPart built (table (message_slots message.now))) }
 {
     let header = header_part(alloc, &message.header)?;
+    let pairs = optional_pairs(alloc, &message.custom_metadata)?;
     table(
         alloc,
         &[
@@ -146,6 +234,7 @@ fn message_part(alloc: Global, message: &Message) -> Result<Built, AllocError>
             Slot::Number(header_tag(&message.header)),
             Slot::Offset(header),
             Slot::Number(long(message.body_length)),
+            pairs,
         ],
     )
 }
@@ -157,8 +246,8 @@ impl Message {
     pub fn to_bytes(&self, alloc: Global) -> Result<Vec<u8>, Fault>
         // the root's table has these slots, strictly laid out
         ensures encodes { Encodes result (message_slots self.now) }
-        // a schema's message is no longer than the schema weighs
-        ensures weight { (schema : Schema) → self.now.header ≡ MessageHeader.Schema schema
+        // a schema's message without metadata of its own is no longer than the schema weighs
+        ensures weight { (schema : Schema) → self.now.header ≡ MessageHeader.Schema schema → self.now.custom_metadata ≡ None
             → IfOk result (λ bytes. length bytes.items ≤ schema_weight schema) }
         // each named reader gives what the value says, in fields down to any level
         ensures reads { (levels : ℕ) → IfOk result (λ bytes. HaveRoot bytes.items (IsMessage levels) self.now) }

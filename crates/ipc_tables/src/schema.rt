@@ -2,12 +2,13 @@
 ghost use Rattle.std.specs.Prelude.{◌≡◌, ◌<◌, ◌^◌, List, map, IfOk, option_map};
 ghost use Rattle.ipc_parts.specs.Parts.{IsPart};
 ghost use Rattle.ipc_parts.specs.Tree.{Part, table};
-ghost use Rattle.ipc_tables.specs.Schemas.{dictionary_slots, endianness_number, field_part, field_slots, pair_part, pairs_part, schema_slots, version_number};
+ghost use Rattle.ipc_tables.specs.Schemas.{dictionary_slots, endianness_number, feature_number, field_part, field_slots, kind_number, pair_part, pairs_part, pairs_vector, schema_slots, version_number};
 ghost use Rattle.ipc_tables.specs.Slots.{AreBuilt, IsOptional};
 
+use crate::elements::{Element, elements_slot};
 use crate::slots::{flag, long, push};
 use crate::types::{FieldType, Int, int_part, type_part, type_tag};
-use ipc_parts::{Built, Slot, table, tables, text};
+use ipc_parts::{Built, Slot, put_u64, table, tables, text};
 use ipc_views::{Endianness, MetadataVersion};
 use std::alloc::{AllocError, Global};
 
@@ -18,6 +19,22 @@ pub struct KeyValue {
     pub value: String,
 }
 
+/// How a dictionary is laid out: the enumeration `DictionaryKind`.
+#[derive(Clone, Copy, Debug, PartialEq, Eq)]
+pub enum DictionaryKind {
+    DenseArray,
+}
+
+/// What a reader has to know beyond the tables: the enumeration `Feature`.
+#[derive(Clone, Copy, Debug, PartialEq, Eq)]
+pub enum Feature {
+    Unused,
+    /// A dictionary of a stream may take the place of one that came before it.
+    DictionaryReplacement,
+    /// Buffers may be compressed.
+    CompressedBody,
+}
+
 /// A table `DictionaryEncoding`.
 #[derive(Clone, Copy, Debug, PartialEq, Eq)]
 pub struct DictionaryEncoding {
@@ -25,6 +42,7 @@ pub struct DictionaryEncoding {
     /// The type of the keys.
     pub index_type: Int,
     pub is_ordered: bool,
+    pub dictionary_kind: DictionaryKind,
 }
 
 /// A table `Field`.
@@ -47,6 +65,7 @@ pub struct Schema {
     pub fields: Vec<Field>,
     /// Written where there is a pair.
     pub custom_metadata: Vec<KeyValue>,
+    pub features: Option<Vec<Feature>>,
 }
 
 pub(crate) fn version_number(version: MetadataVersion) -> u64
@@ -72,6 +91,47 @@ fn endianness_number(endianness: Endianness) -> u64
     }
 }
 
+fn kind_number(kind: DictionaryKind) -> u64
+    ensures value { result ≡ kind_number kind }
+    ensures small { result < 2 ^ 16 }
+{
+    match kind {
+        DictionaryKind::DenseArray => 0,
+    }
+}
+
+fn feature_number(feature: Feature) -> u64
+    ensures { result ≡ feature_number feature }
+{
+    match feature {
+        Feature::Unused => 0,
+        Feature::DictionaryReplacement => 1,
+        Feature::CompressedBody => 2,
+    }
+}
+
+impl Element for Feature {
+    ghost use Rattle.std.proofs.Common.{refl};
+    ghost use Rattle.ipc_tables.specs.Schemas.{feature_bytes};
+    ghost use Rattle.ipc_tables.specs.ElementLaws.{length-feature, some-8};
+
+    ghost size = { 8 };
+
+    ghost align = { 8 };
+
+    ghost spelt = { feature_bytes };
+
+    ghost sized = { length-feature };
+
+    ghost some = { some-8 };
+
+    ghost aligned = { refl };
+
+    fn put(self, bytes: &mut Vec<u8>) -> Result<(), AllocError> {
+        put_u64(bytes, feature_number(self))
+    }
+}
+
 fn pair_part(alloc: Global, pair: &KeyValue) -> Result<Built, AllocError>
     ensures { IfOk result (λ built. IsPart built (pair_part pair.now)) }
 {
@@ -90,15 +150,35 @@ fn pair_parts(alloc: Global, pairs: &[KeyValue]) -> Result<Vec<Built>, AllocErro
     Ok(parts)
 }
 
+// The vector of some pairs.
+fn pairs_vector(alloc: Global, pairs: &[KeyValue]) -> Result<Built, AllocError>
+    ensures { IfOk result (λ built. IsPart built (pairs_vector pairs.now)) }
+{
+    let parts = pair_parts(alloc, pairs)?;
+    tables(alloc, &parts)
+}
+
 // The pairs, or nothing where there is none.
-pub(crate) fn pairs_slot(alloc: Global, pairs: &[KeyValue]) -> Result<Slot, AllocError>
+fn pairs_slot(alloc: Global, pairs: &[KeyValue]) -> Result<Slot, AllocError>
     ensures { IfOk result (λ slot. IsOptional slot (pairs_part pairs.now)) }
 {
     if pairs.is_empty() {
         return Ok(Slot::Absent);
     }
-    let parts = pair_parts(alloc, pairs)?;
-    Ok(Slot::Offset(tables(alloc, &parts)?))
+    Ok(Slot::Offset(pairs_vector(alloc, pairs)?))
+}
+
+// The vector of some pairs, where it is there.
+pub(crate) fn optional_pairs(
+    alloc: Global,
+    pairs: &Option<Vec<KeyValue>>,
+) -> Result<Slot, AllocError>
+    ensures { IfOk result (λ slot. IsOptional slot (option_map (λ v. pairs_vector v.items) pairs.now)) }
+{
+    match pairs {
+        None => Ok(Slot::Absent),
+        Some(pairs) => Ok(Slot::Offset(pairs_vector(alloc, pairs.as_slice())?)),
+    }
 }
 
 fn dictionary_part(alloc: Global, dictionary: DictionaryEncoding) -> Result<Built, AllocError>
@@ -111,6 +191,7 @@ fn dictionary_part(alloc: Global, dictionary: DictionaryEncoding) -> Result<Buil
             Slot::Number(long(dictionary.id)),
             Slot::Offset(index_type),
             Slot::Number(flag(dictionary.is_ordered)),
+            Slot::Number(kind_number(dictionary.dictionary_kind)),
         ],
     )
 }
@@ -176,12 +257,14 @@ pub(crate) fn schema_part(alloc: Global, schema: &Schema) -> Result<Built, Alloc
     let fields = field_parts(alloc, &schema.fields)?;
     let fields = tables(alloc, &fields)?;
     let pairs = pairs_slot(alloc, schema.custom_metadata.as_slice())?;
+    let features = elements_slot(alloc, &schema.features)?;
     table(
         alloc,
         &[
             Slot::Number(endianness_number(schema.endianness)),
             Slot::Offset(fields),
             pairs,
+            features,
         ],
     )
 }

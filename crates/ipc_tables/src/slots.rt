@@ -1,9 +1,8 @@
 //! Numbers as slots hold them.
 ghost use Rattle.std.specs.Prelude.{◌≡◌, ◌<◌, ◌^◌, ◌++◌, ◌∷◌, [], OnOk};
-ghost use Rattle.ipc_parts.specs.Pads.{le};
 ghost use Rattle.ipc_tables.specs.Slots.{bit, bits32, bits64};
 
-use ipc_parts::{Built, put_u32};
+use ipc_parts::Built;
 use std::alloc::AllocError;
 
 pub(crate) fn flag(b: bool) -> u64
@@ -25,12 +24,6 @@ pub(crate) fn long(number: i64) -> u64
     ensures small { result < 2 ^ 64 }
 {
     number.cast_unsigned()
-}
-
-pub(crate) fn put_word(bytes: &mut Vec<u8>, number: i32) -> Result<(), AllocError>
-    ensures { OnOk result (bytes.new.items ≡ bytes.old.items ++ le 4 (bits32 number)) }
-{
-    put_u32(bytes, number.cast_unsigned())
 }
 
 // Adds a part.

@@ -3,10 +3,11 @@ ghost use Rattle.std.specs.Prelude.{◌≡◌, ◌<◌, ◌^◌, IfOk, option_ma
 ghost use Rattle.ipc_parts.specs.Parts.{IsPart};
 ghost use Rattle.ipc_parts.specs.Tree.{no_slots, table, text};
 ghost use Rattle.ipc_tables.specs.Slots.{IsOptional, bits32, number_slots};
-ghost use Rattle.ipc_tables.specs.Types.{date_unit_number, decimal_slots, ids_bytes, ids_part, int_slots, interval_unit_number, map_slots, precision_number, time_slots, time_unit_number, timestamp_slots, type_slots, type_tag, union_mode_number, union_slots};
+ghost use Rattle.ipc_tables.specs.Types.{date_unit_number, decimal_slots, int_slots, interval_unit_number, map_slots, precision_number, time_slots, time_unit_number, timestamp_slots, type_slots, type_tag, union_mode_number, union_slots};
 
-use crate::slots::{flag, put_word, word};
-use ipc_parts::{Built, Slot, elements, table, text};
+use crate::elements::{Element, elements_slot};
+use crate::slots::{flag, word};
+use ipc_parts::{Built, Slot, put_u32, table, text};
 use ipc_views::{DateUnit, IntervalUnit, Precision, TimeUnit, UnionMode};
 use std::alloc::{AllocError, Global};
 
@@ -281,36 +282,32 @@ fn timestamp_part(alloc: Global, timestamp: &Timestamp) -> Result<Built, AllocEr
     )
 }
 
-fn ids_bytes(alloc: Global, ids: &[i32]) -> Result<Vec<u8>, AllocError>
-    ensures { IfOk result (λ bytes. bytes.items ≡ ids_bytes ids.now) }
-{
-    let mut bytes = Vec::new(alloc);
-    for id in ids {
-        put_word(&mut bytes, *id)?;
-    }
-    Ok(bytes)
-}
+impl Element for i32 {
+    ghost use Rattle.std.proofs.Common.{refl};
+    ghost use Rattle.ipc_tables.specs.Types.{id_bytes};
+    ghost use Rattle.ipc_tables.specs.ElementLaws.{length-id, some-4};
 
-fn ids_part(alloc: Global, ids: &[i32]) -> Result<Built, AllocError>
-    ensures { IfOk result (λ built. IsPart built (ids_part ids.now)) }
-{
-    let bytes = ids_bytes(alloc, ids)?;
-    elements(alloc, ids.len(), bytes.as_slice())
-}
+    ghost size = { 4 };
 
-fn ids_slot(alloc: Global, ids: &Option<Vec<i32>>) -> Result<Slot, AllocError>
-    ensures { IfOk result (λ slot. IsOptional slot (option_map (λ v. ids_part v.items) ids.now)) }
-{
-    match ids {
-        None => Ok(Slot::Absent),
-        Some(ids) => Ok(Slot::Offset(ids_part(alloc, ids.as_slice())?)),
+    ghost align = { 4 };
+
+    ghost spelt = { id_bytes };
+
+    ghost sized = { length-id };
+
+    ghost some = { some-4 };
+
+    ghost aligned = { refl };
+
+    fn put(self, bytes: &mut Vec<u8>) -> Result<(), AllocError> {
+        put_u32(bytes, self.cast_unsigned())
     }
 }
 
 fn union_part(alloc: Global, union: &Union) -> Result<Built, AllocError>
     ensures { IfOk result (λ built. IsPart built (table (union_slots union.now))) }
 {
-    let ids = ids_slot(alloc, &union.type_ids)?;
+    let ids = elements_slot(alloc, &union.type_ids)?;
     table(alloc, &[Slot::Number(union_mode_number(union.mode)), ids])
 }
 

@@ -1,5 +1,5 @@
 -- The message of a chunk.
-use Rattle.std.proofs.Common.{◌≡◌, ℕ, ℤ, ◌⊎◌, inl, inr, Result, Ok, Err, IfErr, IfOk, ◌%◌, pos, ◌<◌, ◌≤◌, ◌^◌, List, [], ◌∷◌, ◌++◌, length, map, sym, ap, ◌∙◌, subst, arith}
+use Rattle.std.proofs.Common.{◌≡◌, ℕ, ℤ, ◌⊎◌, inl, inr, Result, Ok, Err, IfErr, IfOk, ◌%◌, pos, ◌<◌, ◌≤◌, ◌^◌, List, [], ◌∷◌, ◌++◌, length, map, None, refl, sym, ap, ◌∙◌, subst, arith}
 use Rattle.std.proofs.lemmas.List.Concat.{flat_map-cons}
 use Rattle.std.specs.Int.{next_multiple_of}
 use Rattle.std.specs.Prelude.{Vec}
@@ -34,12 +34,13 @@ use Rattle.ipc_write.proofs.Messages.{body_whole}
 
 -- a record batch with what a plan lists
 pub plan_message : (p : Plan) (m : Message) (rows given end : ℤ) (nodes : Vec FieldNode Global) (buffers : Vec Buffer Global)
-    → m ≡ record { version = V5; header = a_record_batch (record { length = given; nodes = nodes; buffers = buffers }); body_length = end }
+    → m ≡ record { version = V5; header = a_record_batch (record { length = given; nodes = nodes; buffers = buffers; compression = None }); body_length = end; custom_metadata = None }
     → message_slots m ≡ message_of given nodes.items buffers.items end → given ≡ rows → nodes.items ≡ p.nodes.items → buffers.items ≡ p.buffers.items → end ≡ pos p.end → IsPlanMessage m rows p
 plan_message p m rows given end nodes buffers value slots same ns bs es = record {
-  listed = record { length = given; nodes = nodes; buffers = buffers };
+  listed = record { length = given; nodes = nodes; buffers = buffers; compression = None };
   end = end;
   value = value;
+  uncompressed = refl;
   end_is = es;
   length = same;
   nodes = ns;
@@ -70,6 +71,12 @@ chunk_message columns p q rows m metadata h is e encodes same = record {
   buffers = h.plans.buffers;
   have = h.plans.have;
   metadata_is = subst (λ (s : Slots). IsEncoding metadata s) (plan_slots columns p rows m h is e) encodes;
+  written = record {
+    message = m;
+    version = ap (λ (n : Message). n.version) is.value;
+    bare = ap (λ (n : Message). n.custom_metadata) is.value;
+    encoding = encodes;
+  };
   body_is = ap (λ ps. pieces_bytes Little ps) same ∙ h.plans.body_is;
 }
 

@@ -15,7 +15,7 @@ use Rattle.ipc_views.specs.declared.message.FieldNode.{FieldNode}
 use Rattle.ipc_views.specs.declared.schema.Buffer.{Buffer}
 use Rattle.ipc_views.specs.declared.schema.MetadataVersion.{MetadataVersion}
 use Rattle.ipc_views.specs.declared.schema.MetadataVersion.TheVariants.{V5}
-use Rattle.ipc_tables.specs.Reads.{HaveRoot, IsMessage, kept_buffer, kept_node}
+use Rattle.ipc_tables.specs.Reads.{HaveRoot, IsCompression, IsMessage, kept_buffer, kept_node}
 use Rattle.ipc_tables.specs.declared.message.Message.{Message}
 use Rattle.ipc_tables.specs.declared.message.MessageHeader.TheVariants.{RecordBatch as a_record_batch}
 use Rattle.ipc_tables.specs.declared.message.RecordBatch.{RecordBatch}
@@ -53,11 +53,11 @@ buffers_fit o (x ∷ bs) h =
 
 -- the message of a record batch is read as one
 pub record_read : (bytes : List ℕ) (version : MetadataVersion) (b : RecordBatch) (len : ℤ) (listed : Lists) (count : ℕ)
-    → HaveRoot bytes (IsMessage 0) (record { version = version; header = a_record_batch b; body_length = len })
-    → b.nodes.items ≡ listed.nodes → b.buffers.items ≡ listed.buffers → len ≡ pos count → count < 2 ^ 63
+    → HaveRoot bytes (IsMessage 0) (record { version = version; header = a_record_batch b; body_length = len; custom_metadata = None })
+    → b.compression ≡ None → b.nodes.items ≡ listed.nodes → b.buffers.items ≡ listed.buffers → len ≡ pos count → count < 2 ^ 63
     → All NodeFits listed.nodes → All BufferFits listed.buffers → IsRecord bytes listed count
 unfolding header_of lists_of
-record_read bytes version b len listed count root nodes buffers end short nodes_fit_so buffers_fit_so =
+record_read bytes version b len listed count root none nodes buffers end short nodes_fit_so buffers_fit_so =
     let message = root.reads in
     let table = message.header.0 in
     let batch_is = message.header.2 in
@@ -69,7 +69,7 @@ record_read bytes version b len listed count root nodes buffers end short nodes_
     let header = message.header.1 in
     let listed_nodes = batch_is.nodes ∙ ap (λ ns. Ok (Some ns)) nodes_kept in
     let listed_buffers = batch_is.buffers ∙ ap (λ bs. Ok (Some bs)) buffers_kept in
-    let uncompressed = batch_is.uncompressed in
+    let uncompressed = subst (IsCompression table) none batch_is.compression in
     record {
       header = record { tag = 3; table = table; body = count };
       headed = rw (opened, header, body_length) refl;
@@ -125,6 +125,6 @@ plan_means columns p q rows m metadata h is carried equal some short root same =
     let fit_buffers : All BufferFits p.buffers.items =
     subst (λ (es : List Buffer). All BufferFits es) (sym h.plans.entries_are) (buffers_fit 0 bs (omega (arith, h.plans.end_is, h.small))) in
     let read = record_read metadata V5 is.listed is.end (lists_of_plan p) (length (body_of_plan p)) (subst (λ (n : Message). HaveRoot metadata (IsMessage 0) n) is.value root)
-    is.nodes is.buffers (is.end_is ∙ ap pos long) (omega (arith, long, h.small)) fit_nodes fit_buffers in
+    is.uncompressed is.nodes is.buffers (is.end_is ∙ ap pos long) (omega (arith, long, h.small)) fit_nodes fit_buffers in
     subst (λ (xs : List ℕ). MeansColumns metadata xs columns) (little ∙ ap (λ ps. pieces_bytes Little ps) (sym same))
     (means_columns metadata p columns some short read h.plans h.arrays carried equal)

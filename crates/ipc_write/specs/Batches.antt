@@ -1,5 +1,5 @@
 -- The message of a chunk: Arrow columnar format, "RecordBatch message".
-use Rattle.std.specs.Prelude.{◌≡◌, ℕ, ℤ, pos, ◌≤◌, ◌^◌, ◌⊎◌, List, length, map, All}
+use Rattle.std.specs.Prelude.{◌≡◌, ℕ, ℤ, pos, ◌≤◌, ◌^◌, ◌⊎◌, List, length, map, None, All}
 use Rattle.std.specs.Int.{next_multiple_of}
 use Rattle.lower_types.specs.declared.Endianness.TheVariants.{Little}
 use Rattle.lower_arrays.specs.Layouts.{layouts, len_of}
@@ -13,9 +13,10 @@ use Rattle.ipc_devices.specs.declared.fault.ArgFault.TheVariants.{TooLarge, TooL
 use Rattle.ipc_devices.specs.declared.fault.Nyi.TheVariants.{Pending}
 use Rattle.ipc_parts.specs.Encodes.{IsEncoding}
 use Rattle.ipc_parts.specs.Sizes.{message_size}
-use Rattle.ipc_parts.specs.Tree.{Slots, no_slots, number, offset, table}
+use Rattle.ipc_parts.specs.Tree.{Slots, absent, no_slots, number, offset, table}
 use Rattle.ipc_tables.specs.Messages.{buffers_part, message_slots, nodes_part}
 use Rattle.ipc_tables.specs.Slots.{bits64}
+use Rattle.ipc_tables.specs.Written.{IsWritten}
 use Rattle.ipc_views.specs.declared.message.FieldNode.{FieldNode}
 use Rattle.ipc_views.specs.declared.schema.Buffer.{Buffer}
 use Rattle.ipc_tables.specs.declared.message.Message.{Message}
@@ -35,11 +36,11 @@ use Rattle.ipc_write.specs.Columns.{IsCarried, levels_of}
 abbrev pub rows_of : List AnyArray → ℕ
 rows_of columns = row_count (λ a. len_of (layout_of a)) columns
 
--- Message: version V5, header (tag 3 and RecordBatch: length, nodes, buffers), bodyLength
+-- Message: version V5, header (tag 3 and RecordBatch: length, nodes, buffers, no compression), bodyLength, no custom_metadata
 abbrev pub message_of : ℤ → List FieldNode → List Buffer → ℤ → Slots
 message_of length nodes buffers body_length =
-    number 2 4 (number 1 3 (offset (table (number 8 (bits64 length) (offset (nodes_part nodes) (offset (buffers_part buffers) no_slots))))
-    (number 8 (bits64 body_length) no_slots)))
+    number 2 4 (number 1 3 (offset (table (number 8 (bits64 length) (offset (nodes_part nodes) (offset (buffers_part buffers) (absent no_slots)))))
+    (number 8 (bits64 body_length) (absent no_slots))))
 
 -- the message of a chunk of these columns, whose levels have these buffers: they stand one behind the other, each padded
 abbrev pub chunk_slots : List AnyArray → List (List ℕ) → Slots
@@ -57,19 +58,21 @@ pub record PlansChunk (columns : List AnyArray) (p : Plan) : Type 0 where
 pub record IsPlanMessage (m : Message) (rows : ℤ) (p : Plan) : Type 0 where
   pub listed : RecordBatch
   pub end : ℤ
-  pub value : m ≡ record { version = V5; header = a_record_batch listed; body_length = end }
+  pub value : m ≡ record { version = V5; header = a_record_batch listed; body_length = end; custom_metadata = None }
+  pub uncompressed : listed.compression ≡ None
   pub end_is : end ≡ pos p.end
   pub length : listed.length ≡ rows
   pub nodes : listed.nodes.items ≡ p.nodes.items
   pub buffers : listed.buffers.items ≡ p.buffers.items
   pub slots : message_slots m ≡ message_of rows p.nodes.items p.buffers.items (pos p.end)
 
--- A chunk as a message: its buffers are those of the columns' levels, numbers with the lowest byte first; the metadata list them, and the body
--- are they.
+-- A chunk as a message: its buffers are those of the columns' levels, numbers with the lowest byte first; the metadata list them, of version V5,
+-- without metadata of their own and strictly laid out, and the body are they.
 pub record IsChunkMessage (metadata sent : List ℕ) (columns : List AnyArray) : Type 0 where
   pub buffers : List (List (List ℕ))
   pub have : HaveBuffers Little (levels_of columns) buffers
   pub metadata_is : IsEncoding metadata (chunk_slots columns (joined buffers))
+  pub written : IsWritten metadata
   pub body_is : sent ≡ body (joined buffers)
 
 -- the metadata of a chunk's message would have more than 2^31 - 1 bytes

@@ -1,5 +1,5 @@
 //! What is written.
-ghost use Rattle.std.specs.Prelude.{◌≡◌, ◌↔◌, ◌%◌, ◌^◌, ◌<◌, [], length, All, IfErr, IfOk, IsTrue, OnOk};
+ghost use Rattle.std.specs.Prelude.{◌≡◌, ◌↔◌, ◌%◌, ◌^◌, ◌<◌, [], length, All, IfErr, IfOk, IsTrue, None, OnOk};
 ghost use Rattle.lower.specs.TypeViews.{type_view};
 ghost use Rattle.lower_arrays.specs.AnyLayouts.{layout_of};
 ghost use Rattle.lower_arrays.specs.Slots.{IsArray};
@@ -62,8 +62,9 @@ fn record_message(
     ensures value { result ≡ record {
       version = V5;
       header = a_record_batch
-          (record { length = length; nodes = nodes; buffers = buffers });
+          (record { length = length; nodes = nodes; buffers = buffers; compression = None });
       body_length = body_length;
+      custom_metadata = None;
     } }
     ensures slots { message_slots result ≡ message_of length nodes.items buffers.items body_length }
 {
@@ -73,8 +74,10 @@ fn record_message(
             length,
             nodes,
             buffers,
+            compression: None,
         }),
         body_length,
+        custom_metadata: None,
     }
 }
 

@@ -1,7 +1,12 @@
 //! The tables of Arrow's metadata: views of bytes (`..Ref`), and values that are built into bytes.
 pub use ipc_tables::file::Footer;
-pub use ipc_tables::message::{DictionaryBatch, Message, MessageHeader, RecordBatch};
-pub use ipc_tables::schema::{DictionaryEncoding, Field, KeyValue, Schema};
+pub use ipc_tables::message::{
+    BodyCompression, BodyCompressionMethod, CompressionType, DictionaryBatch, Message,
+    MessageHeader, RecordBatch,
+};
+pub use ipc_tables::schema::{
+    DictionaryEncoding, DictionaryKind, Feature, Field, KeyValue, Schema,
+};
 pub use ipc_tables::types::{
     Date, Decimal, Duration, FieldType, FixedSizeBinary, FixedSizeList, FloatingPoint, Int,
     Interval, Map, Time, Timestamp, Union,

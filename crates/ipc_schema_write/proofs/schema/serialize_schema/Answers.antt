@@ -1,4 +1,4 @@
-use Rattle.std.proofs.Common.{◌≡◌, ◌≤◌, length, refl, ap, sym, ◌∙◌, true≢false, arith}
+use Rattle.std.proofs.Common.{◌≡◌, ◌≤◌, None, length, refl, ap, sym, ◌∙◌, true≢false, arith}
 use Rattle.lower.specs.Counts.{fields_levels}
 use Rattle.lower.specs.TypeViews.{fields_view, pairs_of}
 use Rattle.ipc_base.specs.IdTrees.{all_ids_view}
@@ -33,8 +33,8 @@ returns-then-not-is_light c = λ w.
     let s = c.args.schema.now in
     let deep : fields_levels (fields_view s.fields.items) ≤ 64 = w.levels in
     let fields = rw c.deref-5.ensures.value at c.in_ok-fields.ensures in
-    let t : SchemaTable = record { endianness = Little; fields = c.in_ok-fields.fields; custom_metadata = c.in_ok-custom_metadata.custom_metadata } in
-    let table = table-written t (fields_view s.fields.items) (pairs_of s.metadata.entries) (all_ids_view c.args.ipc_fields.now) refl fields c.in_ok-custom_metadata.ensures deep in
+    let t : SchemaTable = record { endianness = Little; fields = c.in_ok-fields.fields; custom_metadata = c.in_ok-custom_metadata.custom_metadata; features = None } in
+    let table = table-written t (fields_view s.fields.items) (pairs_of s.metadata.entries) (all_ids_view c.args.ipc_fields.now) refl refl fields c.in_ok-custom_metadata.ensures deep in
     let weighs = table.weighs in
     let light = w.light in
     true≢false (sym (c.is_light.ensures.1 (omega (arith, weighs, light))) ∙ c.if-not-is_light.true)
@@ -52,8 +52,8 @@ returns c =
     let deep : fields_levels fs ≤ 64 = (rw c.deref-3.ensures.value at c.is_within_levels.ensures).0 c.if-not-is_within_levels.false in
     let types = (rw c.deref-4.ensures.value at c.are_writable.ensures).0 c.if-not-are_writable.false in
     let fields = rw c.deref-5.ensures.value at c.in_ok-fields.ensures in
-    let t : SchemaTable = record { endianness = Little; fields = c.in_ok-fields.fields; custom_metadata = c.in_ok-custom_metadata.custom_metadata } in
-    let table = table-written t fs (pairs_of s.metadata.entries) (all_ids_view c.args.ipc_fields.now) refl fields c.in_ok-custom_metadata.ensures deep in
+    let t : SchemaTable = record { endianness = Little; fields = c.in_ok-fields.fields; custom_metadata = c.in_ok-custom_metadata.custom_metadata; features = None } in
+    let table = table-written t fs (pairs_of s.metadata.entries) (all_ids_view c.args.ipc_fields.now) refl refl fields c.in_ok-custom_metadata.ensures deep in
     let weighs = table.weighs in
     let light = c.is_light.ensures.0 c.if-not-is_light.false in
     (writable fs (pairs_of s.metadata.entries) (all_ids_view c.args.ipc_fields.now) fit types deep few apart (omega (arith, weighs, light)), table)

@@ -1,6 +1,13 @@
-use Rattle.std.proofs.Common.{arith}
+use Rattle.std.proofs.Common.{rules, arith}
+use Rattle.ipc_write.proofs.BatchMessages.{chunk_message}
 use Rattle.ipc_write.proofs.RecordMeanings.{plan_means}
 use Rattle.ipc_write.proofs.common.chunk_to_metadata.Goals as goal
+
+pub returns-clause-message : goal.returns-clause-message
+returns-clause-message c =
+    let made = c.plan_to_message-message in
+    chunk_message c.args.chunk.now c.args.plan.now made.new.plan _ made.result c.in_ok-to_bytes.field-0.items c.requires.plans made.ensures.value (search rules)
+    c.in_ok-to_bytes.ensures.encodes made.ensures.pieces
 
 pub returns-clause-means : goal.returns-clause-means
 returns-clause-means c =

@@ -4,8 +4,8 @@ use Rattle.ipc_tables.proofs.WeightLaws.{weight-from}
 use Rattle.ipc_tables.proofs.message.Message.to_bytes.Goals as goal
 
 pub returns-clause-weight : goal.returns-clause-weight
-returns-clause-weight c = λ schema e.
-    weight-from c.message.result c.args.self.now schema e (c.message.ensures (message_slots c.args.self.now) c.in_ok-message_part.ensures)
+returns-clause-weight c = λ schema e bare.
+    weight-from c.message.result c.args.self.now schema e bare (c.message.ensures (message_slots c.args.self.now) c.in_ok-message_part.ensures)
 
 pub returns-clause-reads : goal.returns-clause-reads
 returns-clause-reads c = λ levels.

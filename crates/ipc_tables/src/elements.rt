@@ -1,0 +1,64 @@
+//! Vectors of structs and of numbers, which stand in the vector itself.
+ghost use Rattle.std.specs.Prelude.{◌≡◌, ◌++◌, IfOk, OnOk, option_map};
+ghost use Rattle.std.specs.List.{flat_map};
+ghost use Rattle.ipc_parts.specs.Parts.{IsPart};
+ghost use Rattle.ipc_tables.specs.Elements.{elements_of};
+ghost use Rattle.ipc_tables.specs.Slots.{IsOptional};
+
+use ipc_parts::{Built, Slot, elements};
+use std::alloc::{AllocError, Global};
+
+/// What stands in a vector itself: a struct, or a number.
+pub(crate) trait Element: Copy + Drop {
+    ghost use Rattle.std.specs.Prelude.{ℕ, ◌≡◌, ◌<◌, ◌%◌, List, length};
+
+    // How many bytes each has, and at a multiple of which number the first stands.
+    ghost size: { ℕ };
+
+    ghost align: { ℕ };
+
+    // The bytes of one.
+    ghost spelt: { Self → List ℕ };
+
+    // Adds the bytes of one.
+    fn put(self, bytes: &mut Vec<u8>) -> Result<(), AllocError>
+        ensures { OnOk result (bytes.new.items ≡ bytes.old.items ++ spelt self) };
+
+    ghost sized: { (x : Self) → length (spelt x) ≡ size };
+
+    ghost some: { 0 < size };
+
+    ghost aligned: { 8 % align ≡ 0 };
+}
+
+fn bytes_of<S: Element>(alloc: Global, values: &[S]) -> Result<Vec<u8>, AllocError>
+    ensures { IfOk result (λ bytes. bytes.items ≡ flat_map S.spelt values.now) }
+{
+    let mut bytes = Vec::new(alloc);
+    for value in values {
+        value.put(&mut bytes)?;
+    }
+    Ok(bytes)
+}
+
+/// The vector of some elements.
+pub(crate) fn elements_part<S: Element>(alloc: Global, values: &[S]) -> Result<Built, AllocError>
+    ensures { IfOk result (λ built. IsPart built (elements_of S.align S.size S.spelt values.now)) }
+{
+    let bytes = bytes_of(alloc, values)?;
+    elements(alloc, values.len(), bytes.as_slice())
+}
+
+/// The vector of some elements, where it is there.
+pub(crate) fn elements_slot<S: Element>(
+    alloc: Global,
+    values: &Option<Vec<S>>,
+) -> Result<Slot, AllocError>
+    ensures { IfOk result (λ slot. IsOptional slot
+        (option_map (λ v. elements_of S.align S.size S.spelt v.items) values.now)) }
+{
+    match values {
+        None => Ok(Slot::Absent),
+        Some(values) => Ok(Slot::Offset(elements_part(alloc, values.as_slice())?)),
+    }
+}
