@@ -36,7 +36,7 @@ use Rattle.ipc_readers.specs.declared.read.stream.reader.StreamReader.{StreamRea
 use Rattle.ipc_round_trip.specs.Reading.{EndsAs, IsReadable, RefusesAhead, RefusesStream, meant_ahead}
 use Rattle.ipc_write.specs.Agreement.{Agrees, IsClosed, Remains, StreamIs}
 use Rattle.ipc_model.specs.WriterStates.{IsRun}
-use Rattle.ipc_write.specs.Calls.{AreMade, ended_as, state_seen}
+use Rattle.ipc_write.specs.Calls.{AreMade, ended_as, state_seen, writer_in}
 use Rattle.ipc_write.specs.Writers.{WriterSeen}
 use Rattle.ipc_write.specs.declared.calls.StreamCall.{StreamCall}
 use Rattle.ipc_write.specs.declared.stream.WriterState.{WriterState}
@@ -271,8 +271,8 @@ runs_over_memory a b fs es calls answers state new empty made left = record {
   made = made;
   left = left;
   run =
-      subst (λ s. IsRun (state_seen s) (ended_as calls answers) (state_seen state)) new
-      (subst (λ s. IsRun (state_seen a.state) (ended_as calls answers) (state_seen s)) left
+      subst (λ s. IsRun (writer_in (state_seen s)) (ended_as calls answers) (writer_in (state_seen state))) new
+      (subst (λ s. IsRun (writer_in (state_seen a.state)) (ended_as calls answers) (writer_in (state_seen s))) left
       (made_run true true (λ v. 0) (λ v. vec_capacity v - vec_len v) vector fs es a b calls answers made));
 }
 

@@ -13,7 +13,7 @@ use Rattle.ipc_model.specs.WriterStates.{IsRun, new_writer}
 use Rattle.ipc_model.specs.Writers.{IsFinished, IsStarted}
 use Rattle.ipc_readers.specs.Streams.{head_of}
 use Rattle.ipc_write.specs.Agreement.{Agrees, IsClosed}
-use Rattle.ipc_write.specs.Calls.{AreMade, ended_as, state_seen}
+use Rattle.ipc_write.specs.Calls.{AreMade, ended_as, state_seen, writer_in}
 use Rattle.ipc_write.specs.Writers.{WriterSeen}
 use Rattle.ipc_write.specs.declared.calls.StreamCall.{StreamCall}
 use Rattle.ipc_write.specs.declared.stream.WriterState.{WriterState}
@@ -62,7 +62,7 @@ pub record RunsOverMemory (fields : FieldTrees) (metadata : Pairs) (calls : List
   pub empty : first.device.items ≡ []
   pub made : AreMade true true (λ v. 0) (λ v. vec_capacity v - vec_len v) vector fields metadata first calls answers last
   pub left : last.state ≡ state
-  pub run : IsRun new_writer (ended_as calls answers) (state_seen state)
+  pub run : IsRun (writer_in new_writer) (ended_as calls answers) (writer_in (state_seen state))
 
 -- They leave a stream that is ended, or can be.
 abbrev pub RunsToStream : FieldTrees → Pairs → List StreamCall → List (Result Unit Fault) → Type 0

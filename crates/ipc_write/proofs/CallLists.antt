@@ -12,7 +12,7 @@ use Rattle.ipc_model.specs.Writers.{Call, added_by, taken}
 use Rattle.ipc_schema_write.specs.DefaultIds.{default_all}
 use Rattle.ipc_schema_write.specs.WriterAnswers.{written_head}
 use Rattle.ipc_write.specs.Agreement.{Agrees, Follows}
-use Rattle.ipc_write.specs.Calls.{AreMade, IsMade, call_seen, ended_as, outcome, state_seen}
+use Rattle.ipc_write.specs.Calls.{AreMade, IsMade, call_seen, ended_as, outcome, state_seen, writer_in}
 use Rattle.ipc_write.specs.Writers.{StateComesFirst, WriterSeen, fault_unless_new, fault_unless_started}
 use Rattle.ipc_write.specs.declared.calls.StreamCall.{StreamCall}
 use Rattle.ipc_write.specs.declared.calls.StreamCall.TheVariants.{Start, Write, Finish}
@@ -62,13 +62,13 @@ module _ {W : Type 0} (known grows : Bool) (failures room : W → ℕ) (memory :
   moves a b Finish (Err (Io e)) h = (ap state_seen (was_started a.state a b e h.first), ap state_seen h.step.io.0)
   moves a b Finish (Err _) h = (tt, ap state_seen h.step.refused.state)
 
-  pub made_run : (a b : WriterSeen W) (calls : List StreamCall) (rs : List (Result (Unit {0}) Fault)) → AllMade a calls rs b → IsRun (state_seen a.state) (ended_as calls rs) (state_seen b.state)
-  made_run a b [] [] h = ap (λ (w : WriterSeen W). state_seen w.state) (sym h)
+  pub made_run : (a b : WriterSeen W) (calls : List StreamCall) (rs : List (Result (Unit {0}) Fault)) → AllMade a calls rs b → IsRun (writer_in (state_seen a.state)) (ended_as calls rs) (writer_in (state_seen b.state))
+  made_run a b [] [] h = ap (λ (w : WriterSeen W). writer_in (state_seen w.state)) (sym h)
   made_run a b [] (r ∷ rs) h = absurd h
   made_run a b (call ∷ calls) [] h = absurd h
   made_run a b (call ∷ calls) (r ∷ rs) h =
       let moved = moves a h.0 call r h.1.0 in
-      (moved.0, subst (λ s. IsRun s (ended_as calls rs) (state_seen b.state)) moved.1 (made_run h.0 b calls rs h.1.1))
+      (moved.0, subst (λ s. IsRun (writer_in s) (ended_as calls rs) (writer_in (state_seen b.state))) moved.1 (made_run h.0 b calls rs h.1.1))
 
   -- ---- chunks
 

@@ -7,7 +7,8 @@ use Rattle.ipc_devices.specs.declared.fault.Fault.{Fault}
 use Rattle.ipc_devices.specs.declared.fault.Fault.TheVariants.{Io}
 use Rattle.lower.specs.TypeTrees.{FieldTrees, Pairs}
 use Rattle.lower_arrays.specs.declared.array.AnyArray.{AnyArray}
-use Rattle.ipc_model.specs.WriterStates.{State, new_writer, started_writer, finished_writer, failed_writer, Outcome, is_taken, is_refused, is_broken}
+use Rattle.lower_types.specs.declared.Endianness.TheVariants.{Little}
+use Rattle.ipc_model.specs.WriterStates.{State, Writer, new_writer, started_writer, finished_writer, failed_writer, Outcome, is_taken, is_refused, is_broken}
 use Rattle.ipc_model.specs.Writers.{Call, start_call, write_call, finish_call}
 use Rattle.ipc_schema_write.specs.DefaultIds.{default_all}
 use Rattle.ipc_schema_write.specs.WriterAnswers.{written_head}
@@ -32,6 +33,10 @@ state_seen New = new_writer
 state_seen Started = started_writer
 state_seen Finished = finished_writer
 state_seen Failed = failed_writer
+
+-- a writer of a stream in this state: it writes the lowest byte first, and a stream has no footer
+abbrev pub writer_in : State → Writer
+writer_in s = record { state = s; order = Little; pairs = [] }
 
 -- how a call ended that answered this
 abbrev pub outcome : Result Unit Fault → Outcome

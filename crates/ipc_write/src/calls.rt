@@ -6,7 +6,7 @@ ghost use Rattle.ipc_schema_write.specs.WriterAnswers.{written_head};
 ghost use Rattle.ipc_model.specs.WriterStates.{IsRun, answered};
 ghost use Rattle.ipc_model.specs.Writers.{taken};
 ghost use Rattle.ipc_write.specs.Agreement.{Follows};
-ghost use Rattle.ipc_write.specs.Calls.{AreMade, FirstAreMade, IsMade, ended_as, state_seen};
+ghost use Rattle.ipc_write.specs.Calls.{AreMade, FirstAreMade, IsMade, ended_as, state_seen, writer_in};
 ghost use Rattle.ipc_write.specs.Writers.{seen};
 
 use crate::stream::StreamWriter;
@@ -60,7 +60,7 @@ pub fn run_calls<W: Writes + Drop>(
     ensures made { let fields = fields_view schema.now.fields.items in
         IfOk result (λ answers. AreMade W.known W.grows W.failures W.room W.memory fields (pairs_of schema.now.metadata.entries)
         (seen writer.old) calls.now answers.items (seen writer.new)) }
-    ensures run { IfOk result (λ answers. IsRun (state_seen (seen writer.old).state) (ended_as calls.now answers.items) (state_seen (seen writer.new).state)) }
+    ensures run { IfOk result (λ answers. IsRun (writer_in (state_seen (seen writer.old).state)) (ended_as calls.now answers.items) (writer_in (state_seen (seen writer.new).state))) }
     ensures follows { let fields = fields_view schema.now.fields.items in
         IfOk result (λ answers. Follows W.known W.memory (seen writer.old) (seen writer.new)
         (written_head fields (pairs_of schema.now.metadata.entries) (default_all 0 fields))
