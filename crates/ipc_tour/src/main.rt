@@ -31,7 +31,7 @@ fn main(rt: HostRuntime) -> Result<(), Fault> {
         println!(rt; "{}: {}", field.name, field.data_type)?;
     }
     for chunk in &stream.chunks {
-        for column in chunk {
+        for column in chunk.iter() {
             println!(rt; "{column:?}")?;
         }
     }
