@@ -1,0 +1,101 @@
+//! What is handed to a writer.
+ghost use Rattle.std.specs.Prelude.{◌≡◌, map, option_map, IfOk, None};
+ghost use Rattle.std.specs.Cow.{cow_slice_items, cow_value};
+ghost use Rattle.lower_arrays.specs.AnyLayouts.{layout_of};
+ghost use Rattle.ipc_base.specs.IdTrees.{all_ids_view};
+ghost use Rattle.ipc_encode.specs.Records.{columns_of, fields_of};
+
+use ipc_base::chunk::Chunk;
+use ipc_base::ipc::{IpcField, clone_ipc_fields};
+use lower_arrays::array::AnyArray;
+use std::alloc::AllocError;
+use std::borrow::{Cow, CowSlice};
+
+/// A chunk, and the ids of its columns' dictionaries where there are some. Each of the two is owned or lent.
+#[derive(Debug, Drop, PartialEq)]
+pub struct Record<'a> {
+    columns: Cow<'a, Chunk<AnyArray>>,
+    fields: Option<CowSlice<'a, IpcField>>,
+}
+
+impl<'a> Record<'a> {
+    /// A record of this chunk with these ids, which may be lent.
+    pub fn owned(columns: Chunk<AnyArray>, fields: Option<CowSlice<'a, IpcField>>) -> Self
+        ensures columns { columns_of result ≡ columns }
+        ensures fields { fields_of result ≡ option_map cow_slice_items fields.entry }
+    {
+        let columns = Cow::Owned(columns);
+        Record { columns, fields }
+    }
+
+    /// A record of a chunk that is lent, with these ids, which may be lent too.
+    pub fn borrowed(columns: &'a Chunk<AnyArray>, fields: Option<CowSlice<'a, IpcField>>) -> Self
+        ensures columns { columns_of result ≡ columns.now }
+        ensures fields { fields_of result ≡ option_map cow_slice_items fields.entry }
+    {
+        let columns = Cow::Borrowed(columns);
+        Record { columns, fields }
+    }
+
+    /// The ids of the columns, where there are some.
+    pub fn fields(&self) -> Option<&[IpcField]>
+        ensures { option_map (λ fields. fields.now) result ≡ fields_of self.now }
+    {
+        match &self.fields {
+            Some(fields) => Some(fields.as_slice()),
+            None => None,
+        }
+    }
+
+    /// The chunk.
+    pub fn columns(&self) -> &Chunk<AnyArray>
+        ensures { result.now ≡ columns_of self.now }
+    {
+        self.columns.as_ref()
+    }
+
+    /// The same record once more: what is lent is lent again, and what is owned is cloned. Its columns lie in memory as these do, and
+    /// share it. It fails only where there is no memory.
+    pub fn clone(&self) -> Result<Record<'a>, AllocError>
+        ensures columns { IfOk result (λ copy. map layout_of (columns_of copy) ≡ map layout_of (columns_of self.now)) }
+        ensures fields { IfOk result (λ copy. option_map all_ids_view (fields_of copy) ≡ option_map all_ids_view (fields_of self.now)) }
+    {
+        Ok(Record {
+            columns: clone_columns(&self.columns)?,
+            fields: clone_fields(&self.fields)?,
+        })
+    }
+}
+
+// A chunk once more: lent again, or cloned.
+fn clone_columns<'a>(
+    columns: &Cow<'a, Chunk<AnyArray>>,
+) -> Result<Cow<'a, Chunk<AnyArray>>, AllocError>
+    ensures { IfOk result (λ copy. map layout_of (cow_value copy) ≡ map layout_of (cow_value columns.now)) }
+{
+    match columns {
+        Cow::Borrowed(columns) => Ok(Cow::Borrowed(*columns)),
+        Cow::Owned(columns) => Ok(Cow::Owned(columns.clone()?)),
+    }
+}
+
+// Ids once more: lent again, or cloned.
+fn clone_fields<'a>(
+    fields: &Option<CowSlice<'a, IpcField>>,
+) -> Result<Option<CowSlice<'a, IpcField>>, AllocError>
+    ensures { IfOk result (λ copy. option_map (λ ids. all_ids_view (cow_slice_items ids)) copy ≡ option_map (λ ids. all_ids_view (cow_slice_items ids)) fields.now) }
+{
+    match fields {
+        None => Ok(None),
+        Some(CowSlice::Borrowed(fields)) => Ok(Some(CowSlice::Borrowed(*fields))),
+        Some(CowSlice::Owned(fields)) => Ok(Some(CowSlice::Owned(clone_ipc_fields(fields)?))),
+    }
+}
+
+impl<'a> From<Chunk<AnyArray>> for Record<'a> {
+    ghost from_gives = { λ chunk made. (columns_of made ≡ chunk) × (fields_of made ≡ None) };
+
+    fn from(columns: Chunk<AnyArray>) -> Record<'a> {
+        Record::owned(columns, None)
+    }
+}

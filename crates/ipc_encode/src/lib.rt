@@ -1,0 +1,4 @@
+//! What a batch is made of: a record of columns.
+#![tactic(auto)]
+
+pub mod common;
