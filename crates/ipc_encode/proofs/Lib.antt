@@ -1,1 +1,4 @@
+pub mod Vectors
+pub mod Placed
+pub mod Appended
 pub mod Clones

@@ -1,4 +1,6 @@
-//! What a batch is made of: a record of columns.
+//! What a batch is made of: an array appended to the parts of one, and a record of columns.
 #![tactic(auto)]
 
 pub mod common;
+pub mod laws;
+pub mod serialize;

@@ -1,0 +1,99 @@
+-- What an array adds to the parts of a batch.
+-- (Arrow columnar format, "RecordBatch message".)
+use Rattle.std.specs.Prelude.{◌≡◌, ℕ, ℤ, pos, ◌+◌, Bool, true, false, List, [], ◌++◌, length, map, Option, None, Result, MatchResult}
+use Rattle.lower_types.specs.declared.Endianness.{Endianness}
+use Rattle.lower_types.specs.declared.Endianness.TheVariants.{Little, Big}
+use Rattle.lower_arrays.specs.Layouts.{Level, Layout, type_of}
+use Rattle.lower_arrays.specs.Slots.{Slot, slots}
+use Rattle.ipc_base.specs.IdTrees.{IdTrees}
+use Rattle.ipc_devices.specs.declared.fault.Fault.{Fault}
+use Rattle.ipc_views.specs.declared.message.FieldNode.{FieldNode}
+use Rattle.ipc_views.specs.declared.schema.Buffer.{Buffer}
+use Rattle.ipc_model.specs.Accepted.{IsSayable, body_length}
+use Rattle.ipc_model.specs.Batches.{Body, Lists, entries_of}
+use Rattle.ipc_model.specs.Columns.{IsWell, column}
+use Rattle.ipc_model.specs.Entries.{Dictionaries, Entries, size}
+use Rattle.ipc_model.specs.Kinds.{Kind}
+use Rattle.ipc_model.specs.Offers.{body_lengths, whole_levels}
+use Rattle.ipc_model.specs.TypeKinds.{kind_of}
+use Rattle.ipc_plan.specs.Levels.{HaveBuffers, joined, node_of}
+use Rattle.ipc_plan.specs.Meaning.{Knows}
+use Rattle.ipc_plan.specs.Plans.{Adds, body, entries_from}
+use Rattle.ipc_plan.specs.Taking.{AreShort, Refuses}
+use Rattle.ipc_plan.specs.declared.plan.Plan.{Plan}
+
+-- the parts of a batch: its nodes, its buffers, the bytes of its body, and where the next buffer begins, counted from the body's first byte
+pub record BatchParts : Type 0 where
+  pub nodes : List FieldNode
+  pub buffers : List Buffer
+  pub bytes : List ℕ
+  pub offset : ℤ
+
+-- the byte order of numbers
+abbrev pub order_of : Bool → Endianness
+order_of true = Little
+order_of false = Big
+
+-- ---- a plan
+
+-- nothing is planned yet, and the first buffer begins at place `start`
+pub record IsBegun (order : Endianness) (start : ℕ) (p : Plan) : Type 0 where
+  pub order_is : p.order ≡ order
+  pub no_nodes : p.nodes.items ≡ []
+  pub no_buffers : p.buffers.items ≡ []
+  pub no_pieces : p.pieces.items ≡ []
+  pub end_is : p.end ≡ start
+
+-- a plan of levels, whose first buffer begins at place `start`
+pub record PlansFrom (order : Endianness) (start : ℕ) (hs : List Level) (p : Plan) : Type 0 where
+  pub begun : Plan
+  pub is_begun : IsBegun order start begun
+  pub adds : Adds begun p hs
+
+-- Levels are taken just where each length, and the place behind them, can be said, or memory was refused.
+abbrev pub Answers : {X : Type 0} → Result X Fault → List Level → ℕ → Type 0
+Answers r hs start =
+    MatchResult r (λ _. AreShort hs × IsSayable (start + body_length (body_lengths hs))) (Refuses (AreShort hs) (start + body_length (body_lengths hs)))
+
+-- ---- what is appended, and what it means
+
+-- a list has another one from place k on
+pub record Has {A : Type 0} (all : List A) (k : ℕ) (part : List A) : Type 0 where
+  pub before : List A
+  pub behind : List A
+  pub all_is : all ≡ before ++ (part ++ behind)
+  pub place_is : length before ≡ k
+
+-- the column at node a and buffer b is well formed, without a limit, and has just these slots
+pub record IsColumn (s : Entries) (t : Kind) (a b : ℕ) (xs : List Slot) : Type 0 where
+  pub well : IsWell s t a b None
+  pub slots_are : column s t a b None ≡ xs
+
+-- Nodes, buffers and bytes mean an array: in each batch that lists the nodes from a place on and the buffers from a place on, and whose body has the bytes at
+-- place `offset`, they are a column of the array's type with its slots, where the values of its dictionaries are known under the ids of their places.
+abbrev pub MeansArray : Endianness → Layout → ℕ → List FieldNode → List Buffer → List ℕ → Type 0
+MeansArray order l offset nodes buffers bytes =
+    (lists : Lists) (body : Body) (a b : ℕ) (known : Dictionaries) (id : Option ℤ) (is : IdTrees)
+    → Has lists.nodes a nodes → Has lists.buffers b buffers → Has body.source (body.base + offset) bytes
+    → Knows (entries_of lists body order 0 known) l id is
+    → IsColumn (entries_of lists body order 0 known) (kind_of (type_of l) id is) a b (slots l)
+
+-- To the parts of a batch are appended the nodes of an array's levels and their buffers, one behind the other from the offset on, each padded with zeros to a
+-- multiple of 64 bytes; the offset is then behind them. They mean the array.
+pub record Appends (order : Endianness) (l : Layout) (old new : BatchParts) : Type 0 where
+  pub buffers : List (List (List ℕ))
+  pub have : HaveBuffers order (whole_levels l) buffers
+  pub nodes_are : new.nodes ≡ old.nodes ++ map node_of (whole_levels l)
+  pub buffers_are : new.buffers ≡ old.buffers ++ entries_from (size old.offset) (joined buffers)
+  pub bytes_are : new.bytes ≡ old.bytes ++ body (joined buffers)
+  pub offset_is : new.offset ≡ pos (size old.offset + length (body (joined buffers)))
+  pub means : MeansArray order l (size old.offset) (map node_of (whole_levels l)) (entries_from (size old.offset) (joined buffers)) (body (joined buffers))
+
+-- ---- equal arrays
+
+-- Two arrays of one type with the same slots, however they lie in memory, mean the same column: of the same kind under the same ids, and with the same slots.
+abbrev pub SameMeaningLaw : Type 0
+SameMeaningLaw = (s s' : Entries) (a b a' b' : ℕ) (l l' : Layout) (id : Option ℤ) (is : IdTrees) → type_of l ≡ type_of l' → slots l ≡ slots l'
+    → IsColumn s (kind_of (type_of l) id is) a b (slots l) → IsColumn s' (kind_of (type_of l') id is) a' b' (slots l')
+    → (kind_of (type_of l) id is ≡ kind_of (type_of l') id is)
+    × (column s (kind_of (type_of l) id is) a b None ≡ column s' (kind_of (type_of l') id is) a' b' None)

@@ -1,0 +1,116 @@
+//! Appends an array to the parts of a batch (Arrow columnar format, "RecordBatch message").
+ghost use Rattle.std.specs.Prelude.{◌≡◌, ◌+◌, ◌^◌, ◌<◌, ◌++◌, length, IfErr, IfOk, MatchResult, OnErr, OnOk};
+ghost use Rattle.lower_arrays.specs.AnyLayouts.{layout_of};
+ghost use Rattle.lower_arrays.specs.Slots.{IsArray};
+ghost use Rattle.ipc_devices.specs.declared.fault.Fault.TheVariants.{Memory};
+ghost use Rattle.ipc_encode.specs.Appending.{Answers, Appends, PlansFrom, order_of};
+ghost use Rattle.ipc_model.specs.Entries.{IsSize, size};
+ghost use Rattle.ipc_model.specs.Offers.{whole_levels};
+ghost use Rattle.ipc_plan.specs.Pieces.{pieces_bytes};
+
+use ipc_devices::Fault;
+use ipc_plan::plan::Plan;
+use ipc_plan::sending::send_pieces;
+use ipc_plan::serialize::plan_array;
+use ipc_views::{Buffer, FieldNode};
+use lower::types::Endianness;
+use lower_arrays::array::AnyArray;
+use std::alloc::Global;
+
+// The byte order of numbers.
+fn byte_order(is_little_endian: bool) -> Endianness
+    ensures { result ≡ order_of is_little_endian }
+{
+    if is_little_endian {
+        Endianness::Little
+    } else {
+        Endianness::Big
+    }
+}
+
+// Plans an array, whose first buffer begins at place `start`.
+fn plan_from<'a>(
+    alloc: Global,
+    array: &'a AnyArray,
+    start: u64,
+    order: Endianness,
+) -> Result<Plan<'a>, Fault>
+    requires { start < 2 ^ 63 }
+    ensures plans { IfOk result (λ plan. PlansFrom order start (whole_levels (layout_of array.now)) plan) }
+    ensures end { IfOk result (λ plan. plan.end ≡ start + length (pieces_bytes plan.order plan.pieces.items)) }
+    ensures small { IfOk result (λ plan. plan.end < 2 ^ 63) }
+    ensures takes { Answers result (whole_levels (layout_of array.now)) start }
+    ensures array { IsArray (layout_of array.now) }
+{
+    let len = array.len();
+    let mut plan = Plan {
+        order,
+        nodes: Vec::new(alloc),
+        buffers: Vec::new(alloc),
+        pieces: Vec::new(alloc),
+        end: start,
+    };
+    plan_array(&mut plan, array, 0, len)?;
+    Ok(plan)
+}
+
+// Appends the nodes, the buffers and the bytes of a plan, `len` of these: all of them, or nothing where
+// memory is refused.
+fn append_plan(
+    plan: &Plan<'_>,
+    len: usize,
+    buffers: &mut Vec<Buffer>,
+    arrow_data: &mut Vec<u8>,
+    nodes: &mut Vec<FieldNode>,
+) -> Result<(), Fault>
+    requires { len ≡ length (pieces_bytes plan.now.order plan.now.pieces.items) }
+    ensures buffers { MatchResult result (λ _. buffers.new.items ≡ buffers.old.items ++ plan.now.buffers.items) (λ _. buffers.new.items ≡ buffers.old.items) }
+    ensures bytes { MatchResult result (λ _. arrow_data.new.items ≡ arrow_data.old.items ++ pieces_bytes plan.now.order plan.now.pieces.items)
+        (λ _. arrow_data.new.items ≡ arrow_data.old.items) }
+    ensures nodes { MatchResult result (λ _. nodes.new.items ≡ nodes.old.items ++ plan.now.nodes.items) (λ _. nodes.new.items ≡ nodes.old.items) }
+    ensures only { IfErr result (λ e. e ≡ Memory) }
+{
+    buffers.reserve(plan.buffers.len())?;
+    nodes.reserve(plan.nodes.len())?;
+    arrow_data.reserve(len)?;
+    // There is room for all now, so that nothing fails any more.
+    send_pieces(arrow_data, &plan.pieces, plan.order)?;
+    buffers.extend_from_slice(&plan.buffers)?;
+    nodes.extend_from_slice(&plan.nodes)?;
+    Ok(())
+}
+
+/// Appends an array to the parts of a record batch: a node for each of its levels to `nodes`, their buffers to `buffers`, the offsets of
+/// these counted from `offset`, and their bytes to `arrow_data`, each buffer padded with zeros to a multiple of 64; `offset` is then
+/// behind the last one. Numbers have this byte order. Of a dictionary the keys are appended: its values belong into a message of their
+/// own. So the batch has one column more, of the array's type and with its slots.
+///
+/// Faults: `Argument(TooLong)` where the array, at any level, has more than `2^63 - 1` slots that would be appended;
+/// `Argument(TooLarge)` where the buffers would end past `2^63 - 1`; `Memory`. Where both of the first two are so, either may come.
+/// After a fault all stands as before.
+pub fn write(
+    alloc: Global,
+    array: &AnyArray,
+    buffers: &mut Vec<Buffer>,
+    arrow_data: &mut Vec<u8>,
+    nodes: &mut Vec<FieldNode>,
+    offset: &mut i64,
+    is_little_endian: bool,
+) -> Result<(), Fault>
+    requires { IsSize offset.old }
+    ensures appends { OnOk result (Appends (order_of is_little_endian) (layout_of array.now)
+        (record { nodes = nodes.old.items; buffers = buffers.old.items; bytes = arrow_data.old.items; offset = offset.old })
+        (record { nodes = nodes.new.items; buffers = buffers.new.items; bytes = arrow_data.new.items; offset = offset.new })) }
+    ensures takes { Answers result (whole_levels (layout_of array.now)) (size offset.old) }
+    ensures nodes { OnErr result (nodes.new.items ≡ nodes.old.items) }
+    ensures buffers { OnErr result (buffers.new.items ≡ buffers.old.items) }
+    ensures bytes { OnErr result (arrow_data.new.items ≡ arrow_data.old.items) }
+    ensures offset { OnErr result (offset.new ≡ offset.old) }
+{
+    let start = offset.cast_unsigned();
+    let plan = plan_from(alloc, array, start, byte_order(is_little_endian))?;
+    let len = (plan.end - start) as usize;
+    append_plan(&plan, len, buffers, arrow_data, nodes)?;
+    *offset = plan.end.cast_signed();
+    Ok(())
+}
