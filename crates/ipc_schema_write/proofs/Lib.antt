@@ -3,7 +3,10 @@ pub mod DefaultsFit
 pub mod FieldTables
 pub mod IdAppends
 pub mod Pairs
-pub mod PlaceIds
+pub mod PlaceAgreement
+pub mod PlaceCounts
+pub mod PlaceLists
+pub mod SameIds
 pub mod SchemaReads
 pub mod SlotReads
 pub mod TableReads

@@ -1,6 +1,6 @@
 pub mod DefaultIds
 pub mod DefaultRows
-pub mod Ids
 pub mod Meanings
+pub mod Places
 pub mod Refusals
 pub mod WriterAnswers

@@ -1,15 +1,16 @@
 -- What writing a schema answers.
-use Rattle.std.specs.Prelude.{ℕ, ◌≡◌, ◌%◌, ◌^◌, ◌≤◌, AllPairs, List, length, Option, Some, Result, Ok, Err, Vec}
+use Rattle.std.specs.Prelude.{ℕ, ◌≡◌, ◌%◌, ◌^◌, ◌≤◌, AllPairs, Bool, if◌then◌else◌, List, length, Some, Result, Ok, Err, Vec}
 use Rattle.std.specs.declared.alloc.Global.{Global}
+use Rattle.lower.specs.Counts.{fields_levels}
 use Rattle.lower.specs.Normal.{norm_fields}
 use Rattle.lower.specs.TypeTrees.{Pairs, FieldTrees}
-use Rattle.lower_types.specs.declared.Endianness.TheVariants.{Little}
+use Rattle.lower_types.specs.declared.Endianness.{Endianness}
+use Rattle.lower_types.specs.declared.Endianness.TheVariants.{Big, Little}
 use Rattle.ipc_base.specs.Fitting.{AllFit}
 use Rattle.ipc_base.specs.IdTrees.{IdTrees}
 use Rattle.ipc_devices.specs.declared.fault.ArgFault.TheVariants.{FieldsShape, NotWritable}
 use Rattle.ipc_devices.specs.declared.fault.Fault.{Fault}
-use Rattle.ipc_devices.specs.declared.fault.Fault.TheVariants.{Argument, Memory, NotYetImplemented}
-use Rattle.ipc_devices.specs.declared.fault.Nyi.TheVariants.{Pending}
+use Rattle.ipc_devices.specs.declared.fault.Fault.TheVariants.{Argument, Memory}
 use Rattle.ipc_parts.specs.Holds.{HoldsPart, spot}
 use Rattle.ipc_parts.specs.Sizes.{size_of}
 use Rattle.ipc_parts.specs.Tree.{table}
@@ -17,48 +18,69 @@ use Rattle.ipc_tables.specs.Schemas.{schema_slots}
 use Rattle.ipc_tables.specs.Weights.{schema_weight}
 use Rattle.ipc_tables.specs.Written.{IsWritten}
 use Rattle.ipc_tables.specs.declared.schema.Schema.{Schema as SchemaTable}
-use Rattle.ipc_model.specs.Batches.{Place, Schema, places}
+use Rattle.ipc_model.specs.Batches.{Schema, places}
 use Rattle.ipc_model.specs.Schemas.{head_of, schema_at, schema_of}
 use Rattle.ipc_model.specs.Streams.{Head}
-use Rattle.ipc_model.specs.Writable.{IsWritable, weight}
+use Rattle.ipc_model.specs.Writable.{AreWritable, IsWritable, SameUnderId, most_places, weight}
 
 -- the greatest weight of a schema that is written
 abbrev pub max_weight : ℕ
 max_weight = 2 ^ 30
 
--- two dictionaries have one id: such schemas aren't written yet
-abbrev pub ShareAnId : FieldTrees → IdTrees → Type 0
-ShareAnId fs is = AllPairs (λ (p q : Place). p.id ≡ q.id → ⊥) (places fs is) → ⊥
+-- whether the numbers of bodies have their lowest byte first
+abbrev pub byte_order : Bool → Endianness
+byte_order is_little_endian = if is_little_endian then Little else Big
+
+-- fields that can be written with these ids, whatever their weight
+pub record AreWritableWith (fs : FieldTrees) (is : IdTrees) : Type 0 where
+  pub fits : AllFit fs is
+  pub types : AreWritable fs
+  pub levels : fields_levels fs ≤ 64
+  pub few_places : length (places fs is) ≤ most_places
+  pub values : AllPairs SameUnderId (places fs is)
+
+-- what refuses such fields
+abbrev pub RefusesFields : FieldTrees → IdTrees → Fault → Type 0
+RefusesFields fs is Memory = Unit {0}
+RefusesFields fs is (Argument FieldsShape) = AllFit fs is → ⊥
+RefusesFields fs is (Argument NotWritable) = AreWritableWith fs is → ⊥
+RefusesFields fs is _ = ⊥
 
 -- what refuses a schema with these ids
 abbrev pub RefusesSchema : Fault → FieldTrees → Pairs → IdTrees → Type 0
 RefusesSchema Memory fs es is = Unit {0}
-RefusesSchema (NotYetImplemented Pending) fs es is = ShareAnId fs is
 RefusesSchema (Argument FieldsShape) fs es is = AllFit fs is → ⊥
 RefusesSchema (Argument NotWritable) fs es is = IsWritable fs es is → ⊥
 RefusesSchema _ _ _ _ = ⊥
 
--- what is written of it: its normal form and the ids, with the lowest byte of numbers first
+-- what is written of it: its normal form and the ids, with the order of the bytes of bodies
+abbrev pub written_as : Endianness → FieldTrees → Pairs → IdTrees → Schema
+written_as order fs es is = record { fields = norm_fields fs; metadata = es; ids = is; order = order }
+
+-- with the lowest byte of numbers first
 abbrev pub written : FieldTrees → Pairs → IdTrees → Schema
-written fs es is = record { fields = norm_fields fs; metadata = es; ids = is; order = Little }
+written fs es is = written_as Little fs es is
 
 -- wherever the table stands in a message it means the schema, and it weighs as much
-pub record IsSchemaTable (s : SchemaTable) (fs : FieldTrees) (es : Pairs) (is : IdTrees) : Type 0 where
+pub record IsSchemaTable (order : Endianness) (s : SchemaTable) (fs : FieldTrees) (es : Pairs) (is : IdTrees) : Type 0 where
   pub reads : (m : List ℕ) (p : ℕ) → HoldsPart m p (table (schema_slots s)) → size_of (table (schema_slots s)) ≤ length m
-      → schema_at (spot m p) ≡ Some (written fs es is)
+      → schema_at (spot m p) ≡ Some (written_as order fs es is)
   pub weighs : schema_weight s ≡ weight fs es
 
-abbrev pub WritesTable : Result SchemaTable Fault → FieldTrees → Pairs → IdTrees → Type 0
-WritesTable (Ok s) fs es is = IsWritable fs es is × IsSchemaTable s fs es is
-WritesTable (Err e) fs es is = RefusesSchema e fs es is
+abbrev pub WritesTable : Endianness → Result SchemaTable Fault → FieldTrees → Pairs → IdTrees → Type 0
+WritesTable order (Ok s) fs es is = IsWritable fs es is × IsSchemaTable order s fs es is
+WritesTable order (Err e) fs es is = RefusesSchema e fs es is
 
 -- what a stream begins with whose first message this is: version 5 has no buffer in front of a union's own
+abbrev pub written_head_as : Endianness → FieldTrees → Pairs → IdTrees → Head
+written_head_as order fs es is = record { schema = written_as order fs es is; extra = 0 }
+
 abbrev pub written_head : FieldTrees → Pairs → IdTrees → Head
-written_head fs es is = record { schema = written fs es is; extra = 0 }
+written_head fs es is = written_head_as Little fs es is
 
 -- the bytes mean the schema, are no more than its weight, begin a stream, need no padding, and are a message as it is written
-abbrev pub WritesSchema : Result (Vec ℕ Global) Fault → FieldTrees → Pairs → IdTrees → Type 0
-WritesSchema (Ok bytes) fs es is =
-    IsWritable fs es is × (schema_of bytes.items ≡ Some (written fs es is)) × (length bytes.items ≤ weight fs es)
-    × (head_of bytes.items ≡ Some (written_head fs es is)) × (length bytes.items % 8 ≡ 0) × IsWritten bytes.items
-WritesSchema (Err e) fs es is = RefusesSchema e fs es is
+abbrev pub WritesSchema : Endianness → Result (Vec ℕ Global) Fault → FieldTrees → Pairs → IdTrees → Type 0
+WritesSchema order (Ok bytes) fs es is =
+    IsWritable fs es is × (schema_of bytes.items ≡ Some (written_as order fs es is)) × (length bytes.items ≤ weight fs es)
+    × (head_of bytes.items ≡ Some (written_head_as order fs es is)) × (length bytes.items % 8 ≡ 0) × IsWritten bytes.items
+WritesSchema order (Err e) fs es is = RefusesSchema e fs es is

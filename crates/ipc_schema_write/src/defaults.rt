@@ -1,13 +1,17 @@
 //! The dictionary ids of a schema where none are given.
-ghost use Rattle.std.specs.Prelude.{◌≡◌, ◌+◌, ◌≤◌, ◌^◌, IfOk, length, pos};
+ghost use Rattle.std.specs.Prelude.{◌≡◌, ◌+◌, ◌≤◌, ◌^◌, ◌↔◌, IfErr, IfOk, IsTrue, MatchOption, length, pos};
 ghost use Rattle.lower.specs.Counts.{fields_places};
 ghost use Rattle.lower.specs.TypeViews.{type_view, field_view, fields_view};
 ghost use Rattle.ipc_base.specs.IdTrees.{ids_view, all_ids_view};
 ghost use Rattle.ipc_base.specs.Fitting.{AllFit};
 ghost use Rattle.ipc_schema_write.specs.DefaultIds.{count_below, count_field, count_all, default_children, default_ids, default_all};
 ghost use Rattle.ipc_schema_write.specs.DefaultRows.{DefaultRows};
+ghost use Rattle.lower.specs.TypeTrees.{Pairs};
+ghost use Rattle.ipc_model.specs.Writable.{most_places};
 ghost use Rattle.ipc_schema_write.specs.Refusals.{RefusesCount};
+ghost use Rattle.ipc_schema_write.specs.WriterAnswers.{RefusesSchema};
 
+use crate::schema::MAX_PLACES;
 use ipc_base::fault::{ArgFault, Fault};
 use ipc_base::ipc::IpcField;
 use lower::datatypes::counts::is_dictionary_type;
@@ -26,6 +30,71 @@ pub fn default_ipc_fields(alloc: Global, fields: &[Field]) -> Result<Vec<IpcFiel
     let mut next = 0;
     let ids = ids_from(alloc, fields, &mut next)?;
     Ok(ids)
+}
+
+/// The ids that a schema is written with where none are given: those of [`default_ipc_fields`]. The
+/// dictionary fields are counted before an id is made, so that no more ids are than can be written.
+///
+/// Faults: `Argument(NotWritable)` where there are more than 65,536 dictionary fields; `Memory`.
+pub fn writable_ipc_fields(alloc: Global, fields: &[Field]) -> Result<Vec<IpcField>, Fault>
+    ensures ids { IfOk result (λ r. all_ids_view r.items ≡ default_all 0 (fields_view fields.now)) }
+    ensures fit { IfOk result (λ r. AllFit (fields_view fields.now) (all_ids_view r.items)) }
+    ensures only { IfErr result (λ e. (es : Pairs)
+        → RefusesSchema e (fields_view fields.now) es (default_all 0 (fields_view fields.now))) }
+{
+    if !has_few_places(fields) {
+        return Err(Fault::Argument(ArgFault::NotWritable));
+    }
+    default_ipc_fields(alloc, fields)
+}
+
+// Whether there are no more dictionary fields than can be written.
+fn has_few_places(fields: &[Field]) -> bool
+    ensures { IsTrue result ↔ (count_all (fields_view fields.now) ≤ most_places) }
+{
+    match count_all(fields) {
+        Some(count) => count <= MAX_PLACES as u64,
+        None => false,
+    }
+}
+
+// The dictionary fields, or None where a `u64` is too small for them.
+#[cycle(counts)]
+fn count_all(fields: &[Field]) -> Option<u64>
+    ensures { MatchOption result (2 ^ 64 ≤ count_all (fields_view fields.now)) (λ count. count ≡ count_all (fields_view fields.now)) }
+{
+    let mut sum = 0u64;
+    for field in fields {
+        sum = sum.checked_add(count_field(field)?)?;
+    }
+    Some(sum)
+}
+
+#[cycle(counts)]
+fn count_field(field: &Field) -> Option<u64>
+    ensures { MatchOption result (2 ^ 64 ≤ count_field (field_view field.now)) (λ count. count ≡ count_field (field_view field.now)) }
+{
+    let below = count_below(&field.data_type)?;
+    if is_dictionary_type(&field.data_type) {
+        below.checked_add(1)
+    } else {
+        Some(below)
+    }
+}
+
+#[cycle(counts)]
+fn count_below(data_type: &DataType) -> Option<u64>
+    ensures { MatchOption result (2 ^ 64 ≤ count_below (type_view data_type.now)) (λ count. count ≡ count_below (type_view data_type.now)) }
+{
+    match data_type {
+        DataType::List(field)
+        | DataType::LargeList(field)
+        | DataType::FixedSizeList(field, _)
+        | DataType::Map(field, _) => count_field(field),
+        DataType::Struct(fields) | DataType::Union(fields, _, _) => count_all(fields),
+        DataType::Dictionary(_, inner, _) | DataType::Extension(_, inner, _) => count_below(inner),
+        _ => Some(0),
+    }
 }
 
 #[cycle(defaults)]

@@ -1,46 +1,176 @@
-//! The ids of dictionaries.
-ghost use Rattle.std.specs.Prelude.{◌≡◌, ◌++◌, ◌↔◌, IfOk, IsTrue, OnOk};
-ghost use Rattle.std.specs.List.{IsDistinct};
-ghost use Rattle.std.specs.Ordering.{int_eq};
-ghost use Rattle.ipc_base.specs.IdTrees.{all_ids_view, ids_view};
-ghost use Rattle.ipc_schema_write.specs.Ids.{ids_in, all_ids_in};
+//! The dictionaries of a schema.
+ghost use Rattle.std.specs.Prelude.{◌≡◌, ◌++◌, ◌∷◌, [], ◌↔◌, true, AllPairs, IfOk, IsTrue, OnOk, Some, is_some};
+ghost use Rattle.lower.specs.Counts.{is_dictionary};
+ghost use Rattle.lower.specs.TypeViews.{field_view, fields_view, type_view};
+ghost use Rattle.ipc_base.specs.Fitting.{AllFit, ChildrenFit, Fits};
+ghost use Rattle.ipc_base.specs.IdTrees.{IdTrees, all_ids_view, ids_view};
+ghost use Rattle.ipc_model.specs.Batches.{field_places, inner_places, own_place, places};
+ghost use Rattle.ipc_model.specs.Writable.{SameUnderId};
+ghost use Rattle.ipc_schema_write.specs.Places.{HaveSameValues, place_view, places_view};
 
 use ipc_base::ipc::IpcField;
+use lower::datatypes::{DataType, Field, is_same_normal_type};
 use std::alloc::{AllocError, Global};
-use std::collections::HashSet;
+use std::collections::HashMap;
 
-/// Adds the ids of some fields, and of those below them, in pre-order.
-#[cycle(ids)]
-pub(crate) fn add_ids(ipc_fields: &[IpcField], ids: &mut Vec<i64>) -> Result<(), AllocError>
-    ensures { OnOk result (ids.new.items ≡ ids.old.items ++ all_ids_in (all_ids_view ipc_fields.now)) }
+/// A field whose type is a dictionary.
+#[derive(Clone, Copy)]
+pub(crate) struct DictionaryPlace<'a> {
+    /// Its id.
+    pub(crate) id: i64,
+    /// The type of its values.
+    pub(crate) values: &'a DataType,
+    /// The ids in its values.
+    pub(crate) ids: &'a [IpcField],
+}
+
+impl DictionaryPlace<'_> {
+    // Its id.
+    fn id(&self) -> i64
+        ensures { result ≡ self.now.id }
+    {
+        self.id
+    }
+}
+
+// The type of the values, once extensions are taken off.
+fn values_of(data_type: &DataType) -> &DataType
+    requires { is_dictionary (type_view data_type.now) ≡ true }
+    ensures { (id : _) (is : IdTrees) → own_place (type_view data_type.now) id is ≡ record { id = id; type = type_view result.now; ids = is } ∷ [] }
 {
-    for ipc_field in ipc_fields {
-        add_ids_of(ipc_field, ids)?;
+    match data_type {
+        DataType::Dictionary(_, values, _) => values,
+        DataType::Extension(_, inner, _) => values_of(inner),
+        _ => data_type,
+    }
+}
+
+// Adds a field's own place, where it is a dictionary.
+fn add_own<'a>(
+    data_type: &'a DataType,
+    id: Option<i64>,
+    ids: &'a [IpcField],
+    all: &mut Vec<DictionaryPlace<'a>>,
+) -> Result<(), AllocError>
+    requires { is_some id ≡ is_dictionary (type_view data_type.now) }
+    ensures { OnOk result (places_view all.new.items ≡ places_view all.old.items
+        ++ own_place (type_view data_type.now) id (all_ids_view ids.now)) }
+{
+    match id {
+        Some(id) => {
+            let values = values_of(data_type);
+            all.push(DictionaryPlace { id, values, ids })?;
+            Ok(())
+        }
+        None => Ok(()),
+    }
+}
+
+#[cycle(places)]
+fn add_places_of<'a>(
+    field: &'a Field,
+    ipc_field: &'a IpcField,
+    all: &mut Vec<DictionaryPlace<'a>>,
+) -> Result<(), AllocError>
+    requires fit { Fits (field_view field.now) (ids_view ipc_field.now) }
+    ensures { OnOk result (places_view all.new.items ≡ places_view all.old.items
+        ++ field_places (field_view field.now) (ids_view ipc_field.now)) }
+{
+    add_own(
+        &field.data_type,
+        ipc_field.dictionary_id,
+        &ipc_field.fields,
+        all,
+    )?;
+    add_inner(&field.data_type, &ipc_field.fields, all)
+}
+
+// Adds the places below a type.
+#[cycle(places)]
+fn add_inner<'a>(
+    data_type: &'a DataType,
+    ipc_fields: &'a [IpcField],
+    all: &mut Vec<DictionaryPlace<'a>>,
+) -> Result<(), AllocError>
+    requires fit { ChildrenFit (type_view data_type.now) (all_ids_view ipc_fields.now) }
+    ensures { OnOk result (places_view all.new.items ≡ places_view all.old.items
+        ++ inner_places (type_view data_type.now) (all_ids_view ipc_fields.now)) }
+{
+    match data_type {
+        DataType::List(child)
+        | DataType::LargeList(child)
+        | DataType::FixedSizeList(child, _)
+        | DataType::Map(child, _) => add_places_of(child, &ipc_fields[0], all),
+        DataType::Struct(fields) | DataType::Union(fields, _, _) => {
+            add_places(fields, ipc_fields, all)
+        }
+        DataType::Dictionary(_, inner, _) | DataType::Extension(_, inner, _) => {
+            add_inner(inner, ipc_fields, all)
+        }
+        _ => Ok(()),
+    }
+}
+
+/// Adds the dictionary places of some fields with their ids, in pre-order.
+#[cycle(places)]
+pub(crate) fn add_places<'a>(
+    fields: &'a [Field],
+    ipc_fields: &'a [IpcField],
+    all: &mut Vec<DictionaryPlace<'a>>,
+) -> Result<(), AllocError>
+    requires fit { AllFit (fields_view fields.now) (all_ids_view ipc_fields.now) }
+    ensures { OnOk result (places_view all.new.items ≡ places_view all.old.items
+        ++ places (fields_view fields.now) (all_ids_view ipc_fields.now)) }
+{
+    for (i, field) in fields.iter().enumerate() {
+        add_places_of(field, &ipc_fields[i], all)?;
     }
     Ok(())
 }
 
-#[cycle(ids)]
-fn add_ids_of(ipc_field: &IpcField, ids: &mut Vec<i64>) -> Result<(), AllocError>
-    ensures { OnOk result (ids.new.items ≡ ids.old.items ++ ids_in (ids_view ipc_field.now)) }
+/// Whether these are the same ids.
+#[cycle(same_ids)]
+pub fn are_same_ids(a: &[IpcField], b: &[IpcField]) -> bool
+    ensures { IsTrue result ↔ (all_ids_view a.now ≡ all_ids_view b.now) }
 {
-    match ipc_field.dictionary_id {
-        Some(id) => {
-            ids.push(id)?;
-            add_ids(&ipc_field.fields, ids)
-        }
-        None => add_ids(&ipc_field.fields, ids),
+    if a.len() != b.len() {
+        return false;
     }
+    for (i, field) in a.iter().enumerate() {
+        if !is_same_id(field, &b[i]) {
+            return false;
+        }
+    }
+    true
 }
 
-/// Whether no id stands twice.
-pub(crate) fn are_apart(alloc: Global, ids: &[i64]) -> Result<bool, AllocError>
-    ensures { IfOk result (λ b. IsTrue b ↔ IsDistinct int_eq ids.now) }
+#[cycle(same_ids)]
+fn is_same_id(a: &IpcField, b: &IpcField) -> bool
+    ensures { IsTrue result ↔ (ids_view a.now ≡ ids_view b.now) }
 {
-    let mut seen = HashSet::new(alloc);
-    for id in ids {
-        if !seen.insert(*id)? {
-            return Ok(false);
+    a.dictionary_id == b.dictionary_id && are_same_ids(&a.fields, &b.fields)
+}
+
+// Whether both have one value type, in its normal form, with the same ids in it.
+fn have_same_values(place: &DictionaryPlace<'_>, other: &DictionaryPlace<'_>) -> bool
+    ensures { IsTrue result ↔ HaveSameValues (place_view place.now) (place_view other.now) }
+{
+    is_same_normal_type(place.values, other.values) && are_same_ids(place.ids, other.ids)
+}
+
+/// Whether places of one id have one value type, in its normal form, with the same ids in it. Each
+/// is compared with the first of its id.
+pub(crate) fn agree(alloc: Global, places: &[DictionaryPlace<'_>]) -> Result<bool, AllocError>
+    ensures { IfOk result (λ b. IsTrue b ↔ AllPairs SameUnderId (places_view places.now)) }
+{
+    let mut firsts = HashMap::new(alloc);
+    for (i, place) in places.iter().enumerate() {
+        if let Some(first) = firsts.get(&place.id) {
+            if !have_same_values(&places[*first], place) {
+                return Ok(false);
+            }
+        } else {
+            firsts.insert(place.id(), i)?;
         }
     }
     Ok(true)

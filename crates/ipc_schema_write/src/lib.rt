@@ -2,7 +2,7 @@
 #![tactic(auto)]
 
 pub mod defaults;
-mod dictionaries;
+pub mod dictionaries;
 mod fields;
 mod metadata;
 pub mod schema;

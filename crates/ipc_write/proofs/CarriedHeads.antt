@@ -1,19 +1,16 @@
 -- A schema that is taken is carried, and has no dictionaries.
-use Rattle.std.proofs.Common.{◌≡◌, ℕ, ◌≤◌, ◌^◌, List, [], ◌++◌, length, Bool, IsTrue, Err, refl, arith}
+use Rattle.std.proofs.Common.{◌≡◌, ◌≤◌, ◌^◌, [], ◌++◌, length, IsTrue, Err, refl, arith}
 use Rattle.std.proofs.lemmas.Bool.{and_parts}
 use Rattle.lower.specs.Counts.{fields_places, inner_places, own_place}
 use Rattle.lower.specs.Normal.{norm, norm_fields}
 use Rattle.lower.specs.TypeTrees.{TypeTree, plain, single, group, dictionary, extension, field, FieldTrees, no_fields, more_fields, Pairs}
-use Rattle.ipc_base.specs.IdTrees.{IdTree, ids, IdTrees}
-use Rattle.ipc_model.specs.Batches.{field_places, places}
+use Rattle.ipc_base.specs.IdTrees.{IdTrees}
 use Rattle.ipc_model.specs.Carried.{IsCarried, are_whole, is_whole_type}
-use Rattle.ipc_model.specs.TypeKinds.{first_ids, other_ids}
 use Rattle.ipc_devices.specs.declared.fault.ArgFault.TheVariants.{FieldsShape, NotWritable, TooLarge}
 use Rattle.ipc_devices.specs.declared.fault.Fault.{Fault}
-use Rattle.ipc_devices.specs.declared.fault.Fault.TheVariants.{Argument, Memory, NotYetImplemented}
-use Rattle.ipc_devices.specs.declared.fault.Nyi.TheVariants.{Pending}
+use Rattle.ipc_devices.specs.declared.fault.Fault.TheVariants.{Argument, Memory}
 use Rattle.ipc_schema_write.specs.Refusals.{RefusesCount}
-use Rattle.ipc_schema_write.specs.WriterAnswers.{RefusesSchema, ShareAnId, written}
+use Rattle.ipc_schema_write.specs.WriterAnswers.{RefusesSchema, written}
 use Rattle.ipc_write.specs.Writers.{IsCarriedSchema, RefusesStart, are_carried}
 use Rattle.ipc_write.specs.declared.stream.WriterState.{WriterState}
 
@@ -36,20 +33,6 @@ fields_whole (more_fields (field name t nullable es) fs) h =
 pub written_carried : (fs : FieldTrees) (es : Pairs) (is : IdTrees) → IsCarriedSchema fs es → IsCarried (written fs es is)
 written_carried fs es is h = record { fields = fields_whole fs h.whole; order = refl }
 
-field_placeless : (name : List ℕ) (t : TypeTree) (nullable : Bool) (es : Pairs) (i : IdTree) → IsTrue (is_whole_type t) → field_places (field name t nullable es) i ≡ []
-field_placeless name (plain p) nullable es (ids id is) h = refl
-field_placeless name (single s f) nullable es i h = absurd cc
-field_placeless name (group g fs) nullable es i h = absurd cc
-field_placeless name (dictionary keys t ordered) nullable es i h = absurd cc
-field_placeless name (extension n t text) nullable es i h = absurd cc
-
-placeless : (fs : FieldTrees) (is : IdTrees) → IsTrue (are_carried fs) → places fs is ≡ []
-placeless no_fields is h = refl
-placeless (more_fields (field name t nullable es) fs) is h =
-    let (own, rest) = and_parts _ _ h in
-    let (none, whole) = and_parts _ _ own in
-    rw (field_placeless name t nullable es (first_ids is) whole, placeless fs (other_ids is) rest) refl
-
 -- fields of integers have no dictionary places
 no_inner : (t : TypeTree) → IsTrue (is_whole_type t) → own_place t ++ inner_places t ≡ []
 no_inner (plain p) h = refl
@@ -71,14 +54,9 @@ refused_ids X own fs es is Memory k h = tt
 refused_ids X own fs es is (Argument TooLarge) k h = absurd (omega (arith, rw (no_places fs k.whole) at h))
 refused_ids X own fs es is _ k h = absurd h
 
--- a schema in which dictionaries share an id isn't taken
-share_none : (fs : FieldTrees) (is : IdTrees) → IsTrue (are_carried fs) → ShareAnId fs is → ⊥
-share_none fs is h shared = shared (rw (placeless fs is h) (λ i j d before inside. absurd (omega (arith, inside))))
-
 -- why a schema that is taken is refused
 pub refused_start : (s : WriterState) (fs : FieldTrees) (es : Pairs) (is : IdTrees) (e : Fault) → IsCarriedSchema fs es → RefusesSchema e fs es is → RefusesStart s fs es is e
 refused_start s fs es is Memory k h = tt
-refused_start s fs es is (NotYetImplemented Pending) k h = λ c. share_none fs is c.whole h
 refused_start s fs es is (Argument FieldsShape) k h = h
 refused_start s fs es is (Argument NotWritable) k h = h
 refused_start s fs es is _ k h = absurd h

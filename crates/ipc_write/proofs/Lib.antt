@@ -6,6 +6,5 @@ pub mod BatchMessages
 pub mod CallLists
 pub mod Messages
 pub mod RecordMeanings
-pub mod SameIds
 pub mod Sends
 pub mod WriterSteps

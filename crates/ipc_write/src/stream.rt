@@ -2,7 +2,6 @@
 ghost use Rattle.std.specs.Prelude.{◌≡◌, ◌↔◌, ◌≤◌, ◌^◌, ◌++◌, [], pos, length, map, IfErr, IfOk, IfSome, IsSomeAnd, IsTrue, OnOk};
 ghost use Rattle.std.specs.Int.{next_multiple_of};
 ghost use Rattle.lower.specs.TypeViews.{fields_view, pairs_of, type_view};
-ghost use Rattle.ipc_base.specs.IdTrees.{all_ids_view, ids_view};
 ghost use Rattle.ipc_devices.specs.declared.fault.Fault.TheVariants.{Argument, NotYetImplemented};
 ghost use Rattle.ipc_devices.specs.declared.fault.Nyi.TheVariants.{Pending};
 ghost use Rattle.ipc_devices.specs.declared.fault.ArgFault.TheVariants.{FieldsDiffer, TooLarge};
@@ -24,6 +23,7 @@ use ipc_base::ipc::IpcField;
 use ipc_devices::{ArgFault, Fault, Nyi, StateFault, Writes};
 use ipc_plan::pieces::Piece;
 use ipc_schema_write::defaults::default_ipc_fields;
+use ipc_schema_write::dictionaries::are_same_ids;
 use ipc_schema_write::schema::schema_to_bytes;
 use lower::datatypes::equal::is_same_type;
 use lower::datatypes::{DataType, Field, Schema};
@@ -114,29 +114,6 @@ fn types_of_fields(alloc: Global, fields: &[Field]) -> Result<Vec<DataType>, All
         types.push(field.data_type.normal()?)?;
     }
     Ok(types)
-}
-
-// Whether these are the same ids.
-#[cycle(same_ids)]
-fn are_same_ids(a: &[IpcField], b: &[IpcField]) -> bool
-    ensures { IsTrue result ↔ (all_ids_view a.now ≡ all_ids_view b.now) }
-{
-    if a.len() != b.len() {
-        return false;
-    }
-    for (i, field) in a.iter().enumerate() {
-        if !is_same_id(field, &b[i]) {
-            return false;
-        }
-    }
-    true
-}
-
-#[cycle(same_ids)]
-fn is_same_id(a: &IpcField, b: &IpcField) -> bool
-    ensures { IsTrue result ↔ (ids_view a.now ≡ ids_view b.now) }
-{
-    a.dictionary_id == b.dictionary_id && are_same_ids(&a.fields, &b.fields)
 }
 
 // Whether the type is one of the integers.

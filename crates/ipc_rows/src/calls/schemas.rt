@@ -86,7 +86,7 @@ pub fn are_same_schemas(alloc: Global, value: &Value) -> Result<bool, Trouble> {
 pub fn weight_of(alloc: Global, out: &mut Text, value: &Value) -> Result<(), Trouble> {
     let schema = schema(alloc, value)?;
     let ids = ids_of(alloc, value, &schema)?;
-    let tables = serialize_schema(alloc, &schema, &ids)?;
+    let tables = serialize_schema(alloc, &schema, &ids, true)?;
     match weigh_schema(&tables) {
         None => out.put("null"),
         Some(weight) => out.show(&weight),

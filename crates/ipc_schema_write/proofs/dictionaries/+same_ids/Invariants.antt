@@ -1,6 +1,6 @@
 use Rattle.std.proofs.Common.{◌≡◌, drop}
 use Rattle.ipc_base.specs.IdTrees.{all_ids_view}
-use Rattle.ipc_write.proofs.stream.+same_ids.Given as goal
+use Rattle.ipc_schema_write.proofs.dictionaries.+same_ids.Given as goal
 
 -- Whether all ids are the same is told by those that are left.
 abbrev pub invariant-are_same_ids-loop-i : goal.invariant-are_same_ids-loop-i

@@ -1,8 +1,8 @@
 use Rattle.std.proofs.Common.{rules, ◌≡◌}
 use Rattle.ipc_base.specs.declared.ipc.IpcField.{out-IpcField}
 use Rattle.ipc_base.proofs.IdLists.{view-ids}
-use Rattle.ipc_write.proofs.SameIds.{same_length, same_children, same_ids}
-use Rattle.ipc_write.proofs.stream.+same_ids.Goals as goal
+use Rattle.ipc_schema_write.proofs.SameIds.{same_length, same_children, same_ids}
+use Rattle.ipc_schema_write.proofs.dictionaries.+same_ids.Goals as goal
 
 pub are_same_ids-returns-then-a-b : goal.are_same_ids-returns-then-a-b
 are_same_ids-returns-then-a-b t c = (λ h. absurd cc, λ h. absurd (c.if-a-b.true (same_length c.args.a.now c.args.b.now h)))
