@@ -10,4 +10,7 @@ pub mod ColumnLevels
 pub mod Tops
 pub mod Records
 pub mod StructReads
+pub mod UnionIds
+pub mod UnionRules
+pub mod UnionReads
 pub mod Plain

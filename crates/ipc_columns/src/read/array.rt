@@ -7,4 +7,5 @@ pub mod list;
 pub mod null;
 pub mod primitive;
 pub mod struct_;
+pub mod union;
 pub mod utf8;
