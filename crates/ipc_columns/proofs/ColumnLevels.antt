@@ -18,7 +18,7 @@ use Rattle.ipc_model.specs.TypeKinds.{field_kind, kind_of}
 use Rattle.ipc_model.specs.Entries.{Entries, Limit, rows}
 use Rattle.ipc_model.specs.Columns.{Begins, Offsets, last_offset, HasValues, IsWell}
 use Rattle.ipc_model.specs.ReadArrays.{offset_type, first_type, array_at}
-use Rattle.ipc_columns.specs.Bodies.{entries, no_values}
+use Rattle.ipc_columns.specs.Bodies.{entries}
 use Rattle.ipc_columns.specs.Kinds.{IsStored, IsRead}
 use Rattle.ipc_columns.specs.ListHeads.{AreListsAt}
 use Rattle.ipc_columns.specs.declared.read.body.Body.{Body}
@@ -88,20 +88,20 @@ array_type s vs (extension_kind t) u a b limit = array_type s vs t u a b limit
 -- ---- lists
 
 -- what is known of the column of lists at node a and buffer b: k are read, the last offset, the child's kind
-module _ (s : Entries) (form : OffsetWidth) (t : Kind) (u : TypeTree) (a b : ℕ) (limit : Limit) (os : List ℕ) (v : Validity) (last : ℕ) (f : FieldTree) (ut : TypeTree)
+module _ (s : Entries) (vs : Option ℤ → Layout) (form : OffsetWidth) (t : Kind) (u : TypeTree) (a b : ℕ) (limit : Limit) (os : List ℕ) (v : Validity) (last : ℕ) (f : FieldTree) (ut : TypeTree)
     (at : AreListsAt s form a b (rows s a limit) os v last) (fields : child_fields u ≡ more_fields f no_fields) (typed : field_type f ≡ ut) where
   pub list_child : IsRead (list_kind form t) × IsWell s (list_kind form t) a b limit → IsRead t × IsWell s t (a + 1) (b + 2) (Some last)
   list_child h = (h.0, subst (λ (n : ℕ). IsWell s t (a + 1) (b + 2) (Some n)) (sym at.ends) h.1.2.0)
 
-  pub child_typed : (c : Layout) → c ≡ array_at s no_values t ut (a + 1) (b + 2) (Some last) → FieldTypes (child_fields u) (type_of c ∷ [])
-  child_typed c e = subst (λ (fs : FieldTrees). FieldTypes fs (type_of c ∷ [])) (sym fields) (ap type_of e ∙ array_type s no_values t ut (a + 1) (b + 2) (Some last) ∙ sym typed, tt)
+  pub child_typed : (c : Layout) → c ≡ array_at s vs t ut (a + 1) (b + 2) (Some last) → FieldTypes (child_fields u) (type_of c ∷ [])
+  child_typed c e = subst (λ (fs : FieldTrees). FieldTypes fs (type_of c ∷ [])) (sym fields) (ap type_of e ∙ array_type s vs t ut (a + 1) (b + 2) (Some last) ∙ sym typed, tt)
 
-  pub list_len : (c : Layout) → c ≡ array_at s no_values t ut (a + 1) (b + 2) (Some last) → IsRead (list_kind form t) × IsWell s (list_kind form t) a b limit → len_of c ≡ last
+  pub list_len : (c : Layout) → c ≡ array_at s vs t ut (a + 1) (b + 2) (Some last) → IsRead (list_kind form t) × IsWell s (list_kind form t) a b limit → len_of c ≡ last
   list_len c e h =
-      ap len_of e ∙ array_len s no_values t ut (a + 1) (b + 2) (Some last) ∙ ap (λ n. rows s (a + 1) (Some n)) at.ends ∙ h.1.2.1 ∙ sym at.ends
+      ap len_of e ∙ array_len s vs t ut (a + 1) (b + 2) (Some last) ∙ ap (λ n. rows s (a + 1) (Some n)) at.ends ∙ h.1.2.1 ∙ sym at.ends
 
   pub list_well : (c : Layout) → Begins s a b (rows s a limit) × Offsets s (b + 1) (offset_width form) (rows s a limit)
-      → (IsRead t × IsWell s t (a + 1) (b + 2) (Some last)) × (c ≡ array_at s no_values t ut (a + 1) (b + 2) (Some last)) → len_of c ≡ last
+      → (IsRead t × IsWell s t (a + 1) (b + 2) (Some last)) × (c ≡ array_at s vs t ut (a + 1) (b + 2) (Some last)) → len_of c ≡ last
       → IsRead (list_kind form t) × IsWell s (list_kind form t) a b limit
   list_well c head child len =
       let n = last_offset s (b + 1) (offset_width form) (rows s a limit) in (
@@ -111,17 +111,17 @@ module _ (s : Entries) (form : OffsetWidth) (t : Kind) (u : TypeTree) (a b : ℕ
           head.1,
           (
             subst (λ (m : ℕ). IsWell s t (a + 1) (b + 2) (Some m)) at.ends child.0.1,
-            ap (λ m. rows s (a + 1) (Some m)) (sym at.ends) ∙ sym (array_len s no_values t ut (a + 1) (b + 2) (Some last)) ∙ sym (ap len_of child.1) ∙ len ∙ at.ends,
+            ap (λ m. rows s (a + 1) (Some m)) (sym at.ends) ∙ sym (array_len s vs t ut (a + 1) (b + 2) (Some last)) ∙ sym (ap len_of child.1) ∙ len ∙ at.ends,
           ),
         ),
       )
 
-  pub list_array : (c : Layout) (p : PrimitiveType) (x : Layout) → p ≡ offset_type form → c ≡ array_at s no_values t ut (a + 1) (b + 2) (Some last) → x ≡ list_layout (list_seen u p os c v)
-      → x ≡ array_at s no_values (list_kind form t) u a b limit
+  pub list_array : (c : Layout) (p : PrimitiveType) (x : Layout) → p ≡ offset_type form → c ≡ array_at s vs t ut (a + 1) (b + 2) (Some last) → x ≡ list_layout (list_seen u p os c v)
+      → x ≡ array_at s vs (list_kind form t) u a b limit
   list_array c p x width e made =
       let named : ut ≡ first_type (child_fields u) = sym (ap first_type fields ∙ typed) in
-      let below : c ≡ array_at s no_values t (first_type (child_fields u)) (a + 1) (b + 2) (Some (last_offset s (b + 1) (offset_width form) (rows s a limit))) =
-      e ∙ ap (λ d. array_at s no_values t d (a + 1) (b + 2) (Some last)) named
-      ∙ ap (λ m. array_at s no_values t (first_type (child_fields u)) (a + 1) (b + 2) (Some m)) at.ends
+      let below : c ≡ array_at s vs t (first_type (child_fields u)) (a + 1) (b + 2) (Some (last_offset s (b + 1) (offset_width form) (rows s a limit))) =
+      e ∙ ap (λ d. array_at s vs t d (a + 1) (b + 2) (Some last)) named
+      ∙ ap (λ m. array_at s vs t (first_type (child_fields u)) (a + 1) (b + 2) (Some m)) at.ends
       in
       made ∙ (λ i. layout (record { type = u; len = at.count i; validity = at.mask i; parts = lists (width i) (at.places i) }) (more_layouts (below i) no_layouts))

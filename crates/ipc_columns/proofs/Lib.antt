@@ -14,3 +14,6 @@ pub mod UnionIds
 pub mod UnionRules
 pub mod UnionReads
 pub mod Plain
+pub mod LimitLevels
+pub mod FixedReads
+pub mod MapReads

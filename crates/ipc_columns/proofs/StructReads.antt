@@ -1,5 +1,5 @@
 -- Columns of records, field by field.
-use Rattle.std.proofs.Common.{arith, ◌≡◌, refl, ℕ, ◌+◌, ◌<◌, List, [], ◌∷◌, ◌++◌, length, drop, get_or, sym, ap, subst, ◌∙◌}
+use Rattle.std.proofs.Common.{arith, ◌≡◌, refl, ℕ, ℤ, ◌+◌, ◌<◌, Option, List, [], ◌∷◌, ◌++◌, length, drop, get_or, sym, ap, subst, ◌∙◌}
 use Rattle.std.proofs.lemmas.List.{at_drop_more}
 use Rattle.lower.specs.TypeTrees.{FieldTree, FieldTrees, no_fields, more_fields}
 use Rattle.lower.specs.TypeViews.{field_view, fields_view}
@@ -14,7 +14,7 @@ use Rattle.ipc_model.specs.TypeKinds.{first_ids, other_ids, field_kind, kinds_of
 use Rattle.ipc_model.specs.Entries.{Entries, Limit, rows}
 use Rattle.ipc_model.specs.Columns.{IsSome, AllHaveRows, IsWell}
 use Rattle.ipc_model.specs.ReadArrays.{array_at, arrays_at}
-use Rattle.ipc_columns.specs.Bodies.{entries, no_values}
+use Rattle.ipc_columns.specs.Bodies.{entries}
 use Rattle.ipc_columns.specs.Kinds.{IsRead, Follows}
 use Rattle.ipc_columns.specs.StructLevels.{over, Left, HaveRows, SoFar}
 use Rattle.ipc_columns.specs.declared.read.body.Body.{Body}
@@ -51,23 +51,23 @@ left_more extra all rest rest' t start p q e l next =
     let m = ap (all_buffers extra) e in
     record { node = omega (arith, n, l.node, next.node); buffer = omega (arith, m, l.buffer, next.buffer) }
 
-pub so_start : (s : Entries) (all : Kinds) (fs : FieldTrees) (p : Place) (limit : Limit) (k : ℕ) → SoFar s all all fs fs p p limit k []
-so_start s all fs p limit k = record { on = λ h. h; back = λ h. h; same = refl }
+pub so_start : (s : Entries) (vs : Option ℤ → Layout) (all : Kinds) (fs : FieldTrees) (p : Place) (limit : Limit) (k : ℕ) → SoFar s vs all all fs fs p p limit k []
+so_start s vs all fs p limit k = record { on = λ h. h; back = λ h. h; same = refl }
 
 -- one more column, of k slots
-module _ (extra : ℕ) (s : Entries) (all rest rest' : Kinds) (t : Kind) (f : FieldTree) (fs gs gs' : FieldTrees) (start p q : Place) (limit : Limit) (k : ℕ) (xs : List Layout)
+module _ (extra : ℕ) (s : Entries) (vs : Option ℤ → Layout) (all rest rest' : Kinds) (t : Kind) (f : FieldTree) (fs gs gs' : FieldTrees) (start p q : Place) (limit : Limit) (k : ℕ) (xs : List Layout)
     (same_extra : extra ≡ s.extra) (more : rest ≡ more_kinds t rest') (more_gs : gs ≡ more_fields f gs') (next : Follows extra t p q)
-    (so : SoFar s all rest fs gs start p limit k xs) where
+    (so : SoFar s vs all rest fs gs start p limit k xs) where
   behind : q.buffer ≡ p.buffer + buffers s.extra t
   behind = next.buffer ∙ ap (λ n. p.buffer + buffers n t) same_extra
 
   pub one_on : HaveRows s all start limit k → (IsRead t × IsWell s t p.node p.buffer limit) × (rows s p.node limit ≡ k)
   one_on h = let w = subst (λ ts. HaveRows s ts p limit k) more (so.on h) in ((w.0.0, w.1.0.0), w.1.0.1)
 
-  pub so_more : (x : Layout) → (IsRead t × IsWell s t p.node p.buffer limit) × (x ≡ array_at s no_values t (field_type f) p.node p.buffer limit) → len_of x ≡ k
-      → SoFar s all rest' fs gs' start q limit k (xs ++ x ∷ [])
+  pub so_more : (x : Layout) → (IsRead t × IsWell s t p.node p.buffer limit) × (x ≡ array_at s vs t (field_type f) p.node p.buffer limit) → len_of x ≡ k
+      → SoFar s vs all rest' fs gs' start q limit k (xs ++ x ∷ [])
   so_more x read len =
-      let count : rows s p.node limit ≡ k = sym (array_len s no_values t (field_type f) p.node p.buffer limit) ∙ sym (ap len_of read.1) ∙ len in
+      let count : rows s p.node limit ≡ k = sym (array_len s vs t (field_type f) p.node p.buffer limit) ∙ sym (ap len_of read.1) ∙ len in
       record {
         on = λ h.
             let w = subst (λ ts. HaveRows s ts p limit k) more (so.on h) in
@@ -76,45 +76,45 @@ module _ (extra : ℕ) (s : Entries) (all rest rest' : Kinds) (t : Kind) (f : Fi
             so.back (subst (λ ts. HaveRows s ts p limit k) (sym more)
             ((read.0.0, h.0), ((read.0.1, count), subst (λ n. AllHaveRows s rest' n (p.buffer + buffers s.extra t) limit k) next.node (subst (λ n. AllHaveRows s rest' q.node n limit k) behind h.1))));
         same =
-            over_more xs x (arrays_at s no_values rest' gs' q.node q.buffer limit)
-            ∙ ap (λ y. over xs (more_layouts y (arrays_at s no_values rest' gs' q.node q.buffer limit))) read.1
-            ∙ (λ i. over xs (more_layouts (array_at s no_values t (field_type f) p.node p.buffer limit) (arrays_at s no_values rest' gs' (next.node i) (behind i) limit)))
-            ∙ (λ i. over xs (arrays_at s no_values (sym more i) (sym more_gs i) p.node p.buffer limit))
+            over_more xs x (arrays_at s vs rest' gs' q.node q.buffer limit)
+            ∙ ap (λ y. over xs (more_layouts y (arrays_at s vs rest' gs' q.node q.buffer limit))) read.1
+            ∙ (λ i. over xs (more_layouts (array_at s vs t (field_type f) p.node p.buffer limit) (arrays_at s vs rest' gs' (next.node i) (behind i) limit)))
+            ∙ (λ i. over xs (arrays_at s vs (sym more i) (sym more_gs i) p.node p.buffer limit))
             ∙ so.same;
       }
 
 -- ---- a whole struct
 
-pub arrays_typed : (s : Entries) (fs : FieldTrees) (is : IdTrees) (a b : ℕ) (limit : Limit) → ChildTypes fs (arrays_at s no_values (kinds_of fs is) fs a b limit)
-arrays_typed s no_fields is a b limit = tt
-arrays_typed s (more_fields f fs) is a b limit =
+pub arrays_typed : (s : Entries) (vs : Option ℤ → Layout) (fs : FieldTrees) (is : IdTrees) (a b : ℕ) (limit : Limit) → ChildTypes fs (arrays_at s vs (kinds_of fs is) fs a b limit)
+arrays_typed s vs no_fields is a b limit = tt
+arrays_typed s vs (more_fields f fs) is a b limit =
     let t = field_kind f (first_ids is) in
-    (array_type s no_values t (field_type f) a b limit, arrays_typed s fs (other_ids is) (a + nodes t) (b + buffers s.extra t) limit)
+    (array_type s vs t (field_type f) a b limit, arrays_typed s vs fs (other_ids is) (a + nodes t) (b + buffers s.extra t) limit)
 
-pub arrays_have : (s : Entries) (ts : Kinds) (fs : FieldTrees) (a b : ℕ) (limit : Limit) (k : ℕ) → AllHaveRows s ts a b limit k → AllHave k (arrays_at s no_values ts fs a b limit)
-arrays_have s no_kinds fs a b limit k h = tt
-arrays_have s (more_kinds t ts) no_fields a b limit k h =
-    (array_len s no_values t _ a b limit ∙ h.0.1, arrays_have s ts no_fields (a + nodes t) (b + buffers s.extra t) limit k h.1)
-arrays_have s (more_kinds t ts) (more_fields f fs) a b limit k h =
-    (array_len s no_values t _ a b limit ∙ h.0.1, arrays_have s ts fs (a + nodes t) (b + buffers s.extra t) limit k h.1)
+pub arrays_have : (s : Entries) (vs : Option ℤ → Layout) (ts : Kinds) (fs : FieldTrees) (a b : ℕ) (limit : Limit) (k : ℕ) → AllHaveRows s ts a b limit k → AllHave k (arrays_at s vs ts fs a b limit)
+arrays_have s vs no_kinds fs a b limit k h = tt
+arrays_have s vs (more_kinds t ts) no_fields a b limit k h =
+    (array_len s vs t _ a b limit ∙ h.0.1, arrays_have s vs ts no_fields (a + nodes t) (b + buffers s.extra t) limit k h.1)
+arrays_have s vs (more_kinds t ts) (more_fields f fs) a b limit k h =
+    (array_len s vs t _ a b limit ∙ h.0.1, arrays_have s vs ts fs (a + nodes t) (b + buffers s.extra t) limit k h.1)
 
-pub arrays_some : (s : Entries) (ts : Kinds) (fs : FieldTrees) (a b : ℕ) (limit : Limit) → IsSome ts → HasChild (arrays_at s no_values ts fs a b limit)
-arrays_some s no_kinds fs a b limit h = h
-arrays_some s (more_kinds t ts) fs a b limit h = tt
+pub arrays_some : (s : Entries) (vs : Option ℤ → Layout) (ts : Kinds) (fs : FieldTrees) (a b : ℕ) (limit : Limit) → IsSome ts → HasChild (arrays_at s vs ts fs a b limit)
+arrays_some s vs no_kinds fs a b limit h = h
+arrays_some s vs (more_kinds t ts) fs a b limit h = tt
 
-pub some_arrays : (s : Entries) (ts : Kinds) (fs : FieldTrees) (a b : ℕ) (limit : Limit) → HasChild (arrays_at s no_values ts fs a b limit) → IsSome ts
-some_arrays s no_kinds fs a b limit h = h
-some_arrays s (more_kinds t ts) fs a b limit h = tt
+pub some_arrays : (s : Entries) (vs : Option ℤ → Layout) (ts : Kinds) (fs : FieldTrees) (a b : ℕ) (limit : Limit) → HasChild (arrays_at s vs ts fs a b limit) → IsSome ts
+some_arrays s vs no_kinds fs a b limit h = h
+some_arrays s vs (more_kinds t ts) fs a b limit h = tt
 
 -- the next column of what is left
-pub one_of : (s : Entries) (all rest rest' : Kinds) (t : Kind) (fs gs : FieldTrees) (start p : Place) (limit : Limit) (k : ℕ) (xs : List Layout) → rest ≡ more_kinds t rest'
-    → SoFar s all rest fs gs start p limit k xs → HaveRows s all start limit k → (IsRead t × IsWell s t p.node p.buffer limit) × (rows s p.node limit ≡ k)
-one_of s all rest rest' t fs gs start p limit k xs more so h =
+pub one_of : (s : Entries) (vs : Option ℤ → Layout) (all rest rest' : Kinds) (t : Kind) (fs gs : FieldTrees) (start p : Place) (limit : Limit) (k : ℕ) (xs : List Layout) → rest ≡ more_kinds t rest'
+    → SoFar s vs all rest fs gs start p limit k xs → HaveRows s all start limit k → (IsRead t × IsWell s t p.node p.buffer limit) × (rows s p.node limit ≡ k)
+one_of s vs all rest rest' t fs gs start p limit k xs more so h =
     let w = subst (λ ts. HaveRows s ts p limit k) more (so.on h) in ((w.0.0, w.1.0.0), w.1.0.1)
 
-pub so_end : (s : Entries) (all rest : Kinds) (fs gs : FieldTrees) (start p : Place) (limit : Limit) (k : ℕ) (xs : List Layout) → rest ≡ no_kinds → SoFar s all rest fs gs start p limit k xs
-    → HaveRows s all start limit k × (layouts xs ≡ arrays_at s no_values all fs start.node start.buffer limit)
-so_end s all rest fs gs start p limit k xs e so = (
+pub so_end : (s : Entries) (vs : Option ℤ → Layout) (all rest : Kinds) (fs gs : FieldTrees) (start p : Place) (limit : Limit) (k : ℕ) (xs : List Layout) → rest ≡ no_kinds → SoFar s vs all rest fs gs start p limit k xs
+    → HaveRows s all start limit k × (layouts xs ≡ arrays_at s vs all fs start.node start.buffer limit)
+so_end s vs all rest fs gs start p limit k xs e so = (
   so.back (subst (λ ts. HaveRows s ts p limit k) (sym e) (tt, tt)),
-  sym (over_none xs) ∙ (λ i. over xs (arrays_at s no_values (sym e i) gs p.node p.buffer limit)) ∙ so.same,
+  sym (over_none xs) ∙ (λ i. over xs (arrays_at s vs (sym e i) gs p.node p.buffer limit)) ∙ so.same,
 )

@@ -12,28 +12,28 @@ use Rattle.ipc_model.specs.Entries.{Entries, Limit}
 use Rattle.ipc_model.specs.Columns.{IsWell, values_slots}
 use Rattle.ipc_model.specs.ReadArrays.{array_at, AreValues}
 use Rattle.ipc_columns.proofs.ColumnLevels.{array_type}
-use Rattle.ipc_columns.specs.Bodies.{entries, no_values}
+use Rattle.ipc_columns.specs.Bodies.{entries, known}
 use Rattle.ipc_columns.specs.ReadColumns.{IsColumn}
 use Rattle.ipc_columns.specs.declared.read.body.Body.{Body}
 
-no_slots : {R : Type 0} (memory : R → Memory) (b : Body R) (id : Option ℤ) → slots (no_values id) ≡ values_slots (entries memory b) id
+no_slots : {R : Type 0} (memory : R → Memory) (b : Body R) (id : Option ℤ) → slots (known b id) ≡ values_slots (entries memory b) id
 unfolding entries
 no_slots memory b None = refl
 no_slots memory b (Some id) = refl
 
-pub values_are : {R : Type 0} (memory : R → Memory) (b : Body R) → AreValues (entries memory b) no_values
+pub values_are : {R : Type 0} (memory : R → Memory) (b : Body R) → AreValues (entries memory b) (known b)
 values_are memory b = record { each = no_slots memory b }
 
 pub slots_answered :
-    {X : Type 0} (r : Result X Fault) (seen : X → Layout) (s : Entries) (t : Kind) (u : TypeTree) (a b : ℕ) (limit : Limit) (P : Type 0) → (P → IsWell s t a b limit)
-    → AreValues s no_values → Answers r P (λ x. seen x ≡ array_at s no_values t u a b limit)
-    → Answers r P (λ x. IsColumn s t u a b limit (seen x))
-slots_answered (Ok x) seen s t u a b limit P f values h = (
+    {X : Type 0} (r : Result X Fault) (seen : X → Layout) (s : Entries) (vs : Option ℤ → Layout) (t : Kind) (u : TypeTree) (a b : ℕ) (limit : Limit) (P : Type 0) → (P → IsWell s t a b limit)
+    → AreValues s vs → Answers r P (λ x. seen x ≡ array_at s vs t u a b limit)
+    → Answers r P (λ x. IsColumn s vs t u a b limit (seen x))
+slots_answered (Ok x) seen s vs t u a b limit P f values h = (
   h.0,
   record {
     array = h.1;
-    type = ap type_of h.1 ∙ array_type s no_values t u a b limit;
-    slots = ap slots h.1 ∙ read_slots_law s no_values t u a b limit values (f h.0);
+    type = ap type_of h.1 ∙ array_type s vs t u a b limit;
+    slots = ap slots h.1 ∙ read_slots_law s vs t u a b limit values (f h.0);
   },
 )
-slots_answered (Err e) seen s t u a b limit P f values h = h
+slots_answered (Err e) seen s vs t u a b limit P f values h = h

@@ -22,9 +22,13 @@ entries memory b = record {
   dictionaries = [];
 }
 
--- the arrays of the dictionaries' values: no dictionary is known
+-- the array of the values of a dictionary that isn't known
 abbrev pub no_values : Option ℤ → Layout
 no_values id = layout (whole_level (plain null) 0 nothing) no_layouts
+
+-- the arrays of the dictionaries' values: no dictionary is known
+abbrev pub known : {R : Type 0} → Body R → Option ℤ → Layout
+known b id = no_values id
 
 -- so many nodes and buffers are there from a place on
 pub record HasRoom {R : Type 0} (s : Body R) (p : Place) (n m : ℕ) : Type 0 where

@@ -58,8 +58,8 @@ abbrev mutual
   pub IsRead : Kind → Type 0
   IsRead (list_kind w t) = IsRead t
   IsRead (extension_kind t) = IsRead t
-  IsRead (map_kind t) = ⊥
-  IsRead (fixed_list_kind n t) = ⊥
+  IsRead (map_kind t) = IsRead t
+  IsRead (fixed_list_kind n t) = IsRead t
   IsRead (struct_kind ts) = AreRead ts
   IsRead (union_kind mode ids ts) = ⊥
   IsRead _ = Unit {0}

@@ -6,4 +6,6 @@ pub mod Kinds
 pub mod FlatKinds
 pub mod ListHeads
 pub mod StructLevels
+pub mod Limits
+pub mod FixedLevels
 pub mod ReadColumns

@@ -1,5 +1,5 @@
 -- Arrays of records, by their columns.
-use Rattle.std.specs.Prelude.{◌≡◌, ℕ, ◌+◌, List, [], ◌∷◌}
+use Rattle.std.specs.Prelude.{◌≡◌, ℕ, ℤ, ◌+◌, List, [], ◌∷◌, Option}
 use Rattle.lower.specs.TypeTrees.{TypeTree, FieldTrees}
 use Rattle.lower_flat.specs.Validities.{Validity}
 use Rattle.lower_arrays.specs.Layouts.{records, Layout, layout, Layouts, more_layouts, layouts}
@@ -7,7 +7,6 @@ use Rattle.ipc_model.specs.Kinds.{Kinds, all_nodes, all_buffers}
 use Rattle.ipc_model.specs.Entries.{Entries, Limit}
 use Rattle.ipc_model.specs.Columns.{AllHaveRows}
 use Rattle.ipc_model.specs.ReadArrays.{arrays_at}
-use Rattle.ipc_columns.specs.Bodies.{no_values}
 use Rattle.ipc_columns.specs.Kinds.{AreRead}
 use Rattle.ipc_columns.specs.declared.read.body.Place.{Place}
 
@@ -29,7 +28,7 @@ abbrev pub HaveRows : Entries → Kinds → Place → Limit → ℕ → Type 0
 HaveRows s ts p limit k = AreRead ts × AllHaveRows s ts p.node p.buffer limit k
 
 -- xs are the arrays of the columns before the rest, which are well formed
-pub record SoFar (s : Entries) (all rest : Kinds) (fs gs : FieldTrees) (start p : Place) (limit : Limit) (k : ℕ) (xs : List Layout) : Type 0 where
+pub record SoFar (s : Entries) (vs : Option ℤ → Layout) (all rest : Kinds) (fs gs : FieldTrees) (start p : Place) (limit : Limit) (k : ℕ) (xs : List Layout) : Type 0 where
   pub on : HaveRows s all start limit k → HaveRows s rest p limit k
   pub back : HaveRows s rest p limit k → HaveRows s all start limit k
-  pub same : over xs (arrays_at s no_values rest gs p.node p.buffer limit) ≡ arrays_at s no_values all fs start.node start.buffer limit
+  pub same : over xs (arrays_at s vs rest gs p.node p.buffer limit) ≡ arrays_at s vs all fs start.node start.buffer limit

@@ -10,6 +10,7 @@ use Rattle.ipc_model.specs.Batches.{kind_at, type_at, nodes_before, buffers_befo
 use Rattle.ipc_model.specs.Columns.{IsWell}
 use Rattle.ipc_model.specs.Entries.{Entries}
 use Rattle.ipc_model.specs.Kinds.{Kinds}
+use Rattle.ipc_columns.specs.Bodies.{no_values}
 use Rattle.ipc_columns.specs.ReadColumns.{IsColumn}
 use Rattle.ipc_read.specs.Columns.{HasColumns, AreColumns}
 
@@ -32,11 +33,11 @@ has_more s ts i has here = record {
 }
 
 abbrev IsColumnAt : Entries → FieldTrees → Kinds → ℕ → AnyArray → Type 0
-IsColumnAt s fs ts k x = IsColumn s (kind_at ts k) (type_at fs k) (nodes_before ts k) (buffers_before s.extra ts k) None (layout_of x)
+IsColumnAt s fs ts k x = IsColumn s no_values (kind_at ts k) (type_at fs k) (nodes_before ts k) (buffers_before s.extra ts k) None (layout_of x)
 
 pub are_more :
     (s : Entries) (fs : FieldTrees) (ts : Kinds) (i : ℕ) (xs ys : List AnyArray) (x : AnyArray) → length xs ≡ i → AreColumns s fs ts xs
-    → IsColumn s (kind_at ts i) (type_at fs i) (nodes_before ts i) (buffers_before s.extra ts i) None (layout_of x) → ys ≡ xs ++ x ∷ [] → AreColumns s fs ts ys
+    → IsColumn s no_values (kind_at ts i) (type_at fs i) (nodes_before ts i) (buffers_before s.extra ts i) None (layout_of x) → ys ≡ xs ++ x ∷ [] → AreColumns s fs ts ys
 are_more s fs ts i xs ys x count are here pushed =
     subst (λ (zs : List AnyArray). AreColumns s fs ts zs) (sym pushed)
     (record {

@@ -10,7 +10,7 @@ use Rattle.ipc_model.specs.Columns.{IsWell}
 use Rattle.ipc_model.specs.Entries.{Entries}
 use Rattle.ipc_model.specs.Kinds.{Kind, Kinds, no_kinds, more_kinds, count, nodes, all_nodes, buffers, all_buffers}
 use Rattle.ipc_model.specs.TypeKinds.{first_ids, other_ids, field_kind, kinds_of}
-use Rattle.ipc_columns.specs.Bodies.{HasRoom}
+use Rattle.ipc_columns.specs.Bodies.{HasRoom, no_values}
 use Rattle.ipc_columns.specs.Kinds.{Follows}
 use Rattle.ipc_columns.specs.ReadColumns.{IsColumn}
 use Rattle.ipc_columns.specs.declared.read.body.Body.{Body}
@@ -119,9 +119,9 @@ module _ (extra : ℕ) (ts : Kinds) (is left : IdTrees) (j : ℕ) (p : Place) (t
       (subst (λ (x : ℕ). IsWell s (kind_at ts j) x p.buffer None) (sym at.node)
       (subst (λ (x : ℕ). IsWell s (kind_at ts j) (nodes_before ts j) x None) (sym (at.buffer ∙ ap (λ x. buffers_before x ts j) (sym e))) w))
 
-  pub column_there : (s : Entries) (u v : TypeTree) (x : Layout) → s.extra ≡ extra → u ≡ v → IsColumn s t u p.node p.buffer None x
-      → IsColumn s (kind_at ts j) v (nodes_before ts j) (buffers_before s.extra ts j) None x
+  pub column_there : (s : Entries) (u v : TypeTree) (x : Layout) → s.extra ≡ extra → u ≡ v → IsColumn s no_values t u p.node p.buffer None x
+      → IsColumn s no_values (kind_at ts j) v (nodes_before ts j) (buffers_before s.extra ts j) None x
   column_there s u v x e typed is_column =
-      subst (λ (y : ℕ). IsColumn s (kind_at ts j) v (nodes_before ts j) y None x) (at.buffer ∙ ap (λ y. buffers_before y ts j) (sym e))
-      (subst (λ (y : ℕ). IsColumn s (kind_at ts j) v y p.buffer None x) at.node
-      (subst (λ (k : Kind). IsColumn s k v p.node p.buffer None x) same (subst (λ (w : TypeTree). IsColumn s t w p.node p.buffer None x) typed is_column)))
+      subst (λ (y : ℕ). IsColumn s no_values (kind_at ts j) v (nodes_before ts j) y None x) (at.buffer ∙ ap (λ y. buffers_before y ts j) (sym e))
+      (subst (λ (y : ℕ). IsColumn s no_values (kind_at ts j) v y p.buffer None x) at.node
+      (subst (λ (k : Kind). IsColumn s no_values k v p.node p.buffer None x) same (subst (λ (w : TypeTree). IsColumn s no_values t w p.node p.buffer None x) typed is_column)))

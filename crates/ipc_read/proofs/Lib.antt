@@ -1,6 +1,7 @@
 pub mod SizeLemmas
 pub mod ColumnPlaces
 pub mod NodeLists
+pub mod NodeLengths
 pub mod ColumnLists
 pub mod Batches
 pub mod Fields

@@ -36,6 +36,7 @@ use Rattle.ipc_read.specs.Chunks.{column_seen, chunk_seen, IsCarriedLists, HasMe
 use Rattle.ipc_read.specs.Columns.{HasColumns, AreColumns}
 use Rattle.ipc_read.specs.Sizes.{AreSizes, total_of}
 use Rattle.ipc_columns.proofs.Fetches.{denies_through}
+use Rattle.ipc_columns.specs.Bodies.{no_values}
 use Rattle.ipc_columns.specs.ReadColumns.{IsColumn}
 use Rattle.ipc_read.proofs.Fields.{whole_kind, field_count}
 
@@ -163,7 +164,7 @@ length-slots_from : (f : ℕ → Slot) (a n : ℕ) → length (slots_from f a n)
 length-slots_from f a zero = refl
 length-slots_from f a (suc n) = ap suc (length-slots_from f (a + 1) n)
 
-array_rows : (s : Entries) (t : Kind) (u : TypeTree) (a d : ℕ) (x : AnyArray) → IsColumn s t u a d None (layout_of x) → len_of (layout_of x) ≡ size (node s a).length
+array_rows : (s : Entries) (t : Kind) (u : TypeTree) (a d : ℕ) (x : AnyArray) → IsColumn s no_values t u a d None (layout_of x) → len_of (layout_of x) ≡ size (node s a).length
 array_rows s t u a d x is =
     sym (length-slots_from _ 0 (len_of (layout_of x))) ∙ ap length is.slots ∙ length-map-range_with_len _ 0 (rows s a None)
 
@@ -199,7 +200,7 @@ read_column :
     (fs : List Field) (is : IdTrees) (lists : Lists) (b : Body) (order : Endianness) (extra : ℕ) (known : Dictionaries) (j k : ℕ) (x : AnyArray)
     → IsTrue (are_whole (fields_view fs)) → j < count (kinds_of (fields_view fs) is)
     → IsWell (entries_of lists b order extra []) (kind_at (kinds_of (fields_view fs) is) j) (nodes_before (kinds_of (fields_view fs) is) j) (buffers_before extra (kinds_of (fields_view fs) is) j) None
-    → IsColumn (entries_of lists b order extra []) (kind_at (kinds_of (fields_view fs) is) j) (type_at (fields_view fs) j) (nodes_before (kinds_of (fields_view fs) is) j)
+    → IsColumn (entries_of lists b order extra []) no_values (kind_at (kinds_of (fields_view fs) is) j) (type_at (fields_view fs) j) (nodes_before (kinds_of (fields_view fs) is) j)
     (buffers_before extra (kinds_of (fields_view fs) is) j) None (layout_of x)
     → any_rows x ≡ k → ReadColumn (entries_of lists b order extra known) (fields_view fs) is j k x
 unfolding entries_of

@@ -8,6 +8,7 @@ use Rattle.ipc_model.specs.Batches.{kind_at, type_at, nodes_before, buffers_befo
 use Rattle.ipc_model.specs.Columns.{IsWell}
 use Rattle.ipc_model.specs.Entries.{Entries}
 use Rattle.ipc_model.specs.Kinds.{Kinds}
+use Rattle.ipc_columns.specs.Bodies.{no_values}
 use Rattle.ipc_columns.specs.ReadColumns.{IsColumn}
 
 -- the first n columns are well formed
@@ -17,4 +18,4 @@ pub record HasColumns (s : Entries) (ts : Kinds) (n : ℕ) : Type 0 where
 -- what was read are the first columns
 pub record AreColumns (s : Entries) (fs : FieldTrees) (ts : Kinds) (xs : List AnyArray) : Type 0 where
   pub each : (k : ℕ) (x : AnyArray) → k < length xs
-      → IsColumn s (kind_at ts k) (type_at fs k) (nodes_before ts k) (buffers_before s.extra ts k) None (layout_of (slice_index_or xs k x))
+      → IsColumn s no_values (kind_at ts k) (type_at fs k) (nodes_before ts k) (buffers_before s.extra ts k) None (layout_of (slice_index_or xs k x))

@@ -4,18 +4,18 @@ ghost use Rattle.ipc_devices.specs.Faults.{OwnFault, Answers};
 ghost use Rattle.lower.specs.TypeTrees.{no_fields, more_fields};
 ghost use Rattle.lower.specs.TypeViews.{type_view, field_view, fields_view};
 ghost use Rattle.lower.specs.Physical.{physical};
-ghost use Rattle.lower.specs.declared.datatypes.physical_type.PhysicalType.TheVariants.{Struct};
+ghost use Rattle.lower.specs.declared.datatypes.physical_type.PhysicalType.TheVariants.{FixedSizeList, Map, Struct};
 ghost use Rattle.lower_flat.specs.FixedBinaries.{byte_size};
 ghost use Rattle.lower_rules.specs.Fields.{child_fields};
-ghost use Rattle.lower_rules.specs.ListTypes.{list_with};
+ghost use Rattle.lower_rules.specs.ListTypes.{list_with, list_size};
 ghost use Rattle.lower_arrays.specs.Layouts.{layouts};
 ghost use Rattle.lower_arrays.specs.AnyLayouts.{layout_of};
 ghost use Rattle.ipc_base.specs.IdTrees.{all_ids_view};
-ghost use Rattle.ipc_model.specs.Kinds.{list_kind, struct_kind, nodes, all_nodes, buffers, all_buffers};
+ghost use Rattle.ipc_model.specs.Kinds.{list_kind, map_kind, fixed_list_kind, struct_kind, nodes, all_nodes, buffers, all_buffers};
 ghost use Rattle.ipc_model.specs.TypeKinds.{first_ids, field_kind, kinds_of, kind_of};
 ghost use Rattle.ipc_model.specs.Columns.{IsWell, AllHaveRows};
 ghost use Rattle.ipc_model.specs.ReadArrays.{array_at, arrays_at, offset_type};
-ghost use Rattle.ipc_columns.specs.Bodies.{Stands, HasRoom, entries, no_values};
+ghost use Rattle.ipc_columns.specs.Bodies.{Stands, HasRoom, entries, known};
 ghost use Rattle.ipc_columns.specs.FlatKinds.{IsPlain, IsFlat, flat_kind};
 ghost use Rattle.ipc_columns.specs.Kinds.{IsStored, Follows, AllFollow, IsRead, AreRead, form_of, listed_in, all_listed};
 ghost use Rattle.ipc_columns.specs.ReadColumns.{IsColumn};
@@ -26,7 +26,9 @@ use crate::read::array::binary::read_binary;
 use crate::read::array::boolean::read_boolean;
 use crate::read::array::dictionary::unknown_dictionary;
 use crate::read::array::fixed_size_binary::{get_size, read_fixed_size_binary};
+use crate::read::array::fixed_size_list::{make_fixed_size_list, times_limit};
 use crate::read::array::list::{make_list, read_list_head};
+use crate::read::array::map::{make_map, read_map_head};
 use crate::read::array::null::read_null;
 use crate::read::array::primitive::read_any_primitive;
 use crate::read::array::struct_::make_struct;
@@ -35,7 +37,7 @@ use crate::read::body::{Body, Place};
 use crate::read::ids::{child_of, others_of};
 use crate::read::read_basic::read_head;
 use ipc_base::ipc::IpcField;
-use ipc_devices::fault::{Fault, Nyi};
+use ipc_devices::fault::{Fault, Nyi, OutOfSpecKind};
 use ipc_devices::{Reads, Seeks};
 use lower::datatypes::{DataType, Field, PhysicalType};
 use lower::error::{Error, Rule};
@@ -62,7 +64,7 @@ fn read_flat<R: Reads + Seeks>(
     ensures memory { IsTrue R.known → let s = entries R.memory body.now in
         let t = flat_kind physical_type (byte_size (type_view data_type.now)) in
         Answers result (IsWell s t place.node place.buffer limit)
-        (λ array. layout_of array ≡ array_at s no_values t (type_view data_type.now) place.node place.buffer limit) }
+        (λ array. layout_of array ≡ array_at s (known body.now) t (type_view data_type.now) place.node place.buffer limit) }
 {
     match physical_type {
         PhysicalType::Null => Ok(AnyArray::Null(read_null(data_type, body, place, limit)?)),
@@ -155,7 +157,7 @@ fn read_plain<R: Reads + Seeks>(
     ensures next { IfOk result (λ r. Follows body.now.extra (kind_of (type_view data_type.now) id (all_ids_view ids.now)) place r.1) }
     ensures memory { IsTrue R.known → let s = entries R.memory body.now in let t = kind_of (type_view data_type.now) id (all_ids_view ids.now) in
         Answers result (IsRead t × IsWell s t place.node place.buffer limit)
-        (λ r. layout_of r.0 ≡ array_at s no_values t (type_view own.now) place.node place.buffer limit) }
+        (λ r. layout_of r.0 ≡ array_at s (known body.now) t (type_view own.now) place.node place.buffer limit) }
 {
     let physical_type = own.to_physical_type();
     let array = read_flat(alloc, physical_type, own, reader, body, place, limit)?;
@@ -187,7 +189,7 @@ fn read_as<R: Reads + Seeks>(
     ensures next { IfOk result (λ r. Follows body.now.extra (kind_of (type_view data_type.now) id (all_ids_view ids.now)) place r.1) }
     ensures memory { IsTrue R.known → let s = entries R.memory body.now in let t = kind_of (type_view data_type.now) id (all_ids_view ids.now) in
         Answers result (IsRead t × IsWell s t place.node place.buffer limit)
-        (λ r. layout_of r.0 ≡ array_at s no_values t (type_view own.now) place.node place.buffer limit) }
+        (λ r. layout_of r.0 ≡ array_at s (known body.now) t (type_view own.now) place.node place.buffer limit) }
 {
     match data_type {
         DataType::Extension(_, inner, _) => read_as(
@@ -205,9 +207,13 @@ fn read_as<R: Reads + Seeks>(
         DataType::Struct(fields) => read_struct(
             alloc, fields, own, ids, reader, body, place, limit,
         ),
-        DataType::FixedSizeList(_, _) | DataType::Map(_, _) | DataType::Union(_, _, _) => {
-            Err(Fault::NotYetImplemented(Nyi::Pending))
-        }
+        DataType::FixedSizeList(field, size) => read_fixed_size_list(
+            alloc, field, *size, own, ids, reader, body, place, limit,
+        ),
+        DataType::Map(field, _) => read_map(
+            alloc, field, own, ids, reader, body, place, limit,
+        ),
+        DataType::Union(_, _, _) => Err(Fault::NotYetImplemented(Nyi::Pending)),
         DataType::Float16 | DataType::Float32 | DataType::Float64 => Err(Fault::NotYetImplemented(
             Nyi::Float,
         )),
@@ -241,7 +247,7 @@ fn read_list<R: Reads + Seeks>(
     ensures memory { IsTrue R.known → let s = entries R.memory body.now in
         let t = list_kind (form_of is_large) (field_kind (field_view field.now) (first_ids (all_ids_view ids.now))) in
         Answers result (IsRead t × IsWell s t place.node place.buffer limit)
-        (λ r. layout_of r.0 ≡ array_at s no_values t (type_view own.now) place.node place.buffer limit) }
+        (λ r. layout_of r.0 ≡ array_at s (known body.now) t (type_view own.now) place.node place.buffer limit) }
 {
     let head = read_list_head(alloc, reader, body, place, limit, is_large)?;
     let (child_id, child_ids) = child_of(field, ids);
@@ -261,6 +267,105 @@ fn read_list<R: Reads + Seeks>(
         Some(head.last),
     )?;
     let array = make_list(alloc, own, head, child)?;
+    Ok((array, after))
+}
+
+// The column of lists of a fixed size from a place on, and the place behind it.
+#[cycle(columns)]
+#[tactic(auto, using(crate::proofs::ColumnLevels::columns, crate::proofs::Refusals::child_faults))]
+fn read_fixed_size_list<R: Reads + Seeks>(
+    alloc: Global,
+    field: &Field,
+    size: usize,
+    own: &DataType,
+    ids: &[IpcField],
+    reader: &mut R,
+    body: &Body<R>,
+    start: Place,
+    limit: Option<usize>,
+) -> Result<(AnyArray, Place), Fault>
+    requires lies { physical (type_view own.now) ≡ FixedSizeList }
+    requires named { list_size (type_view own.now) ≡ size }
+    requires fields { child_fields (type_view own.now) ≡ more_fields (field_view field.now) no_fields }
+    requires room { let t = fixed_list_kind size (field_kind (field_view field.now) (first_ids (all_ids_view ids.now))) in HasRoom body.now start (nodes t) (buffers body.now.extra t) }
+    requires stands { Stands R.still R.memory reader.old body.now }
+    ensures only { IfErr result (λ e. OwnFault e (IsColumnFault e)) }
+    ensures step { let t = fixed_list_kind size (field_kind (field_view field.now) (first_ids (all_ids_view ids.now))) in
+        Step R.still R.memory R.failures R.given body.now (listed_in (entries R.memory body.now) body.now.extra t start.buffer) reader.old result reader.new }
+    ensures next { IfOk result (λ r. Follows body.now.extra (fixed_list_kind size (field_kind (field_view field.now) (first_ids (all_ids_view ids.now)))) start r.1) }
+    ensures memory { IsTrue R.known → let s = entries R.memory body.now in let t = fixed_list_kind size (field_kind (field_view field.now) (first_ids (all_ids_view ids.now))) in
+        Answers result (IsRead t × IsWell s t start.node start.buffer limit)
+        (λ r. layout_of r.0 ≡ array_at s (known body.now) t (type_view own.now) start.node start.buffer limit) }
+{
+    if size == 0 {
+        return Err(Fault::OutOfSpec(OutOfSpecKind::InvalidDataType));
+    }
+    let head = read_head(alloc, reader, body, start, limit)?;
+    let (child_id, child_ids) = child_of(field, ids);
+    let below = Place {
+        node: start.node + 1,
+        buffer: start.buffer + 1,
+    };
+    let most = times_limit(limit, size);
+    let (child, after) = read_as(
+        alloc,
+        &field.data_type,
+        &field.data_type,
+        child_id,
+        child_ids,
+        reader,
+        body,
+        below,
+        most,
+    )?;
+    let array = make_fixed_size_list(alloc, own, size, head, child)?;
+    Ok((array, after))
+}
+
+// The column of maps from a place on, and the place behind it.
+#[cycle(columns)]
+#[tactic(auto, using(crate::proofs::ColumnLevels::columns, crate::proofs::Refusals::child_faults))]
+fn read_map<R: Reads + Seeks>(
+    alloc: Global,
+    field: &Field,
+    own: &DataType,
+    ids: &[IpcField],
+    reader: &mut R,
+    body: &Body<R>,
+    start: Place,
+    limit: Option<usize>,
+) -> Result<(AnyArray, Place), Fault>
+    requires lies { physical (type_view own.now) ≡ Map }
+    requires fields { child_fields (type_view own.now) ≡ more_fields (field_view field.now) no_fields }
+    requires room { let t = map_kind (field_kind (field_view field.now) (first_ids (all_ids_view ids.now))) in HasRoom body.now start (nodes t) (buffers body.now.extra t) }
+    requires stands { Stands R.still R.memory reader.old body.now }
+    ensures only { IfErr result (λ e. OwnFault e (IsColumnFault e)) }
+    ensures step { let t = map_kind (field_kind (field_view field.now) (first_ids (all_ids_view ids.now))) in
+        Step R.still R.memory R.failures R.given body.now (listed_in (entries R.memory body.now) body.now.extra t start.buffer) reader.old result reader.new }
+    ensures next { IfOk result (λ r. Follows body.now.extra (map_kind (field_kind (field_view field.now) (first_ids (all_ids_view ids.now)))) start r.1) }
+    ensures memory { IsTrue R.known → let s = entries R.memory body.now in let t = map_kind (field_kind (field_view field.now) (first_ids (all_ids_view ids.now))) in
+        Answers result (IsRead t × IsWell s t start.node start.buffer limit)
+        (λ r. layout_of r.0 ≡ array_at s (known body.now) t (type_view own.now) start.node start.buffer limit) }
+{
+    let head = read_map_head(alloc, reader, body, start, limit)?;
+    let (child_id, child_ids) = child_of(field, ids);
+    let below = Place {
+        node: start.node + 1,
+        buffer: start.buffer + 2,
+    };
+    let most = Some(head.last);
+    let (child, after) = read_as(
+        alloc,
+        &field.data_type,
+        &field.data_type,
+        child_id,
+        child_ids,
+        reader,
+        body,
+        below,
+        most,
+    )?;
+    let array = make_map(alloc, own, head, child)?;
     Ok((array, after))
 }
 
@@ -287,7 +392,7 @@ fn read_struct<R: Reads + Seeks>(
     ensures next { IfOk result (λ r. Follows body.now.extra (struct_kind (kinds_of (fields_view fields.now) (all_ids_view ids.now))) place r.1) }
     ensures memory { IsTrue R.known → let s = entries R.memory body.now in let t = struct_kind (kinds_of (fields_view fields.now) (all_ids_view ids.now)) in
         Answers result (IsRead t × IsWell s t place.node place.buffer limit)
-        (λ r. layout_of r.0 ≡ array_at s no_values t (type_view own.now) place.node place.buffer limit) }
+        (λ r. layout_of r.0 ≡ array_at s (known body.now) t (type_view own.now) place.node place.buffer limit) }
 {
     let head = read_head(alloc, reader, body, place, limit)?;
     let below = Place {
@@ -320,7 +425,7 @@ fn read_fields<R: Reads + Seeks>(
     ensures next { IfOk result (λ r. AllFollow body.now.extra (kinds_of (fields_view fields.now) (all_ids_view ids.now)) start r.1) }
     ensures memory { IsTrue R.known → let s = entries R.memory body.now in let ts = kinds_of (fields_view fields.now) (all_ids_view ids.now) in
         Answers result (AreRead ts × AllHaveRows s ts start.node start.buffer limit rows)
-        (λ r. layouts (map layout_of r.0.items) ≡ arrays_at s no_values ts (fields_view fields.now) start.node start.buffer limit) }
+        (λ r. layouts (map layout_of r.0.items) ≡ arrays_at s (known body.now) ts (fields_view fields.now) start.node start.buffer limit) }
 {
     let mut columns = Vec::new(alloc);
     let mut place = start;
@@ -352,10 +457,10 @@ fn read_fields<R: Reads + Seeks>(
 /// and buffers stand in pre-order). The id is that of the field whose type this is, and the others are those of
 /// its child fields. At most `limit` slots are read. Its entries have to be there, by the counts of its type.
 ///
-/// `Float` for floats, `Pending` for lists of a fixed size, maps and unions, `InvalidId` for dictionaries, of
+/// `Float` for floats, `Pending` for unions, `InvalidId` for dictionaries, of
 /// which none is known; `NegativeFooterLength` where a length, or the offset of a buffer that is used, is below 0,
-/// `InvalidBuffer` where such a buffer is too short, `Ended` where the device is, `InvalidDataType` for bytes of
-/// the fixed size 0; where parts break a rule of their array `FallingOffset`, `Utf8`, `NoChild`, `ChildLength`
+/// `InvalidBuffer` where such a buffer is too short, `Ended` where the device is, `InvalidDataType` for bytes
+/// or lists of the fixed size 0; where parts break a rule of their array `FallingOffset`, `Utf8`, `NoChild`, `ChildLength`,
 /// and the others of [`lower::error::Rule`]. `Io` and `Memory` come too, and no other.
 #[tactic(auto, using(crate::proofs::ColumnLevels::same_stored))]
 pub fn read<R: Reads + Seeks>(
@@ -376,7 +481,7 @@ pub fn read<R: Reads + Seeks>(
     ensures next { IfOk result (λ r. Follows body.now.extra (kind_of (type_view data_type.now) id (all_ids_view ids.now)) place r.1) }
     ensures memory { IsTrue R.known → let s = entries R.memory body.now in let t = kind_of (type_view data_type.now) id (all_ids_view ids.now) in
         Answers result (IsRead t × IsWell s t place.node place.buffer limit)
-        (λ r. IsColumn s t (type_view data_type.now) place.node place.buffer limit (layout_of r.0)) }
+        (λ r. IsColumn s (known body.now) t (type_view data_type.now) place.node place.buffer limit (layout_of r.0)) }
 {
     read_as(
         alloc, data_type, data_type, id, ids, reader, body, place, limit,

@@ -11,6 +11,7 @@ ghost use Rattle.ipc_model.specs.Entries.{size};
 ghost use Rattle.ipc_model.specs.Kinds.{all_nodes, all_buffers};
 ghost use Rattle.ipc_model.specs.TypeKinds.{kinds_of};
 ghost use Rattle.ipc_columns.specs.Bodies.{Stands, HasRoom, entries};
+ghost use Rattle.ipc_columns.specs.Limits.{AreSmall};
 ghost use Rattle.ipc_read.specs.Chunks.{GivesBatch, batch_schema, order_of};
 ghost use Rattle.ipc_read.specs.Columns.{AreColumns, HasColumns};
 ghost use Rattle.ipc_read.specs.Refusals.{IsBatchFault};
@@ -80,10 +81,11 @@ fn is_carried(fields: &[Field], ipc_schema: &IpcSchema, nodes: &Nodes) -> bool
 }
 
 // The entries of a batch, which isn't compressed.
-#[tactic(auto, unfolding(ipc_model::specs::Batches::lists_of))]
+#[tactic(auto, unfolding(ipc_model::specs::Batches::lists_of), using(crate::proofs::NodeLengths::node_lengths))]
 fn entries_of<'a>(batch: &RecordBatchRef<'a>) -> Result<(Nodes<'a>, Buffers<'a>), Fault>
     ensures own { OnIo result ⊥ }
     ensures only { IfErr result (λ e. OwnFault e (IsBatchFault e)) }
+    ensures small { IfOk result (λ r. AreSmall r.0) }
     ensures exact { Answers result (IsSome (lists_of batch.now)) (λ r. lists_of batch.now ≡ Some (record { nodes = r.0; buffers = r.1 })) }
 {
     match batch.compression() {

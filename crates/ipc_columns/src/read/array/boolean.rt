@@ -9,7 +9,7 @@ ghost use Rattle.ipc_model.specs.Kinds.{boolean_kind};
 ghost use Rattle.ipc_model.specs.Entries.{listed};
 ghost use Rattle.ipc_model.specs.Columns.{IsWell};
 ghost use Rattle.ipc_model.specs.ReadArrays.{array_at};
-ghost use Rattle.ipc_columns.specs.Bodies.{Stands, HasRoom, entries, no_values};
+ghost use Rattle.ipc_columns.specs.Bodies.{Stands, HasRoom, entries, known};
 ghost use Rattle.ipc_columns.specs.Refusals.{IsColumnFault};
 ghost use Rattle.ipc_columns.specs.Steps.{Step};
 
@@ -44,7 +44,7 @@ pub fn read_boolean<R: Reads + Seeks>(
         Step R.still R.memory R.failures R.given body.now (listed s place.buffer + listed s (place.buffer + 1)) reader.old result reader.new }
     ensures memory { IsTrue R.known → let s = entries R.memory body.now in
         Answers result (IsWell s boolean_kind place.node place.buffer limit)
-        (λ array. boolean_layout array ≡ array_at s no_values boolean_kind (type_view data_type.now) place.node place.buffer limit) }
+        (λ array. boolean_layout array ≡ array_at s (known body.now) boolean_kind (type_view data_type.now) place.node place.buffer limit) }
 {
     let head = read_head(alloc, reader, body, place, limit)?;
     let bits = read_bits(alloc, reader, body, place.buffer + 1, head.rows)?;

@@ -10,7 +10,7 @@ ghost use Rattle.ipc_model.specs.Kinds.{fixed_binary_kind};
 ghost use Rattle.ipc_model.specs.Entries.{listed};
 ghost use Rattle.ipc_model.specs.Columns.{IsWell};
 ghost use Rattle.ipc_model.specs.ReadArrays.{array_at};
-ghost use Rattle.ipc_columns.specs.Bodies.{Stands, HasRoom, entries, no_values};
+ghost use Rattle.ipc_columns.specs.Bodies.{Stands, HasRoom, entries, known};
 ghost use Rattle.ipc_columns.specs.Refusals.{IsColumnFault};
 ghost use Rattle.ipc_columns.specs.Steps.{Step};
 
@@ -60,7 +60,7 @@ pub fn read_fixed_size_binary<R: Reads + Seeks>(
     ensures memory { IsTrue R.known → let s = entries R.memory body.now in
         Answers result (IsWell s (fixed_binary_kind size) place.node place.buffer limit)
         (λ array. fixed_layout array
-        ≡ array_at s no_values (fixed_binary_kind size) (type_view data_type.now) place.node place.buffer limit) }
+        ≡ array_at s (known body.now) (fixed_binary_kind size) (type_view data_type.now) place.node place.buffer limit) }
 {
     if size == 0 {
         return Err(Fault::OutOfSpec(OutOfSpecKind::InvalidDataType));

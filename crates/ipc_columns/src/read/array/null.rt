@@ -8,7 +8,7 @@ ghost use Rattle.lower_arrays.specs.Flat.{null_layout};
 ghost use Rattle.ipc_model.specs.Kinds.{null_kind};
 ghost use Rattle.ipc_model.specs.Columns.{IsWell};
 ghost use Rattle.ipc_model.specs.ReadArrays.{array_at};
-ghost use Rattle.ipc_columns.specs.Bodies.{HasRoom, entries, no_values};
+ghost use Rattle.ipc_columns.specs.Bodies.{HasRoom, entries, known};
 ghost use Rattle.ipc_columns.specs.Refusals.{IsColumnFault};
 
 use crate::read::body::{Body, Place};
@@ -35,7 +35,7 @@ pub fn read_null<R: Failures>(
     ensures own { OnIo result ⊥ }
     ensures exact { let s = entries R.memory body.now in
         Answers result (IsWell s null_kind place.node place.buffer limit)
-        (λ array. null_layout array ≡ array_at s no_values null_kind (type_view data_type.now) place.node place.buffer limit) }
+        (λ array. null_layout array ≡ array_at s (known body.now) null_kind (type_view data_type.now) place.node place.buffer limit) }
 {
     let node = read_node(body, place.node, limit)?;
     let data_type = data_type.clone()?;

@@ -10,7 +10,7 @@ ghost use Rattle.ipc_model.specs.Kinds.{number_kind};
 ghost use Rattle.ipc_model.specs.Entries.{listed};
 ghost use Rattle.ipc_model.specs.Columns.{IsWell};
 ghost use Rattle.ipc_model.specs.ReadArrays.{array_at};
-ghost use Rattle.ipc_columns.specs.Bodies.{Stands, HasRoom, entries, no_values};
+ghost use Rattle.ipc_columns.specs.Bodies.{Stands, HasRoom, entries, known};
 ghost use Rattle.ipc_columns.specs.FlatKinds.{IsExact};
 ghost use Rattle.ipc_columns.specs.Refusals.{IsBufferFault};
 ghost use Rattle.ipc_columns.specs.Steps.{Step};
@@ -49,7 +49,7 @@ pub fn read_primitive<T: NativeType, R: Reads + Seeks>(
     ensures memory { IsTrue R.known → let s = entries R.memory body.now in
         Answers result (IsWell s (number_kind T.primitive) place.node place.buffer limit)
         (λ array. primitive_layout T.primitive T.number array
-        ≡ array_at s no_values (number_kind T.primitive) (type_view data_type.now) place.node place.buffer limit) }
+        ≡ array_at s (known body.now) (number_kind T.primitive) (type_view data_type.now) place.node place.buffer limit) }
 {
     let head = read_head(alloc, reader, body, place, limit)?;
     let values = fetch_numbers(alloc, reader, body, place.buffer + 1, head.rows)?;
@@ -80,7 +80,7 @@ pub fn read_any_primitive<R: Reads + Seeks>(
     ensures memory { IsTrue R.known → let s = entries R.memory body.now in
         Answers result (IsWell s (number_kind primitive) place.node place.buffer limit)
         (λ array. any_primitive_layout array
-        ≡ array_at s no_values (number_kind primitive) (type_view data_type.now) place.node place.buffer limit) }
+        ≡ array_at s (known body.now) (number_kind primitive) (type_view data_type.now) place.node place.buffer limit) }
 {
     match primitive {
         PrimitiveType::Int8 => {

@@ -9,7 +9,7 @@ ghost use Rattle.ipc_model.specs.Kinds.{utf8_kind};
 ghost use Rattle.ipc_model.specs.Entries.{listed};
 ghost use Rattle.ipc_model.specs.Columns.{IsWell};
 ghost use Rattle.ipc_model.specs.ReadArrays.{array_at};
-ghost use Rattle.ipc_columns.specs.Bodies.{Stands, HasRoom, entries, no_values};
+ghost use Rattle.ipc_columns.specs.Bodies.{Stands, HasRoom, entries, known};
 ghost use Rattle.ipc_columns.specs.Refusals.{IsColumnFault};
 ghost use Rattle.ipc_columns.specs.Steps.{Step};
 
@@ -48,7 +48,7 @@ pub fn read_utf8<O: StoredOffset, R: Reads + Seeks>(
         (listed s place.buffer + listed s (place.buffer + 1) + listed s (place.buffer + 1 + 1)) reader.old result reader.new }
     ensures memory { IsTrue R.known → let s = entries R.memory body.now in
         Answers result (IsWell s (utf8_kind O.form) place.node place.buffer limit)
-        (λ array. texts_layout O.primitive array ≡ array_at s no_values (utf8_kind O.form) (type_view data_type.now) place.node place.buffer limit) }
+        (λ array. texts_layout O.primitive array ≡ array_at s (known body.now) (utf8_kind O.form) (type_view data_type.now) place.node place.buffer limit) }
 {
     let head = read_head(alloc, reader, body, place, limit)?;
     let index = place.buffer + 1;

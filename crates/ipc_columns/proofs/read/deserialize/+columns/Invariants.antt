@@ -3,7 +3,7 @@ use Rattle.lower.specs.TypeViews.{fields_view}
 use Rattle.lower_arrays.specs.AnyLayouts.{layout_of}
 use Rattle.ipc_base.specs.IdTrees.{all_ids_view}
 use Rattle.ipc_model.specs.TypeKinds.{kinds_of}
-use Rattle.ipc_columns.specs.Bodies.{Stands, entries}
+use Rattle.ipc_columns.specs.Bodies.{Stands, entries, known}
 use Rattle.ipc_columns.specs.Kinds.{all_listed}
 use Rattle.ipc_columns.specs.StructLevels.{Left, SoFar}
 use Rattle.ipc_columns.proofs.read.deserialize.+columns.Given as goal
@@ -17,6 +17,6 @@ invariant-read_fields-loop-field g l = record {
       + all_listed (entries g.R.Failures.memory l.body) l.body.extra (kinds_of (fields_view (drop l.field-index l.fields)) (all_ids_view l.left)) l.place.buffer
       ≤ g.R.Failures.given l.fn.reader + all_listed (entries g.R.Failures.memory l.body) l.body.extra (kinds_of (fields_view l.fields) (all_ids_view l.ids)) l.fn.start.buffer;
   content : IsTrue g.R.Failures.known
-      → SoFar (entries g.R.Failures.memory l.body) (kinds_of (fields_view l.fields) (all_ids_view l.ids)) (kinds_of (fields_view (drop l.field-index l.fields)) (all_ids_view l.left))
+      → SoFar (entries g.R.Failures.memory l.body) (known l.body) (kinds_of (fields_view l.fields) (all_ids_view l.ids)) (kinds_of (fields_view (drop l.field-index l.fields)) (all_ids_view l.left))
       (fields_view l.fields) (fields_view (drop l.field-index l.fields)) l.fn.start l.place l.limit l.rows (map layout_of l.columns.items);
 }

@@ -9,7 +9,7 @@ use Rattle.ipc_model.specs.Kinds.{Kind}
 use Rattle.ipc_model.specs.TypeKinds.{kind_of}
 use Rattle.ipc_model.specs.Columns.{IsWell}
 use Rattle.ipc_model.specs.ReadArrays.{array_at}
-use Rattle.ipc_columns.specs.Bodies.{entries, no_values}
+use Rattle.ipc_columns.specs.Bodies.{entries, known}
 use Rattle.ipc_columns.specs.FlatKinds.{flat_kind}
 use Rattle.ipc_columns.specs.Kinds.{Follows, IsRead}
 use Rattle.ipc_columns.proofs.Fetches.{denies_through, refused, failing}
@@ -78,5 +78,5 @@ returns-clause-memory g c = λ k.
     let x = layout_of c.in_ok-array.array in
     let read = c.in_ok-array.ensures.memory k in (
       (plain_read t c.args.id (all_ids_view c.args.ids.now) c.requires.plain, subst (λ (z : Kind). IsWell s z a b c.args.limit) (sym same) read.0),
-      subst (λ (z : Kind). x ≡ array_at s no_values z own a b c.args.limit) (sym same) read.1,
+      subst (λ (z : Kind). x ≡ array_at s (known c.args.body.now) z own a b c.args.limit) (sym same) read.1,
     )

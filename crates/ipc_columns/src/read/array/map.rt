@@ -1,0 +1,102 @@
+//! Reads what columns of maps have beside their child, and makes their arrays.
+ghost use Rattle.std.specs.Prelude.{◌≡◌, [], ◌∷◌, ◌+◌, IsTrue, IfOk, IfErr};
+ghost use Rattle.ipc_devices.specs.Faults.{OnIo, OwnFault, Answers};
+ghost use Rattle.lower.specs.TypeViews.{type_view};
+ghost use Rattle.lower.specs.Physical.{physical};
+ghost use Rattle.lower.specs.declared.datatypes.physical_type.PhysicalType.TheVariants.{Map};
+ghost use Rattle.lower_rules.specs.Fields.{child_fields, FieldTypes, IsPair};
+ghost use Rattle.lower_arrays.specs.Layouts.{len_of, type_of};
+ghost use Rattle.lower_arrays.specs.Maps.{map_seen, map_layout};
+ghost use Rattle.lower_arrays.specs.AnyLayouts.{layout_of};
+ghost use Rattle.ipc_model.specs.Kinds.{offsets_32, offset_width};
+ghost use Rattle.ipc_model.specs.Entries.{listed, rows};
+ghost use Rattle.ipc_model.specs.Columns.{Begins, Offsets};
+ghost use Rattle.ipc_columns.specs.Bodies.{Stands, HasRoom, entries};
+ghost use Rattle.ipc_columns.specs.ListHeads.{AreLists, AreListsAt};
+ghost use Rattle.ipc_columns.specs.Refusals.{IsColumnFault};
+ghost use Rattle.ipc_columns.specs.Steps.{Step};
+
+use crate::read::body::{Body, Place};
+use crate::read::read_basic::{read_head, read_offsets};
+use ipc_devices::fault::Fault;
+use ipc_devices::{Reads, Seeks};
+use lower::bitmap::Bitmap;
+use lower::datatypes::DataType;
+use lower::error::{Error, Rule};
+use lower::offset::OffsetsBuffer;
+use lower_arrays::array::{AnyArray, MapArray};
+use std::alloc::Global;
+
+/// What a column of maps has beside its child.
+#[derive(Drop)]
+pub struct MapHead {
+    /// Which maps aren't null; none where all are.
+    pub validity: Option<Bitmap>,
+    /// Where they begin and end in the child.
+    pub offsets: OffsetsBuffer<i32>,
+    /// Where the last one ends: how many slots the child has to have.
+    pub last: usize,
+}
+
+/// What the column of maps at a place has beside its child (Arrow columnar format, "Map Layout"): a node, a
+/// validity, and offsets of 32 bits.
+///
+/// `NegativeFooterLength` where its length, or the offset of a buffer that is used, is below 0,
+/// `InvalidBuffer` where such a buffer is too short, `Ended` where the device is, `FallingOffset` where an
+/// offset is below 0 or less than the one before it. `Io` and `Memory` come too, and no other.
+#[tactic(auto, using(crate::proofs::Refusals::buffer_column))]
+pub fn read_map_head<R: Reads + Seeks>(
+    alloc: Global,
+    reader: &mut R,
+    body: &Body<R>,
+    place: Place,
+    limit: Option<usize>,
+) -> Result<MapHead, Fault>
+    requires room { HasRoom body.now place 1 2 }
+    requires stands { Stands R.still R.memory reader.old body.now }
+    ensures only { IfErr result (λ e. OwnFault e (IsColumnFault e)) }
+    ensures step { let s = entries R.memory body.now in
+        Step R.still R.memory R.failures R.given body.now (listed s place.buffer + listed s (place.buffer + 1)) reader.old result reader.new }
+    ensures made { IfOk result (λ h. AreLists h.offsets h.validity h.last) }
+    ensures memory { IsTrue R.known → let s = entries R.memory body.now in let k = rows s place.node limit in
+        Answers result (Begins s place.node place.buffer k × Offsets s (place.buffer + 1) (offset_width offsets_32) k)
+        (λ h. AreListsAt s offsets_32 place.node place.buffer k h.offsets h.validity h.last) }
+{
+    let head = read_head(alloc, reader, body, place, limit)?;
+    let offsets = read_offsets::<i32, R>(alloc, reader, body, place.buffer + 1, head.rows)?;
+    let last = offsets.last();
+    Ok(MapHead {
+        validity: head.validity,
+        offsets,
+        last,
+    })
+}
+
+/// The array of maps over a child. `ChildLength` where the child hasn't as many slots as the last offset says,
+/// `MapChild` where its type isn't a struct of two fields, `ChildType` where it hasn't the type of the field.
+/// `Memory` comes too, and no other.
+#[tactic(auto, using(crate::proofs::MapReads::map_rules))]
+pub fn make_map(
+    alloc: Global,
+    own: &DataType,
+    head: MapHead,
+    child: AnyArray,
+) -> Result<AnyArray, Fault>
+    requires lies { physical (type_view own.now) ≡ Map }
+    requires made { AreLists head.offsets head.validity head.last }
+    ensures own { OnIo result ⊥ }
+    ensures only { IfErr result (λ e. OwnFault e (IsColumnFault e)) }
+    ensures exact { let u = type_view own.now in let c = layout_of child in
+        Answers result (IsPair (type_of c) × FieldTypes (child_fields u) (type_of c ∷ []) × (len_of c ≡ head.last))
+        (λ array. layout_of array ≡ map_layout (map_seen u head.offsets c head.validity)) }
+{
+    if child.len() != head.last {
+        return Err(Fault::Lower(Error::OutOfSpec(Rule::ChildLength)));
+    }
+    let own = own.clone()?;
+    let child = Box::new(alloc, child)?;
+    match MapArray::try_new(own, head.offsets, child, head.validity) {
+        Ok(array) => Ok(AnyArray::Map(array)),
+        Err(e) => Err(Fault::Lower(e)),
+    }
+}
