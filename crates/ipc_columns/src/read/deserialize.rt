@@ -210,9 +210,7 @@ fn read_as<R: Reads + Seeks>(
         DataType::FixedSizeList(field, size) => read_fixed_size_list(
             alloc, field, *size, own, ids, reader, body, place, limit,
         ),
-        DataType::Map(field, _) => read_map(
-            alloc, field, own, ids, reader, body, place, limit,
-        ),
+        DataType::Map(field, _) => read_map(alloc, field, own, ids, reader, body, place, limit),
         DataType::Union(_, _, _) => Err(Fault::NotYetImplemented(Nyi::Pending)),
         DataType::Float16 | DataType::Float32 | DataType::Float64 => Err(Fault::NotYetImplemented(
             Nyi::Float,
