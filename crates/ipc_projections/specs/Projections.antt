@@ -1,0 +1,28 @@
+-- Which columns of a batch are read, in rising order, and where each of them goes afterwards.
+use Rattle.std.specs.Prelude.{◌≡◌, ◌↔◌, ℕ, suc, ◌<◌, ◌≤◌, ◌==◌, List, [], ◌∷◌, IsSome, Option, Some}
+use Rattle.std.specs.List.{AllByRecursion}
+use Rattle.std.specs.HashMap.{HashMap, get}
+use Rattle.ipc_model.specs.Batches.{IsProjection}
+
+-- each is at least k, and below those after it
+abbrev pub IsIncreasingFrom : ℕ → List ℕ → Type 0
+IsIncreasingFrom k [] = Unit {0}
+IsIncreasingFrom k (j ∷ js) = (k ≤ j) × IsIncreasingFrom (suc j) js
+
+-- each is below those after it
+abbrev pub IsIncreasing : List ℕ → Type 0
+IsIncreasing js = IsIncreasingFrom 0 js
+
+-- each is one of n columns, and below those after it
+abbrev pub IsPrepared : List ℕ → ℕ → Type 0
+IsPrepared js n = AllByRecursion (λ j. j < n) js × IsIncreasing js
+
+-- The keys of a map are the numbers below n, and so are its values, each that of one key.
+pub record IsReordering {S : Type 0} (places : HashMap ℕ ℕ S) (n : ℕ) : Type 0 where
+  pub keys : (i : ℕ) → IsSome (get (λ i j. i == j) places i) ↔ (i < n)
+  pub values : (p : ℕ) → ((i : ℕ) × (get (λ i j. i == j) places i ≡ Some p)) ↔ (p < n)
+  pub once : (i j p : ℕ) → get (λ i j. i == j) places i ≡ Some p → get (λ i j. i == j) places j ≡ Some p → i ≡ j
+
+-- columns in rising order, each once, are a projection
+abbrev pub PreparedLaw : Type 0
+PreparedLaw = (js : List ℕ) (n : ℕ) → IsPrepared js n → IsProjection (Some js) n
