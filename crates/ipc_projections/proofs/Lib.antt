@@ -1,1 +1,5 @@
+pub mod Items
+pub mod Moves
 pub mod Prepared
+pub mod Reorderings
+pub mod Steps

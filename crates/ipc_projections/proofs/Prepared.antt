@@ -1,9 +1,8 @@
 -- Columns in rising order are distinct.
-use Rattle.std.proofs.Common.{◌≡◌, ℕ, suc, ◌<◌, ◌==◌, false, List, [], ◌∷◌, Some, arith}
+use Rattle.std.proofs.Common.{◌≡◌, ℕ, suc, ◌<◌, ◌==◌, false, List, [], ◌∷◌, arith}
 use Rattle.std.specs.List.{AllByRecursion, IsDistinct}
 use Rattle.std.proofs.lemmas.Bool.{ne_eqb}
-use Rattle.ipc_model.specs.Batches.{IsProjection}
-use Rattle.ipc_projections.specs.Projections.{IsIncreasingFrom, IsPrepared, PreparedLaw}
+use Rattle.ipc_projections.specs.Projections.{IsIncreasingFrom, PreparedLaw}
 
 apart : (i k : ℕ) (js : List ℕ) → i < k → IsIncreasingFrom k js → AllByRecursion (λ j. (i == j) ≡ false) js
 apart i k [] below rising = tt

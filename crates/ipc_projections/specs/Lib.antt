@@ -1,1 +1,5 @@
+pub mod Marks
+pub mod Placing
+pub mod Projected
 pub mod Projections
+pub mod Steps
