@@ -1,5 +1,8 @@
 //! Reading.
 pub use ipc_devices::OutOfSpecKind;
+pub use ipc_projections::read::projection::{
+    ProjectionIter, ProjectionResult, apply_projection, is_prepared, is_projection, is_reordering,
+};
 pub use ipc_readers::read::stream::{
     StreamMetadata, StreamReader, StreamState, read_stream_metadata,
 };
