@@ -112,6 +112,9 @@ edge_rows = record {
     few = lit≤ tt;
     places = (refl, size_is 8, refl, lit< tt, (refl, size_is 8, refl, lit< tt, tt));
   };
+  negative_metadata = λ v. let h : IsSize (negsuc 7) = v.places.1 in absurd h.le;
+  one_list_of_two_types = only_values (brought_as (pos 0) (lists_with ((data_key, codes "m") ∷ [])) (a ∷ []) ∷ brought_as (pos 0) (lists_with []) (a ∷ []) ∷ [])
+      (((λ e. refl), tt), (tt, tt)) (lit< tt, (lit< tt, (lit< tt, tt)));
 }
 
 abbrev text_place : Place

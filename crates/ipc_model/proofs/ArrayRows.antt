@@ -42,4 +42,12 @@ known_rows = record {
   nothing_known = λ v. let e : 0 ≡ 97 = ap byte_in v.values.0 in absurd (omega arith);
   in_a_list = record { type = refl; slots_are = refl; values = (refl, tt) };
   others_in_a_list = λ v. let e : 97 ≡ 120 = ap byte_in v.values.0 in absurd (omega arith);
+  in_a_struct = record { type = refl; slots_are = refl; values = (refl, tt) };
+  others_in_a_struct = λ v. let e : 97 ≡ 120 = ap byte_in v.values.0 in absurd (omega arith);
+  another_type = λ v. let e = v.type in absurd cc;
+  other_slots = λ v. let e : 98 ≡ 97 = ap first_byte v.slots_are in absurd (omega arith);
+  second_column = (record { type = refl; slots_are = refl; values = (refl, tt) }, tt);
+  others_in_the_second = λ v. let e : 97 ≡ 120 = ap byte_in v.0.values.0 in absurd (omega arith);
+  one_array_missing = λ v. v;
+  inner_values_aside = record { type = refl; slots_are = refl; values = (refl, tt) };
 }

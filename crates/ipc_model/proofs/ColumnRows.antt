@@ -43,6 +43,8 @@ list_rows = record {
   fixed_limit = refl;
   fixed_few = refl;
   fixed_zero = refl;
+  fixed_many = refl;
+  fixed_many_limited = refl;
 }
 
 pub struct_rows : StructRows

@@ -51,4 +51,5 @@ length_cut_rows = record {
   body_of_a_pair = refl;
   body_of_sparse = refl;
   body_of_dense = refl;
+  second_map = refl;
 }

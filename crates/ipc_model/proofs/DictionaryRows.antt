@@ -20,6 +20,8 @@ dictionary_rows = record {
   no_place = refl;
   key_past_the_values = refl;
   key_of_replaced_values = refl;
+  no_keys = refl;
+  no_keys_never_sent = refl;
 }
 
 pub shared_rows : SharedRows

@@ -1,5 +1,5 @@
 -- Each row is computed.
-use Rattle.std.proofs.Common.{ℕ, List, refl}
+use Rattle.std.proofs.Common.{refl, ◌≡◌, ◌+◌, Bool, true, false, cond, nat_lt, length, Option, None}
 use Rattle.std.specs.Str.{is_utf8, chars}
 use lib.Utf8.{encode}
 use Rattle.ipc_views.specs.Tables.{number_at, table_at, slot_at, spot_at, target_at, text_at, vector_at, table_in}
@@ -11,6 +11,7 @@ use Rattle.ipc_model.specs.Schemas.{integer_at, decimal_at, plain_at, single_at,
 use Rattle.ipc_model.specs.WholeStreams.{stream_of}
 use Rattle.ipc_model.specs.Files.{footer_at, metadata_of, block_header, chunk_at, dictionaries_at}
 use Rattle.ipc_model.specs.FileRows.{FileRows, FooterRows, FooterPairRows, BlockRows}
+use Rattle.std.proofs.lemmas.Bool.{lt-ltb}
 
 pub file_rows : FileRows
 unfolding number_at table_at slot_at spot_at target_at text_at vector_at table_in structs_at signed32 signed64 is_utf8 chars encode integer_at decimal_at plain_at single_at group_at pairs_at encoding_at field_from field_at schema_at schema_of head_of frame sized marked lists_of entries_of batch record_meaning dictionary_meaning header_of body_item item meant_within meaning stream_of footer_at metadata_of block_header chunk_at dictionaries_at
@@ -27,6 +28,10 @@ file_rows = record {
   no_block = refl;
 }
 
+either_none : {A : Type 0} (b c : Bool) (o : Option A) → c ≡ true → cond b (cond c None o) None ≡ None
+either_none true c o e = rw e refl
+either_none false c o e = refl
+
 pub footer_rows : FooterRows
 unfolding number_at table_at slot_at spot_at target_at text_at vector_at table_in structs_at signed32 signed64 is_utf8 chars encode integer_at decimal_at plain_at single_at group_at pairs_at encoding_at field_from field_at schema_at schema_of head_of frame sized marked lists_of entries_of batch record_meaning dictionary_meaning header_of body_item item meant_within meaning stream_of footer_at metadata_of block_header chunk_at dictionaries_at
 footer_rows = record {
@@ -37,6 +42,7 @@ footer_rows = record {
   no_dictionaries = refl;
   no_records = refl;
   short_file = refl;
+  longer_than_the_file = λ bytes n h. either_none (nat_lt n 2147483648) (nat_lt (length bytes) (n + 10)) _ (lt-ltb (length bytes) (n + 10) h);
 }
 
 pub block_rows : BlockRows
@@ -57,6 +63,7 @@ block_rows = record {
   fourth_version = refl;
   first_version = refl;
   no_version = refl;
+  negative_in_the_message = refl;
 }
 
 pub footer_pair_rows : FooterPairRows

@@ -2,7 +2,7 @@
 use Rattle.std.proofs.Common.{refl}
 use Rattle.std.specs.Str.{is_utf8, chars}
 use lib.Utf8.{encode}
-use Rattle.ipc_model.specs.KindRows.{WidthRows, FixedRows, OffsetRows, KeyRows, UnionEdgeRows, PairRows}
+use Rattle.ipc_model.specs.KindRows.{WidthRows, FixedRows, OffsetRows, KeyRows, UnionEdgeRows, PairRows, NestedKindRows}
 
 pub width_rows : WidthRows
 width_rows = record {
@@ -44,6 +44,7 @@ fixed_rows = record {
   eighth_and_ninth_null = refl;
   negative_null_count = refl;
   negative_place = refl;
+  nulls_not_counted = refl;
 }
 
 pub offset_rows : OffsetRows
@@ -67,6 +68,7 @@ offset_rows = record {
   one_offset = refl;
   part_of_an_offset = refl;
   none_read = refl;
+  first_one_falls = refl;
 }
 
 pub key_rows : KeyRows
@@ -123,6 +125,8 @@ union_edge_rows = record {
   few_types = refl;
   second_child = refl;
   past_the_second = refl;
+  negative_length = refl;
+  negative_dense_length = refl;
 }
 
 pub pair_rows : PairRows
@@ -134,4 +138,15 @@ pair_rows = record {
   no_struct = refl;
   second_field = refl;
   an_extended_column = refl;
+}
+
+pub nested_kind_rows : NestedKindRows
+nested_kind_rows = record {
+  a_list = refl;
+  no_map = refl;
+  no_sorted_map = refl;
+  a_map = refl;
+  two_each = refl;
+  with_its_ids = refl;
+  id_of_the_stored = refl;
 }

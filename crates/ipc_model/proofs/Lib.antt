@@ -21,7 +21,6 @@ pub mod Written
 pub mod WrittenNumbers
 pub mod WriterSteps
 pub mod WriterRuns
-pub mod CarriedSteps
 pub mod FileRows
 pub mod DictionaryRows
 pub mod SlicedRows
@@ -47,3 +46,8 @@ pub mod MessageRows
 pub mod WritableRows
 pub mod ArrayRows
 pub mod ReadValues
+pub mod AgreeColumns
+pub mod AgreePlaces
+pub mod AgreeBatches
+pub mod BatchRows
+pub mod WriterRows

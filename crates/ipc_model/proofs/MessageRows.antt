@@ -1,5 +1,5 @@
 -- Each row is computed.
-use Rattle.std.proofs.Common.{ℕ, List, refl}
+use Rattle.std.proofs.Common.{refl}
 use Rattle.std.specs.Str.{is_utf8, chars}
 use lib.Utf8.{encode}
 use Rattle.ipc_views.specs.Tables.{number_at, table_at, slot_at, spot_at, target_at, text_at, vector_at, table_in}
@@ -19,6 +19,7 @@ frame_rows = record {
   minus_one = λ bytes. refl;
   one_byte_short = refl;
   to_the_last = refl;
+  behind_a_mark = refl;
 }
 
 pub record_rows : RecordRows
@@ -46,6 +47,7 @@ record_rows = record {
   a_tensor = refl;
   a_sparse_tensor = refl;
   no_header = refl;
+  ill_made_compression = refl;
 }
 
 pub version_rows : VersionRows
@@ -76,6 +78,8 @@ first_place_rows = record {
   normal_values = refl;
   one_normal_form = refl;
   other_metadata = refl;
+  no_id_first = refl;
+  no_values_without_an_id = refl;
 }
 
 pub where_rows : WhereRows

@@ -25,7 +25,7 @@ length_rows = record {
 }
 
 pub place_rows : FilledRows
-place_rows = record { one_place = refl; nested_places = refl }
+place_rows = record { one_place = refl; nested_places = refl; in_column_order = refl }
 
 -- the name and the metadata of the child of the first type
 abbrev child_name : FieldTree → List ℕ

@@ -9,11 +9,11 @@ use Rattle.lower.specs.TypeTrees.{Plain, null, boolean, int8, int16, int32, int6
 use Rattle.lower_arrays.specs.Children.{child_fields}
 use Rattle.lower_arrays.specs.Layouts.{Parts, Layout, layout, Layouts, no_layouts, more_layouts}
 use Rattle.lower_arrays.specs.Slots.{Slot, slots}
-use Rattle.ipc_base.specs.IdTrees.{IdTree, ids, IdTrees, no_ids, more_ids}
-use Rattle.ipc_model.specs.Columns.{values_type, values_slots, slots_in, IsWell, AllHaveRows, AllWell}
+use Rattle.ipc_base.specs.IdTrees.{IdTree, ids, IdTrees}
+use Rattle.ipc_model.specs.Columns.{values_type, slots_in, IsWell, AllHaveRows, AllWell}
 use Rattle.ipc_model.specs.Entries.{Entries, Dictionary, Dictionaries, dictionary_at, Limit}
 use Rattle.ipc_model.specs.Kinds.{nodes, buffers}
-use Rattle.ipc_model.specs.Offers.{FilledPlace, is_keyed, own_values, own_id, inner_ids}
+use Rattle.ipc_model.specs.Offers.{is_keyed, own_values, own_id, inner_ids}
 use Rattle.ipc_model.specs.ReadArrays.{first_type, other_fields, array_at, arrays_at, AreValues}
 use Rattle.ipc_model.specs.ReadChunks.{outer_values, outer_below, values_at, IsKnown, ReadValuesLaw}
 use Rattle.ipc_model.specs.TypeKinds.{plain_kind, first_ids, other_ids, kind_of, field_kind, kinds_of}

@@ -5,7 +5,7 @@ use lib.Utf8.{encode}
 use Rattle.ipc_views.specs.Tables.{number_at, table_at, slot_at, spot_at, target_at, text_at, vector_at, table_in}
 use Rattle.ipc_views.specs.Structs.{structs_at, signed32, signed64}
 use Rattle.ipc_model.specs.Schemas.{integer_at, decimal_at, plain_at, single_at, group_at, pairs_at, encoding_at, field_from, field_at, schema_at, schema_of, head_of}
-use Rattle.ipc_model.specs.SchemaRows.{IntegerRows, PlainRows, TimeRows, SizeRows, ChildRows, EncodingRows, LevelRows, LastLevelRows, PastLevelRows}
+use Rattle.ipc_model.specs.SchemaRows.{IntegerRows, PlainRows, TimeRows, SizeRows, ChildRows, EncodingRows, FieldRows, LevelRows, LastLevelRows, PastLevelRows}
 
 pub integer_rows : IntegerRows
 unfolding number_at table_at slot_at spot_at target_at text_at vector_at table_in structs_at signed32 signed64 is_utf8 chars encode integer_at decimal_at plain_at single_at group_at pairs_at encoding_at field_from field_at schema_at schema_of head_of
@@ -99,6 +99,7 @@ child_rows = record {
   no_fields_in_it = refl;
   sparse = refl;
   dense_with_ids = refl;
+  child_of_an_integer = refl;
 }
 
 pub encoding_rows : EncodingRows
@@ -138,3 +139,16 @@ last_level_rows = record { level_64 = refl }
 pub past_level_rows : PastLevelRows
 unfolding number_at table_at slot_at spot_at target_at text_at vector_at table_in structs_at signed32 signed64 is_utf8 chars encode integer_at decimal_at plain_at single_at group_at pairs_at encoding_at field_from field_at schema_at schema_of head_of
 past_level_rows = record { level_65 = refl }
+
+pub field_rows : FieldRows
+unfolding number_at table_at slot_at spot_at target_at text_at vector_at table_in structs_at signed32 signed64 is_utf8 chars encode integer_at decimal_at plain_at single_at group_at pairs_at encoding_at field_from field_at schema_at schema_of head_of
+field_rows = record {
+  nullable = refl;
+  not_nullable = refl;
+  nothing_said = refl;
+  metadata = refl;
+  metadata_of_a_child = refl;
+  no_key = refl;
+  ids_in_a_list = refl;
+  ids_in_a_struct = refl;
+}

@@ -23,6 +23,7 @@ smallest_rows = record {
   a_record = refl;
   no_kind = refl;
   no_fields_slot = refl;
+  in_no_version = refl;
 }
 
 pub metadata_rows : MetadataRows

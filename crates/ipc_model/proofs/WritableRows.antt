@@ -1,18 +1,19 @@
 -- Each row is computed; those on weights and on places are for each number.
-use Rattle.std.proofs.Common.{◌≡◌, ℕ, ℤ, zero, suc, pos, negsuc, ◌+◌, ◌*◌, ◌^◌, ◌-◌, ◌<◌, ◌≤◌, max, true, List, [], ◌∷◌, ◌++◌, length, get_or, lit<, lit≤, Option, Some, None, refl, ap, sym, arith, true≢false}
+use Rattle.std.proofs.Common.{◌≡◌, ℕ, ℤ, zero, suc, pos, negsuc, ◌+◌, ◌*◌, ◌^◌, ◌-◌, ◌<◌, ◌≤◌, max, true, List, [], ◌∷◌, length, get_or, lit<, lit≤, Option, Some, None, refl, ap, sym, arith, true≢false}
 use Rattle.std.proofs.lemmas.Bool.{false≢true}
 use Rattle.std.proofs.lemmas.List.{length-replicate}
 use Rattle.std.specs.List.{AllByRecursion}
-use Rattle.std.specs.Prelude.{AllPairs, codes}
+use Rattle.std.specs.Prelude.{AllPairs, codes, replicate}
 use Rattle.lower.specs.Counts.{fields_levels}
 use Rattle.lower.specs.Normal.{data_key, norm, norm_fields}
-use Rattle.lower.specs.TypeTrees.{Pairs, null, int32, utf8, binary, list, TypeTree, plain, single, FieldTree, field}
+use Rattle.lower.specs.TypeTrees.{Pairs, null, int32, utf8, binary, list, TypeTree, plain, single, field}
 use Rattle.ipc_base.specs.Fitting.{Fits, AllFit}
-use Rattle.ipc_base.specs.IdTrees.{IdTree, ids, IdTrees, no_ids, more_ids}
+use Rattle.ipc_base.specs.IdTrees.{ids, IdTrees, no_ids, more_ids}
 use Rattle.ipc_model.proofs.Decided.{union_decides}
 use Rattle.ipc_model.specs.Batches.{Place, places}
-use Rattle.ipc_model.specs.Writable.{IsWritableField, AreWritable, fields_weight, weight, SameUnderId, IsWritable}
-use Rattle.ipc_model.specs.WritableRows.{PlainTypeRows, NestedTypeRows, WritableSchemaRows, of_type, keyed, no_id, id_is, one_id, nested_lists, nested_ids, long_named, dictionaries_of, zero_ids}
+use Rattle.ipc_model.specs.Writable.{IsWritableField, AreWritable, fields_weight, weight, SameUnderId, IsWritable, IsWritableFile, file_weight}
+use Rattle.ipc_model.specs.WritableRows.{PlainTypeRows, NestedTypeRows, WritableSchemaRows, of_type, keyed, no_id, id_is, one_id, nested_lists, nested_ids, long_named, dictionaries_of, zero_ids, integer_field}
+use Rattle.ipc_model.specs.WeightRows.{alone}
 
 pub plain_type_rows : PlainTypeRows
 plain_type_rows = record {
@@ -37,6 +38,7 @@ plain_type_rows = record {
   greatest_wide_decimal = (lit< tt, lit< tt);
   past_the_greatest_wide_precision = λ w. let e : 2147483648 < 2147483648 = w.0 in absurd (omega arith);
   past_the_greatest_wide_scale = λ w. let e : 2147483648 < 2147483648 = w.1 in absurd (omega arith);
+  no_digits = (lit< tt, lit< tt);
 }
 
 pub nested_type_rows : NestedTypeRows
@@ -143,6 +145,25 @@ light_is_writable n h =
       levels = lit≤ tt;
       few_places = lit≤ tt;
       values = none_paired SameUnderId;
+      light = low;
+    }
+
+-- a footer's pair whose value has so many bytes
+abbrev long_pair : ℕ → Pairs
+long_pair n = (codes "k", replicate n 97) ∷ []
+
+pairs_weigh : (n : ℕ) → file_weight (alone integer_field) [] (long_pair n) ≡ 1602 + n
+pairs_weigh n = omega (arith, length-replicate {A = ℕ} n 97)
+
+light_pairs : (n : ℕ) → IsWritableFile (alone integer_field) [] (one_id no_id) (long_pair n) → n ≤ 2 ^ 30 - 1602
+light_pairs n w = let e : file_weight (alone integer_field) [] (long_pair n) ≤ 1073741824 = w.light in omega (arith, e, pairs_weigh n)
+
+light_file : (n : ℕ) → n ≤ 2 ^ 30 - 1602 → IsWritableFile (alone integer_field) [] (one_id no_id) (long_pair n)
+light_file n h =
+    let e : n ≤ 1073740222 = h in
+    let low : file_weight (alone integer_field) [] (long_pair n) ≤ 1073741824 = omega (arith, e, pairs_weigh n) in
+    record {
+      schema = record { fits = ((refl, tt), tt); types = (tt, tt); levels = lit≤ tt; few_places = lit≤ tt; values = none_paired SameUnderId; light = lit≤ tt };
       light = low;
     }
 
@@ -283,4 +304,6 @@ writable_schema_rows = record {
   nested_otherwise = λ w. let e : 1 ≡ 2 = ap first_number ((w.values 0 2 no_place (lit< tt) (lit< tt)).nested refl) in absurd (omega arith);
   weight = λ n. (light_enough n, light_is_writable n);
   places = λ n. (few_enough n, few_are_writable n);
+  third_of_another_type = λ w. let e : plain utf8 ≡ plain binary = (w.values 0 2 no_place (lit< tt) (lit< tt)).type refl in absurd cc;
+  file_weight = λ n. (light_pairs n, light_file n);
 }

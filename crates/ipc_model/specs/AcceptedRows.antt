@@ -1,5 +1,5 @@
 -- Chunks that a writer takes. Beside each stands one that it refuses.
-use Rattle.std.specs.Prelude.{◌≡◌, ℕ, ℤ, pos, ◌+◌, ◌-◌, ◌^◌, true, List, [], ◌∷◌, length, codes, replicate, Option, Some, None}
+use Rattle.std.specs.Prelude.{◌≡◌, ℕ, ℤ, pos, ◌+◌, ◌-◌, ◌^◌, true, List, [], ◌∷◌, length, codes, replicate, Option, Some, None, negsuc}
 use Rattle.lower.specs.Normal.{data_key}
 use Rattle.lower.specs.TypeTrees.{Pairs, TypeTree, FieldTrees, int32, float64, utf8, list, plain, single, field, no_fields, more_fields}
 use Rattle.ipc_base.specs.IdTrees.{ids, IdTrees, no_ids, more_ids}
@@ -104,6 +104,8 @@ pub record EdgeRows : Type 0 where
   pub kept_in_normal_form : TakesValues 1 (block_is 1024 8 0 ∷ []) (brought_as (pos 0) (lists_with ((data_key, codes "m") ∷ [])) (a ∷ []) ∷ [])
   pub other_type : ¬ TakesValues 1 (block_is 1024 8 0 ∷ []) (brought_as (pos 0) (plain utf8) (a ∷ []) ∷ [])
   pub another_id : TakesValues 1 (block_is 1024 8 0 ∷ block_is 1032 8 0 ∷ []) (brought_as (pos 1) (plain utf8) (b ∷ []) ∷ [])
+  pub negative_metadata : ¬ TakesValues 1 (record { offset = pos 1024; meta_data_length = negsuc 7; body_length = pos 0 } ∷ []) []
+  pub one_list_of_two_types : IsAccepted no_fields (values_offered (brought_as (pos 0) (lists_with ((data_key, codes "m") ∷ [])) (a ∷ []) ∷ brought_as (pos 0) (lists_with []) (a ∷ []) ∷ []))
 
 -- ---- without a schema
 

@@ -1,23 +1,25 @@
 -- The arrays that columns are read to, type by type, and what arrays of each width bring to a writer.
 -- (Arrow columnar format, "Physical Memory Layout" and "Buffer Listing for Each Layout".)
-use Rattle.std.specs.Prelude.{◌≡◌, ℕ, pos, true, false, List, [], ◌∷◌, ◌++◌, length, codes, replicate, Some, None}
-use Rattle.lower.specs.TypeTrees.{Plain, int16, int64, binary, large_binary, decimal, fixed_binary, utf8, list, large_list, plain, single, dictionary, int32, field}
+use Rattle.std.specs.Prelude.{◌≡◌, ℕ, pos, true, false, List, [], ◌∷◌, ◌++◌, codes, replicate, Some, None}
+use Rattle.lower.specs.TypeTrees.{int16, int64, large_binary, decimal, fixed_binary, utf8, list, large_list, plain, single, dictionary, int32, TypeTree, structure, group}
 use Rattle.lower.specs.declared.datatypes.IntegerType.{IntegerType}
 use Rattle.lower.specs.declared.datatypes.IntegerType.TheVariants as integers
 use Rattle.lower_types.specs.NumberTypes.{whole}
 use Rattle.lower_types.specs.declared.Endianness.TheVariants.{Little}
-use Rattle.lower_types.specs.declared.PrimitiveType.TheVariants.{Int16, Int32, Int64, Int128}
-use Rattle.lower_arrays.specs.Layouts.{Validity, Parts, nothing, numbers, fixed_bytes, bytes, lists, keys, Level, Layout, layout, no_layouts}
-use Rattle.ipc_base.specs.IdTrees.{IdTree, ids, no_ids, more_ids}
+use Rattle.lower_types.specs.declared.PrimitiveType.TheVariants.{Int16, Int64, Int128}
+use Rattle.lower_arrays.specs.Layouts.{Parts, numbers, fixed_bytes, bytes, lists, keys, Layout, layout, no_layouts, records}
+use Rattle.ipc_base.specs.IdTrees.{IdTree, ids, no_ids, more_ids, IdTrees}
 use Rattle.ipc_model.specs.AcceptedRows.{column_is}
-use Rattle.ipc_model.specs.ColumnRows.{node_is, buffer_is, entries, word}
-use Rattle.ipc_model.specs.DictionaryRows.{a, b, values_are, list_of_text}
+use Rattle.ipc_model.specs.ColumnRows.{node_is, buffer_is, entries, word, number}
+use Rattle.ipc_model.specs.DictionaryRows.{a, b, values_are, list_of_text, lists as lists_of_texts}
 use Rattle.ipc_model.specs.Entries.{Entries, Dictionaries}
 use Rattle.ipc_model.specs.HeldRows.{read_array}
 use Rattle.ipc_model.specs.KindRows.{large_lists_of, three_long_offsets, list_field}
-use Rattle.ipc_model.specs.ReadChunks.{IsArrayOf}
-use Rattle.ipc_model.specs.OfferRows.{array_is, one_child, field_is, list_of, dictionary_of_texts, keyed_texts, texts_are, lengths_of, lengths_are}
+use Rattle.ipc_model.specs.ReadChunks.{IsArrayOf, HaveMeaning}
+use Rattle.ipc_model.specs.OfferRows.{array_is, one_child, field_is, list_of, dictionary_of_texts, keyed_texts, texts_are, lengths_of, lengths_are, both_fields, two_children, numbers_are, keyed_lists}
 use Rattle.ipc_model.specs.TypeKinds.{kind_of}
+use Rattle.lower_arrays.specs.Slots.{record_slot, slots_of, Slot}
+use Rattle.ipc_model.specs.Batches.{Column}
 
 abbrev pub own_parts : Layout → Parts
 own_parts (layout h cs) = h.parts
@@ -77,10 +79,39 @@ list_of_ids = ids None (more_ids one_id no_ids)
 abbrev pub listed_second : List ℕ → Layout
 listed_second letters = list_of 1 (0 ∷ 1 ∷ []) (second_of letters) dictionary_of_texts
 
--- The array of a column has at each dictionary place all values that are known, also those that no key names.
+abbrev pub p_and_q : List Slot
+p_and_q = list_of_text (codes "p") ∷ list_of_text (codes "q") ∷ []
+
+abbrev pub no_id : IdTree
+no_id = ids None no_ids
+
+abbrev pub both_ids : IdTrees
+both_ids = more_ids no_id (more_ids one_id no_ids)
+
+-- a struct of the number 1 and the text "b"
+abbrev pub number_and_text : TypeTree
+number_and_text = group structure (both_fields (plain int32) dictionary_of_texts)
+
+abbrev pub struct_with : List ℕ → Layout
+struct_with letters = array_is number_and_text 1 None records (two_children (numbers_are (1 ∷ [])) (second_of letters))
+
+abbrev pub struct_column : Column
+struct_column = column_is number_and_text (record_slot (slots_of (number 1 ∷ b ∷ [])) ∷ [])
+
+-- The array of a column has at each dictionary place all values that are known, also those that no key names. It has the column's type and slots. What stands inside values isn't asked for. Each column has its own ids,
+-- whichever are chosen.
 pub record KnownRows : Type 0 where
   pub known_values : IsArrayOf known_texts one_id (column_is dictionary_of_texts (b ∷ [])) (second_of (codes "ab"))
   pub other_values : ¬ IsArrayOf known_texts one_id (column_is dictionary_of_texts (b ∷ [])) (second_of (codes "xb"))
   pub nothing_known : ¬ IsArrayOf [] one_id (column_is dictionary_of_texts (b ∷ [])) (second_of (codes "ab"))
   pub in_a_list : IsArrayOf known_texts list_of_ids (column_is (single list (field_is dictionary_of_texts)) (list_of_text (codes "b") ∷ [])) (listed_second (codes "ab"))
   pub others_in_a_list : ¬ IsArrayOf known_texts list_of_ids (column_is (single list (field_is dictionary_of_texts)) (list_of_text (codes "b") ∷ [])) (listed_second (codes "xb"))
+  pub in_a_struct : IsArrayOf known_texts (ids None both_ids) struct_column (struct_with (codes "ab"))
+  pub others_in_a_struct : ¬ IsArrayOf known_texts (ids None both_ids) struct_column (struct_with (codes "xb"))
+  pub another_type : ¬ IsArrayOf known_texts one_id (column_is (plain utf8) (b ∷ [])) (second_of (codes "ab"))
+  pub other_slots : ¬ IsArrayOf known_texts one_id (column_is dictionary_of_texts (a ∷ [])) (second_of (codes "ab"))
+  pub second_column : HaveMeaning known_texts both_ids (1 ∷ []) (column_is dictionary_of_texts (b ∷ []) ∷ []) (second_of (codes "ab") ∷ [])
+  pub others_in_the_second : ¬ HaveMeaning known_texts both_ids (1 ∷ []) (column_is dictionary_of_texts (b ∷ []) ∷ []) (second_of (codes "xb") ∷ [])
+  pub one_array_missing : ¬ HaveMeaning known_texts both_ids (1 ∷ []) (column_is dictionary_of_texts (b ∷ []) ∷ []) []
+  pub inner_values_aside : IsArrayOf ((pos 0, record { type = plain utf8; slots = p_and_q }) ∷ []) (ids (Some (pos 0)) (more_ids (ids (Some (pos 1)) no_ids) no_ids)) (column_is lists_of_texts p_and_q)
+      (keyed_lists (pos 0 ∷ pos 1 ∷ []) (pos 0 ∷ pos 1 ∷ []) (codes "pq"))

@@ -124,7 +124,11 @@ five_numbers = entries Little 0 (node_is 4 0 ∷ node_is 5 0 ∷ [])
     (buffer_is 0 0 ∷ buffer_is 0 20 ∷ buffer_is 20 0 ∷ buffer_is 20 20 ∷ [])
     (word 0 ++ word 2 ++ word 2 ++ word 3 ++ word 5 ++ word 1 ++ word 2 ++ word 3 ++ word 4 ++ word 5)
 
--- a list, as a whole, under a limit, and sliced; its child gives as many slots as its last offset says
+-- a list of two numbers, over three
+abbrev pub three_for_a_pair : Entries
+three_for_a_pair = entries Little 0 (node_is 1 0 ∷ node_is 3 0 ∷ []) (buffer_is 0 0 ∷ buffer_is 0 0 ∷ buffer_is 0 12 ∷ []) (word 3 ++ word 4 ++ word 5)
+
+-- a list, as a whole, under a limit, and sliced; its child gives as many slots as its last offset says. Without a limit the child of a list of a fixed number has no slot more
 pub record ListRows : Type 0 where
   pub all : read (list_kind offsets_32 int32) None five_numbers
       ≡ Some (numbers_of (1 ∷ 2 ∷ []) ∷ numbers_of [] ∷ numbers_of (3 ∷ []) ∷ numbers_of (4 ∷ 5 ∷ []) ∷ [])
@@ -156,6 +160,8 @@ pub record ListRows : Type 0 where
   pub fixed_zero : read (fixed_list_kind 0 int32) None
       (entries Little 0 (node_is 1 0 ∷ node_is 0 0 ∷ []) (buffer_is 0 0 ∷ buffer_is 0 0 ∷ buffer_is 0 0 ∷ []) [])
       ≡ None
+  pub fixed_many : read (fixed_list_kind 2 int32) None three_for_a_pair ≡ None
+  pub fixed_many_limited : read (fixed_list_kind 2 int32) (Some 1) three_for_a_pair ≡ Some (numbers_of (3 ∷ 4 ∷ []) ∷ [])
 
 abbrev pub truth_and_number : Bool → ℕ → Slot
 truth_and_number b n = record_slot (slots_of (truth_slot b ∷ number n ∷ []))

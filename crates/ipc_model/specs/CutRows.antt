@@ -121,3 +121,4 @@ pub record LengthCutRows : Type 0 where
   pub body_of_a_pair : body_length (0 ∷ 0 ∷ 8 ∷ []) ≡ 64
   pub body_of_sparse : body_length (2 ∷ 0 ∷ 8 ∷ 0 ∷ 1 ∷ []) ≡ 192
   pub body_of_dense : body_length (2 ∷ 8 ∷ 0 ∷ 8 ∷ 0 ∷ 1 ∷ []) ≡ 256
+  pub second_map : lengths_of (cut 1 1 two_maps) ≡ lengths_are (1 ∷ 2 ∷ 2 ∷ 2 ∷ []) (0 ∷ 8 ∷ 0 ∷ 0 ∷ 12 ∷ 2 ∷ 1 ∷ 8 ∷ [])

@@ -119,8 +119,12 @@ known_texts n = record { dictionaries = (pos 0, values_are (a ∷ b ∷ [])) ∷
 abbrev pub faulty_after : List Chunk → Meant
 faulty_after cs = record { chunks = cs; end = faulty }
 
+-- no key at all
+abbrev pub no_rows : List ℕ
+no_rows = record_message ((0, 0) ∷ []) ((0, 0) ∷ (0, 0) ∷ []) []
+
 -- A dictionary is known to what follows it, also to the second record, until another one replaces it. A
--- record whose dictionary was never sent, a delta, an id without a place in the schema and a key past
+-- record whose dictionary was never sent, with no key at all too, a delta, an id without a place in the schema and a key past
 -- the values have no meaning.
 pub record DictionaryRows : Type 0 where
   pub dictionary_alone : text_meant a_and_b ≡ record { chunks = []; end = waits (known_texts 1) [] }
@@ -136,6 +140,8 @@ pub record DictionaryRows : Type 0 where
   pub key_past_the_values : text_meant (a_and_b ++ two_keys 1 2 ++ mark) ≡ faulty_after []
   pub key_of_replaced_values : text_meant (a_and_b ++ two_keys 1 0 ++ b_alone ++ two_keys 1 0 ++ mark)
       ≡ faulty_after (b_and_a ∷ [])
+  pub no_keys : text_meant (a_and_b ++ no_rows ++ mark) ≡ record { chunks = chunk_is texts [] ∷ []; end = marked }
+  pub no_keys_never_sent : text_meant (no_rows ++ mark) ≡ faulty_after []
 
 -- ---- two columns of one id
 

@@ -1,6 +1,6 @@
 -- Files that are written out, and what they mean. Beside each stands one that has no meaning.
 -- (Arrow columnar format, "IPC File Format"; File.fbs.)
-use Rattle.std.specs.Prelude.{◌≡◌, ℕ, ℤ, pos, negsuc, List, [], ◌∷◌, ◌++◌, ◌+◌, ◌-◌, ◌^◌, length, take, drop, slice_set, codes, Option, Some, None, option_map}
+use Rattle.std.specs.Prelude.{◌≡◌, ℕ, pos, negsuc, List, [], ◌∷◌, ◌++◌, ◌+◌, ◌-◌, ◌^◌, length, take, slice_set, codes, Option, Some, None, option_map, ◌<◌}
 use Rattle.lower.specs.TypeTrees.{Pairs, int32, plain}
 use Rattle.ipc_views.specs.Tables.{root_at}
 use Rattle.ipc_views.specs.declared.file.Block.{Block}
@@ -84,6 +84,7 @@ pub record FooterRows : Type 0 where
   pub no_dictionaries : without_slot 12 ≡ Some demo_metadata
   pub no_records : without_slot 14 ≡ None
   pub short_file : metadata_of magic ≡ None
+  pub longer_than_the_file : (bytes : List ℕ) (n : ℕ) → length bytes < n + 10 → footer_of_length bytes n ≡ None
 
 -- ---- the pairs of a footer
 
@@ -144,7 +145,8 @@ abbrev pub extra_of_block : ℕ → Option ℕ
 extra_of_block version = option_map (λ (h : BlockHeader). h.extra) (block_header (slice_set record_metadata 36 version))
 
 -- Dictionary blocks are read in the footer's order, and the last of an id counts; records by their index. A block's message has either prefix, its header is due, its own version
--- counts, and neither of its two numbers that are used is below 0.
+-- counts, and neither of its two numbers that are used is below 0. What the message itself says of its body
+-- isn't used.
 pub record BlockRows : Type 0 where
   pub in_order : file_dictionaries text_blocks messages ≡ Some both_known
   pub in_other_order : file_dictionaries (blocks_are (second_block ∷ first_block ∷ []) []) messages
@@ -162,3 +164,4 @@ pub record BlockRows : Type 0 where
   pub fourth_version : extra_of_block 3 ≡ Some 1
   pub first_version : extra_of_block 0 ≡ Some 1
   pub no_version : extra_of_block 5 ≡ None
+  pub negative_in_the_message : file_chunk demo_metadata [] (slice_set demo_file 247 0xFF) None None 0 ≡ Some demo_chunk

@@ -3,25 +3,25 @@
 -- (Arrow columnar format, "Physical Memory Layout" and "Data Types".)
 use Rattle.std.specs.Prelude.{◌≡◌, ℕ, zero, suc, ℤ, pos, negsuc, ◌+◌, ◌-◌, ◌*◌, ◌^◌, Bool, true, false, List, [], ◌∷◌, ◌++◌, codes, length, map, replicate, Option, Some, None}
 use Rattle.std.specs.List.{range_with_len}
-use Rattle.std.specs.Int.{w16, w32, w64, to_le_bytes}
-use Rattle.lower.specs.TypeTrees.{Plain, null, boolean, int8, int16, int32, int64, uint8, uint16, uint32, uint64, float16, float32, float64, timestamp, date32, date64, time32, time64, duration, interval, binary, fixed_binary, large_binary, utf8, large_utf8, decimal, decimal256, list, large_list, fixed_list, entries as map_of, structure, TypeTree, plain, single, group, dictionary, extension, FieldTree, field, FieldTrees, no_fields, more_fields}
+use Rattle.std.specs.Int.{w32, w64, to_le_bytes}
+use Rattle.lower.specs.TypeTrees.{Plain, null, boolean, int8, int16, int32, int64, uint8, uint16, uint32, uint64, float16, float32, float64, timestamp, date32, date64, time32, time64, duration, interval, binary, fixed_binary, large_binary, utf8, large_utf8, decimal, decimal256, list, large_list, fixed_list, entries as map_of, structure, TypeTree, plain, single, group, dictionary, extension, FieldTree, field, no_fields, more_fields, choice}
 use Rattle.lower.specs.declared.datatypes.IntegerType.{IntegerType}
 use Rattle.lower.specs.declared.datatypes.IntegerType.TheVariants as keys
 use Rattle.lower.specs.declared.datatypes.TimeUnit.TheVariants.{Second, Microsecond}
 use Rattle.lower.specs.declared.datatypes.IntervalUnit.TheVariants.{YearMonth, DayTime, MonthDayNano}
 use Rattle.lower.specs.declared.datatypes.UnionMode.TheVariants.{Sparse, Dense}
-use Rattle.lower_types.specs.NumberTypes.{Number, whole, wide, day_time, month_day_nano}
+use Rattle.lower_types.specs.NumberTypes.{whole, wide, day_time, month_day_nano}
 use Rattle.lower_types.specs.declared.Endianness.{Endianness}
 use Rattle.lower_types.specs.declared.Endianness.TheVariants.{Little, Big}
-use Rattle.lower_arrays.specs.Slots.{Slot, null_slot, truth_slot, number_slot, bytes_slot, text_slot, list_slot, record_slot, variant_slot, slots_of}
+use Rattle.lower_arrays.specs.Slots.{Slot, null_slot, truth_slot, number_slot, bytes_slot, text_slot, record_slot, slots_of}
 use Rattle.ipc_base.specs.IdTrees.{no_ids}
 use Rattle.ipc_views.specs.declared.message.FieldNode.{FieldNode}
-use Rattle.ipc_views.specs.declared.schema.Buffer.{Buffer}
 use Rattle.ipc_model.specs.ColumnRows.{node_is, buffer_is, entries, read, word, int32 as int32_kind, number, numbers_of, two, variant}
-use Rattle.ipc_model.specs.Entries.{Entries, part_at, Dictionaries, Limit}
-use Rattle.ipc_model.specs.Kinds.{offsets_32, offsets_64, Kind, null_kind, boolean_kind, binary_kind, list_kind, map_kind, struct_kind, union_kind, dictionary_kind, extension_kind, Kinds, no_kinds, more_kinds}
+use Rattle.ipc_model.specs.Entries.{Entries, part_at, Limit}
+use Rattle.ipc_model.specs.Kinds.{offsets_32, offsets_64, Kind, null_kind, binary_kind, list_kind, map_kind, struct_kind, union_kind, dictionary_kind, extension_kind, Kinds, no_kinds, more_kinds}
 use Rattle.ipc_model.specs.Tests.{is_well}
 use Rattle.ipc_model.specs.TypeKinds.{kind_of}
+use Rattle.lower_types.specs.declared.PrimitiveType.TheVariants.{Int8}
 
 -- ---- numbers of each type
 
@@ -99,6 +99,7 @@ pub record FixedRows : Type 0 where
       (entries Little 0 (record { length = pos 1; null_count = negsuc 0 } ∷ []) (buffer_is 0 0 ∷ buffer_is 0 4 ∷ []) (word 5)) ≡ Some (number 5 ∷ [])
   pub negative_place : read int32_kind None
       (entries Little 0 (node_is 0 0 ∷ []) (buffer_is 0 0 ∷ record { offset = negsuc 0; length = pos 0 } ∷ []) []) ≡ None
+  pub nulls_not_counted : read null_kind None (entries Little 0 (node_is 2 0 ∷ []) [] []) ≡ Some (null_slot ∷ null_slot ∷ [])
 
 -- ---- offsets
 
@@ -152,6 +153,7 @@ pub record OffsetRows : Type 0 where
   pub one_offset : read_type (plain binary) (entries Little 0 (node_is 0 0 ∷ []) (buffer_is 0 0 ∷ buffer_is 0 4 ∷ buffer_is 0 0 ∷ []) (word 1)) ≡ None
   pub part_of_an_offset : read_type (plain binary) (entries Little 0 (node_is 0 0 ∷ []) (buffer_is 0 0 ∷ buffer_is 0 3 ∷ buffer_is 0 0 ∷ []) (word 0)) ≡ None
   pub none_read : read (binary_kind offsets_32) (Some 0) (entries Little 0 (node_is 3 0 ∷ []) (buffer_is 0 0 ∷ buffer_is 0 0 ∷ buffer_is 0 0 ∷ []) []) ≡ Some []
+  pub first_one_falls : read_type (plain binary) (entries Little 0 (node_is 2 0 ∷ []) (buffer_is 0 0 ∷ buffer_is 0 12 ∷ buffer_is 12 2 ∷ []) (word 2 ++ word 1 ++ word 2 ++ 7 ∷ 8 ∷ [])) ≡ None
 
 -- ---- keys
 
@@ -226,8 +228,13 @@ list_or_integer byte = read (union_kind Dense None (two (list_kind offsets_32 in
     (buffer_is 0 1 ∷ buffer_is 1 4 ∷ buffer_is 0 0 ∷ buffer_is 5 8 ∷ buffer_is 0 0 ∷ buffer_is 13 8 ∷ buffer_is 0 0 ∷ buffer_is 13 12 ∷ [])
     (1 ∷ byte ∷ 0 ∷ 0 ∷ 0 ∷ word 0 ++ word 2 ++ word 3 ++ word 4 ++ word 5))
 
+-- a node that says a length below 0
+abbrev pub negative_node : FieldNode
+negative_node = record { length = negsuc 0; null_count = pos 0 }
+
 -- A union has 1 to 127 children. Its ids, where they are given, are as many, each once, from 0 to 126; else they are 0, 1 and on. Types and offsets are there for
--- each slot, and an offset is a signed number in the schema's order. A dense union's children are whole, whatever the limit; the second begins behind all that the first has.
+-- each slot, and an offset is a signed number in the schema's order. A dense union's children are whole, whatever the limit; the second begins behind all that the first has. A length is
+-- not below 0.
 pub record UnionEdgeRows : Type 0 where
   pub no_children : union_over None 0 ≡ false
   pub most_children : union_over None 127 ≡ true
@@ -252,6 +259,8 @@ pub record UnionEdgeRows : Type 0 where
   pub few_types : is_well (entries Little 0 (node_is 2 0 ∷ node_is 2 2 ∷ []) (buffer_is 0 1 ∷ []) (0 ∷ 0 ∷ [])) (union_kind Sparse None (null_kinds 1)) 0 0 None ≡ false
   pub second_child : list_or_integer 2 ≡ Some (variant 1 (number 5) ∷ [])
   pub past_the_second : list_or_integer 3 ≡ None
+  pub negative_length : is_well (entries Little 0 (negative_node ∷ node_is 0 0 ∷ []) (buffer_is 0 0 ∷ []) []) (union_kind Sparse None (null_kinds 1)) 0 0 None ≡ false
+  pub negative_dense_length : is_well (entries Little 0 (negative_node ∷ node_is 0 0 ∷ []) (buffer_is 0 0 ∷ buffer_is 0 0 ∷ []) []) (union_kind Dense None (null_kinds 1)) 0 0 None ≡ false
 
 -- a struct of a list of two integers and an integer
 abbrev pub list_and_integer : Option (List Slot)
@@ -273,3 +282,24 @@ pub record PairRows : Type 0 where
   pub no_struct : map_over (union_kind Sparse None (two null_kind null_kind)) ≡ false
   pub second_field : list_and_integer ≡ Some (record_slot (slots_of (numbers_of (3 ∷ 4 ∷ []) ∷ number 5 ∷ [])) ∷ [])
   pub an_extended_column : read_type (extension (codes "e") (plain int32) None) (values_in 1 (word 5)) ≡ Some (number 5 ∷ [])
+
+-- the entries of so many columns without a slot
+abbrev pub empty_entries : ℕ → ℕ → Entries
+empty_entries ns bs = entries Little 0 (replicate ns (node_is 0 0)) (replicate bs (buffer_is 0 0)) []
+
+abbrev pub null_field : FieldTree
+null_field = field [] (plain null) true []
+
+-- What a type with children says of its bytes: a map, its keys in order or not, isn't read as a list, since its child has to be a pair; a list of a fixed number has that number;
+-- a union has the ids that it names; an extension of a dictionary has the dictionary's id.
+pub record NestedKindRows : Type 0 where
+  pub a_list : read_type (single list list_field) (empty_entries 2 4) ≡ Some []
+  pub no_map : read_type (single (map_of false) list_field) (empty_entries 2 4) ≡ None
+  pub no_sorted_map : read_type (single (map_of true) list_field) (empty_entries 2 4) ≡ None
+  pub a_map : read_type (single (map_of false) (field [] (group structure (more_fields null_field (more_fields null_field no_fields))) true [])) (empty_entries 4 3) ≡ Some []
+  pub two_each : read_type (single (fixed_list 2) list_field) (entries Little 0 (node_is 1 0 ∷ node_is 2 0 ∷ []) (buffer_is 0 0 ∷ buffer_is 0 0 ∷ buffer_is 0 8 ∷ []) (word 3 ++ word 4))
+      ≡ Some (numbers_of (3 ∷ 4 ∷ []) ∷ [])
+  pub with_its_ids : read_type (group (choice (Some (pos 5 ∷ [])) Sparse) (more_fields null_field no_fields)) (entries Little 0 (replicate 2 (node_is 1 1)) (buffer_is 0 1 ∷ []) (5 ∷ []))
+      ≡ Some (variant 5 null_slot ∷ [])
+  pub id_of_the_stored : kind_of (extension (codes "e") (dictionary keys.Int8 (plain utf8) false) None) (Some (pos 7)) no_ids
+      ≡ extension_kind (dictionary_kind Int8 (Some (pos 7)) (plain utf8))

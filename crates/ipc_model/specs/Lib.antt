@@ -15,7 +15,6 @@ pub mod ColumnRows
 pub mod BatchLaws
 pub mod Schemas
 pub mod StreamRows
-pub mod Carried
 pub mod WholeStreams
 pub mod Files
 pub mod FileLaws
@@ -26,7 +25,6 @@ pub mod AddressLaws
 pub mod WrittenLaws
 pub mod WrittenBatches
 pub mod Writers
-pub mod CarriedStreams
 pub mod WriterStates
 pub mod FileRows
 pub mod DictionaryRows
@@ -51,3 +49,6 @@ pub mod MessageRows
 pub mod WritableRows
 pub mod ArrayRows
 pub mod ReadChunks
+pub mod AgreeLaws
+pub mod BatchRows
+pub mod WriterRows

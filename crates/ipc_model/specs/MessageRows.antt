@@ -1,22 +1,22 @@
 -- Messages of a stream that are written out slot by slot, and what they mean. Beside most stands one that has no meaning.
 -- (Arrow columnar format, "RecordBatch message", "Dictionary messages" and "IPC Streaming Format"; Message.fbs.)
-use Rattle.std.specs.Prelude.{◌≡◌, ℕ, ℤ, pos, negsuc, ◌+◌, ◌-◌, ◌*◌, ◌^◌, true, false, List, [], ◌∷◌, ◌++◌, length, codes, slice_set, flat_map, Option, Some, None, option_map}
+use Rattle.std.specs.Prelude.{◌≡◌, ℕ, ℤ, pos, ◌+◌, ◌-◌, ◌*◌, ◌^◌, true, false, List, [], ◌∷◌, ◌++◌, length, codes, slice_set, flat_map, Option, Some, None, option_map}
 use Rattle.std.specs.Int.{w64, to_le_bytes}
 use Rattle.lower.specs.Normal.{data_key}
-use Rattle.lower.specs.TypeTrees.{Pairs, TypeTree, int32, boolean, utf8, binary, list, structure, plain, single, group, dictionary, extension, FieldTree, field, FieldTrees, no_fields, more_fields}
+use Rattle.lower.specs.TypeTrees.{Pairs, TypeTree, int32, boolean, utf8, binary, list, structure, plain, single, group, dictionary, extension, FieldTree, field, more_fields}
 use Rattle.lower.specs.declared.datatypes.IntegerType.TheVariants.{Int32}
 use Rattle.lower_types.specs.declared.Endianness.TheVariants.{Little}
 use Rattle.lower_arrays.specs.Slots.{Slot}
-use Rattle.ipc_base.specs.IdTrees.{IdTree, ids, IdTrees, no_ids, more_ids}
+use Rattle.ipc_base.specs.IdTrees.{IdTree, ids, no_ids, more_ids}
 use Rattle.ipc_model.specs.Batches.{Chunk, Place, places}
 use Rattle.ipc_model.specs.ColumnRows.{number, numbers_of, padded, word}
-use Rattle.ipc_model.specs.DictionaryRows.{message_bytes, framed, dictionary_message, record_message, text_head, texts, head_of_field, a, b, a_and_b, two_keys, two_texts, chunk_is, values_are, known_texts, faulty_after}
+use Rattle.ipc_model.specs.DictionaryRows.{message_bytes, framed, dictionary_message, record_message, text_head, head_of_field, a, b, a_and_b, chunk_is, values_are, known_texts, faulty_after}
 use Rattle.ipc_model.specs.Entries.{Dictionary}
-use Rattle.ipc_model.specs.Frame.{Frame, message, mark, waiting, broken, frame, sized}
+use Rattle.ipc_model.specs.Frame.{message, mark, waiting, broken, frame, sized}
 use Rattle.ipc_model.specs.Schemas.{head_of}
-use Rattle.ipc_model.specs.SchemaBytes.{four, table_bytes, schema_bytes, all_fields}
-use Rattle.ipc_model.specs.StreamRows.{marker, mark as mark_bytes, demo_record, meant, smallest}
-use Rattle.ipc_model.specs.Streams.{Head, Known, nothing_known, waits, faulty, Meant, meaning}
+use Rattle.ipc_model.specs.SchemaBytes.{four, table_bytes}
+use Rattle.ipc_model.specs.StreamRows.{smallest}
+use Rattle.ipc_model.specs.Streams.{Head, Known, nothing_known, waits, Meant, meaning}
 use Rattle.ipc_model.specs.WeightRows.{named, alone}
 
 -- ---- frames
@@ -29,6 +29,7 @@ pub record FrameRows : Type 0 where
   pub minus_one : (rest : List ℕ) → sized (2 ^ 32 - 1) rest ≡ broken
   pub one_byte_short : frame (2 ∷ 0 ∷ 0 ∷ 0 ∷ 7 ∷ []) ≡ broken
   pub to_the_last : frame (2 ∷ 0 ∷ 0 ∷ 0 ∷ 7 ∷ 8 ∷ []) ≡ message (7 ∷ 8 ∷ []) []
+  pub behind_a_mark : frame (0 ∷ 0 ∷ 0 ∷ 0 ∷ 7 ∷ []) ≡ mark (7 ∷ [])
 
 -- ---- records
 
@@ -97,6 +98,7 @@ pub record RecordRows : Type 0 where
   pub a_tensor : in_message 4 64 (batch_with usual ((1, 0) ∷ []) ((0, 0) ∷ (0, 4) ∷ [])) (padded (word 5)) ≡ nothing_read
   pub a_sparse_tensor : in_message 5 64 (batch_with usual ((1, 0) ∷ []) ((0, 0) ∷ (0, 4) ∷ [])) (padded (word 5)) ≡ nothing_read
   pub no_header : in_message 0 64 (batch_with usual ((1, 0) ∷ []) ((0, 0) ∷ (0, 4) ∷ [])) (padded (word 5)) ≡ nothing_read
+  pub ill_made_compression : meaning integer_head nothing_known (slice_set (framed (message_bytes 3 64 (batch_with (record { nodes = 12; buffers = 16; compression = 20 }) ((1, 0) ∷ []) ((0, 0) ∷ (0, 4) ∷ []))) (padded (word 5))) 81 0xFF) ≡ nothing_read
 
 -- a schema message of the version with this number
 abbrev pub extra_in : ℕ → Option ℕ
@@ -170,7 +172,7 @@ abbrev pub with_data_key : Pairs
 with_data_key = (data_key, codes "m") ∷ []
 
 -- The values of an id are read by the type of its first place, whichever the later ones have; a column of another type has no meaning. Types are compared in their
--- normal form: a key of an extension without a name counts for nothing, and any other metadata do.
+-- normal form: a key of an extension without a name counts for nothing, and any other metadata do. A place without an id is none of any id, and its column has no meaning.
 pub record FirstPlaceRows : Type 0 where
   pub texts_first : meaning (columns_of (plain utf8) under_0 (plain binary) under_0) nothing_known a_and_b
       ≡ record { chunks = []; end = waits (known_as (values_are (a ∷ b ∷ [])) 1) [] }
@@ -184,6 +186,9 @@ pub record FirstPlaceRows : Type 0 where
       }
   pub other_metadata : meaning (columns_of (lists_with ((codes "k", codes "m") ∷ [])) list_ids (lists_with []) list_ids) nothing_known (list_of_five ++ one_row_of_both)
       ≡ nothing_read
+  pub no_id_first : meaning (columns_of (plain binary) (ids None no_ids) (plain utf8) under_0) nothing_known a_and_b
+      ≡ record { chunks = []; end = waits (known_as (values_are (a ∷ b ∷ [])) 1) [] }
+  pub no_values_without_an_id : meaning (columns_of (plain utf8) (ids None no_ids) (plain utf8) under_0) nothing_known (a_and_b ++ one_row_of_both) ≡ nothing_read
 
 abbrev pub ids_in : List Place → List (Option ℤ)
 ids_in [] = []

@@ -11,7 +11,7 @@ use Rattle.lower_types.specs.declared.PrimitiveType.TheVariants.{Int32, Int64}
 use Rattle.lower_arrays.specs.Layouts.{Validity, Parts, nothing, truths, numbers, bytes, texts, lists, fixed_lists, maps, records, choices, keys, Layout, layout, Layouts, no_layouts, more_layouts}
 use Rattle.lower_arrays.specs.Slots.{Slot, number_slot, text_slot}
 use Rattle.ipc_base.specs.IdTrees.{ids, IdTrees, no_ids, more_ids}
-use Rattle.ipc_model.specs.Accepted.{body_length}
+use Rattle.ipc_model.specs.Accepted.{body_length, Brought}
 use Rattle.ipc_model.specs.AcceptedRows.{column_is}
 use Rattle.ipc_model.specs.DictionaryRows.{lists as lists_of_texts, list_of_text, values_are}
 use Rattle.ipc_model.specs.Offers.{offer_of, IsAcceptedChunk}
@@ -175,7 +175,10 @@ keyed_lists outer inner text = keys_are (single list (field (codes "item") dicti
     (array_is (single list (field (codes "item") dictionary_of_texts true [])) (length inner) None (lists Int32 (0 ∷ 1 ∷ 2 ∷ []))
     (one_child (keyed_texts inner (texts_are 2 (0 ∷ 1 ∷ 2 ∷ []) text))))
 
--- A dictionary has a message of its own, in which its values are a column. Inner values come before those in which they stand.
+abbrev pub one_then_zero : IdTrees
+one_then_zero = more_ids (ids (Some (pos 1)) no_ids) zero_ids
+
+-- A dictionary has a message of its own, in which its values are a column. Inner values come before those in which they stand, and those of a column before those of the next.
 pub record FilledRows : Type 0 where
   pub one_place : offer_of (b_then_a ∷ []) zero_ids ≡ record {
     columns = column_is dictionary_of_texts (text_slot (codes "b") ∷ text_slot (codes "a") ∷ []) ∷ [];
@@ -191,6 +194,7 @@ pub record FilledRows : Type 0 where
         nodes = 2 ∷ 2 ∷ 2 ∷ 2 ∷ [];
         bodies = (0 ∷ 12 ∷ 2 ∷ []) ∷ (0 ∷ 12 ∷ 0 ∷ 8 ∷ []) ∷ (0 ∷ 8 ∷ []) ∷ [];
       }
+  pub in_column_order : map (λ (p : Brought). p.id) (offer_of (text_alone (codes "a") ∷ text_alone (codes "b") ∷ []) one_then_zero).dictionaries ≡ pos 1 ∷ pos 0 ∷ []
 
 -- ---- chunks
 

@@ -1,6 +1,6 @@
 -- Schema messages as bytes, part by part: words for rows. Each table has its vtable in front, and what a slot leads to stands behind.
 -- (Arrow columnar format, "Schema message"; Schema.fbs and Message.fbs.)
-use Rattle.std.specs.Prelude.{ℕ, zero, suc, ◌+◌, ◌-◌, ◌*◌, List, [], ◌∷◌, ◌++◌, length, codes, flat_map}
+use Rattle.std.specs.Prelude.{ℕ, ◌+◌, ◌-◌, ◌*◌, List, [], ◌∷◌, ◌++◌, length, codes, flat_map}
 use Rattle.std.specs.Int.{w16, w32, to_le_bytes}
 
 abbrev pub short : ℕ → List ℕ

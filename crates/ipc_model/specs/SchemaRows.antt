@@ -1,20 +1,20 @@
 -- Schemas that are written out, and what their tables say of types, keys and levels. Beside each limit stands one that is past it.
 -- (Arrow columnar format, "Schema message" and "Data Types"; Schema.fbs.)
-use Rattle.std.specs.Prelude.{◌≡◌, ℕ, zero, suc, ℤ, pos, negsuc, ◌+◌, ◌-◌, ◌^◌, true, false, List, [], ◌∷◌, ◌++◌, codes, nat_eq, flat_map, if◌then◌else◌, Option, Some, None, option_map}
+use Rattle.std.specs.Prelude.{◌≡◌, ℕ, zero, suc, pos, negsuc, ◌+◌, ◌-◌, ◌^◌, true, false, List, [], ◌∷◌, ◌++◌, codes, nat_eq, flat_map, if◌then◌else◌, Option, Some, None, option_map, slice_set, Bool}
 use Rattle.std.specs.Int.{w64, to_le_bytes}
 use Rattle.lower.specs.Normal.{name_key, data_key}
-use Rattle.lower.specs.TypeTrees.{Plain, null, boolean, int8, int16, int32, int64, uint8, uint16, uint32, uint64, float16, float32, float64, timestamp, date32, date64, time32, time64, duration, interval, binary, fixed_binary, large_binary, utf8, large_utf8, decimal, decimal256, list, large_list, fixed_list, entries, structure, choice, TypeTree, plain, single, group, dictionary, extension, FieldTree, field, no_fields, more_fields}
+use Rattle.lower.specs.TypeTrees.{Plain, null, boolean, int8, int16, int32, int64, uint8, uint16, uint32, uint64, float16, float32, float64, timestamp, date32, date64, time32, time64, duration, interval, binary, fixed_binary, large_binary, utf8, large_utf8, decimal, decimal256, list, large_list, fixed_list, entries, structure, choice, TypeTree, plain, single, group, dictionary, extension, FieldTree, field, no_fields, more_fields, Pairs, FieldTrees}
 use Rattle.lower.specs.declared.datatypes.IntegerType.TheVariants as keys
 use Rattle.lower.specs.declared.datatypes.TimeUnit.TheVariants.{Second, Millisecond, Microsecond, Nanosecond}
 use Rattle.lower.specs.declared.datatypes.IntervalUnit.TheVariants.{YearMonth, DayTime, MonthDayNano}
 use Rattle.lower.specs.declared.datatypes.UnionMode.TheVariants.{Sparse, Dense}
 use Rattle.lower_types.specs.declared.Endianness.{Endianness}
 use Rattle.lower_types.specs.declared.Endianness.TheVariants.{Little, Big}
-use Rattle.ipc_base.specs.IdTrees.{ids, IdTree, IdTrees, no_ids, more_ids}
+use Rattle.ipc_base.specs.IdTrees.{ids, IdTree, no_ids, more_ids}
 use Rattle.ipc_model.specs.Batches.{Schema, type_at}
-use Rattle.ipc_model.specs.SchemaBytes.{short, four, three_slots, counted, field_bytes, all_fields, pair_bytes, all_pairs, schema_bytes}
-use Rattle.ipc_model.specs.Schemas.{Read, schema_of, schema_with, fields_count}
-use Rattle.ipc_model.specs.StreamRows.{smallest, demo_schema, extended_field}
+use Rattle.ipc_model.specs.SchemaBytes.{short, four, three_slots, counted, field_bytes, all_fields, pair_bytes, all_pairs, schema_bytes, table_bytes}
+use Rattle.ipc_model.specs.Schemas.{schema_of, schema_with, fields_count}
+use Rattle.ipc_model.specs.StreamRows.{demo_schema, extended_field}
 use Rattle.ipc_model.specs.TypeKinds.{first_ids}
 use Rattle.ipc_model.specs.Visits.{visits}
 
@@ -148,7 +148,7 @@ integer_is_read = field (codes "f") (plain int32) true []
 abbrev pub text_is_read : FieldTree
 text_is_read = field (codes "f") (plain utf8) true []
 
--- Of a list's children the first is used, and no other judged; a struct and a union use all. None has a meaning without a child.
+-- Of a list's children the first is used, and no other judged; a struct and a union use all, and a type without children none. None has a meaning without a child.
 pub record ChildRows : Type 0 where
   pub lists : type_with 12 bare (integer_field ∷ []) ≡ Some (single list integer_is_read)
   pub large_lists : type_with 21 bare (integer_field ∷ []) ≡ Some (single large_list integer_is_read)
@@ -165,6 +165,7 @@ pub record ChildRows : Type 0 where
   pub sparse : type_with 14 bare (integer_field ∷ []) ≡ Some (group (choice None Sparse) (more_fields integer_is_read no_fields))
   pub dense_with_ids : type_with 14 (three_slots 8 4 0 (four 6 ++ short 1 ++ four 1 ++ four (below_zero 3))) (integer_field ∷ [])
       ≡ Some (group (choice (Some (negsuc 2 ∷ [])) Dense) (more_fields integer_is_read no_fields))
+  pub child_of_an_integer : type_with 2 (integer_is 32 1) (no_type_field ∷ []) ≡ is_plain int32
 
 -- ---- dictionaries and extensions
 
@@ -199,6 +200,50 @@ pub record EncodingRows : Type 0 where
   pub without_a_name : with_pairs (all_pairs (pair_bytes data_key (codes "m") ∷ [])) ≡ Some (plain utf8, ids None no_ids)
   pub extended_values : option_map first_of (one_field_schema (field_bytes 5 bare (encoding_is 7 0 (integer_is 8 1)) [] extension_pairs))
       ≡ Some (texts_under_7 (dictionary keys.Int8 (extension (codes "e") (plain utf8) (Some (codes "m"))) false))
+
+-- ---- what else a field says
+
+-- the fields of a schema that has one
+abbrev pub fields_in : List ℕ → Option FieldTrees
+fields_in f = option_map (λ (schema : Schema). schema.fields) (one_field_schema f)
+
+abbrev pub is_field : TypeTree → Bool → Pairs → Option FieldTrees
+is_field t nullable metadata = Some (more_fields (field (codes "f") t nullable metadata) no_fields)
+
+-- with one byte of the vtable or of the table of a field of integers in place of what stood there
+abbrev pub integer_with : ℕ → ℕ → Option FieldTrees
+integer_with place byte = fields_in (slice_set integer_field place byte)
+
+-- "v" without a key
+abbrev pub value_alone : List ℕ
+value_alone = table_bytes (0 ∷ 4 ∷ []) (four 4 ++ counted (codes "v"))
+
+abbrev pub one_pair : List ℕ
+one_pair = all_pairs (pair_bytes (codes "k") (codes "1") ∷ [])
+
+-- texts by keys of 8 bits, under the id 7
+abbrev pub keyed_field : List ℕ
+keyed_field = field_bytes 5 bare (encoding_is 7 0 (integer_is 8 1)) [] []
+
+abbrev pub keyed_texts : FieldTree
+keyed_texts = field (codes "f") (dictionary keys.Int8 (plain utf8) false) true []
+
+abbrev pub under_7 : IdTree
+under_7 = ids (Some (pos 7)) no_ids
+
+-- A field may hold nulls where its byte isn't 0, and may not where none stands. It has its metadata, and so has a child; a pair without a key is passed over. Ids stand where their fields do.
+pub record FieldRows : Type 0 where
+  pub nullable : integer_with 42 2 ≡ is_field (plain int32) true []
+  pub not_nullable : integer_with 42 0 ≡ is_field (plain int32) false []
+  pub nothing_said : integer_with 6 0 ≡ is_field (plain int32) false []
+  pub metadata : fields_in (field_bytes 5 bare [] [] one_pair) ≡ is_field (plain utf8) true ((codes "k", codes "1") ∷ [])
+  pub metadata_of_a_child : type_with 12 bare (field_bytes 5 bare [] [] one_pair ∷ []) ≡ Some (single list (field (codes "f") (plain utf8) true ((codes "k", codes "1") ∷ [])))
+  pub no_key : option_map (λ (schema : Schema). schema.metadata) (schema_of (schema_bytes 0 (all_fields []) (all_pairs (value_alone ∷ pair_bytes (codes "k") (codes "1") ∷ []))))
+      ≡ Some ((codes "k", codes "1") ∷ [])
+  pub ids_in_a_list : option_map first_of (one_field_schema (field_bytes 12 bare [] (all_fields (keyed_field ∷ [])) []))
+      ≡ Some (single list keyed_texts, ids None (more_ids under_7 no_ids))
+  pub ids_in_a_struct : option_map first_of (one_field_schema (field_bytes 13 bare [] (all_fields (integer_field ∷ keyed_field ∷ [])) []))
+      ≡ Some (group structure (more_fields integer_is_read (more_fields keyed_texts no_fields)), ids None (more_ids (ids None no_ids) (more_ids under_7 no_ids)))
 
 -- ---- the whole schema
 

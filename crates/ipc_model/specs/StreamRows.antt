@@ -27,7 +27,8 @@ smallest =
 abbrev pub no_schema_fields : Schema
 no_schema_fields = record { fields = no_fields; metadata = []; ids = no_ids; order = Little }
 
--- without its last four bytes, with no header, with that of a record or of no known kind, and without
+-- Whatever its version, it says a schema; a stream asks for a version that there is.
+-- Without its last four bytes, with no header, with that of a record or of no known kind, and without
 -- fields it has no meaning
 pub record SmallestRows : Type 0 where
   pub smallest_schema : schema_of smallest ≡ Some no_schema_fields
@@ -39,6 +40,7 @@ pub record SmallestRows : Type 0 where
   pub a_record : schema_of (slice_set smallest 26 3) ≡ None
   pub no_kind : schema_of (slice_set smallest 26 6) ≡ None
   pub no_fields_slot : schema_of (slice_set smallest 34 0) ≡ None
+  pub in_no_version : schema_of (slice_set smallest 24 5) ≡ Some no_schema_fields
 
 -- ---- metadata
 

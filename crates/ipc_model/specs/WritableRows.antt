@@ -1,15 +1,14 @@
 -- Schemas that can be written. Beside each stands one that can't.
 -- (Arrow columnar format, "Schema message" and "Data Types"; the limits are this project's own.)
-use Rattle.std.specs.Prelude.{◌≡◌, ℕ, zero, suc, ℤ, pos, negsuc, ◌+◌, ◌-◌, ◌^◌, ◌≤◌, ◌↔◌, true, false, List, [], ◌∷◌, codes, replicate, Option, Some, None}
+use Rattle.std.specs.Prelude.{ℕ, zero, suc, ℤ, pos, negsuc, ◌-◌, ◌^◌, ◌≤◌, ◌↔◌, true, false, List, [], ◌∷◌, codes, replicate, Option, Some, None}
 use Rattle.lower.specs.Normal.{data_key}
-use Rattle.lower.specs.TypeTrees.{Pairs, Plain, int32, float16, float32, float64, time32, time64, timestamp, utf8, binary, fixed_binary, decimal, decimal256, Single, list, large_list, fixed_list, entries, structure, choice, TypeTree, plain, single, group, dictionary, extension, FieldTree, field, FieldTrees, no_fields, more_fields}
+use Rattle.lower.specs.TypeTrees.{Pairs, Plain, int32, float16, float32, float64, time32, time64, utf8, binary, fixed_binary, decimal, decimal256, Single, list, large_list, fixed_list, entries, structure, choice, TypeTree, plain, single, group, dictionary, extension, FieldTree, field, FieldTrees, no_fields, more_fields}
 use Rattle.lower.specs.declared.datatypes.IntegerType.TheVariants.{Int8}
 use Rattle.lower.specs.declared.datatypes.TimeUnit.TheVariants.{Second, Millisecond, Microsecond, Nanosecond}
 use Rattle.lower.specs.declared.datatypes.UnionMode.TheVariants.{Sparse, Dense}
 use Rattle.ipc_base.specs.IdTrees.{IdTree, ids, IdTrees, no_ids, more_ids}
-use Rattle.ipc_model.specs.Batches.{places}
 use Rattle.ipc_model.specs.WeightRows.{named, alone}
-use Rattle.ipc_model.specs.Writable.{IsWritableType, IsWritable}
+use Rattle.ipc_model.specs.Writable.{IsWritableType, IsWritable, IsWritableFile}
 
 -- ---- types
 
@@ -39,6 +38,7 @@ pub record PlainTypeRows : Type 0 where
   pub greatest_wide_decimal : IsWritablePlainType (decimal256 (2 ^ 31 - 1) (2 ^ 31 - 1))
   pub past_the_greatest_wide_precision : ¬ IsWritablePlainType (decimal256 (2 ^ 31) 0)
   pub past_the_greatest_wide_scale : ¬ IsWritablePlainType (decimal256 0 (2 ^ 31))
+  pub no_digits : IsWritablePlainType (decimal 0 0)
 
 abbrev pub of_type : TypeTree → FieldTree
 of_type t = named t (codes "f")
@@ -161,7 +161,7 @@ zero_ids zero = no_ids
 zero_ids (suc n) = more_ids (id_is (pos 0)) (zero_ids n)
 
 -- Ids stand exactly at dictionaries. There are at most 64 levels of fields, a top field being level 1. Two places of one id have one type of values, as it is in the normal form, and the same ids
--- in them. A schema's weight is at most 2 ^ 30: here 1,536 and the bytes of a name. There are at most 65,536 dictionary places.
+-- in them. A schema's weight is at most 2 ^ 30: here 1,536 and the bytes of a name; for a file with the pairs of its footer, here 1,602 and the bytes of a value. There are at most 65,536 dictionary places.
 pub record WritableSchemaRows : Type 0 where
   pub an_integer : IsWritable (alone integer_field) [] (one_id no_id)
   pub a_float : ¬ IsWritable (alone float_field) [] (one_id no_id)
@@ -181,3 +181,5 @@ pub record WritableSchemaRows : Type 0 where
   pub nested_otherwise : ¬ IsWritable (both (of_type text_lists) (of_type text_lists)) [] (two_ids (lists_under (pos 1)) (lists_under (pos 2)))
   pub weight : (n : ℕ) → IsWritable (long_named n) [] (one_id no_id) ↔ (n ≤ 2 ^ 30 - 1536)
   pub places : (n : ℕ) → IsWritable (dictionaries_of n) [] (zero_ids n) ↔ (n ≤ 65536)
+  pub third_of_another_type : ¬ IsWritable (more_fields (of_type (keyed (plain utf8))) (both (of_type (keyed (plain utf8))) (of_type (keyed (plain binary))))) [] (zero_ids 3)
+  pub file_weight : (n : ℕ) → IsWritableFile (alone integer_field) [] (one_id no_id) ((codes "k", replicate n 97) ∷ []) ↔ (n ≤ 2 ^ 30 - 1602)

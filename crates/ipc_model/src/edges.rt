@@ -3,11 +3,13 @@
 
 ghost use Rattle.ipc_model.specs.AcceptedRows.{EdgeRows, EncodedRows};
 ghost use Rattle.ipc_model.specs.ArrayRows.{KeyTypeRows, KnownRows, OfferWidthRows};
+ghost use Rattle.ipc_model.specs.BatchRows.{BehindRows, BodyRows, OrderBatchRows, VersionBatchRows};
 ghost use Rattle.ipc_model.specs.FileRows.{BlockRows, FooterPairRows, FooterRows};
-ghost use Rattle.ipc_model.specs.KindRows.{FixedRows, KeyRows, OffsetRows, PairRows, UnionEdgeRows, WidthRows};
+ghost use Rattle.ipc_model.specs.KindRows.{FixedRows, KeyRows, NestedKindRows, OffsetRows, PairRows, UnionEdgeRows, WidthRows};
 ghost use Rattle.ipc_model.specs.MessageRows.{CountRows, FirstPlaceRows, FrameRows, RecordRows, VersionRows, WhereRows};
-ghost use Rattle.ipc_model.specs.SchemaRows.{ChildRows, EncodingRows, IntegerRows, LastLevelRows, LevelRows, PastLevelRows, PlainRows, SizeRows, TimeRows};
+ghost use Rattle.ipc_model.specs.SchemaRows.{ChildRows, EncodingRows, FieldRows, IntegerRows, LastLevelRows, LevelRows, PastLevelRows, PlainRows, SizeRows, TimeRows};
 ghost use Rattle.ipc_model.specs.WritableRows.{NestedTypeRows, PlainTypeRows, WritableSchemaRows};
+ghost use Rattle.ipc_model.specs.WriterRows.{RunRows};
 
 /// The types without a child that a schema's tables say.
 pub fn types_of_schemas()
@@ -17,11 +19,12 @@ pub fn types_of_schemas()
     ensures sizes { SizeRows }
 {}
 
-/// Children, dictionaries and extensions of a schema's fields.
+/// Children, dictionaries and extensions of a schema's fields, and what else a field says.
 #[tactic(auto, using(crate::proofs::SchemaRows::encoding_rows))]
 pub fn fields_of_schemas()
     ensures children { ChildRows }
     ensures encodings { EncodingRows }
+    ensures fields { FieldRows }
 {}
 
 /// Byte orders, levels and visits of schemas.
@@ -46,11 +49,12 @@ pub fn offsets_and_keys()
     ensures keys { KeyRows }
 {}
 
-/// The children of unions, maps and structs.
-#[tactic(auto, using(crate::proofs::KindRows::union_edge_rows, crate::proofs::KindRows::pair_rows))]
+/// The children of unions, maps and structs, and what a type with children says of its bytes.
+#[tactic(auto, using(crate::proofs::KindRows::union_edge_rows, crate::proofs::KindRows::pair_rows, crate::proofs::KindRows::nested_kind_rows))]
 pub fn children_of_columns()
     ensures unions { UnionEdgeRows }
     ensures pairs { PairRows }
+    ensures types { NestedKindRows }
 {}
 
 /// Frames, record messages slot by slot, and versions.
@@ -98,4 +102,24 @@ pub fn arrays_of_types()
     ensures keys { KeyTypeRows }
     ensures known { KnownRows }
     ensures widths { OfferWidthRows }
+{}
+
+/// Columns behind others, and the version and the byte order by which a batch is read.
+#[tactic(auto, using(crate::proofs::BatchRows::version_batch_rows, crate::proofs::BatchRows::order_batch_rows, crate::proofs::BatchRows::behind_rows))]
+pub fn batches_in_messages()
+    ensures versions { VersionBatchRows }
+    ensures orders { OrderBatchRows }
+    ensures columns { BehindRows }
+{}
+
+/// Where the body of a batch in a file begins, and how much its buffers may list.
+#[tactic(auto, using(crate::proofs::BatchRows::body_rows))]
+pub fn bodies_in_files()
+    ensures { BodyRows }
+{}
+
+/// Which lists of calls of a writer there are, and what they take.
+#[tactic(auto, using(crate::proofs::WriterRows::run_rows))]
+pub fn lists_of_calls()
+    ensures { RunRows }
 {}

@@ -4,6 +4,7 @@
 
 pub mod batches;
 pub mod columns;
+pub mod dictionaries;
 pub mod edges;
 pub mod files;
 pub mod frame;

@@ -1,5 +1,4 @@
 //! Laws of streams.
-ghost use Rattle.ipc_model.specs.CarriedStreams.{CarriedFinishLaw, CarriedFrontLaw, CarriedStartLaw, CarriedWriteLaw};
 ghost use Rattle.ipc_model.specs.Streams.{FrontLaw, ResumeLaw};
 ghost use Rattle.ipc_model.specs.Visits.{VisitLaw};
 ghost use Rattle.ipc_model.specs.WholeStreams.{GrowLaw};
@@ -57,13 +56,4 @@ pub fn closed_writers()
 /// The order of bytes and the pairs of a footer stay through each list of calls.
 pub fn kept_by_writers()
     ensures { KeepLaw }
-{}
-
-/// A stream whose messages are carried stays so: a schema message starts one, and a record that is carried
-/// and the mark go on with it.
-pub fn carried_streams()
-    ensures front { CarriedFrontLaw }
-    ensures start { CarriedStartLaw }
-    ensures write { CarriedWriteLaw }
-    ensures finish { CarriedFinishLaw }
 {}
