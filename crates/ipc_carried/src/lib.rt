@@ -1,0 +1,5 @@
+//! What streams carry so far: columns of all types but those that have a dictionary or a union in them.
+#![tactic(auto)]
+
+pub mod streams;
+pub mod types;
