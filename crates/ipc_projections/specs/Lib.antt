@@ -1,5 +1,6 @@
 pub mod Marks
 pub mod Placing
+pub mod Preparing
 pub mod Projected
 pub mod Projections
 pub mod Steps

@@ -1,2 +1,3 @@
 //! Reading.
+pub mod prepare;
 pub mod projection;

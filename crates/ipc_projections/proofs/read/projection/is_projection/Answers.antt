@@ -1,4 +1,4 @@
-use Rattle.std.proofs.Common.{refl, false, true, sym, ◌∙◌, arith}
+use Rattle.std.proofs.Common.{refl, sym, ◌∙◌, arith}
 use Rattle.std.proofs.lemmas.Bool.{true≢false, false≢true}
 use Rattle.ipc_projections.proofs.Steps.{one_more_of, none_of}
 use Rattle.ipc_projections.proofs.read.projection.is_projection.Goals as goal
