@@ -4,7 +4,7 @@ ghost use Rattle.std.specs.Prelude.{◌+◌, ◌^◌, ◌<◌, ◌≤◌, map, A
 ghost use Rattle.lower_arrays.specs.AnyLayouts.{layout_of};
 ghost use Rattle.lower_arrays.specs.Children.{AllReach};
 ghost use Rattle.lower_arrays.specs.Layouts.{layouts, len_of, records};
-ghost use Rattle.lower_arrays.specs.Slots.{IsArray};
+ghost use Rattle.lower_arrays.specs.Slots.{AreArrays, IsArray};
 ghost use Rattle.std.specs.List.{flat_map};
 ghost use Rattle.ipc_model.specs.Offers.{levels_below, whole_levels, written_levels};
 ghost use Rattle.ipc_plan.specs.Taking.{AnswersColumns, TakesLevels};
@@ -59,6 +59,7 @@ pub fn plan_columns<'a>(
 ) -> Result<Plan<'a>, Fault>
     ensures plans { IfOk result (λ plan. PlansColumns order (map layout_of columns.now) plan) }
     ensures takes { AnswersColumns result (flat_map whole_levels (map layout_of columns.now)) }
+    ensures arrays { OnOk result (AreArrays (layouts (map layout_of columns.now))) }
 {
     let mut plan = Plan {
         order,

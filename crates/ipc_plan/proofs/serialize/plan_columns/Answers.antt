@@ -11,3 +11,6 @@ returns-clause-plans c =
     let xs = c.args.columns.now in
     let done = c.in_ok-plan_whole.ensures in
     plans_columns p c.plan_whole.new.plan (map layout_of xs) c.new.ensures.items c.new-2.ensures.items c.new-3.ensures.items refl (arrays_are xs done.arrays) done.grows
+
+pub returns-clause-arrays : goal.returns-clause-arrays
+returns-clause-arrays c = arrays_are c.args.columns.now c.in_ok-plan_whole.ensures.arrays
