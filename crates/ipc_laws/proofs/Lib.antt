@@ -1,0 +1,17 @@
+pub mod Messages
+pub mod Agreeing
+pub mod Readers
+pub mod Moving
+pub mod Ordering
+pub mod Sending
+pub mod Running
+pub mod Knowing
+pub mod NormalForms
+pub mod Placing
+pub mod Fitting
+pub mod Bodies
+pub mod Chunks
+pub mod ColumnRuns
+pub mod Kept
+pub mod Blocks
+pub mod FileChunks

@@ -1,0 +1,73 @@
+-- Chunks by what their writer sends: tables and bodies.
+-- (Arrow columnar format, "IPC Streaming Format".)
+use Rattle.std.specs.Prelude.{◌≡◌, ◌⊎◌, ℕ, ℤ, List, [], ◌∷◌, ◌++◌, map, Some}
+use Rattle.lower.specs.TypeTrees.{Pairs, FieldTrees}
+use Rattle.lower_types.specs.declared.Endianness.{Endianness}
+use Rattle.lower_arrays.specs.Layouts.{Layout, layouts}
+use Rattle.lower_arrays.specs.Slots.{AreArrays}
+use Rattle.ipc_base.specs.IdTrees.{IdTrees}
+use Rattle.ipc_model.specs.Accepted.{fields_of, IsEncoded}
+use Rattle.ipc_model.specs.Offers.{FilledPlace, offer_of, IsAcceptedChunk}
+use Rattle.ipc_model.specs.Streams.{Head}
+use Rattle.ipc_model.specs.Writable.{IsWritable}
+use Rattle.ipc_laws.specs.Bodies.{ValuesMessage, ColumnsMessage}
+use Rattle.ipc_laws.specs.Messages.{message_bytes, chunk_written}
+use Rattle.ipc_laws.specs.Moves.{MeansChunk}
+use Rattle.ipc_laws.specs.Places.{head_written}
+use Rattle.ipc_laws.specs.Remembered.{Remembered, remembering, dictionary_of, Filled, filled_place, filled_of}
+
+-- ---- which dictionaries are sent
+
+-- Of each place the values are to be written, or they are remembered: the list of those that are, in order.
+abbrev pub Lists : Remembered → List Filled → List FilledPlace → Remembered → Type 0
+Lists m [] ws after = (ws ≡ []) × ((i : ℤ) → after i ≡ m i)
+Lists m (p ∷ ps) ws after =
+    ((m p.id ≡ Some (dictionary_of p.values)) × Lists m ps ws after)
+    ⊎ ((rest : List FilledPlace) × (ws ≡ filled_place p ∷ rest) × Lists (remembering p.id (dictionary_of p.values) m) ps rest after)
+
+-- a message for each, in order
+abbrev pub Encodes : Endianness → List FilledPlace → List ℕ → Type 0
+Encodes order [] bytes = bytes ≡ []
+Encodes order (p ∷ ps) bytes =
+    (w : ValuesMessage order p) × (rest : List ℕ) × (bytes ≡ message_bytes w.metadata w.body ++ rest) × Encodes order ps rest
+
+-- The messages at some places, by their tables and bodies: at each the values, or none where they are remembered.
+abbrev pub SendsBodies : Endianness → Remembered → List Filled → List ℕ → Remembered → Type 0
+SendsBodies order m [] bytes after = (bytes ≡ []) × ((i : ℤ) → after i ≡ m i)
+SendsBodies order m (p ∷ ps) bytes after =
+    ((m p.id ≡ Some (dictionary_of p.values)) × SendsBodies order m ps bytes after)
+    ⊎ ((w : ValuesMessage order (filled_place p)) × (rest : List ℕ) × (bytes ≡ message_bytes w.metadata w.body ++ rest)
+    × SendsBodies order (remembering p.id (dictionary_of p.values) m) ps rest after)
+
+-- The messages of what is listed are those that are sent at these places.
+abbrev pub ListedLaw : Type 0
+ListedLaw = (order : Endianness) (m : Remembered) (ps : List Filled) (ws : List FilledPlace) (after : Remembered) (bytes : List ℕ)
+    → Lists m ps ws after → Encodes order ws bytes → SendsBodies order m ps bytes after
+
+-- ---- chunks
+
+-- the messages of a chunk: those at its places, and that of its columns
+pub record WritesChunk (h : Head) (before : Remembered) (columns : List Layout) (bytes : List ℕ) (after : Remembered) : Type 0 where
+  pub dictionaries : List ℕ
+  pub sent : SendsBodies h.schema.order before (filled_of (layouts columns) h.schema.ids) dictionaries after
+  pub own : ColumnsMessage h.schema.order columns
+  pub bytes_are : bytes ≡ dictionaries ++ message_bytes own.metadata own.body
+
+-- Of an accepted chunk of a writable schema, in either order of bytes: they mean just that chunk, whatever follows them, and a reader
+-- knows then what is remembered after.
+abbrev pub WrittenChunkLaw : Type 0
+WrittenChunkLaw = (order : Endianness) (fs : FieldTrees) (metadata : Pairs) (is : IdTrees) (columns : List Layout) (before after : Remembered) (bytes : List ℕ)
+    → IsWritable fs metadata is → AreArrays (layouts columns) → IsAcceptedChunk fs is columns
+    → WritesChunk (head_written order fs metadata is) before columns bytes after
+    → MeansChunk (head_written order fs metadata is) bytes before after (chunk_written columns)
+
+-- what a stream of some columns without a schema begins with: their types, as fields without names
+abbrev pub head_encoded : Endianness → IdTrees → List Layout → Head
+head_encoded order is columns = head_written order (fields_of (map (λ c. c.type) (offer_of columns is).columns)) [] is
+
+-- The same of columns that are encoded without a schema.
+abbrev pub EncodedChunkLaw : Type 0
+EncodedChunkLaw = (order : Endianness) (is : IdTrees) (columns : List Layout) (before after : Remembered) (bytes : List ℕ)
+    → AreArrays (layouts columns) → IsEncoded is (offer_of columns is)
+    → WritesChunk (head_encoded order is columns) before columns bytes after
+    → MeansChunk (head_encoded order is columns) bytes before after (chunk_written columns)

@@ -1,0 +1,13 @@
+pub mod Remembered
+pub mod Messages
+pub mod Agreement
+pub mod Order
+pub mod Moves
+pub mod Runs
+pub mod Places
+pub mod Bodies
+pub mod Chunks
+pub mod ColumnRuns
+pub mod Kept
+pub mod Blocks
+pub mod FileChunks

@@ -1,0 +1,54 @@
+-- The messages of a chunk, by what they mean.
+-- (Arrow columnar format, "Dictionary messages" and "RecordBatch message".)
+use Rattle.std.specs.Prelude.{◌≡◌, ℕ, ℤ, ◌+◌, ◌^◌, ◌<◌, List, ◌∷◌, ◌++◌, length, map, None, Some}
+use Rattle.lower.specs.Normal.{norm}
+use Rattle.lower_arrays.specs.Layouts.{Layout, layouts, type_of}
+use Rattle.lower_arrays.specs.Slots.{slots}
+use Rattle.ipc_model.specs.Batches.{Column, Chunk, dictionary_meaning}
+use Rattle.ipc_model.specs.Entries.{Dictionary, dictionary_at}
+use Rattle.ipc_model.specs.Streams.{Head, Known, Header, header_of, whole, most_dictionaries, more, item}
+use Rattle.ipc_model.specs.WrittenLaws.{prefix, IsWritten}
+use Rattle.ipc_laws.specs.Remembered.{Filled, filled_below, filled_of, Finds, dictionary_of}
+
+-- a message as it stands in a stream
+abbrev pub message_bytes : List ℕ → List ℕ → List ℕ
+message_bytes metadata body = prefix (length metadata) ++ (metadata ++ body)
+
+-- A dictionary that was written has its values, and what follows it is read on: its header is that of a dictionary, its body
+-- is as long as the header says, and the batch sets the values of the id.
+pub record IsWrittenDictionary (h : Head) (s : Known) (metadata body : List ℕ) (id : ℤ) (d : Dictionary) : Type 0 where
+  pub some : 0 < length metadata
+  pub short : length metadata < 2 ^ 31
+  pub header : Header
+  pub headed : header_of metadata ≡ Some header
+  pub tag : header.tag ≡ 2
+  pub long : header.body ≡ length body
+  pub means : dictionary_meaning h.schema h.extra s.dictionaries (whole body) header.table ≡ Some ((id, d) ∷ s.dictionaries)
+
+-- what a reader knows after it
+abbrev pub after_dictionary : Known → ℤ → Dictionary → Known
+after_dictionary s id d = record { dictionaries = (id, d) ∷ s.dictionaries; count = s.count + 1 }
+
+abbrev pub WrittenDictionaryLaw : Type 0
+WrittenDictionaryLaw = (h : Head) (s : Known) (metadata body rest : List ℕ) (id : ℤ) (d : Dictionary)
+    → s.count < most_dictionaries → IsWrittenDictionary h s metadata body id d
+    → item h s (prefix (length metadata) ++ (metadata ++ (body ++ rest))) ≡ more None (after_dictionary s id d) rest
+
+-- ---- whatever else is known
+
+-- The message of the values at a place: they are what it means to each reader that knows the values inside them.
+pub record MeansValues (h : Head) (p : Filled) (metadata body : List ℕ) : Type 0 where
+  pub written : (s : Known) → Finds (dictionary_at s.dictionaries) (filled_below p.values p.ids)
+      → IsWrittenDictionary h s metadata body p.id (dictionary_of p.values)
+
+-- columns as they are read back
+abbrev pub column_written : Layout → Column
+column_written l = record { type = norm (type_of l); slots = slots l }
+
+abbrev pub chunk_written : List Layout → Chunk
+chunk_written columns = map column_written columns
+
+-- The message of some columns: they are what it means to each reader that knows the values at their places.
+pub record MeansColumns (h : Head) (columns : List Layout) (metadata body : List ℕ) : Type 0 where
+  pub written : (s : Known) → Finds (dictionary_at s.dictionaries) (filled_of (layouts columns) h.schema.ids)
+      → IsWritten h s metadata body (chunk_written columns)
