@@ -1,0 +1,4 @@
+pub mod Trackers
+pub mod Places
+pub mod Listings
+pub mod Laws
