@@ -2,3 +2,8 @@ pub mod Vectors
 pub mod Placed
 pub mod Appended
 pub mod Clones
+pub mod Entries
+pub mod Metadata
+pub mod Encoded
+pub mod EncodedMeanings
+pub mod ShortMetadata

@@ -29,7 +29,7 @@ nodes_placed s front (n ∷ ns) behind e =
 
 -- ---- buffers
 
-length_padded : (xs : List ℕ) → length (padded xs) ≡ next_multiple_of (length xs) 64
+pub length_padded : (xs : List ℕ) → length (padded xs) ≡ next_multiple_of (length xs) 64
 length_padded xs =
     let zero_byte : ℕ = 0 in
     let n = next_multiple_of (length xs) 64 - length xs in

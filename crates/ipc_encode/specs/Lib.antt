@@ -1,2 +1,5 @@
 pub mod Appending
+pub mod EncodedLaws
+pub mod Encoding
 pub mod Records
+pub mod ShortMetadata

@@ -1,5 +1,5 @@
 //! What is handed to a writer.
-ghost use Rattle.std.specs.Prelude.{◌≡◌, map, option_map, IfOk, None};
+ghost use Rattle.std.specs.Prelude.{◌≡◌, [], map, option_map, IfOk, None};
 ghost use Rattle.std.specs.Cow.{cow_slice_items, cow_value};
 ghost use Rattle.lower_arrays.specs.AnyLayouts.{layout_of};
 ghost use Rattle.ipc_base.specs.IdTrees.{all_ids_view};
@@ -8,8 +8,37 @@ ghost use Rattle.ipc_encode.specs.Records.{columns_of, fields_of};
 use ipc_base::chunk::Chunk;
 use ipc_base::ipc::{IpcField, clone_ipc_fields};
 use lower_arrays::array::AnyArray;
-use std::alloc::AllocError;
+use std::alloc::{AllocError, Global};
 use std::borrow::{Cow, CowSlice};
+
+/// How a writer writes.
+#[derive(Clone, Copy, Debug, Default, PartialEq, Eq, Hash)]
+pub struct WriteOptions {
+    /// Whether the numbers in bodies have their highest byte first. By default they have their lowest byte first.
+    pub big_endian: bool,
+}
+
+/// An encoded message and its body.
+#[derive(Debug, Drop)]
+pub struct EncodedData {
+    /// The metadata: a table `Message` of the Arrow format, `Message.fbs`.
+    pub ipc_message: Vec<u8>,
+    /// The body: the buffers of a batch; empty for a schema.
+    pub arrow_data: Vec<u8>,
+}
+
+impl EncodedData {
+    /// No metadata and no body. It takes no memory.
+    pub fn empty(alloc: Global) -> EncodedData
+        ensures ipc_message { result.ipc_message.items ≡ [] }
+        ensures arrow_data { result.arrow_data.items ≡ [] }
+    {
+        EncodedData {
+            ipc_message: Vec::new(alloc),
+            arrow_data: Vec::new(alloc),
+        }
+    }
+}
 
 /// A chunk, and the ids of its columns' dictionaries where there are some. Each of the two is owned or lent.
 #[derive(Debug, Drop, PartialEq)]

@@ -1,6 +1,7 @@
-//! What a batch is made of: an array appended to the parts of one, and a record of columns.
+//! What a batch is made of: its message, an array appended to the parts of one, and a record of columns.
 #![tactic(auto)]
 
+pub mod batches;
 pub mod common;
 pub mod laws;
 pub mod serialize;

@@ -18,7 +18,7 @@ use lower_arrays::array::AnyArray;
 use std::alloc::Global;
 
 // The byte order of numbers.
-fn byte_order(is_little_endian: bool) -> Endianness
+pub(crate) fn byte_order(is_little_endian: bool) -> Endianness
     ensures { result ≡ order_of is_little_endian }
 {
     if is_little_endian {

@@ -1,0 +1,109 @@
+//! Encodes batches as messages: their metadata, and their bodies in pieces (Arrow columnar format, "RecordBatch message" and
+//! "Dictionary messages").
+ghost use Rattle.std.specs.Prelude.{◌≡◌, ◌*◌, ◌^◌, ◌<◌, ◌≤◌, length, map, IfOk};
+ghost use Rattle.lower_arrays.specs.AnyLayouts.{layout_of};
+ghost use Rattle.ipc_encode.specs.Appending.{order_of};
+ghost use Rattle.ipc_encode.specs.Encoding.{AnswersBatch, IdFits, IsEncoded, IsMessageOfPlan, header_in, levels_of};
+ghost use Rattle.ipc_model.specs.Offers.{body_lengths};
+ghost use Rattle.ipc_plan.specs.Pieces.{pieces_bytes};
+
+use crate::serialize::byte_order;
+use ipc_devices::{ArgFault, Fault};
+use ipc_plan::plan::Plan;
+use ipc_plan::serialize::plan_columns;
+use ipc_tables::message::{DictionaryBatch, Message, MessageHeader, RecordBatch};
+use ipc_views::MetadataVersion;
+use lower_arrays::array::AnyArray;
+use std::alloc::Global;
+use std::mem::replace;
+
+/// What a batch holds.
+#[derive(Clone, Copy, Debug, PartialEq, Eq)]
+pub enum BatchKind {
+    /// The columns of a chunk: a record batch.
+    Record,
+    /// The values of the dictionary of this id, as one column: a dictionary batch. They replace those that the id had.
+    Dictionary(i64),
+}
+
+/// The message of a batch.
+#[derive(Drop)]
+pub struct Encoded<'a> {
+    /// The metadata: a table `Message` of the Arrow format, `Message.fbs`.
+    pub metadata: Vec<u8>,
+    /// The body, in pieces that borrow the arrays. The metadata have its nodes and its buffers.
+    pub body: Plan<'a>,
+}
+
+// A record batch as the header of a message.
+fn header(kind: BatchKind, batch: RecordBatch) -> MessageHeader
+    ensures value { result ≡ header_in kind batch }
+    ensures fits { IdFits kind }
+{
+    match kind {
+        BatchKind::Record => MessageHeader::RecordBatch(batch),
+        BatchKind::Dictionary(id) => MessageHeader::DictionaryBatch(DictionaryBatch {
+            id,
+            data_: Some(batch),
+            is_delta: false,
+        }),
+    }
+}
+
+// The message of a batch that lists what a plan does. The plan has its pieces left.
+fn plan_to_message(alloc: Global, plan: &mut Plan<'_>, kind: BatchKind, length: i64) -> Message
+    requires { plan.old.end < 2 ^ 63 }
+    ensures value { IsMessageOfPlan result kind length plan.old }
+    ensures fits { IdFits kind }
+    ensures order { plan.new.order ≡ plan.old.order }
+    ensures pieces { plan.new.pieces.items ≡ plan.old.pieces.items }
+    ensures end { plan.new.end ≡ plan.old.end }
+{
+    let nodes = replace(&mut plan.nodes, Vec::new(alloc));
+    let buffers = replace(&mut plan.buffers, Vec::new(alloc));
+    let batch = RecordBatch {
+        length,
+        nodes,
+        buffers,
+        compression: None,
+    };
+    Message {
+        version: MetadataVersion::V5,
+        header: header(kind, batch),
+        body_length: plan.end.cast_signed(),
+        custom_metadata: None,
+    }
+}
+
+/// Encodes columns of so many rows as the message of a batch, with their numbers in this byte order: the metadata are of version V5,
+/// without pairs of their own, and the body is planned. No byte of a column is moved. Of a dictionary the keys are encoded: its values
+/// belong into a message of their own.
+///
+/// Faults: `Argument(TooLong)` where there are more than `2^63 - 1` rows, or where an array, at any level, has more slots that would be
+/// written; `Argument(TooLarge)` where the body would have more than `2^63 - 1` bytes, or the metadata more than `2^31 - 1`; `Memory`.
+/// Where several are so, any of these may come.
+pub fn encode_batch<'a>(
+    alloc: Global,
+    kind: BatchKind,
+    columns: &'a [AnyArray],
+    rows: usize,
+    is_little_endian: bool,
+) -> Result<Encoded<'a>, Fault>
+    ensures encodes { IfOk result (λ encoded. IsEncoded kind (order_of is_little_endian) (map layout_of columns.now) rows encoded.metadata.items
+        (pieces_bytes (order_of is_little_endian) encoded.body.pieces.items)) }
+    ensures takes { AnswersBatch result kind rows (levels_of (map layout_of columns.now)) }
+    ensures order { IfOk result (λ encoded. encoded.body.order ≡ order_of is_little_endian) }
+    ensures end { IfOk result (λ encoded. encoded.body.end ≡ length (pieces_bytes (order_of is_little_endian) encoded.body.pieces.items)) }
+    ensures few { IfOk result (λ encoded. length encoded.body.pieces.items ≤ 2 * length (body_lengths (levels_of (map layout_of columns.now)))) }
+{
+    let Ok(length) = i64::try_from(rows) else {
+        return Err(Fault::Argument(ArgFault::TooLong));
+    };
+    let mut plan = plan_columns(alloc, columns, byte_order(is_little_endian))?;
+    let message = plan_to_message(alloc, &mut plan, kind, length);
+    let metadata = message.to_bytes(alloc)?;
+    Ok(Encoded {
+        metadata,
+        body: plan,
+    })
+}
