@@ -1,4 +1,4 @@
--- The entries that columns are read from are those of the batch.
+-- The entries that columns are read from are those of the batch, where no dictionary is known.
 use Rattle.std.proofs.Common.{◌≡◌, ℕ, [], map}
 use Rattle.ipc_devices.specs.Device.{Memory}
 use Rattle.lower_types.specs.declared.Endianness.{Endianness}

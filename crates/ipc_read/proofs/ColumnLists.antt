@@ -1,59 +1,67 @@
 -- Columns that are read one after another.
-use Rattle.std.proofs.Common.{arith, ◌≡◌, ℕ, ◌+◌, ◌<◌, List, [], ◌∷◌, ◌++◌, length, get_or, None, ap, sym, subst, ◌∙◌, inl, inr, length-append}
-use Rattle.std.proofs.lemmas.Bool.{cases_lt}
-use Rattle.std.proofs.Math.Seq.{get_or-append_seam}
-use Rattle.std.proofs.lemmas.List.{get_or_append_left}
+use Rattle.std.proofs.Common.{◌≡◌, ℕ, List, [], ◌∷◌, ◌++◌, sym, subst, append_assoc, append-nil, inl, inr}
 use Rattle.lower.specs.TypeTrees.{FieldTrees}
-use Rattle.lower_arrays.specs.AnyLayouts.{layout_of}
 use Rattle.lower_arrays.specs.declared.array.AnyArray.{AnyArray}
-use Rattle.ipc_model.specs.Batches.{kind_at, type_at, nodes_before, buffers_before}
-use Rattle.ipc_model.specs.Columns.{IsWell}
-use Rattle.ipc_model.specs.Entries.{Entries}
+use Rattle.ipc_devices.specs.declared.fault.Fault.{Fault}
+use Rattle.ipc_model.specs.AddressLaws.{IsWellInBatch}
+use Rattle.ipc_model.specs.Batches.{kind_at}
+use Rattle.ipc_model.specs.Entries.{Entries, Limit}
 use Rattle.ipc_model.specs.Kinds.{Kinds}
-use Rattle.ipc_columns.specs.Bodies.{no_values}
-use Rattle.ipc_columns.specs.ReadColumns.{IsColumn}
-use Rattle.ipc_read.specs.Columns.{HasColumns, AreColumns}
+use Rattle.ipc_columns.specs.Kinds.{IsRead}
+use Rattle.ipc_columns.specs.Refusals.{IsFaultOf}
+use Rattle.ipc_read.specs.Columns.{HasColumns, IsColumnAt, AreColumns}
+use Rattle.ipc_read.specs.Refusals.{IsFaultOfSome}
 
-pub no_columns : (s : Entries) (ts : Kinds) → HasColumns s ts 0
-no_columns s ts = record { each = λ k h. let no : ⊥ = omega arith in absurd no }
+-- a fault of those that are left is one of all
+pub record Among (ts : Kinds) (js left : List ℕ) : Type 0 where
+  pub each : (e : Fault) → IsFaultOfSome ts left e → IsFaultOfSome ts js e
 
-pub no_arrays : (s : Entries) (fs : FieldTrees) (ts : Kinds) → AreColumns s fs ts []
-no_arrays s fs ts = record { each = λ k x h. let no : ⊥ = omega arith in absurd no }
+pub all_among : (ts : Kinds) (js left : List ℕ) → left ≡ js → Among ts js left
+all_among ts js left e = record { each = λ f h. subst (λ (l : List ℕ). IsFaultOfSome ts l f) e h }
 
-pub has_more :
-    (s : Entries) (ts : Kinds) (i : ℕ) → HasColumns s ts i → IsWell s (kind_at ts i) (nodes_before ts i) (buffers_before s.extra ts i) None → HasColumns s ts (i + 1)
-has_more s ts i has here = record {
-  each = λ k l.
-      elim (cases_lt k i) [
-        | inl below ↦ has.each k below
-        | inr past ↦
-            let at : i ≡ k = omega (arith, l, past) in
-            subst (λ (j : ℕ). IsWell s (kind_at ts j) (nodes_before ts j) (buffers_before s.extra ts j) None) at here
-      ];
-}
+pub among_same : (ts : Kinds) (js left rest : List ℕ) → left ≡ rest → Among ts js left → Among ts js rest
+among_same ts js left rest e among = subst (λ (l : List ℕ). Among ts js l) e among
 
-abbrev IsColumnAt : Entries → FieldTrees → Kinds → ℕ → AnyArray → Type 0
-IsColumnAt s fs ts k x = IsColumn s no_values (kind_at ts k) (type_at fs k) (nodes_before ts k) (buffers_before s.extra ts k) None (layout_of x)
+pub among_more : (ts : Kinds) (js left rest : List ℕ) (i : ℕ) → left ≡ i ∷ rest → Among ts js left → Among ts js rest
+among_more ts js left rest i more among = record { each = λ f h. among.each f (subst (λ (l : List ℕ). IsFaultOfSome ts l f) (sym more) (inr h)) }
 
-pub are_more :
-    (s : Entries) (fs : FieldTrees) (ts : Kinds) (i : ℕ) (xs ys : List AnyArray) (x : AnyArray) → length xs ≡ i → AreColumns s fs ts xs
-    → IsColumn s no_values (kind_at ts i) (type_at fs i) (nodes_before ts i) (buffers_before s.extra ts i) None (layout_of x) → ys ≡ xs ++ x ∷ [] → AreColumns s fs ts ys
-are_more s fs ts i xs ys x count are here pushed =
-    subst (λ (zs : List AnyArray). AreColumns s fs ts zs) (sym pushed)
-    (record {
-      each = λ k y l.
-          let long = length-append xs (x ∷ []) in
-          elim (cases_lt k i) [
-            | inl below ↦
-                let lt : k < length xs = omega (arith, below, count) in
-                subst (λ (z : AnyArray). IsColumnAt s fs ts k z) (sym (get_or_append_left xs (x ∷ []) y k lt)) (are.each k y lt)
-            | inr past ↦
-                let at : i ≡ k = omega (arith, l, long, past, count) in
-                let last : x ≡ get_or (xs ++ x ∷ []) k y =
-                sym (get_or-append_seam xs x [] y) ∙ ap (λ j. get_or (xs ++ x ∷ []) j y) (let z : length xs ≡ k = omega (arith, at, count) in z)
-                in
-                subst (λ (z : AnyArray). IsColumnAt s fs ts k z) last (subst (λ (j : ℕ). IsColumnAt s fs ts j x) at here)
-          ];
-    })
+pub fault_among : (ts : Kinds) (js left rest : List ℕ) (i : ℕ) (e : Fault) → left ≡ i ∷ rest → Among ts js left → IsFaultOf (kind_at ts i) e → IsFaultOfSome ts js e
+fault_among ts js left rest i e more among h = among.each e (subst (λ (l : List ℕ). IsFaultOfSome ts l e) (sym more) (inl h))
 
-pub ruleset column_lists = (no_columns, no_arrays)
+-- xs are the arrays of the columns js before those that are left
+pub record SoFar (s : Entries) (fs : FieldTrees) (ts : Kinds) (limit : Limit) (js left : List ℕ) (xs : List AnyArray) : Type 0 where
+  pub on : HasColumns s ts limit js → HasColumns s ts limit left
+  pub back : HasColumns s ts limit left → HasColumns s ts limit js
+  pub are : (ys : List AnyArray) → AreColumns s fs ts limit left ys → AreColumns s fs ts limit js (xs ++ ys)
+
+module _ (s : Entries) (fs : FieldTrees) (ts : Kinds) (limit : Limit) (js : List ℕ) where
+  pub so_start : (left : List ℕ) → left ≡ js → SoFar s fs ts limit js left []
+  so_start left e =
+      subst (λ (l : List ℕ). SoFar s fs ts limit js l []) (sym e) (record { on = λ h. h; back = λ h. h; are = λ ys h. h })
+
+  pub so_same : (left rest : List ℕ) (xs : List AnyArray) → left ≡ rest → SoFar s fs ts limit js left xs → SoFar s fs ts limit js rest xs
+  so_same left rest xs e so = subst (λ (l : List ℕ). SoFar s fs ts limit js l xs) e so
+
+  -- the first that is left
+  pub one_on : (left rest : List ℕ) (xs : List AnyArray) (i : ℕ) → left ≡ i ∷ rest → SoFar s fs ts limit js left xs → HasColumns s ts limit js → IsRead (kind_at ts i) × IsWellInBatch s ts limit i
+  one_on left rest xs i more so h =
+      let w : HasColumns s ts limit (i ∷ rest) = subst (λ (l : List ℕ). HasColumns s ts limit l) more (so.on h) in
+      w.0
+
+  pub so_more : (left rest : List ℕ) (xs ys : List AnyArray) (i : ℕ) (x : AnyArray) → left ≡ i ∷ rest → IsRead (kind_at ts i) × IsWellInBatch s ts limit i
+      → IsColumnAt s fs ts limit i x → ys ≡ xs ++ x ∷ [] → SoFar s fs ts limit js left xs → SoFar s fs ts limit js rest ys
+  so_more left rest xs ys i x more well column pushed so =
+      subst (λ (l : List AnyArray). SoFar s fs ts limit js rest l) (sym pushed)
+      (record {
+        on = λ h. let w : HasColumns s ts limit (i ∷ rest) = subst (λ (l : List ℕ). HasColumns s ts limit l) more (so.on h) in w.1;
+        back = λ h. so.back (subst (λ (l : List ℕ). HasColumns s ts limit l) (sym more) (well, h));
+        are = λ zs h.
+            subst (λ (l : List AnyArray). AreColumns s fs ts limit js l) (sym (append_assoc xs (x ∷ []) zs))
+            (so.are (x ∷ zs) (subst (λ (l : List ℕ). AreColumns s fs ts limit l (x ∷ zs)) (sym more) (column, h)));
+      })
+
+  pub so_end : (left : List ℕ) (xs : List AnyArray) → left ≡ [] → SoFar s fs ts limit js left xs → HasColumns s ts limit js × AreColumns s fs ts limit js xs
+  so_end left xs none so = (
+    so.back (subst (λ (l : List ℕ). HasColumns s ts limit l) (sym none) tt),
+    subst (λ (l : List AnyArray). AreColumns s fs ts limit js l) (append-nil xs) (so.are [] (subst (λ (l : List ℕ). AreColumns s fs ts limit l []) (sym none) tt)),
+  )

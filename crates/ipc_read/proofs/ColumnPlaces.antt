@@ -1,5 +1,6 @@
 -- Where the columns of a batch stand.
-use Rattle.std.proofs.Common.{arith, ◌≡◌, refl, ℕ, zero, suc, ◌+◌, ◌<◌, ◌≤◌, List, [], ◌∷◌, length, get_or, None, ap, sym, subst, ◌∙◌}
+use Rattle.std.proofs.Common.{arith, ◌≡◌, refl, ℕ, ℤ, zero, suc, ◌+◌, ◌<◌, ◌≤◌, List, [], ◌∷◌, length, get_or, Option, ap, sym, subst, ◌∙◌}
+use Rattle.lower.specs.Counts as types
 use Rattle.lower.specs.TypeTrees.{TypeTree}
 use Rattle.lower.specs.TypeViews.{type_view, field_view, fields_view}
 use Rattle.lower.specs.declared.datatypes.Field.{Field}
@@ -7,11 +8,16 @@ use Rattle.lower_arrays.specs.Layouts.{Layout}
 use Rattle.ipc_base.specs.IdTrees.{IdTrees}
 use Rattle.ipc_model.specs.Batches.{kind_at, type_at, nodes_before, buffers_before}
 use Rattle.ipc_model.specs.Columns.{IsWell}
-use Rattle.ipc_model.specs.Entries.{Entries}
+use Rattle.ipc_model.specs.Entries.{Entries, Limit}
 use Rattle.ipc_model.specs.Kinds.{Kind, Kinds, no_kinds, more_kinds, count, nodes, all_nodes, buffers, all_buffers}
-use Rattle.ipc_model.specs.TypeKinds.{first_ids, other_ids, field_kind, kinds_of}
+use Rattle.ipc_model.specs.TypeKinds.{first_ids, other_ids, kind_of, field_kind, kinds_of}
+use Rattle.ipc_model.specs.AddressLaws.{IsWellInBatch}
+use Rattle.ipc_model.proofs.TypeKinds.{node_counts, buffer_counts}
+use Rattle.ipc_devices.specs.Faults.{OwnFault}
+use Rattle.ipc_devices.specs.declared.fault.Fault.{Fault}
+use Rattle.ipc_columns.specs.Refusals.{IsFaultOf}
 use Rattle.ipc_columns.specs.Bodies.{HasRoom, no_values}
-use Rattle.ipc_columns.specs.Kinds.{Follows}
+use Rattle.ipc_columns.specs.Kinds.{Follows, IsRead, listed_in}
 use Rattle.ipc_columns.specs.ReadColumns.{IsColumn}
 use Rattle.ipc_columns.specs.declared.read.body.Body.{Body}
 use Rattle.ipc_columns.specs.declared.read.body.Place.{Place}
@@ -108,20 +114,41 @@ module _ (extra : ℕ) (ts : Kinds) (is left : IdTrees) (j : ℕ) (p : Place) (t
         buffer = omega (arith, f.buffer, at.buffer, m, ms, buffers_behind extra ts j inside);
       }
 
-  pub well_there : (s : Entries) → s.extra ≡ extra → IsWell s t p.node p.buffer None → IsWell s (kind_at ts j) (nodes_before ts j) (buffers_before s.extra ts j) None
-  well_there s e w =
-      subst (λ (x : ℕ). IsWell s (kind_at ts j) (nodes_before ts j) x None) (at.buffer ∙ ap (λ x. buffers_before x ts j) (sym e))
-      (subst (λ (x : ℕ). IsWell s (kind_at ts j) x p.buffer None) at.node (subst (λ (k : Kind). IsWell s k p.node p.buffer None) same w))
+  -- it is well formed here, or there
+  pub well_there : (s : Entries) (limit : Limit) → s.extra ≡ extra → IsRead t × IsWell s t p.node p.buffer limit → IsRead (kind_at ts j) × IsWellInBatch s ts limit j
+  well_there s limit e w = (
+    subst (λ (k : Kind). IsRead k) same w.0,
+    subst (λ (x : ℕ). IsWell s (kind_at ts j) (nodes_before ts j) x limit) (at.buffer ∙ ap (λ x. buffers_before x ts j) (sym e))
+        (subst (λ (x : ℕ). IsWell s (kind_at ts j) x p.buffer limit) at.node (subst (λ (k : Kind). IsWell s k p.node p.buffer limit) same w.1)),
+  )
 
-  pub well_here : (s : Entries) → s.extra ≡ extra → IsWell s (kind_at ts j) (nodes_before ts j) (buffers_before s.extra ts j) None → IsWell s t p.node p.buffer None
-  well_here s e w =
-      subst (λ (k : Kind). IsWell s k p.node p.buffer None) (sym same)
-      (subst (λ (x : ℕ). IsWell s (kind_at ts j) x p.buffer None) (sym at.node)
-      (subst (λ (x : ℕ). IsWell s (kind_at ts j) (nodes_before ts j) x None) (sym (at.buffer ∙ ap (λ x. buffers_before x ts j) (sym e))) w))
+  pub well_here : (s : Entries) (limit : Limit) → s.extra ≡ extra → IsRead (kind_at ts j) × IsWellInBatch s ts limit j → IsRead t × IsWell s t p.node p.buffer limit
+  well_here s limit e w = (
+    subst (λ (k : Kind). IsRead k) (sym same) w.0,
+    subst (λ (k : Kind). IsWell s k p.node p.buffer limit) (sym same)
+        (subst (λ (x : ℕ). IsWell s (kind_at ts j) x p.buffer limit) (sym at.node)
+        (subst (λ (x : ℕ). IsWell s (kind_at ts j) (nodes_before ts j) x limit) (sym (at.buffer ∙ ap (λ x. buffers_before x ts j) (sym e))) w.1)),
+  )
 
-  pub column_there : (s : Entries) (u v : TypeTree) (x : Layout) → s.extra ≡ extra → u ≡ v → IsColumn s no_values t u p.node p.buffer None x
-      → IsColumn s no_values (kind_at ts j) v (nodes_before ts j) (buffers_before s.extra ts j) None x
-  column_there s u v x e typed is_column =
-      subst (λ (y : ℕ). IsColumn s no_values (kind_at ts j) v (nodes_before ts j) y None x) (at.buffer ∙ ap (λ y. buffers_before y ts j) (sym e))
-      (subst (λ (y : ℕ). IsColumn s no_values (kind_at ts j) v y p.buffer None x) at.node
-      (subst (λ (k : Kind). IsColumn s no_values k v p.node p.buffer None x) same (subst (λ (w : TypeTree). IsColumn s no_values t w p.node p.buffer None x) typed is_column)))
+  pub column_there : (s : Entries) (limit : Limit) (u v : TypeTree) (x : Layout) → s.extra ≡ extra → u ≡ v → IsColumn s no_values t u p.node p.buffer limit x
+      → IsColumn s no_values (kind_at ts j) v (nodes_before ts j) (buffers_before s.extra ts j) limit x
+  column_there s limit u v x e typed is_column =
+      subst (λ (y : ℕ). IsColumn s no_values (kind_at ts j) v (nodes_before ts j) y limit x) (at.buffer ∙ ap (λ y. buffers_before y ts j) (sym e))
+      (subst (λ (y : ℕ). IsColumn s no_values (kind_at ts j) v y p.buffer limit x) at.node
+      (subst (λ (k : Kind). IsColumn s no_values k v p.node p.buffer limit x) same (subst (λ (w : TypeTree). IsColumn s no_values t w p.node p.buffer limit x) typed is_column)))
+
+  -- its buffers list the same there
+  pub listed_there : (s : Entries) → listed_in s extra t p.buffer ≡ listed_in s extra (kind_at ts j) (buffers_before extra ts j)
+  listed_there s = ap (λ (k : Kind). listed_in s extra k p.buffer) same ∙ ap (listed_in s extra (kind_at ts j)) at.buffer
+
+  -- its faults are those of the kind there
+  pub faults_there : (e : Fault) → OwnFault e (IsFaultOf t e) → OwnFault e (IsFaultOf (kind_at ts j) e)
+  faults_there e h = subst (λ (k : Kind). OwnFault e (IsFaultOf k e)) same h
+
+-- the place behind a column that a type tells
+pub skipped : (extra : ℕ) (u : TypeTree) (id : Option ℤ) (is : IdTrees) (p q : Place) → q.node ≡ p.node + types.nodes u → q.buffer ≡ p.buffer + types.buffers extra u
+    → Follows extra (kind_of u id is) p q
+skipped extra u id is p q n m =
+    let a = node_counts u id is in
+    let b = buffer_counts extra u id is in
+    record { node = omega (arith, n, a); buffer = omega (arith, m, b) }

@@ -1,16 +1,15 @@
 -- The faults of a part are faults of the whole.
-use Rattle.std.proofs.Common.{◌≡◌, sym, subst}
+use Rattle.std.proofs.Common.{◌≡◌, ℕ, List, sym, subst, inl, inr}
 use Rattle.ipc_devices.specs.Faults.{OwnFault}
+use Rattle.ipc_devices.specs.declared.fault.ArgFault.TheVariants.{UnequalRows}
 use Rattle.ipc_devices.specs.declared.fault.Fault.{Fault}
 use Rattle.ipc_devices.specs.declared.fault.Fault.TheVariants.{Ended, OutOfSpec, NotYetImplemented, Schema, Argument, State, TooManyDictionaries, Io, Memory, Lower}
-use Rattle.ipc_devices.specs.declared.fault.OutOfSpecKind.TheVariants.{NegativeFooterLength, InvalidBuffer}
-use Rattle.lower_types.specs.declared.PrimitiveType.{PrimitiveType}
-use Rattle.ipc_model.specs.Kinds.{Kind, number_kind}
-use Rattle.ipc_columns.specs.Refusals.{IsBufferFault, IsFaultOf}
-use Rattle.ipc_read.specs.Refusals.{IsBatchFault}
+use Rattle.ipc_devices.specs.declared.fault.OutOfSpecKind.TheVariants.{NegativeFooterLength}
+use Rattle.ipc_model.specs.Kinds.{Kinds}
+use Rattle.ipc_read.specs.Refusals.{IsListFault, IsFaultOfSome, IsFaultOfBatch}
 
 -- a claim of a fault by which another one holds
-claims_through : (e : Fault) (P Q : Type 0) → (P → Q) → OwnFault e P → OwnFault e Q
+pub claims_through : (e : Fault) (P Q : Type 0) → (P → Q) → OwnFault e P → OwnFault e Q
 claims_through (OutOfSpec k) P Q f h = f h
 claims_through Ended P Q f h = f h
 claims_through (NotYetImplemented n) P Q f h = f h
@@ -22,24 +21,28 @@ claims_through (Io e) P Q f h = tt
 claims_through Memory P Q f h = tt
 claims_through (Lower e) P Q f h = f h
 
-pub negative_batch : (e : Fault) → e ≡ OutOfSpec NegativeFooterLength → OwnFault e (IsBatchFault e)
-negative_batch e q = subst (λ (x : Fault). OwnFault x (IsBatchFault x)) (sym q) tt
+pub own_any : (e : Fault) (P : Type 0) → P → OwnFault e P
+own_any (OutOfSpec k) P h = h
+own_any Ended P h = h
+own_any (NotYetImplemented n) P h = h
+own_any (Schema s) P h = h
+own_any (Argument a) P h = h
+own_any (State s) P h = h
+own_any TooManyDictionaries P h = h
+own_any (Io e) P h = tt
+own_any Memory P h = tt
+own_any (Lower e) P h = h
 
-buffer_in_batch : (e : Fault) → IsBufferFault e → IsBatchFault e
-buffer_in_batch (OutOfSpec NegativeFooterLength) h = tt
-buffer_in_batch (OutOfSpec (InvalidBuffer a b c d)) h = tt
-buffer_in_batch (OutOfSpec _) h = absurd h
-buffer_in_batch Ended h = tt
-buffer_in_batch (NotYetImplemented n) h = absurd h
-buffer_in_batch (Schema s) h = absurd h
-buffer_in_batch (Argument a) h = absurd h
-buffer_in_batch (State s) h = absurd h
-buffer_in_batch TooManyDictionaries h = absurd h
-buffer_in_batch (Io e) h = absurd h
-buffer_in_batch Memory h = absurd h
-buffer_in_batch (Lower e) h = absurd h
+pub negative_list : (e : Fault) → e ≡ OutOfSpec NegativeFooterLength → OwnFault e (IsListFault e)
+negative_list e q = subst (λ (x : Fault). OwnFault x (IsListFault x)) (sym q) tt
 
--- of a column of numbers
-pub number_fault : (t : Kind) (f : PrimitiveType) (e : Fault) → t ≡ number_kind f → OwnFault e (IsFaultOf t e) → OwnFault e (IsBatchFault e)
-number_fault t f e same h =
-    claims_through e (IsBufferFault e) (IsBatchFault e) (buffer_in_batch e) (subst (λ (k : Kind). OwnFault e (IsFaultOf k e)) same h)
+pub list_in_batch : (ts : Kinds) (js : List ℕ) (e : Fault) → OwnFault e (IsListFault e) → OwnFault e (IsFaultOfBatch ts js e)
+list_in_batch ts js e h = claims_through e (IsListFault e) (IsFaultOfBatch ts js e) (λ f. inl f) h
+
+pub some_in_batch : (ts : Kinds) (js : List ℕ) (e : Fault) → OwnFault e (IsFaultOfSome ts js e) → OwnFault e (IsFaultOfBatch ts js e)
+some_in_batch ts js e h = claims_through e (IsFaultOfSome ts js e) (IsFaultOfBatch ts js e) (λ f. inr (inl f)) h
+
+pub unequal_in_batch : (ts : Kinds) (js : List ℕ) (e : Fault) → e ≡ Argument UnequalRows → OwnFault e (IsFaultOfBatch ts js e)
+unequal_in_batch ts js e q = own_any e (IsFaultOfBatch ts js e) (inr (inr q))
+
+pub ruleset batch_faults = (list_in_batch, some_in_batch, unequal_in_batch)

@@ -1,6 +1,6 @@
 -- What a record batch is read as.
 -- (Arrow columnar format, "RecordBatch message".)
-use Rattle.std.specs.Prelude.{◌≡◌, ℕ, List, [], map, Bool, if◌then◌else◌, Option, Some, None, IsSome, IsNone, Result}
+use Rattle.std.specs.Prelude.{◌≡◌, ℕ, List, [], map, Bool, if◌then◌else◌, Option, Some, IsSome, Result}
 use Rattle.lower.specs.TypeViews.{fields_view}
 use Rattle.lower.specs.declared.datatypes.Field.{Field}
 use Rattle.lower_types.specs.declared.Endianness.{Endianness}
@@ -14,9 +14,10 @@ use Rattle.ipc_base.specs.declared.ipc.IpcSchema.{IpcSchema}
 use Rattle.ipc_devices.specs.Faults.{Answers}
 use Rattle.ipc_devices.specs.declared.fault.Fault.{Fault}
 use Rattle.ipc_views.specs.Spot.{Spot}
-use Rattle.ipc_model.specs.Batches.{Schema, Body, lists_of, Column, Chunk, record_meaning}
-pub use Rattle.ipc_model.specs.CarriedStreams.{IsCarriedLists}
-use Rattle.ipc_model.specs.Entries.{Dictionaries}
+use Rattle.ipc_model.specs.Batches.{Schema, kinds, Body, chosen, Column, Chunk, record_meaning}
+use Rattle.ipc_model.specs.Entries.{Dictionaries, Limit}
+use Rattle.ipc_model.specs.Kinds.{count}
+use Rattle.ipc_read.specs.Columns.{AreReadAt}
 
 -- an array as a column: its type and its slots
 abbrev pub column_seen : AnyArray → Column
@@ -38,14 +39,13 @@ batch_schema fields s = record {
   order = order_of s.is_little_endian;
 }
 
--- The record batch t in a body has a meaning, and is carried.
-pub record HasMeaning (schema : Schema) (extra : ℕ) (known : Dictionaries) (b : Body) (t : Spot) : Type 0 where
-  pub some : IsSome (record_meaning schema extra known b t None None)
-  pub carried : IsCarriedLists schema (lists_of t)
+-- The record batch t in a body has a meaning, and the columns that are chosen are read.
+pub record HasMeaning (schema : Schema) (extra : ℕ) (known : Dictionaries) (b : Body) (t : Spot) (projection : Option (List ℕ)) (limit : Limit) : Type 0 where
+  pub some : IsSome (record_meaning schema extra known b t projection limit)
+  pub read : AreReadAt (kinds schema) (chosen projection (count (kinds schema)))
 
--- A record batch was read, whatever dictionaries are known: exactly where it has a meaning and is carried, all of it
--- is asked for, and then the arrays are the columns that it means.
-pub record GivesBatch {A B : Type 0} (schema : Schema) (extra : ℕ) (b : Body) (t : Spot) (projection : Option A) (limit : Option B) (r : Result (List AnyArray) Fault) : Type 0 where
-  pub each : (known : Dictionaries) → Answers r
-      (IsNone projection × IsNone limit × HasMeaning schema extra known b t)
-      (λ xs. record_meaning schema extra known b t None None ≡ Some (chunk_seen xs))
+-- A record batch was read: exactly where it has a meaning by the projection and the limit, and then the arrays are the columns that it
+-- means.
+abbrev pub GivesBatch : Schema → ℕ → Dictionaries → Body → Spot → Option (List ℕ) → Limit → Result (List AnyArray) Fault → Type 0
+GivesBatch schema extra known b t projection limit r =
+    Answers r (HasMeaning schema extra known b t projection limit) (λ xs. record_meaning schema extra known b t projection limit ≡ Some (chunk_seen xs))

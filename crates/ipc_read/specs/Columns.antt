@@ -1,21 +1,49 @@
--- The columns of a batch, each at its place: behind those before it.
+-- Some columns of a batch, each at its place: behind all those before it.
 -- (Arrow columnar format, "RecordBatch message".)
-use Rattle.std.specs.Prelude.{ℕ, ◌<◌, List, length, slice_index_or, None}
+use Rattle.std.specs.Prelude.{◌≡◌, ℕ, ◌+◌, List, [], ◌∷◌, slice_get, Option, None, Some}
 use Rattle.lower.specs.TypeTrees.{FieldTrees}
 use Rattle.lower_arrays.specs.AnyLayouts.{layout_of}
 use Rattle.lower_arrays.specs.declared.array.AnyArray.{AnyArray}
+use Rattle.ipc_model.specs.AddressLaws.{IsWellInBatch}
 use Rattle.ipc_model.specs.Batches.{kind_at, type_at, nodes_before, buffers_before}
-use Rattle.ipc_model.specs.Columns.{IsWell}
-use Rattle.ipc_model.specs.Entries.{Entries}
+use Rattle.ipc_model.specs.Entries.{Entries, Limit}
 use Rattle.ipc_model.specs.Kinds.{Kinds}
+use Rattle.ipc_columns.specs.Kinds.{IsRead, listed_in}
 use Rattle.ipc_columns.specs.Bodies.{no_values}
 use Rattle.ipc_columns.specs.ReadColumns.{IsColumn}
+use Rattle.ipc_projections.specs.Projections.{IsPrepared}
 
--- the first n columns are well formed
-pub record HasColumns (s : Entries) (ts : Kinds) (n : ℕ) : Type 0 where
-  pub each : (k : ℕ) → k < n → IsWell s (kind_at ts k) (nodes_before ts k) (buffers_before s.extra ts k) None
+-- the columns of a projection are each one of n, in rising order
+abbrev pub ArePrepared : Option (List ℕ) → ℕ → Type 0
+ArePrepared None n = Unit {0}
+ArePrepared (Some js) n = IsPrepared js n
 
--- what was read are the first columns
-pub record AreColumns (s : Entries) (fs : FieldTrees) (ts : Kinds) (xs : List AnyArray) : Type 0 where
-  pub each : (k : ℕ) (x : AnyArray) → k < length xs
-      → IsColumn s no_values (kind_at ts k) (type_at fs k) (nodes_before ts k) (buffers_before s.extra ts k) None (layout_of (slice_index_or xs k x))
+-- the kinds of some columns are read
+abbrev pub AreReadAt : Kinds → List ℕ → Type 0
+AreReadAt ts [] = Unit {0}
+AreReadAt ts (j ∷ js) = IsRead (kind_at ts j) × AreReadAt ts js
+
+-- some columns are read, and well formed
+abbrev pub HasColumns : Entries → Kinds → Limit → List ℕ → Type 0
+HasColumns s ts limit [] = Unit {0}
+HasColumns s ts limit (j ∷ js) = (IsRead (kind_at ts j) × IsWellInBatch s ts limit j) × HasColumns s ts limit js
+
+-- an array is that of column j
+abbrev pub IsColumnAt : Entries → FieldTrees → Kinds → Limit → ℕ → AnyArray → Type 0
+IsColumnAt s fs ts limit j x = IsColumn s no_values (kind_at ts j) (type_at fs j) (nodes_before ts j) (buffers_before s.extra ts j) limit (layout_of x)
+
+-- the arrays are those of some columns, one by one
+abbrev pub AreColumns : Entries → FieldTrees → Kinds → Limit → List ℕ → List AnyArray → Type 0
+AreColumns s fs ts limit [] [] = Unit {0}
+AreColumns s fs ts limit (j ∷ js) (x ∷ xs) = IsColumnAt s fs ts limit j x × AreColumns s fs ts limit js xs
+AreColumns s fs ts limit _ _ = ⊥
+
+-- how many bytes the buffers of some columns list together
+abbrev pub columns_listed : Entries → ℕ → Kinds → List ℕ → ℕ
+columns_listed s extra ts [] = 0
+columns_listed s extra ts (j ∷ js) = listed_in s extra (kind_at ts j) (buffers_before extra ts j) + columns_listed s extra ts js
+
+-- column i stands at place m of a projection: each does where there is none
+abbrev pub IsChosen : Option (List ℕ) → ℕ → ℕ → Type 0
+IsChosen None m i = Unit {0}
+IsChosen (Some js) m i = slice_get js m ≡ Some i

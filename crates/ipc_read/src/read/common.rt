@@ -1,25 +1,25 @@
 //! Reads batches.
-ghost use Rattle.std.specs.Prelude.{◌≡◌, ◌≤◌, ◌↔◌, All, length, take, IfOk, IfErr, IsSome, Some, IsTrue};
+ghost use Rattle.std.specs.Prelude.{◌≡◌, ◌+◌, ◌≤◌, ◌<◌, ◌^◌, ◌↔◌, [], length, IfErr, IfOk, IsSome, Some, IsTrue};
+ghost use Rattle.std.specs.Option.{option_copied};
 ghost use Rattle.ipc_devices.specs.Device.{Rises};
 ghost use Rattle.ipc_devices.specs.Faults.{OnIo, OwnFault, Answers};
-ghost use Rattle.lower.specs.Counts.{fields_nodes, fields_buffers};
+ghost use Rattle.lower.specs.Counts.{nodes, fields_nodes, buffers, fields_buffers};
 ghost use Rattle.lower.specs.TypeViews.{type_view, fields_view};
 ghost use Rattle.ipc_base.specs.IdTrees.{all_ids_view};
-ghost use Rattle.ipc_model.specs.Batches.{extra_of, lists_of};
-ghost use Rattle.ipc_model.specs.Carried.{is_whole_type, are_whole, IsCarriedBatch};
-ghost use Rattle.ipc_model.specs.Entries.{size};
+ghost use Rattle.ipc_model.specs.Batches.{kinds, extra_of, lists_of, chosen};
 ghost use Rattle.ipc_model.specs.Kinds.{all_nodes, all_buffers};
 ghost use Rattle.ipc_model.specs.TypeKinds.{kinds_of};
-ghost use Rattle.ipc_columns.specs.Bodies.{Stands, HasRoom, entries};
 ghost use Rattle.ipc_columns.specs.Limits.{AreSmall};
+ghost use Rattle.ipc_columns.specs.Bodies.{Stands, HasRoom, entries};
+ghost use Rattle.ipc_columns.specs.Steps.{Step};
 ghost use Rattle.ipc_read.specs.Chunks.{GivesBatch, batch_schema, order_of};
-ghost use Rattle.ipc_read.specs.Columns.{AreColumns, HasColumns};
-ghost use Rattle.ipc_read.specs.Refusals.{IsBatchFault};
-ghost use Rattle.ipc_read.specs.Sizes.{AreSizes, total_of};
+ghost use Rattle.ipc_read.specs.Columns.{ArePrepared, AreColumns, HasColumns, IsChosen, columns_listed};
+ghost use Rattle.ipc_read.specs.Refusals.{IsListFault, IsFaultOfSome, IsFaultOfBatch};
+ghost use Rattle.ipc_read.specs.Sizes.{AreSizes, total_of, chosen_listed};
 
 use crate::read::Dictionaries;
 use ipc_base::chunk::Chunk;
-use ipc_base::ipc::IpcSchema;
+use ipc_base::ipc::{IpcField, IpcSchema};
 use ipc_columns::read::body::{Body, Place};
 use ipc_columns::read::deserialize::read;
 use ipc_columns::read::ids::{child_of, others_of};
@@ -27,64 +27,19 @@ use ipc_columns::read::read_basic::natural;
 use ipc_devices::fault::{Fault, Nyi, OutOfSpecKind};
 use ipc_devices::{Reads, Seeks};
 use ipc_views::{Buffers, MetadataVersion, Nodes, RecordBatchRef};
-use lower::datatypes::{DataType, Field, count_all_buffers, count_all_nodes};
+use lower::datatypes::{
+    DataType, Field, count_all_buffers, count_all_nodes, count_buffers, count_nodes,
+};
 use lower::types::Endianness;
 use lower_arrays::array::AnyArray;
 use std::alloc::Global;
 use std::snapshot::Snapshot;
 
-// Whether columns of this type are read.
-fn is_integer(data_type: &DataType) -> bool
-    ensures { result ≡ is_whole_type (type_view data_type.now) }
-{
-    matches!(
-        data_type,
-        DataType::Int8
-            | DataType::Int16
-            | DataType::Int32
-            | DataType::Int64
-            | DataType::UInt8
-            | DataType::UInt16
-            | DataType::UInt32
-            | DataType::UInt64
-    )
-}
-
-// Whether all columns are read.
-#[tactic(auto, using(crate::proofs::Fields::carried_fields))]
-fn are_integers(fields: &[Field]) -> bool
-    ensures { IsTrue result ↔ IsTrue (are_whole (fields_view fields.now)) }
-{
-    fields.iter().all(|field| is_integer(&field.data_type))
-}
-
-// Whether none of the first nodes tells of nulls.
-#[tactic(auto, using(crate::proofs::NodeLists::null_lists))]
-fn have_no_nulls(nodes: &Nodes, count: usize) -> bool
-    ensures { IsTrue result ↔ All (λ node. size node.null_count ≡ 0) (take count nodes.now) }
-{
-    for index in 0..count.min(nodes.len()) {
-        if nodes.get(index).null_count > 0 {
-            return false;
-        }
-    }
-    true
-}
-
-// Whether this version carries the batch: its columns are of integers, whose lowest byte stands first, and have no
-// nulls. Such a column has one node.
-#[tactic(auto, using(crate::proofs::NodeLists::carried_batches))]
-fn is_carried(fields: &[Field], ipc_schema: &IpcSchema, nodes: &Nodes) -> bool
-    ensures { IsTrue result ↔ IsCarriedBatch (batch_schema fields.now ipc_schema.now) nodes.now }
-{
-    ipc_schema.is_little_endian && are_integers(fields) && have_no_nulls(nodes, fields.len())
-}
-
 // The entries of a batch, which isn't compressed.
 #[tactic(auto, unfolding(ipc_model::specs::Batches::lists_of), using(crate::proofs::NodeLengths::node_lengths))]
 fn entries_of<'a>(batch: &RecordBatchRef<'a>) -> Result<(Nodes<'a>, Buffers<'a>), Fault>
     ensures own { OnIo result ⊥ }
-    ensures only { IfErr result (λ e. OwnFault e (IsBatchFault e)) }
+    ensures only { IfErr result (λ e. OwnFault e (IsListFault e)) }
     ensures small { IfOk result (λ r. AreSmall r.0) }
     ensures exact { Answers result (IsSome (lists_of batch.now)) (λ r. lists_of batch.now ≡ Some (record { nodes = r.0; buffers = r.1 })) }
 {
@@ -106,10 +61,10 @@ fn entries_of<'a>(batch: &RecordBatchRef<'a>) -> Result<(Nodes<'a>, Buffers<'a>)
 }
 
 // How many bytes the buffers list together.
-#[tactic(auto, using(crate::proofs::Refusals::negative_batch))]
+#[tactic(auto, using(crate::proofs::Refusals::negative_list))]
 fn listed_bytes(buffers: &Buffers) -> Result<u128, Fault>
     ensures own { OnIo result ⊥ }
-    ensures only { IfErr result (λ e. OwnFault e (IsBatchFault e)) }
+    ensures only { IfErr result (λ e. OwnFault e (IsListFault e)) }
     ensures exact { Answers result (AreSizes buffers.now) (λ n. n ≡ total_of buffers.now) }
 {
     let mut total = 0;
@@ -122,7 +77,7 @@ fn listed_bytes(buffers: &Buffers) -> Result<u128, Fault>
 // Refuses buffers that are together longer than what holds them.
 fn check_lengths(buffers: &Buffers, file_size: u64) -> Result<(), Fault>
     ensures own { OnIo result ⊥ }
-    ensures only { IfErr result (λ e. OwnFault e (IsBatchFault e)) }
+    ensures only { IfErr result (λ e. OwnFault e (IsListFault e)) }
     ensures exact { Answers result (AreSizes buffers.now × (total_of buffers.now ≤ file_size)) (λ _. Unit {0}) }
 {
     let total = listed_bytes(buffers)?;
@@ -139,7 +94,7 @@ fn check_lengths(buffers: &Buffers, file_size: u64) -> Result<(), Fault>
 fn check_counts(nodes: usize, buffers: usize, fields: &[Field], extra: usize) -> Result<(), Fault>
     requires { extra ≤ 1 }
     ensures own { OnIo result ⊥ }
-    ensures only { IfErr result (λ e. OwnFault e (IsBatchFault e)) }
+    ensures only { IfErr result (λ e. OwnFault e (IsListFault e)) }
     ensures exact { let fs = fields_view fields.now in Answers result ((fields_nodes fs ≤ nodes) × (fields_buffers extra fs ≤ buffers)) (λ _. Unit {0}) }
 {
     match count_all_nodes(fields) {
@@ -174,32 +129,74 @@ fn count_extra(version: MetadataVersion) -> usize
     }
 }
 
-// The columns of fields of integers, one behind the other.
-#[tactic(auto, using(crate::proofs::ColumnLists::column_lists))]
-fn read_columns<R: Reads + Seeks>(
+// Whether a column is the one that stands at a place of the projection. Where there is none, each is.
+fn is_chosen(projection: Option<&[usize]>, place: usize, column: usize) -> bool
+    ensures { IsTrue result ↔ IsChosen (option_copied projection.entry) place column }
+{
+    match projection {
+        None => true,
+        Some(columns) => match columns.get(place) {
+            None => false,
+            Some(chosen) => *chosen == column,
+        },
+    }
+}
+
+// The place behind a column that isn't read, which its type says: no entry is looked at.
+fn skip(data_type: &DataType, extra: usize, place: Place) -> Place
+    requires extra { extra ≤ 1 }
+    requires nodes { place.node + nodes (type_view data_type.now) < 2 ^ 64 }
+    requires buffers { place.buffer + buffers extra (type_view data_type.now) < 2 ^ 64 }
+    ensures nodes { result.node ≡ place.node + nodes (type_view data_type.now) }
+    ensures buffers { result.buffer ≡ place.buffer + buffers extra (type_view data_type.now) }
+{
+    let nodes = count_nodes(data_type).unwrap_or(0);
+    let buffers = count_buffers(data_type, extra as u64).unwrap_or(0);
+    Place {
+        node: place.node + nodes as usize,
+        buffer: place.buffer + buffers as usize,
+    }
+}
+
+/// The columns of some fields, with their ids, one behind the other from the first entry on: those of the
+/// projection, which are in rising order, or all where there is none, and of each at most `limit` slots (Arrow
+/// columnar format, "RecordBatch message"). Of a column that isn't chosen no byte is read, and nothing is judged.
+/// The entries for all fields have to be there.
+///
+/// The faults are those of [`read`], of a column that is chosen.
+pub fn read_columns<R: Reads + Seeks>(
     alloc: Global,
     fields: &[Field],
-    ipc_schema: &IpcSchema,
+    ids: &[IpcField],
+    projection: Option<&[usize]>,
+    limit: Option<usize>,
     reader: &mut R,
     body: &Body<R>,
 ) -> Result<Vec<AnyArray>, Fault>
-    requires whole { IsTrue (are_whole (fields_view fields.now)) }
-    requires room { let ts = kinds_of (fields_view fields.now) (all_ids_view ipc_schema.now.fields.items) in
+    requires prepared { ArePrepared (option_copied projection) (length fields.now) }
+    requires room { let ts = kinds_of (fields_view fields.now) (all_ids_view ids.now) in
         HasRoom body.now (record { node = 0; buffer = 0 }) (all_nodes ts) (all_buffers body.now.extra ts) }
     requires stands { Stands R.still R.memory reader.old body.now }
-    ensures only { IfErr result (λ e. OwnFault e (IsBatchFault e)) }
-    ensures monotone { R.failures reader.old ≤ R.failures reader.new }
-    ensures failed { OnIo result (Rises (R.failures reader.old) (R.failures reader.new)) }
-    ensures stands { Stands R.still R.memory reader.new body.now }
-    ensures count { IfOk result (λ v. length v.items ≡ length fields.now) }
-    ensures memory { IsTrue R.known → let s = entries R.memory body.now in let ts = kinds_of (fields_view fields.now) (all_ids_view ipc_schema.now.fields.items) in
-        Answers result (HasColumns s ts (length fields.now)) (λ v. AreColumns s (fields_view fields.now) ts v.items) }
+    ensures only { let js = chosen (option_copied projection.entry) (length fields.now) in
+        IfErr result (λ e. OwnFault e (IsFaultOfSome (kinds_of (fields_view fields.now) (all_ids_view ids.now)) js e)) }
+    ensures step { let js = chosen (option_copied projection.entry) (length fields.now) in
+        let ts = kinds_of (fields_view fields.now) (all_ids_view ids.now) in
+        Step R.still R.memory R.failures R.given body.now (columns_listed (entries R.memory body.now) body.now.extra ts js) reader.old result reader.new }
+    ensures memory { IsTrue R.known → let s = entries R.memory body.now in
+        let js = chosen (option_copied projection.entry) (length fields.now) in
+        let ts = kinds_of (fields_view fields.now) (all_ids_view ids.now) in
+        Answers result (HasColumns s ts limit js) (λ v. AreColumns s (fields_view fields.now) ts limit js v.items) }
 {
     let mut columns = Vec::new(alloc);
     let mut place = Place { node: 0, buffer: 0 };
-    let mut left = ipc_schema.fields.as_slice();
-    for field in fields {
+    let mut left = ids;
+    for (index, field) in fields.iter().enumerate() {
         let (id, child_ids) = child_of(field, left);
+        left = others_of(left);
+        if !is_chosen(projection, columns.len(), index) {
+            place = skip(&field.data_type, body.extra, place);
+            continue;
+        }
         let (column, next) = read(
             alloc,
             &field.data_type,
@@ -208,28 +205,29 @@ fn read_columns<R: Reads + Seeks>(
             reader,
             body,
             place,
-            None,
+            limit,
         )?;
         columns.push(column)?;
         place = next;
-        left = others_of(left);
     }
     Ok(columns)
 }
 
 /// The columns of a record batch whose body begins at the place `block_offset` of a device and is at
-/// most `file_size` bytes long (Arrow columnar format, "RecordBatch message"): those that it means. They
-/// come exactly where it has a meaning that this version carries, and there is memory for them.
+/// most `file_size` bytes long (Arrow columnar format, "RecordBatch message"): those of the projection,
+/// in rising order, or all where there is none, and of each at most `limit` slots. They come exactly
+/// where the batch has a meaning by these, and there is memory for them. A column that isn't chosen is
+/// gone past by its type: no byte of it is read, and it isn't judged. An empty projection gives a chunk
+/// without columns. No more bytes are taken of the device than the buffers of the chosen columns list.
 ///
 /// Faults: `InvalidFlatbufferCompression`, `InvalidFlatbufferBuffers`, `InvalidFlatbufferNodes` where
 /// these slots are ill-made, `MissingMessageBuffers`, `MissingMessageNodes` where they are absent or
-/// there are fewer nodes than fields, `ExpectedBuffer` where there are too few buffers, `Compressed`,
-/// `NegativeFooterLength` where a length or a used offset is below 0, `InvalidBuffersLength` where
-/// the buffers list more than `file_size` bytes, `InvalidBuffer` and `Ended` where bytes that are
-/// needed aren't listed or aren't there, `UnequalRows`. `Pending` where a projection or a limit is
-/// given, the numbers have their highest byte first, a field isn't of integers, or a column has nulls.
-/// `Io` and `Memory` come too, and no other. The dictionaries and the scratch memory aren't used yet.
+/// there are fewer nodes than the columns of all fields take, `ExpectedBuffer` where there are too few
+/// buffers, `Compressed`, `NegativeFooterLength` where a length is below 0, `InvalidBuffersLength` where
+/// the buffers list more than `file_size` bytes, those of [`read_columns`], and `UnequalRows`. `Io` and
+/// `Memory` come too, and no other. No dictionary is known yet, and the scratch memory isn't used.
 #[allow(clippy::too_many_arguments)]
+#[tactic(auto, using(crate::proofs::Refusals::batch_faults))]
 pub fn read_record_batch<R: Reads + Seeks>(
     alloc: Global,
     batch: RecordBatchRef,
@@ -244,22 +242,21 @@ pub fn read_record_batch<R: Reads + Seeks>(
     file_size: u64,
     _scratch: &mut Vec<u8>,
 ) -> Result<Chunk<AnyArray>, Fault>
-    ensures only { IfErr result (λ e. OwnFault e (IsBatchFault e)) }
+    requires prepared { ArePrepared (option_copied projection) (length fields.now) }
+    ensures only { let js = chosen (option_copied projection.entry) (length fields.now) in
+        IfErr result (λ e. OwnFault e (IsFaultOfBatch (kinds (batch_schema fields.now ipc_schema.now)) js e)) }
     ensures monotone { R.failures reader.old ≤ R.failures reader.new }
     ensures failed { OnIo result (Rises (R.failures reader.old) (R.failures reader.new)) }
-    ensures memory { IsTrue R.known → GivesBatch (batch_schema fields.now ipc_schema.now) (extra_of version)
+    ensures given { let js = chosen (option_copied projection.entry) (length fields.now) in
+        R.given reader.new ≤ R.given reader.old
+        + chosen_listed (lists_of batch.entry) (extra_of version) (kinds (batch_schema fields.now ipc_schema.now)) js }
+    ensures memory { IsTrue R.known → GivesBatch (batch_schema fields.now ipc_schema.now) (extra_of version) []
         (record { source = (R.memory reader.old).whole; base = block_offset; size = file_size }) batch.entry
-        projection.entry limit result }
+        (option_copied projection.entry) limit result }
     ensures whole { IsTrue R.still → (R.memory reader.new).whole ≡ (R.memory reader.old).whole }
 {
-    if projection.is_some() || limit.is_some() {
-        return Err(Fault::NotYetImplemented(Nyi::Pending));
-    }
     let (nodes, buffers) = entries_of(&batch)?;
     check_lengths(&buffers, file_size)?;
-    if !is_carried(fields, ipc_schema, &nodes) {
-        return Err(Fault::NotYetImplemented(Nyi::Pending));
-    }
     let extra = count_extra(version);
     check_counts(nodes.len(), buffers.len(), fields, extra)?;
     let body = Body {
@@ -270,6 +267,7 @@ pub fn read_record_batch<R: Reads + Seeks>(
         extra,
         device: Snapshot::of(&*reader),
     };
-    let columns = read_columns(alloc, fields, ipc_schema, reader, &body)?;
+    let ids = ipc_schema.fields.as_slice();
+    let columns = read_columns(alloc, fields, ids, projection, limit, reader, &body)?;
     Chunk::try_new(columns)
 }

@@ -1,18 +1,30 @@
-use Rattle.std.proofs.Common.{◌≡◌, ◌≤◌, length, IsTrue}
+use Rattle.std.proofs.Common.{◌+◌, ◌≤◌, length, IsTrue}
+use Rattle.std.specs.Option.{option_copied}
 use Rattle.lower.specs.TypeViews.{fields_view}
 use Rattle.ipc_base.specs.IdTrees.{all_ids_view}
+use Rattle.ipc_model.specs.Batches.{chosen}
 use Rattle.ipc_model.specs.TypeKinds.{kinds_of}
 use Rattle.ipc_columns.specs.Bodies.{Stands, entries}
-use Rattle.ipc_read.specs.Columns.{AreColumns, HasColumns}
+use Rattle.ipc_read.specs.Columns.{columns_listed}
+use Rattle.ipc_read.proofs.Chosen.{AreLeft, left_of}
+use Rattle.ipc_read.proofs.ColumnLists.{Among, SoFar}
 use Rattle.ipc_read.proofs.ColumnPlaces.{IsPlace}
 use Rattle.ipc_read.proofs.read.common.read_columns.Given as goal
 
-abbrev pub invariant-loop-field : goal.invariant-loop-field
-invariant-loop-field g l = record {
-  at : IsPlace l.body.extra (kinds_of (fields_view l.fields) (all_ids_view l.ipc_schema.fields.items)) (all_ids_view l.ipc_schema.fields.items) (all_ids_view l.left) l.field-index l.place;
+abbrev pub invariant-loop-index : goal.invariant-loop-index
+invariant-loop-index g l = record {
+  at : IsPlace l.body.extra (kinds_of (fields_view l.fields) (all_ids_view l.ids)) (all_ids_view l.ids) (all_ids_view l.left) l.index l.place;
+  rest : AreLeft (option_copied l.projection) (length l.fields) (length l.columns.items) l.index;
+  among : Among (kinds_of (fields_view l.fields) (all_ids_view l.ids)) (chosen (option_copied l.projection) (length l.fields))
+      (left_of (option_copied l.projection) (length l.fields) (length l.columns.items) l.index);
   monotone : g.R.Failures.failures l.fn.reader ≤ g.R.Failures.failures l.reader;
   stands : Stands g.R.Failures.still g.R.Failures.memory l.reader l.body;
-  count : length l.columns.items ≡ l.field-index;
-  has : IsTrue g.R.Failures.known → HasColumns (entries g.R.Failures.memory l.body) (kinds_of (fields_view l.fields) (all_ids_view l.ipc_schema.fields.items)) l.field-index;
-  are : IsTrue g.R.Failures.known → AreColumns (entries g.R.Failures.memory l.body) (fields_view l.fields) (kinds_of (fields_view l.fields) (all_ids_view l.ipc_schema.fields.items)) l.columns.items;
+  given : g.R.Failures.given l.reader
+      + columns_listed (entries g.R.Failures.memory l.body) l.body.extra (kinds_of (fields_view l.fields) (all_ids_view l.ids))
+      (left_of (option_copied l.projection) (length l.fields) (length l.columns.items) l.index)
+      ≤ g.R.Failures.given l.fn.reader
+      + columns_listed (entries g.R.Failures.memory l.body) l.body.extra (kinds_of (fields_view l.fields) (all_ids_view l.ids)) (chosen (option_copied l.projection) (length l.fields));
+  content : IsTrue g.R.Failures.known
+      → SoFar (entries g.R.Failures.memory l.body) (fields_view l.fields) (kinds_of (fields_view l.fields) (all_ids_view l.ids)) l.limit (chosen (option_copied l.projection) (length l.fields))
+      (left_of (option_copied l.projection) (length l.fields) (length l.columns.items) l.index) l.columns.items;
 }
