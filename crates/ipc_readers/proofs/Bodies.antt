@@ -1,5 +1,5 @@
 -- What was read of a message's body is what the message means.
-use Rattle.std.proofs.Common.{arith, cond, ◌≡◌, ◌≢◌, ◌==◌, ℕ, ◌<◌, ◌≤◌, nat_lt, true, false, Bool, List, [], length, take, drop, ◌++◌, subst, Option, None, Some, IsSome, IsNone, IfErr, Result, Ok, Err, refl, sym, ap, inl, inr, ◌∙◌, length-append, length-take}
+use Rattle.std.proofs.Common.{arith, cond, ◌≡◌, ◌≢◌, ◌==◌, ℕ, ◌<◌, ◌≤◌, nat_lt, true, false, Bool, List, [], length, take, drop, ◌++◌, subst, IsTrue, Option, None, Some, IsSome, IfErr, Result, Ok, Err, refl, sym, ap, inl, inr, ◌∙◌, length-append, length-take}
 use Rattle.std.proofs.lemmas.Bool.{cases_lt, le-ltb, lt-ltb}
 use Rattle.std.proofs.lemmas.List.{drop_at, take_at}
 use Rattle.lower.specs.TypeTrees.{Pairs, FieldTrees}
@@ -15,10 +15,15 @@ use Rattle.ipc_views.specs.Spot.{Spot}
 use Rattle.ipc_views.specs.Unions.{header_parts}
 use Rattle.ipc_views.specs.declared.message.MessageHeaderRef.{MessageHeaderRef}
 use Rattle.ipc_views.specs.declared.message.MessageHeaderRef.TheVariants as headers
-use Rattle.ipc_model.specs.Batches.{Schema, Body, Lists, lists_of, Chunk, batch, record_meaning}
+use Rattle.ipc_model.specs.Batches.{Schema, Body, Chunk, chosen, batch, record_meaning}
+use Rattle.ipc_model.specs.Kinds.{count}
+use Rattle.ipc_model.specs.TypeKinds.{kinds_of}
 use Rattle.ipc_model.specs.Streams.{Head, Header, done, faulty, whole, with_chunk, body_item, nothing_known}
-use Rattle.ipc_read.specs.Refusals.{IsBatchFault}
-use Rattle.ipc_read.specs.Chunks.{chunk_seen, IsCarriedLists, HasMeaning, GivesBatch}
+use Rattle.ipc_read.specs.Refusals.{IsFaultOfBatch}
+use Rattle.ipc_read.specs.Chunks.{chunk_seen, HasMeaning, GivesBatch}
+use Rattle.ipc_carried.specs.Carried.{are_carried}
+use Rattle.ipc_readers.proofs.CarriedKinds.{carried_read}
+use Rattle.ipc_readers.specs.Refusals.{IsStreamFault}
 use Rattle.ipc_readers.specs.Streams.{BlamesBody, IsCarriedMessage, GivesBody, GivesColumns}
 
 -- a claim of a fault by which another one holds
@@ -54,16 +59,6 @@ none_there (Some x) h = absurd (h refl)
 
 -- ---- schemas that differ in their metadata
 
-carried_lists :
-    (fs : FieldTrees) (ms ns : Pairs) (is : IdTrees) (o : Endianness) (lists : Option Lists)
-    → IsCarriedLists (record { fields = fs; metadata = ms; ids = is; order = o }) lists
-    → IsCarriedLists (record { fields = fs; metadata = ns; ids = is; order = o }) lists
-carried_lists fs ms ns is o None h = tt
-carried_lists fs ms ns is o (Some lists) h = record {
-  carried = record { fields = h.carried.fields; order = h.carried.order };
-  no_nulls = h.no_nulls;
-}
-
 same_meaning :
     (fs : FieldTrees) (ms ns : Pairs) (is : IdTrees) (o : Endianness) (extra : ℕ) (b : Body) (t : Spot)
     → record_meaning (record { fields = fs; metadata = ms; ids = is; order = o }) extra [] b t None None
@@ -89,49 +84,72 @@ body_is n xs bytes long e =
     λ i. record { source = e i; base = 0; size = size i }
 
 pub record_gives :
-    {A B : Type 0} (fs : FieldTrees) (ms : Pairs) (is : IdTrees) (o : Endianness) (extra : ℕ) (t : Spot) (n : ℕ) (xs bytes : List ℕ)
-    (projection : Option A) (limit : Option B) (r : Result (List AnyArray) Fault) → n ≤ length xs → bytes ≡ take n xs → IsNone projection → IsNone limit
-    → IfErr r (λ e. OwnFault e (IsBatchFault e)) → GivesBatch (record { fields = fs; metadata = []; ids = is; order = o }) extra (record { source = bytes; base = 0; size = n }) t projection limit r
+    (fs : FieldTrees) (ms : Pairs) (is : IdTrees) (o : Endianness) (extra : ℕ) (t : Spot) (n : ℕ) (xs bytes : List ℕ) (r : Result (List AnyArray) Fault)
+    → n ≤ length xs → bytes ≡ take n xs → IsTrue (are_carried fs)
+    → IfErr r (λ e. OwnFault e (IsFaultOfBatch (kinds_of fs is) (chosen None (count (kinds_of fs is))) e))
+    → GivesBatch (record { fields = fs; metadata = []; ids = is; order = o }) extra [] (record { source = bytes; base = 0; size = n }) t None None r
     → GivesBody (record { schema = record { fields = fs; metadata = ms; ids = is; order = o }; extra = extra }) (record { tag = 3; table = t; body = n }) xs r (drop n xs)
-record_gives fs ms is o extra t n xs bytes projection limit (Ok chunk) long e all some only g =
+record_gives fs ms is o extra t n xs bytes (Ok chunk) long e here only read =
     let h : Head = record { schema = record { fields = fs; metadata = ms; ids = is; order = o }; extra = extra } in
-    let read = g.each [] in
     let means : record_meaning h.schema extra [] (whole (take n xs)) t None None ≡ Some (chunk_seen chunk) =
     same_meaning fs ms [] is o extra (whole (take n xs)) t
     ∙ sym (ap (λ (b : Body). record_meaning (record { fields = fs; metadata = []; ids = is; order = o }) extra [] b t None None) (body_is n xs bytes long e))
     ∙ read.1 in (
       record_body h t n xs (Some (chunk_seen chunk)) long means,
-      record { no_dictionary = λ q. absurd cc; lists = λ q. carried_lists fs [] ms is o (lists_of t) read.0.2.carried },
+      record { no_dictionary = λ q. absurd cc; record_batch = λ q. record { fields = here } },
     )
-record_gives fs ms is o extra t n xs bytes projection limit (Err e') long e all some only g =
+record_gives fs ms is o extra t n xs bytes (Err e') long e here only read =
     let h : Head = record { schema = record { fields = fs; metadata = ms; ids = is; order = o }; extra = extra } in
     let b : Body = record { source = bytes; base = 0; size = n } in
     let plain_schema : Schema = record { fields = fs; metadata = []; ids = is; order = o } in
-    let well : Type 0 = IsNone projection × IsNone limit × HasMeaning plain_schema extra [] b t in
-    both_claims e' (IsCarriedMessage h.schema (record { tag = 3; table = t; body = n }) → body_item h nothing_known (record { tag = 3; table = t; body = n }) xs ≡ done faulty) (BlamesBody 3 e')
+    let well : Type 0 = HasMeaning plain_schema extra [] b t None None in
+    both_claims e' (IsCarriedMessage h.schema (record { tag = 3; table = t; body = n }) → body_item h nothing_known (record { tag = 3; table = t; body = n }) xs ≡ done faulty) (BlamesBody h.schema 3 e')
     (claims_through e' (well → ⊥) (IsCarriedMessage h.schema (record { tag = 3; table = t; body = n }) → body_item h nothing_known (record { tag = 3; table = t; body = n }) xs ≡ done faulty)
     (λ denied carried.
     let none : record_meaning plain_schema extra [] b t None None ≡ None =
     none_there (record_meaning plain_schema extra [] b t None None)
-    (λ some_meaning. denied (all, some, record { some = some_meaning; carried = carried_lists fs ms [] is o (lists_of t) (carried.lists refl) })) in
+    (λ some_meaning. denied (record { some = some_meaning; read = carried_read fs is here })) in
     record_body h t n xs None long
     (same_meaning fs ms [] is o extra (whole (take n xs)) t
     ∙ sym (ap (λ (b : Body). record_meaning plain_schema extra [] b t None None) (body_is n xs bytes long e))
     ∙ none))
-    (g.each []))
-    (claims_through e' (IsBatchFault e') (BlamesBody 3 e') (λ fault. record { record_batch = λ q. fault; dictionary_batch = λ q. absurd (omega (arith, q)); other = λ q r. absurd (r refl) }) only)
+    read)
+    (claims_through e' (IsFaultOfBatch (kinds_of fs is) (chosen None (count (kinds_of fs is))) e') (BlamesBody h.schema 3 e')
+    (λ fault. record { record_batch = λ q. inl fault; dictionary_batch = λ q. absurd (omega (arith, q)); other = λ q r. absurd (r refl) }) only)
 
 -- of these bytes, whatever is ahead of them then
 pub columns_give :
-    {A B : Type 0} (fs : FieldTrees) (ms : Pairs) (is : IdTrees) (o : Endianness) (extra : ℕ) (t : Spot) (body : List ℕ)
-    (projection : Option A) (limit : Option B) (r : Result (List AnyArray) Fault) → IsNone projection → IsNone limit
-    → IfErr r (λ e. OwnFault e (IsBatchFault e)) → GivesBatch (record { fields = fs; metadata = []; ids = is; order = o }) extra (record { source = body; base = 0; size = length body }) t projection limit r
+    (fs : FieldTrees) (ms : Pairs) (is : IdTrees) (o : Endianness) (extra : ℕ) (t : Spot) (body : List ℕ) (r : Result (List AnyArray) Fault)
+    → IsTrue (are_carried fs)
+    → IfErr r (λ e. OwnFault e (IsFaultOfBatch (kinds_of fs is) (chosen None (count (kinds_of fs is))) e))
+    → GivesBatch (record { fields = fs; metadata = []; ids = is; order = o }) extra [] (record { source = body; base = 0; size = length body }) t None None r
     → GivesColumns (record { schema = record { fields = fs; metadata = ms; ids = is; order = o }; extra = extra }) t body r
-columns_give fs ms is o extra t body projection limit r all some only g = λ ys.
+columns_give fs ms is o extra t body r here only g = λ ys.
     let h : Head = record { schema = record { fields = fs; metadata = ms; ids = is; order = o }; extra = extra } in
     let long : length body ≤ length (body ++ ys) = omega (arith, length-append body ys) in
     subst (λ (zs : List ℕ). GivesBody h (record { tag = 3; table = t; body = length body }) (body ++ ys) r zs) (drop_at body ys (length body) refl)
-    (record_gives fs ms is o extra t (length body) (body ++ ys) body projection limit r long (sym (take_at body ys (length body) refl)) all some only g)
+    (record_gives fs ms is o extra t (length body) (body ++ ys) body r long (sym (take_at body ys (length body) refl)) here only g)
+
+-- the faults of a batch are a stream's
+pub batch_faults :
+    (fs : FieldTrees) (ms : Pairs) (is : IdTrees) (o : Endianness) (r : Result (List AnyArray) Fault)
+    → IfErr r (λ e. OwnFault e (IsFaultOfBatch (kinds_of fs is) (chosen None (count (kinds_of fs is))) e))
+    → IfErr r (λ e. OwnFault e (IsStreamFault (record { fields = fs; metadata = ms; ids = is; order = o }) e))
+batch_faults fs ms is o (Ok x) h = tt
+batch_faults fs ms is o (Err e) h =
+    claims_through e (IsFaultOfBatch (kinds_of fs is) (chosen None (count (kinds_of fs is))) e) (IsStreamFault (record { fields = fs; metadata = ms; ids = is; order = o }) e)
+    (λ f. inr (inr (inl f))) h
+
+-- ---- batches that aren't carried
+
+pub columns_pending :
+    (fs : FieldTrees) (ms : Pairs) (is : IdTrees) (o : Endianness) (extra : ℕ) (t : Spot) (body : List ℕ)
+    → (IsTrue (are_carried fs) → ⊥)
+    → GivesColumns (record { schema = record { fields = fs; metadata = ms; ids = is; order = o }; extra = extra }) t body (Err (Faults.NotYetImplemented Pending))
+columns_pending fs ms is o extra t body never = λ ys. (
+  λ carried. absurd (never (carried.record_batch refl).fields),
+  record { record_batch = λ q. inr (inr refl); dictionary_batch = λ q. absurd (omega (arith, q)); other = λ q r. absurd (r refl) },
+)
 
 -- ---- bodies that aren't there, and other messages
 
@@ -172,23 +190,23 @@ other_message h (headers.SparseTensor t) n xs no_dictionary no_record = other_ta
 
 -- ---- why they are refused
 
-no_batch : (tag : ℕ) → tag ≢ 2 → tag ≢ 3 → BlamesBody tag (Faults.OutOfSpec UnexpectedMessageType)
-no_batch tag no_dictionary no_record = record {
+no_batch : (schema : Schema) (tag : ℕ) → tag ≢ 2 → tag ≢ 3 → BlamesBody schema tag (Faults.OutOfSpec UnexpectedMessageType)
+no_batch schema tag no_dictionary no_record = record {
   record_batch = λ q. absurd (no_record q);
   dictionary_batch = λ q. absurd (no_dictionary q);
   other = λ q r. refl;
 }
 
-pub other_blames : (header : MessageHeaderRef) → ((t : Spot) → header ≡ headers.DictionaryBatch t → ⊥) → ((t : Spot) → header ≡ headers.RecordBatch t → ⊥)
-    → BlamesBody (header_parts header).0 (Faults.OutOfSpec UnexpectedMessageType)
-other_blames (headers.Schema t) no_dictionary no_record = no_batch 1 (λ q. omega (arith, q)) (λ q. omega (arith, q))
-other_blames (headers.DictionaryBatch t) no_dictionary no_record = absurd (no_dictionary t refl)
-other_blames (headers.RecordBatch t) no_dictionary no_record = absurd (no_record t refl)
-other_blames (headers.Tensor t) no_dictionary no_record = no_batch 4 (λ q. omega (arith, q)) (λ q. omega (arith, q))
-other_blames (headers.SparseTensor t) no_dictionary no_record = no_batch 5 (λ q. omega (arith, q)) (λ q. omega (arith, q))
+pub other_blames : (schema : Schema) (header : MessageHeaderRef) → ((t : Spot) → header ≡ headers.DictionaryBatch t → ⊥) → ((t : Spot) → header ≡ headers.RecordBatch t → ⊥)
+    → BlamesBody schema (header_parts header).0 (Faults.OutOfSpec UnexpectedMessageType)
+other_blames schema (headers.Schema t) no_dictionary no_record = no_batch schema 1 (λ q. omega (arith, q)) (λ q. omega (arith, q))
+other_blames schema (headers.DictionaryBatch t) no_dictionary no_record = absurd (no_dictionary t refl)
+other_blames schema (headers.RecordBatch t) no_dictionary no_record = absurd (no_record t refl)
+other_blames schema (headers.Tensor t) no_dictionary no_record = no_batch schema 4 (λ q. omega (arith, q)) (λ q. omega (arith, q))
+other_blames schema (headers.SparseTensor t) no_dictionary no_record = no_batch schema 5 (λ q. omega (arith, q)) (λ q. omega (arith, q))
 
-pub dictionary_blames : (tag : ℕ) → tag ≡ 2 → BlamesBody tag (Faults.NotYetImplemented Pending)
-dictionary_blames tag e = record {
+pub dictionary_blames : (schema : Schema) (tag : ℕ) → tag ≡ 2 → BlamesBody schema tag (Faults.NotYetImplemented Pending)
+dictionary_blames schema tag e = record {
   record_batch = λ q. absurd (omega (arith, e, q));
   dictionary_batch = λ q. refl;
   other = λ q r. absurd (q e);

@@ -1,12 +1,11 @@
 -- What reads of a body give.
-use Rattle.std.proofs.Common.{◌≡◌, ℕ, ◌≤◌, List, [], ◌++◌, length, Result, Err, sym, ap, ◌∙◌, subst, arith, append-nil}
+use Rattle.std.proofs.Common.{◌≡◌, ℕ, ◌≤◌, List, [], ◌++◌, length, inl, inr, Result, Err, ap, ◌∙◌, subst, arith, append-nil}
 use Rattle.lower_arrays.specs.declared.array.AnyArray.{AnyArray}
 use Rattle.ipc_devices.specs.Faults.{OnIo, OwnFault}
 use Rattle.ipc_devices.specs.declared.fault.Fault.{Fault}
 use Rattle.ipc_devices.specs.declared.fault.Fault.TheVariants.{Ended}
 use Rattle.ipc_views.specs.Spot.{Spot}
 use Rattle.ipc_model.specs.Streams.{Head, Header, body_item, done, faulty, nothing_known}
-use Rattle.ipc_read.specs.Refusals.{IsBatchFault}
 use Rattle.ipc_readers.proofs.Bodies.{both_claims, claims_through, cut_body}
 use Rattle.ipc_readers.specs.Streams.{BlamesBody, IsCarriedMessage, BodyGave, GivesBody, GivesColumns}
 use Rattle.ipc_devices.specs.Gives.{going, stop_of, Follows, FaultStop, Gives, GivesInOrder, GivesNothing, StopsBefore}
@@ -36,16 +35,16 @@ body_stopped gives h m a b e tag only s = record {
     bytes = s.0;
     gave = s.2;
     within = omega (arith, s.1);
-    holds = λ ys f. both_claims e (IsCarriedMessage h.schema m → body_item h nothing_known m (s.0 ++ ys) ≡ done faulty) (BlamesBody m.tag e) (cut_body h m (s.0 ++ ys) ys e
+    holds = λ ys f. both_claims e (IsCarriedMessage h.schema m → body_item h nothing_known m (s.0 ++ ys) ≡ done faulty) (BlamesBody h.schema m.tag e) (cut_body h m (s.0 ++ ys) ys e
         (claims_through e (e ≡ Ended) (m.body ≤ length (s.0 ++ ys) → ⊥)
         (λ own long.
         let none : ys ≡ [] = subst (λ (x : Fault). Follows (stop_of x) ys) own f in
         let all : s.0 ++ ys ≡ s.0 = ap (λ l. s.0 ++ l) none ∙ append-nil s.0 in
         omega (arith, s.1, long, ap length all))
         only))
-        (claims_through e (e ≡ Ended) (BlamesBody m.tag e)
+        (claims_through e (e ≡ Ended) (BlamesBody h.schema m.tag e)
         (λ own. record {
-          record_batch = λ q. subst (λ (x : Fault). IsBatchFault x) (sym own) tt;
+          record_batch = λ q. inr (inl own);
           dictionary_batch = λ q. absurd (omega (arith, q, tag));
           other = λ q r. absurd (r tag);
         })

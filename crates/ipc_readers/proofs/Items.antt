@@ -3,7 +3,7 @@ use Rattle.std.proofs.Common.{◌≡◌, ℕ, ◌≤◌, List, [], ◌++◌, len
 use Rattle.lower_arrays.specs.declared.array.AnyArray.{AnyArray}
 use Rattle.ipc_devices.specs.Faults.{OwnFault}
 use Rattle.ipc_devices.specs.declared.fault.Fault.{Fault}
-use Rattle.ipc_model.specs.CarriedStreams.{IsCarriedFrame, IsCarriedFront, IsCarriedMessage, IsCarriedHeader}
+use Rattle.ipc_carried.specs.CarriedStreams.{IsCarriedFrame, IsCarriedFront, IsCarriedMessage, IsCarriedHeader}
 use Rattle.ipc_model.specs.Frame.{Frame, message, mark, waiting, broken, frame}
 use Rattle.ipc_model.specs.Streams.{Head, Header, header_of, body_item, frame_item, message_item, item, more, done, faulty, nothing_known}
 use Rattle.ipc_read.specs.Chunks.{chunk_seen}
@@ -15,7 +15,6 @@ use Rattle.ipc_readers.specs.declared.read.stream.reader.StreamState.TheVariants
 use Rattle.ipc_devices.specs.Gives.{Stop, going, ended, stop_of, AnswerStop, FaultStop, Gives, GivesInOrder}
 use Rattle.ipc_devices.proofs.Gave.{gave_then, gave_as}
 use Rattle.ipc_readers.specs.Frames.{FrameGave, GivesFrame, IsFrame, IsFramingFault, due}
-use Rattle.ipc_readers.specs.declared.read.begun.Frame as read
 use Rattle.ipc_readers.specs.declared.read.begun.Frame.TheVariants as frames
 use Rattle.ipc_devices.proofs.Stops.{fault_stop, claimed}
 
@@ -86,11 +85,11 @@ body_is_item h xs m rest left d q (Ok chunk) e f opens none g = (
   carried_here h xs m rest d e f g.1,
 )
 body_is_item h xs m rest left d q (Err x) e f opens none g =
-    claims_through x ((IsCarriedMessage h.schema d → body_item h nothing_known d rest ≡ done faulty) × BlamesBody d.tag x)
-    ((IsCarriedFront h xs → item h nothing_known xs ≡ done faulty) × BlamesFront (frame xs) x)
+    claims_through x ((IsCarriedMessage h.schema d → body_item h nothing_known d rest ≡ done faulty) × BlamesBody h.schema d.tag x)
+    ((IsCarriedFront h xs → item h nothing_known xs ≡ done faulty) × BlamesFront h.schema (frame xs) x)
     (λ k. (
       (λ c. body_of h xs m rest (Some d) e f ∙ k.0 (carried_there h xs m rest d e f c)),
-      subst (λ (y : Frame). BlamesFront y x) (sym e) (subst (λ (o : Result Header Fault). BlamesOpened o x) (sym opens) k.1),
+      subst (λ (y : Frame). BlamesFront h.schema y x) (sym e) (subst (λ (o : Result Header Fault). BlamesOpened h.schema o x) (sym opens) k.1),
     )) g
 
 stop_is_item : (r : Result (List AnyArray) Fault) (s : Stop) → AnswerStop r s → ItemStop (as_item r) s
@@ -129,8 +128,8 @@ module _ {S : Type 0} (gives : Gives S) where
         (λ all rest. GivesFrame (frame (p ++ all)) (Err e) m q rest) (λ all rest. GivesItem h (p ++ all) (Err e) q (q ++ rest)) a (stop_of e) b
         (λ xs v k. record { within = inl v })
         (λ all rest k. claims_through e ((frame (p ++ all) ≡ broken) × IsFramingFault e)
-        ((IsCarriedFront h (p ++ all) → item h nothing_known (p ++ all) ≡ done faulty) × BlamesFront (frame (p ++ all)) e)
-        (λ f. ((λ c. item_of h (p ++ all) broken f.0), subst (λ (y : Frame). BlamesFront y e) (sym f.0) f.1))
+        ((IsCarriedFront h (p ++ all) → item h nothing_known (p ++ all) ≡ done faulty) × BlamesFront h.schema (frame (p ++ all)) e)
+        (λ f. ((λ c. item_of h (p ++ all) broken f.0), subst (λ (y : Frame). BlamesFront h.schema y e) (sym f.0) f.1))
         (both_claims e (frame (p ++ all) ≡ broken) (IsFramingFault e) k only)) g;
   }
 
@@ -145,9 +144,9 @@ module _ {S : Type 0} (gives : Gives S) where
         (λ xs v k. record { within = inl v })
         (λ all rest k.
         let here = is_message (frame (p ++ all)) m q rest k in
-        claimed e ((IsCarriedFront h (p ++ all) → item h nothing_known (p ++ all) ≡ done faulty) × BlamesFront (frame (p ++ all)) e) (
+        claimed e ((IsCarriedFront h (p ++ all) → item h nothing_known (p ++ all) ≡ done faulty) × BlamesFront h.schema (frame (p ++ all)) e) (
           (λ c. body_of h (p ++ all) m rest None here none),
-          subst (λ (y : Frame). BlamesFront y e) (sym here) (subst (λ (o : Result Header Fault). BlamesOpened o e) (sym opens) refl),
+          subst (λ (y : Frame). BlamesFront h.schema y e) (sym here) (subst (λ (o : Result Header Fault). BlamesOpened h.schema o e) (sym opens) refl),
         )) g;
   }
 

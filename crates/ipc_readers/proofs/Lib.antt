@@ -1,3 +1,4 @@
+pub mod CarriedKinds
 pub mod Openings
 pub mod Sized
 pub mod Prefixes

@@ -34,7 +34,7 @@ item_at_failure : (h : Head) (xs q ys : List ℕ) (r : Result (Option StreamStat
 item_at_failure h xs q ys (Ok (Some (states.Some chunk))) s = absurd (cc s)
 item_at_failure h xs q ys (Ok (Some states.Waiting)) s = absurd (cc s)
 item_at_failure h xs q ys (Ok None) s = absurd (cc s)
-item_at_failure h xs q ys (Err e) s = nothing_claimed e ((IsCarriedFront h xs → item h nothing_known xs ≡ done faulty) × BlamesFront (frame xs) e) s
+item_at_failure h xs q ys (Err e) s = nothing_claimed e ((IsCarriedFront h xs → item h nothing_known xs ≡ done faulty) × BlamesFront h.schema (frame xs) e) s
 
 pub item_ahead : {S : Type 0} (gives : Gives S) (known : Bool) (memory : S → Memory) → GivesAhead known gives memory → IsTrue known
     → (h : Head) (p q : List ℕ) (r : Result (Option StreamState) Fault) (a b : S) → ItemGave gives h p a r q b

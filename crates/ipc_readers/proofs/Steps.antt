@@ -17,5 +17,5 @@ gives_next h xs (Ok (Some (states.Some chunk))) begun ys g = (meaning_more h not
 gives_next h xs (Ok (Some states.Waiting)) begun ys g = meaning_done h nothing_known xs (waits nothing_known begun) g
 gives_next h xs (Ok None) begun ys g = meaning_done h nothing_known xs marked g.0
 gives_next h xs (Err e) begun ys g =
-    claims_through e ((IsCarriedFront h xs → item h nothing_known xs ≡ done faulty) × BlamesFront (frame xs) e) (IsCarriedFront h xs → meaning h nothing_known xs ≡ record { chunks = []; end = faulty })
+    claims_through e ((IsCarriedFront h xs → item h nothing_known xs ≡ done faulty) × BlamesFront h.schema (frame xs) e) (IsCarriedFront h xs → meaning h nothing_known xs ≡ record { chunks = []; end = faulty })
     (λ f carried. meaning_done h nothing_known xs faulty (f.0 carried)) g

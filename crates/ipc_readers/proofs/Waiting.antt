@@ -3,7 +3,6 @@ use Rattle.std.proofs.Common.{◌≡◌, ℕ, Bool, List, [], ◌++◌, refl, su
 use Rattle.ipc_model.proofs.Meanings.{item_waits}
 use Rattle.ipc_model.specs.Streams.{nothing_known}
 use Rattle.ipc_readers.specs.Streams.{begun_of, device_of, head_of, metadata_of}
-use Rattle.ipc_readers.specs.declared.read.stream.reader.StreamState.TheVariants as states
 use Rattle.ipc_devices.specs.Device.{Memory}
 use Rattle.ipc_devices.specs.Gives.{Stop, ended, Follows, Gives, GivesCounted}
 use Rattle.ipc_readers.specs.Runs.{WaitsLaw}

@@ -6,7 +6,7 @@ use Rattle.ipc_devices.specs.Faults.{OnIo, OwnFault}
 use Rattle.ipc_devices.specs.Gives.{ended, Counts, Gives}
 use Rattle.ipc_devices.specs.declared.fault.Fault.{Fault}
 use Rattle.ipc_model.specs.Batches.{Chunk}
-pub use Rattle.ipc_model.specs.CarriedStreams.{Behind, IsCarriedWithin}
+pub use Rattle.ipc_carried.specs.CarriedStreams.{Behind, IsCarriedWithin}
 use Rattle.ipc_model.specs.Streams.{End, marked, waits, faulty, meaning, nothing_known}
 use Rattle.ipc_read.specs.Chunks.{chunk_seen}
 use Rattle.ipc_readers.specs.Streams.{NextStep, ahead, begun_of, device_of, head_of, is_over, metadata_of, next_result}

@@ -12,15 +12,14 @@ use Rattle.ipc_devices.specs.declared.fault.Fault.TheVariants.{NotYetImplemented
 use Rattle.ipc_devices.specs.declared.fault.Nyi.TheVariants.{Pending}
 use Rattle.ipc_devices.specs.declared.fault.OutOfSpecKind.TheVariants.{UnexpectedMessageType}
 use Rattle.ipc_views.specs.Spot.{Spot}
-use Rattle.ipc_model.specs.Batches.{extra_of}
+use Rattle.ipc_model.specs.Batches.{Schema, extra_of}
 use Rattle.ipc_model.specs.Frame.{Frame, broken, frame, message, mark}
 use Rattle.ipc_model.specs.Streams.{Head, Header, header_of, more, done, faulty, body_item, item, marked, with_chunks, meaning, nothing_known, waits}
-pub use Rattle.ipc_model.specs.CarriedStreams.{IsCarriedMessage, IsCarriedHeader, IsCarriedFrame, IsCarriedFront}
+pub use Rattle.ipc_carried.specs.CarriedStreams.{IsCarriedMessage, IsCarriedHeader, IsCarriedFrame, IsCarriedFront}
 use Rattle.ipc_read.specs.Chunks.{chunk_seen, order_of}
-use Rattle.ipc_read.specs.Refusals.{IsBatchFault}
 use Rattle.ipc_readers.specs.Frames.{IsFramingFault, begun_bytes, due}
 use Rattle.ipc_readers.specs.Messages.{opened}
-use Rattle.ipc_readers.specs.Refusals.{IsStreamFault}
+use Rattle.ipc_readers.specs.Refusals.{IsRecordFault, IsStreamFault}
 use Rattle.ipc_readers.specs.declared.read.stream.metadata.StreamMetadata.{StreamMetadata}
 use Rattle.ipc_readers.specs.declared.read.stream.reader.StreamReader.{StreamReader}
 use Rattle.ipc_readers.specs.declared.read.stream.reader.StreamState.{StreamState}
@@ -73,28 +72,28 @@ head_of m = record {
 
 -- ---- one message
 
--- Which faults of the input's a message with a header of this tag can have, if its header is well made.
-pub record BlamesBody (tag : ℕ) (e : Fault) : Type 0 where
-  pub record_batch : tag ≡ 3 → IsBatchFault e
+-- Which faults of the input's a message with a header of this tag can have in a stream of this schema, if its header is well made.
+pub record BlamesBody (schema : Schema) (tag : ℕ) (e : Fault) : Type 0 where
+  pub record_batch : tag ≡ 3 → IsRecordFault schema e
   pub dictionary_batch : tag ≡ 2 → e ≡ NotYetImplemented Pending
   pub other : tag ≢ 2 → tag ≢ 3 → e ≡ OutOfSpec UnexpectedMessageType
 
-abbrev pub BlamesOpened : Result Header Fault → Fault → Type 0
-BlamesOpened (Ok m) e = BlamesBody m.tag e
-BlamesOpened (Err f) e = e ≡ f
+abbrev pub BlamesOpened : Schema → Result Header Fault → Fault → Type 0
+BlamesOpened schema (Ok m) e = BlamesBody schema m.tag e
+BlamesOpened schema (Err f) e = e ≡ f
 
 -- Which fault of the input's what stands at the front has: that of the frame, that of its metadata, or one of its kind.
-abbrev pub BlamesFront : Frame → Fault → Type 0
-BlamesFront (message metadata behind) e = BlamesOpened (opened metadata) e
-BlamesFront broken e = IsFramingFault e
-BlamesFront _ e = ⊥
+abbrev pub BlamesFront : Schema → Frame → Fault → Type 0
+BlamesFront schema (message metadata behind) e = BlamesOpened schema (opened metadata) e
+BlamesFront schema broken e = IsFramingFault e
+BlamesFront schema _ e = ⊥
 
 -- The body of a message was read of xs, which leaves ys: its chunk is what the record batch means. A fault of the
 -- input's says that it means none, or isn't carried, and is one of its kind.
 abbrev pub GivesBody : Head → Header → List ℕ → Result (List AnyArray) Fault → List ℕ → Type 0
 GivesBody h m xs (Ok chunk) ys = (body_item h nothing_known m xs ≡ more (Some (chunk_seen chunk)) nothing_known ys)
     × IsCarriedMessage h.schema m
-GivesBody h m xs (Err e) ys = OwnFault e ((IsCarriedMessage h.schema m → body_item h nothing_known m xs ≡ done faulty) × BlamesBody m.tag e)
+GivesBody h m xs (Err e) ys = OwnFault e ((IsCarriedMessage h.schema m → body_item h nothing_known m xs ≡ done faulty) × BlamesBody h.schema m.tag e)
 
 -- Of these bytes the columns of a record batch were read, as the message gives them whose body they are, whatever is ahead
 -- of it then.
@@ -108,7 +107,7 @@ GivesItem h xs (Ok (Some (states.Some chunk))) begun ys =
     (item h nothing_known xs ≡ more (Some (chunk_seen chunk)) nothing_known ys) × IsCarriedFront h xs
 GivesItem h xs (Ok (Some states.Waiting)) begun ys = item h nothing_known xs ≡ done (waits nothing_known begun)
 GivesItem h xs (Ok None) begun ys = (item h nothing_known xs ≡ done marked) × (frame xs ≡ mark ys)
-GivesItem h xs (Err e) begun ys = OwnFault e ((IsCarriedFront h xs → item h nothing_known xs ≡ done faulty) × BlamesFront (frame xs) e)
+GivesItem h xs (Err e) begun ys = OwnFault e ((IsCarriedFront h xs → item h nothing_known xs ≡ done faulty) × BlamesFront h.schema (frame xs) e)
 
 -- ---- what a device gave
 
@@ -164,7 +163,7 @@ ends (Some (Err e)) = true
 
 -- What a call of `next` takes and answers, and what stands then. Where nothing comes any more, the device isn't asked.
 pub record NextStep {R : Type 0} (gives : Gives R) (known : Bool) (memory : R → Memory) (a : StreamReader R) (r : Option (Result StreamState Fault)) (b : StreamReader R) : Type 0 where
-  pub only : IfErr (next_result r) (λ e. OwnFault e (IsStreamFault e))
+  pub only : IfErr (next_result r) (λ e. OwnFault e (IsStreamFault (head_of (metadata_of a)).schema e))
   pub described : metadata_of b ≡ metadata_of a
   pub over : is_over a ≡ true → (r ≡ None) × (is_over b ≡ true) × (device_of b ≡ device_of a)
   pub finished : is_over a ≡ false → is_over b ≡ ends r

@@ -5,7 +5,7 @@ use Rattle.lower_arrays.specs.declared.array.AnyArray.{AnyArray}
 use Rattle.ipc_devices.specs.Device.{Memory}
 use Rattle.ipc_devices.specs.Gives.{Gives, GivesFails}
 use Rattle.ipc_devices.specs.declared.fault.Fault.{Fault}
-use Rattle.ipc_model.specs.CarriedStreams.{Behind, IsCarriedOn, IsCarriedWithin}
+use Rattle.ipc_carried.specs.CarriedStreams.{Behind, IsCarriedOn, IsCarriedWithin}
 use Rattle.ipc_model.specs.Streams.{Head, Item, Meant, meaning, nothing_known, with_chunks}
 use Rattle.ipc_readers.proofs.Bodies.{claims_through}
 use Rattle.ipc_readers.proofs.OfMemory.{next_fails, other_answer}

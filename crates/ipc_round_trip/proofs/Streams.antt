@@ -14,13 +14,14 @@ use Rattle.ipc_devices.specs.declared.fault.Fault.{Fault}
 use Rattle.ipc_devices.specs.declared.fault.Fault.TheVariants as faults
 use Rattle.ipc_devices.specs.declared.fault.StateFault.TheVariants.{NotStarted, Failed as StateFailed}
 use Rattle.ipc_devices.specs.declared.fault.TableFault.{TableFault}
+use Rattle.lower_types.specs.declared.Endianness.{Endianness}
 use Rattle.lower.specs.TypeTrees.{FieldTrees, Pairs}
 use Rattle.ipc_views.specs.MessageSlots.{message_version}
 use Rattle.ipc_views.specs.Spot.{Spot}
 use Rattle.ipc_views.specs.Tables.{root_at}
 use Rattle.ipc_views.specs.declared.schema.MetadataVersion.{MetadataVersion}
 use Rattle.ipc_model.specs.Batches.{Chunk, Schema, extra_of}
-use Rattle.ipc_model.specs.CarriedStreams.{BehindSchema, IsCarriedOn}
+use Rattle.ipc_carried.specs.CarriedStreams.{BehindSchema, IsCarriedOn}
 use Rattle.ipc_model.specs.Frame.{Frame, message, mark, waiting, broken, frame}
 use Rattle.ipc_model.specs.Schemas.{given, made, schema_of}
 use Rattle.ipc_model.specs.Schemas.{head_of as head_at}
@@ -41,7 +42,7 @@ use Rattle.ipc_write.specs.Writers.{WriterSeen}
 use Rattle.ipc_write.specs.declared.calls.StreamCall.{StreamCall}
 use Rattle.ipc_write.specs.declared.stream.WriterState.{WriterState}
 use Rattle.ipc_write.specs.declared.stream.WriterState.TheVariants.{Failed, Finished, New, Started}
-use Rattle.ipc_write.proofs.CallLists.{made_run}
+use Rattle.ipc_write.proofs.CallLists.{made_order, made_run}
 use Rattle.ipc_round_trip.specs.RoundTrip.{EndsStream, FinishedLaw, OpenLaw, ReadableLaw, RefusesEnd, RefusesRoundTrip, RunsOverMemory, RunsToStream, vector}
 use Rattle.ipc_round_trip.specs.declared.read.WholeStream.{WholeStream}
 
@@ -255,44 +256,48 @@ ends_stream a b v remains over same = record {
   where
     held : (head : Head) (chunks : List Chunk) → Agrees vector b [] head chunks → IsClosed v.items head chunks
     held head chunks h =
-        let stream : IsClosed h.bytes head chunks = subst (λ s. StreamIs s b.types h.bytes head chunks) over h.stream in
+        let stream : IsClosed h.bytes head chunks = subst (λ s. StreamIs s b.order b.types h.bytes head chunks) over h.stream in
         let all : v.items ≡ h.bytes = sym (vector_before v) ∙ ap (λ w. before (vector w)) same ∙ h.held in
         subst (λ xs. IsClosed xs head chunks) (sym all) stream
 
 -- ---- what the calls leave
 
-pub runs_over_memory : (a b : WriterSeen (Vec ℕ Global)) (fs : FieldTrees) (es : Pairs) (calls : List StreamCall) (answers : List (Result (Unit {0}) Fault)) (state : WriterState) → a.state ≡ New → a.device.items ≡ []
-    → AreMade true true (λ v. 0) (λ v. vec_capacity v - vec_len v) vector fs es a calls answers b → b.state ≡ state → RunsOverMemory fs es calls answers state
-runs_over_memory a b fs es calls answers state new empty made left = record {
+pub runs_over_memory : (o : Endianness) (a b : WriterSeen (Vec ℕ Global)) (fs : FieldTrees) (es : Pairs) (calls : List StreamCall) (answers : List (Result (Unit {0}) Fault)) (state : WriterState) → a.state ≡ New → a.order ≡ o → a.device.items ≡ []
+    → AreMade true true (λ v. 0) (λ v. vec_capacity v - vec_len v) vector fs es a calls answers b → b.state ≡ state → RunsOverMemory o fs es calls answers state
+runs_over_memory o a b fs es calls answers state new ordered empty made left = record {
   first = a;
   last = b;
   new = new;
+  order_is = ordered;
   empty = empty;
   made = made;
   left = left;
   run =
-      subst (λ s. IsRun (writer_in (state_seen s)) (ended_as calls answers) (writer_in (state_seen state))) new
-      (subst (λ s. IsRun (writer_in (state_seen a.state)) (ended_as calls answers) (writer_in (state_seen s))) left
-      (made_run true true (λ v. 0) (λ v. vec_capacity v - vec_len v) vector fs es a b calls answers made));
+      let stays = made_order true true (λ v. 0) (λ v. vec_capacity v - vec_len v) vector fs es a b calls answers made in
+      let run = made_run true true (λ v. 0) (λ v. vec_capacity v - vec_len v) vector fs es a b calls answers made in
+      subst (λ s. IsRun (writer_in o (state_seen s)) (ended_as calls answers) (writer_in o (state_seen state))) new
+      (subst (λ s. IsRun (writer_in o (state_seen a.state)) (ended_as calls answers) (writer_in o (state_seen s))) left
+      (subst (λ (q : Endianness). IsRun (writer_in o (state_seen a.state)) (ended_as calls answers) (writer_in q (state_seen b.state))) (stays ∙ ordered)
+      (subst (λ (q : Endianness). IsRun (writer_in q (state_seen a.state)) (ended_as calls answers) (writer_in b.order (state_seen b.state))) ordered run)));
 }
 
 -- a writer that was ended, or refused to be
-pub runs_to_stream : (a b : WriterSeen (Vec ℕ Global)) (fs : FieldTrees) (es : Pairs) (calls : List StreamCall) (answers : List (Result (Unit {0}) Fault)) → a.state ≡ New → a.device.items ≡ []
-    → AreMade true true (λ v. 0) (λ v. vec_capacity v - vec_len v) vector fs es a calls answers b → (b.state ≡ Started) ⊎ (b.state ≡ Finished) → RunsToStream fs es calls answers
-runs_to_stream a b fs es calls answers new empty made (inl left) = inl (runs_over_memory a b fs es calls answers Started new empty made left)
-runs_to_stream a b fs es calls answers new empty made (inr left) = inr (runs_over_memory a b fs es calls answers Finished new empty made left)
+pub runs_to_stream : (o : Endianness) (a b : WriterSeen (Vec ℕ Global)) (fs : FieldTrees) (es : Pairs) (calls : List StreamCall) (answers : List (Result (Unit {0}) Fault)) → a.state ≡ New → a.order ≡ o → a.device.items ≡ []
+    → AreMade true true (λ v. 0) (λ v. vec_capacity v - vec_len v) vector fs es a calls answers b → (b.state ≡ Started) ⊎ (b.state ≡ Finished) → RunsToStream o fs es calls answers
+runs_to_stream o a b fs es calls answers new ordered empty made (inl left) = inl (runs_over_memory o a b fs es calls answers Started new ordered empty made left)
+runs_to_stream o a b fs es calls answers new ordered empty made (inr left) = inr (runs_over_memory o a b fs es calls answers Finished new ordered empty made left)
 
-pub refused_end : (a b : WriterSeen (Vec ℕ Global)) (fs : FieldTrees) (es : Pairs) (calls : List StreamCall) (answers : List (Result (Unit {0}) Fault)) (e : Fault) → a.state ≡ New → a.device.items ≡ []
-    → AreMade true true (λ v. 0) (λ v. vec_capacity v - vec_len v) vector fs es a calls answers b → RefusesEnd b.state e → RefusesRoundTrip fs es calls e
-refused_end a b fs es calls answers (faults.State NotStarted) new empty made h = record { answers = answers; runs = runs_over_memory a b fs es calls answers New new empty made h }
-refused_end a b fs es calls answers (faults.State StateFailed) new empty made h = record { answers = answers; runs = runs_over_memory a b fs es calls answers Failed new empty made h }
-refused_end a b fs es calls answers (faults.Io x) new empty made h = tt
-refused_end a b fs es calls answers _ new empty made h = absurd h
+pub refused_end : (o : Endianness) (a b : WriterSeen (Vec ℕ Global)) (fs : FieldTrees) (es : Pairs) (calls : List StreamCall) (answers : List (Result (Unit {0}) Fault)) (e : Fault) → a.state ≡ New → a.order ≡ o → a.device.items ≡ []
+    → AreMade true true (λ v. 0) (λ v. vec_capacity v - vec_len v) vector fs es a calls answers b → RefusesEnd b.state e → RefusesRoundTrip o fs es calls e
+refused_end o a b fs es calls answers (faults.State NotStarted) new ordered empty made h = record { answers = answers; runs = runs_over_memory o a b fs es calls answers New new ordered empty made h }
+refused_end o a b fs es calls answers (faults.State StateFailed) new ordered empty made h = record { answers = answers; runs = runs_over_memory o a b fs es calls answers Failed new ordered empty made h }
+refused_end o a b fs es calls answers (faults.Io x) new ordered empty made h = tt
+refused_end o a b fs es calls answers _ new ordered empty made h = absurd h
 
 -- ---- what is never refused
 
 -- a stream that can be read is refused for want of memory, and for nothing else
-pub never_refused : (fs : FieldTrees) (es : Pairs) (calls : List StreamCall) (bytes : List ℕ) (e : Fault) → IsReadable bytes → RefusesStream e (¬ (IsReadable bytes)) → RefusesRoundTrip fs es calls e
-never_refused fs es calls bytes faults.Memory readable h = tt
-never_refused fs es calls bytes (faults.Io e) readable h = absurd h
-never_refused fs es calls bytes _ readable h = absurd (h readable)
+pub never_refused : (o : Endianness) (fs : FieldTrees) (es : Pairs) (calls : List StreamCall) (bytes : List ℕ) (e : Fault) → IsReadable bytes → RefusesStream e (¬ (IsReadable bytes)) → RefusesRoundTrip o fs es calls e
+never_refused o fs es calls bytes faults.Memory readable h = tt
+never_refused o fs es calls bytes (faults.Io e) readable h = absurd h
+never_refused o fs es calls bytes _ readable h = absurd (h readable)

@@ -8,7 +8,7 @@ use Rattle.ipc_devices.specs.declared.fault.Fault.{Fault}
 use Rattle.ipc_devices.specs.declared.fault.Fault.TheVariants.{Io, Memory}
 use Rattle.lower_arrays.specs.declared.array.AnyArray.{AnyArray}
 use Rattle.ipc_model.specs.Batches.{Chunk}
-use Rattle.ipc_model.specs.CarriedStreams.{IsCarriedOn, IsCarriedStream}
+use Rattle.ipc_carried.specs.CarriedStreams.{IsCarriedOn, IsCarriedStream}
 use Rattle.ipc_model.specs.Streams.{Head, End, marked, waits, faulty, Meant, meaning, nothing_known, with_chunks}
 use Rattle.ipc_model.specs.WholeStreams.{stream_of}
 use Rattle.ipc_read.specs.Chunks.{chunk_seen}

@@ -7,6 +7,7 @@ use Rattle.ipc_devices.specs.declared.fault.Fault.{Fault}
 use Rattle.ipc_devices.specs.declared.fault.Fault.TheVariants.{Io, Memory, State}
 use Rattle.ipc_devices.specs.declared.fault.StateFault.TheVariants.{Failed, NotStarted}
 use Rattle.lower.specs.TypeTrees.{FieldTrees, Pairs}
+use Rattle.lower_types.specs.declared.Endianness.{Endianness}
 use Rattle.ipc_model.specs.Batches.{Chunk}
 use Rattle.ipc_model.specs.Streams.{Head, nothing_known}
 use Rattle.ipc_model.specs.WriterStates.{IsRun, new_writer}
@@ -54,24 +55,26 @@ pub record EndsStream (w : WriterSeen (Vec ℕ Global)) (bytes : List ℕ) : Typ
 
 -- ---- the calls
 
--- Calls of a writer over an empty memory, each of the writer that the one before it left, with these answers: they leave it in this state.
-pub record RunsOverMemory (fields : FieldTrees) (metadata : Pairs) (calls : List StreamCall) (answers : List (Result Unit Fault)) (state : WriterState) : Type 0 where
+-- Calls of a writer over an empty memory that writes in this order of bytes, each of the writer that the one before it left, with these
+-- answers: they leave it in this state.
+pub record RunsOverMemory (order : Endianness) (fields : FieldTrees) (metadata : Pairs) (calls : List StreamCall) (answers : List (Result Unit Fault)) (state : WriterState) : Type 0 where
   pub first : WriterSeen (Vec ℕ Global)
   pub last : WriterSeen (Vec ℕ Global)
   pub new : first.state ≡ writer.New
+  pub order_is : first.order ≡ order
   pub empty : first.device.items ≡ []
   pub made : AreMade true true (λ v. 0) (λ v. vec_capacity v - vec_len v) vector fields metadata first calls answers last
   pub left : last.state ≡ state
-  pub run : IsRun (writer_in new_writer) (ended_as calls answers) (writer_in (state_seen state))
+  pub run : IsRun (writer_in order new_writer) (ended_as calls answers) (writer_in order (state_seen state))
 
 -- They leave a stream that is ended, or can be.
-abbrev pub RunsToStream : FieldTrees → Pairs → List StreamCall → List (Result Unit Fault) → Type 0
-RunsToStream fields metadata calls answers = RunsOverMemory fields metadata calls answers writer.Started ⊎ RunsOverMemory fields metadata calls answers writer.Finished
+abbrev pub RunsToStream : Endianness → FieldTrees → Pairs → List StreamCall → List (Result Unit Fault) → Type 0
+RunsToStream order fields metadata calls answers = RunsOverMemory order fields metadata calls answers writer.Started ⊎ RunsOverMemory order fields metadata calls answers writer.Finished
 
 -- with some answers they leave the writer in this state
-pub record MayLeave (fields : FieldTrees) (metadata : Pairs) (calls : List StreamCall) (state : WriterState) : Type 0 where
+pub record MayLeave (order : Endianness) (fields : FieldTrees) (metadata : Pairs) (calls : List StreamCall) (state : WriterState) : Type 0 where
   pub answers : List (Result Unit Fault)
-  pub runs : RunsOverMemory fields metadata calls answers state
+  pub runs : RunsOverMemory order fields metadata calls answers state
 
 -- why a stream isn't ended
 abbrev pub RefusesEnd : WriterState → Fault → Type 0
@@ -82,9 +85,9 @@ RefusesEnd s _ = ⊥
 
 -- Why a round trip is refused: memory, of which a device that is memory tells by its own fault, or a writer that the calls left
 -- not started or failed. What was written is never refused where it is read.
-abbrev pub RefusesRoundTrip : FieldTrees → Pairs → List StreamCall → Fault → Type 0
-RefusesRoundTrip fs es calls Memory = Unit {0}
-RefusesRoundTrip fs es calls (Io e) = Unit {0}
-RefusesRoundTrip fs es calls (State NotStarted) = MayLeave fs es calls writer.New
-RefusesRoundTrip fs es calls (State Failed) = MayLeave fs es calls writer.Failed
-RefusesRoundTrip fs es calls _ = ⊥
+abbrev pub RefusesRoundTrip : Endianness → FieldTrees → Pairs → List StreamCall → Fault → Type 0
+RefusesRoundTrip order fs es calls Memory = Unit {0}
+RefusesRoundTrip order fs es calls (Io e) = Unit {0}
+RefusesRoundTrip order fs es calls (State NotStarted) = MayLeave order fs es calls writer.New
+RefusesRoundTrip order fs es calls (State Failed) = MayLeave order fs es calls writer.Failed
+RefusesRoundTrip order fs es calls _ = ⊥

@@ -4,9 +4,9 @@ ghost use Rattle.lower.specs.TypeViews.{fields_view, pairs_of};
 ghost use Rattle.ipc_model.specs.WriterStates.{answered};
 ghost use Rattle.ipc_model.specs.Writers.{taken};
 ghost use Rattle.ipc_schema_write.specs.DefaultIds.{default_all};
-ghost use Rattle.ipc_schema_write.specs.WriterAnswers.{written_head};
+ghost use Rattle.ipc_schema_write.specs.WriterAnswers.{written_head_as};
 ghost use Rattle.ipc_write.specs.Calls.{ended_as};
-ghost use Rattle.ipc_write.specs.Writers.{seen};
+ghost use Rattle.ipc_write.specs.Writers.{order_of, seen};
 ghost use Rattle.ipc_write.specs.declared.stream.WriterState.TheVariants.{Finished, Started};
 ghost use Rattle.ipc_round_trip.specs.RoundTrip.{ComesBack, EndsStream, FinishedLaw, OpenLaw, ReadableLaw, RefusesEnd, RefusesRoundTrip, RunsToStream};
 
@@ -39,23 +39,28 @@ fn ended(mut writer: StreamWriter<Vec<u8>>) -> Result<Vec<u8>, Fault>
     }
 }
 
-/// Makes these calls of a writer over memory, also those behind a refused one, ends the stream where none
+/// Makes these calls of a writer with these options over memory, also those behind a refused one, ends the stream where none
 /// of them did, and reads it back: it has the schema in its normal form, and exactly the chunks of the
 /// writes that were Ok.
 ///
 /// Faults: `State(NotStarted)` where no `start` was Ok, `State(Failed)` where a call answered `Io`, `Io`
 /// where the end can't be written, both of which come only where the memory that is written to was refused
 /// its growth; `Memory`. What was written is never refused where it is read.
-pub fn round_trip(alloc: Global, schema: &Schema, calls: &[StreamCall]) -> Result<RoundTrip, Fault>
+pub fn round_trip(
+    alloc: Global,
+    schema: &Schema,
+    calls: &[StreamCall],
+    write_options: WriteOptions,
+) -> Result<RoundTrip, Fault>
     ensures back { let fields = fields_view schema.now.fields.items in
         IfOk result (λ r. ComesBack r.stream
-        (written_head fields (pairs_of schema.now.metadata.entries) (default_all 0 fields))
+        (written_head_as (order_of write_options) fields (pairs_of schema.now.metadata.entries) (default_all 0 fields))
         (taken (answered (ended_as calls.now r.answers.items)))) }
-    ensures run { IfOk result (λ r. RunsToStream (fields_view schema.now.fields.items) (pairs_of schema.now.metadata.entries)
+    ensures run { IfOk result (λ r. RunsToStream (order_of write_options) (fields_view schema.now.fields.items) (pairs_of schema.now.metadata.entries)
         calls.now r.answers.items) }
-    ensures only { IfErr result (RefusesRoundTrip (fields_view schema.now.fields.items) (pairs_of schema.now.metadata.entries) calls.now) }
+    ensures only { IfErr result (RefusesRoundTrip (order_of write_options) (fields_view schema.now.fields.items) (pairs_of schema.now.metadata.entries) calls.now) }
 {
-    let mut writer = StreamWriter::new(alloc, Vec::new(alloc), WriteOptions::default());
+    let mut writer = StreamWriter::new(alloc, Vec::new(alloc), write_options);
     let answers = run_calls(alloc, &mut writer, schema, calls)?;
     let bytes = ended(writer)?;
     let stream = read_stream(alloc, &bytes)?;

@@ -1,45 +1,28 @@
 -- Columns that are carried are accepted just where their types fit, and each length and the end of their body can be said.
 use Rattle.std.proofs.Common.{◌≡◌, ℕ, ◌^◌, ◌≤◌, arith, List, [], ◌∷◌, length, map, All, Option, None, Some, IfSome, IsSomeAnd, ◌⊎◌, inl, inr, Result, Ok, Err, IfErr, refl, sym, ap, ◌∙◌, subst, append-nil}
 use Rattle.std.proofs.lemmas.List.Concat.{flat_map-cons}
-use Rattle.std.proofs.lemmas.List.Elements.{All-head, All-tail}
 use Rattle.std.specs.List.{AllByRecursion, flat_map}
 use Rattle.lower.specs.Normal.{norm}
 use Rattle.lower.specs.TypeTrees.{TypeTree, field, FieldTrees, no_fields, more_fields}
 use Rattle.lower_arrays.specs.AnyLayouts.{layout_of}
-use Rattle.lower_arrays.specs.Layouts.{Layout, Level, layouts, type_of}
+use Rattle.lower_arrays.specs.Layouts.{Layout, Level, type_of}
 use Rattle.lower_arrays.specs.Slots.{slots}
+use Rattle.lower_types.specs.declared.Endianness.{Endianness}
 use Rattle.lower_arrays.specs.declared.array.AnyArray.{AnyArray}
-use Rattle.lower_arrays.specs.declared.array.AnyArray.TheVariants.{Primitive}
 use Rattle.ipc_base.specs.IdTrees.{IdTrees}
 use Rattle.ipc_devices.specs.declared.fault.ArgFault.TheVariants.{ColumnCount, ColumnType, FieldsDiffer, TooLarge, TooLong}
 use Rattle.ipc_devices.specs.declared.fault.Fault.{Fault}
 use Rattle.ipc_devices.specs.declared.fault.Fault.TheVariants.{Argument, Io, Memory, NotYetImplemented, State}
 use Rattle.ipc_devices.specs.declared.fault.Nyi.TheVariants.{Pending}
 use Rattle.ipc_model.specs.Accepted.{IsAccepted, IsSayable, Offer, body_length, types_of}
-use Rattle.ipc_model.specs.Offers.{FilledPlace, IsAcceptedChunk, body_lengths, inner_ids, messages, own_id, own_values, values_below, values_of}
-use Rattle.ipc_model.specs.TypeKinds.{first_ids, other_ids}
+use Rattle.ipc_model.specs.Offers.{FilledPlace, IsAcceptedChunk, body_lengths, messages}
 use Rattle.ipc_plan.specs.Taking.{AreShort}
-use Rattle.ipc_write.specs.Columns.{HasIntegers, IsCarried, levels_of}
+use Rattle.ipc_write.specs.Columns.{IsCarried, levels_of}
+use Rattle.ipc_write.proofs.NoKeys.{no_values}
 use Rattle.ipc_write.specs.Meaning.{normal_type}
 use Rattle.ipc_write.specs.Batches.{HasLongMetadata, RefusesChunk}
 use Rattle.ipc_write.specs.Writers.{AnswersWrite, HaveTypes, RefusesWrite, MayBeWritten, WriterSeen, WritesExactly, fault_unless_started, normal_types}
 use Rattle.ipc_write.specs.declared.stream.WriterState.TheVariants.{Started}
-
--- ---- carried columns have no dictionaries
-
-none_below : (a : AnyArray) (is : IdTrees) → HasIntegers a → values_below (layout_of a) is ≡ []
-none_below (Primitive a) is whole = refl
-none_below _ is none = absurd none
-
-none_own : (a : AnyArray) (id : _) → HasIntegers a → own_values (layout_of a) id ≡ []
-none_own (Primitive a) id whole = refl
-none_own _ id none = absurd none
-
-no_values : (columns : List AnyArray) (is : IdTrees) → All IsCarried columns → values_of (layouts (map layout_of columns)) is ≡ []
-no_values [] is carried = refl
-no_values (a ∷ columns) is carried =
-    let here = (All-head IsCarried a columns carried).integers in
-    rw (none_below a (inner_ids (first_ids is)) here, none_own a (own_id (first_ids is)) here, no_values columns (other_ids is) (All-tail IsCarried a columns carried)) refl
 
 -- what columns bring whose dictionary places have these values
 abbrev offer_with : List Layout → List FilledPlace → Offer
@@ -141,9 +124,9 @@ takes w columns ids started same_ids carried have short small fs same = record {
 taken_types : {W : Type 0} (w : WriterSeen W) (fs : FieldTrees) (columns : List AnyArray) (ids : Option IdTrees) → normal_types fs ≡ w.types → MayBeWritten w fs columns ids → HaveTypes columns w.types
 taken_types w fs columns ids same t = subst (λ (types : List TypeTree). HaveTypes columns types) same (accepted_types fs w.ids columns t.accepted)
 
-too_far : (columns : List AnyArray) → IsSayable (body_length (body_lengths (levels_of columns))) → (2 ^ 63 ≤ body_length (body_lengths (levels_of columns))) ⊎ HasLongMetadata columns → HasLongMetadata columns
-too_far columns small (inl far) = absurd (omega (arith, small, far))
-too_far columns small (inr long) = long
+too_far : (o : Endianness) (columns : List AnyArray) → IsSayable (body_length (body_lengths (levels_of columns))) → (2 ^ 63 ≤ body_length (body_lengths (levels_of columns))) ⊎ HasLongMetadata o columns → HasLongMetadata o columns
+too_far o columns small (inl far) = absurd (omega (arith, small, far))
+too_far o columns small (inr long) = long
 
 other_ids_given : {W : Type 0} (w : WriterSeen W) (ids : Option IdTrees) → IsSomeAnd ids (λ given. ¬ (given ≡ w.ids)) → IfSome ids (λ given. given ≡ w.ids) → ⊥
 other_ids_given w None h same = h
@@ -156,7 +139,7 @@ not_taken w fs columns ids (Argument FieldsDiffer) same h = λ t. other_ids_give
 not_taken w fs columns ids (Argument ColumnCount) same h = λ t. h (same_count columns w.types (taken_types w fs columns ids same t))
 not_taken w fs columns ids (Argument ColumnType) same h = λ t. h (taken_types w fs columns ids same t)
 not_taken w fs columns ids (Argument TooLong) same h = λ t. h (accepted_short fs w.ids columns t.carried t.accepted)
-not_taken w fs columns ids (Argument TooLarge) same h = λ t. too_far columns (accepted_small fs w.ids columns t.carried t.accepted) h
+not_taken w fs columns ids (Argument TooLarge) same h = λ t. too_far w.order columns (accepted_small fs w.ids columns t.carried t.accepted) h
 not_taken w fs columns ids (NotYetImplemented Pending) same h = λ t. h.1 t.carried
 not_taken w fs columns ids Memory same h = tt
 not_taken w fs columns ids (Io x) same h = tt
@@ -171,7 +154,7 @@ answered_exactly w columns ids (Ok x) h t = record { exact = t }
 answered_exactly w columns ids (Err e) h t = refused_exactly w columns ids e h
 
 -- a chunk of these types that is refused
-pub chunk_refused : {W : Type 0} (w : WriterSeen W) (columns : List AnyArray) (ids : Option IdTrees) (e : Fault) → HaveTypes columns w.types → RefusesChunk columns e → RefusesWrite w columns ids e
+pub chunk_refused : {W : Type 0} (w : WriterSeen W) (columns : List AnyArray) (ids : Option IdTrees) (e : Fault) → HaveTypes columns w.types → RefusesChunk w.order columns e → RefusesWrite w columns ids e
 chunk_refused w columns ids (NotYetImplemented Pending) have h = (have, h)
 chunk_refused w columns ids (Argument TooLong) have h = h
 chunk_refused w columns ids (Argument TooLarge) have h = h

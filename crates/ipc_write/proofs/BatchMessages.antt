@@ -4,7 +4,7 @@ use Rattle.std.proofs.lemmas.List.Concat.{flat_map-cons}
 use Rattle.std.specs.Int.{next_multiple_of}
 use Rattle.std.specs.Prelude.{Vec}
 use Rattle.std.specs.declared.alloc.Global.{Global}
-use Rattle.lower_types.specs.declared.Endianness.TheVariants.{Little}
+use Rattle.lower_types.specs.declared.Endianness.{Endianness}
 use Rattle.lower_arrays.specs.AnyLayouts.{layout_of}
 use Rattle.lower_arrays.specs.Layouts.{Layout, layout, layouts, Level, len_of}
 use Rattle.lower_arrays.specs.Slots.{AreArrays}
@@ -54,9 +54,9 @@ plan_message p m rows given end nodes buffers value slots same ns bs es = record
 }
 
 -- the message of a plan is that of its columns
-plan_slots : (columns : List AnyArray) (p : Plan) (rows : ℤ) (m : Message) (h : PlansChunk columns p) → IsPlanMessage m rows p → rows ≡ pos (rows_of columns)
+plan_slots : (o : Endianness) (columns : List AnyArray) (p : Plan) (rows : ℤ) (m : Message) (h : PlansChunk o columns p) → IsPlanMessage m rows p → rows ≡ pos (rows_of columns)
     → message_slots m ≡ chunk_slots columns (joined h.plans.buffers)
-plan_slots columns p rows m h is e =
+plan_slots o columns p rows m h is e =
     let bs = joined h.plans.buffers in
     is.slots
     ∙ ap (λ n. message_of n p.nodes.items p.buffers.items (pos p.end)) e
@@ -65,59 +65,65 @@ plan_slots columns p rows m h is e =
     ∙ ap (λ n. message_of (pos (rows_of columns)) (map node_of (levels_of columns)) (entries_from 0 bs) (pos n)) h.plans.end_is
 
 -- the bytes of a plan's message, with the plan's pieces
-pub chunk_message : (columns : List AnyArray) (p q : Plan) (rows : ℤ) (m : Message) (metadata : List ℕ) → PlansChunk columns p → IsPlanMessage m rows p → rows ≡ pos (rows_of columns)
-    → IsEncoding metadata (message_slots m) → q.pieces.items ≡ p.pieces.items → IsChunkMessage metadata (pieces_bytes Little q.pieces.items) columns
-chunk_message columns p q rows m metadata h is e encodes same = record {
+pub chunk_message : (o : Endianness) (columns : List AnyArray) (p q : Plan) (rows : ℤ) (m : Message) (metadata : List ℕ) → PlansChunk o columns p → IsPlanMessage m rows p → rows ≡ pos (rows_of columns)
+    → IsEncoding metadata (message_slots m) → q.pieces.items ≡ p.pieces.items → IsChunkMessage o metadata (pieces_bytes o q.pieces.items) columns
+chunk_message o columns p q rows m metadata h is e encodes same = record {
   buffers = h.plans.buffers;
   have = h.plans.have;
-  metadata_is = subst (λ (s : Slots). IsEncoding metadata s) (plan_slots columns p rows m h is e) encodes;
+  metadata_is = subst (λ (s : Slots). IsEncoding metadata s) (plan_slots o columns p rows m h is e) encodes;
   written = record {
     message = m;
     version = ap (λ (n : Message). n.version) is.value;
     bare = ap (λ (n : Message). n.custom_metadata) is.value;
     encoding = encodes;
   };
-  body_is = ap (λ ps. pieces_bytes Little ps) same ∙ h.plans.body_is;
+  body_is = ap (λ ps. pieces_bytes o ps) same ∙ h.plans.body_is;
 }
 
 -- why a message is too large
-pub long_message : (columns : List AnyArray) (p : Plan) (rows : ℤ) (m : Message) → PlansChunk columns p → IsPlanMessage m rows p → rows ≡ pos (rows_of columns) → 2 ^ 31 ≤ message_size (message_slots m)
-    → HasLongMetadata columns
-long_message columns p rows m h is e long =
+pub long_message : (o : Endianness) (columns : List AnyArray) (p : Plan) (rows : ℤ) (m : Message) → PlansChunk o columns p → IsPlanMessage m rows p → rows ≡ pos (rows_of columns) → 2 ^ 31 ≤ message_size (message_slots m)
+    → HasLongMetadata o columns
+long_message o columns p rows m h is e long =
     let far : 2 ^ 31 ≤ message_size (chunk_slots columns (joined h.plans.buffers)) =
-    subst (λ (s : Slots). 2 ^ 31 ≤ message_size s) (plan_slots columns p rows m h is e) long in
+    subst (λ (s : Slots). 2 ^ 31 ≤ message_size s) (plan_slots o columns p rows m h is e) long in
     record { buffers = h.plans.buffers; have = h.plans.have; long = omega (arith, far) }
 
-pub long_metadata : (columns : List AnyArray) (metadata sent : List ℕ) → IsChunkMessage metadata sent columns → 2 ^ 31 ≤ next_multiple_of (length metadata) 8 → HasLongMetadata columns
-long_metadata columns metadata sent is long = record {
+pub long_metadata : (o : Endianness) (columns : List AnyArray) (metadata sent : List ℕ) → IsChunkMessage o metadata sent columns → 2 ^ 31 ≤ next_multiple_of (length metadata) 8 → HasLongMetadata o columns
+long_metadata o columns metadata sent is long = record {
   buffers = is.buffers;
   have = is.have;
   long = subst (λ (n : ℕ). 2 ^ 31 ≤ next_multiple_of n 8) is.metadata_is.size long;
 }
 
 -- the body of a chunk ends at a multiple of 64
-pub body_ends : (columns : List AnyArray) (metadata sent : List ℕ) → IsChunkMessage metadata sent columns → length sent % 64 ≡ 0
-body_ends columns metadata sent is = subst (λ (xs : List ℕ). length xs % 64 ≡ 0) (sym is.body_is) (body_whole (joined is.buffers))
+pub body_ends : (o : Endianness) (columns : List AnyArray) (metadata sent : List ℕ) → IsChunkMessage o metadata sent columns → length sent % 64 ≡ 0
+body_ends o columns metadata sent is = subst (λ (xs : List ℕ). length xs % 64 ≡ 0) (sym is.body_is) (body_whole (joined is.buffers))
 
 -- ---- what is planned
 
-pub planned : (columns : List AnyArray) (r : Result Plan Fault) → AreArrays (layouts (map layout_of columns)) → IfOk r (λ p. PlansColumns Little (map layout_of columns) p) → AnswersColumns r (levels_of columns)
-    → IfOk r (λ p. PlansChunk columns p)
-planned columns (Ok p) arrays plans takes = record { arrays = arrays; plans = plans; short = takes.0; end_is = takes.1; small = takes.2 }
-planned columns (Err e) arrays plans takes = tt
+pub planned : (o : Endianness) (columns : List AnyArray) (r : Result Plan Fault) → AreArrays (layouts (map layout_of columns)) → IfOk r (λ p. PlansColumns o (map layout_of columns) p) → AnswersColumns r (levels_of columns)
+    → IfOk r (λ p. PlansChunk p.order columns p)
+planned o columns (Ok p) arrays plans takes =
+    let own : PlansColumns p.order (map layout_of columns) p = subst (λ (q : Endianness). PlansColumns q (map layout_of columns) p) (sym plans.order_is) plans in
+    record { arrays = arrays; plans = own; short = takes.0; end_is = takes.1; small = takes.2 }
+planned o columns (Err e) arrays plans takes = tt
 
-pub refused_plan : (columns : List AnyArray) (r : Result Plan Fault) → AnswersColumns r (levels_of columns) → IfErr r (RefusesChunk columns)
-refused_plan columns (Ok p) takes = tt
-refused_plan columns (Err (Argument TooLong)) takes = takes
-refused_plan columns (Err (Argument TooLarge)) takes = inl takes
-refused_plan columns (Err Memory) takes = tt
-refused_plan columns (Err _) takes = absurd takes
+pub planned_order : (o : Endianness) (columns : List AnyArray) (r : Result Plan Fault) → IfOk r (λ p. PlansColumns o (map layout_of columns) p) → IfOk r (λ p. p.order ≡ o)
+planned_order o columns (Ok p) plans = plans.order_is
+planned_order o columns (Err e) plans = tt
+
+pub refused_plan : (o : Endianness) (columns : List AnyArray) (r : Result Plan Fault) → AnswersColumns r (levels_of columns) → IfErr r (RefusesChunk o columns)
+refused_plan o columns (Ok p) takes = tt
+refused_plan o columns (Err (Argument TooLong)) takes = takes
+refused_plan o columns (Err (Argument TooLarge)) takes = inl takes
+refused_plan o columns (Err Memory) takes = tt
+refused_plan o columns (Err _) takes = absurd takes
 
 -- why a message isn't made
-pub refused_message : (columns : List AnyArray) (p : Plan) (rows : ℤ) (m : Message) (e : Fault) → PlansChunk columns p → IsPlanMessage m rows p → rows ≡ pos (rows_of columns)
-    → (e ≡ Memory) ⊎ ((e ≡ Argument TooLarge) × (2 ^ 31 ≤ message_size (message_slots m))) → RefusesChunk columns e
-refused_message columns p rows m e h is same (inl none) = subst (λ (f : Fault). RefusesChunk columns f) (sym none) tt
-refused_message columns p rows m e h is same (inr far) = subst (λ (f : Fault). RefusesChunk columns f) (sym far.0) (inr (long_message columns p rows m h is same far.1))
+pub refused_message : (o : Endianness) (columns : List AnyArray) (p : Plan) (rows : ℤ) (m : Message) (e : Fault) → PlansChunk o columns p → IsPlanMessage m rows p → rows ≡ pos (rows_of columns)
+    → (e ≡ Memory) ⊎ ((e ≡ Argument TooLarge) × (2 ^ 31 ≤ message_size (message_slots m))) → RefusesChunk o columns e
+refused_message o columns p rows m e h is same (inl none) = subst (λ (f : Fault). RefusesChunk o columns f) (sym none) tt
+refused_message o columns p rows m e h is same (inr far) = subst (λ (f : Fault). RefusesChunk o columns f) (sym far.0) (inr (long_message o columns p rows m h is same far.1))
 
 -- ---- rows
 

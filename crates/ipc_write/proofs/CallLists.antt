@@ -5,12 +5,13 @@ use Rattle.ipc_devices.specs.Device.{Memory}
 use Rattle.ipc_devices.specs.declared.fault.Fault.{Fault}
 use Rattle.ipc_devices.specs.declared.fault.Fault.TheVariants.{Io}
 use Rattle.lower.specs.TypeTrees.{FieldTrees, Pairs}
+use Rattle.lower_types.specs.declared.Endianness.{Endianness}
 use Rattle.ipc_model.specs.Batches.{Chunk}
 use Rattle.ipc_model.specs.Streams.{Head}
 use Rattle.ipc_model.specs.WriterStates.{IsRun, MayEnd, answered, state_after}
 use Rattle.ipc_model.specs.Writers.{Call, added_by, taken}
 use Rattle.ipc_schema_write.specs.DefaultIds.{default_all}
-use Rattle.ipc_schema_write.specs.WriterAnswers.{written_head}
+use Rattle.ipc_schema_write.specs.WriterAnswers.{written_head_as}
 use Rattle.ipc_write.specs.Agreement.{Agrees, Follows}
 use Rattle.ipc_write.specs.Calls.{AreMade, IsMade, call_seen, ended_as, outcome, state_seen, writer_in}
 use Rattle.ipc_write.specs.Writers.{StateComesFirst, WriterSeen, fault_unless_new, fault_unless_started}
@@ -46,8 +47,14 @@ module _ {W : Type 0} (known grows : Bool) (failures room : W → ℕ) (memory :
   abbrev AllMade : WriterSeen W → List StreamCall → List (Result (Unit {0}) Fault) → WriterSeen W → Type 0
   AllMade = AreMade known grows failures room memory fs es
 
-  abbrev head : Head
-  head = written_head fs es (default_all 0 fs)
+  abbrev head : Endianness → Head
+  head o = written_head_as o fs es (default_all 0 fs)
+
+  -- no call changes the order of bytes
+  order_stays : (a b : WriterSeen W) (call : StreamCall) (r : Result (Unit {0}) Fault) → Made a call r b → b.order ≡ a.order
+  order_stays a b Start r h = h.step.step.order
+  order_stays a b (Write chunk) r h = h.step.step.order
+  order_stays a b Finish r h = h.step.order
 
   -- how a call moves the state
   moves : (a b : WriterSeen W) (call : StreamCall) (r : Result (Unit {0}) Fault) → Made a call r b
@@ -62,49 +69,57 @@ module _ {W : Type 0} (known grows : Bool) (failures room : W → ℕ) (memory :
   moves a b Finish (Err (Io e)) h = (ap state_seen (was_started a.state a b e h.first), ap state_seen h.step.io.0)
   moves a b Finish (Err _) h = (tt, ap state_seen h.step.refused.state)
 
-  pub made_run : (a b : WriterSeen W) (calls : List StreamCall) (rs : List (Result (Unit {0}) Fault)) → AllMade a calls rs b → IsRun (writer_in (state_seen a.state)) (ended_as calls rs) (writer_in (state_seen b.state))
-  made_run a b [] [] h = ap (λ (w : WriterSeen W). writer_in (state_seen w.state)) (sym h)
+  pub made_run : (a b : WriterSeen W) (calls : List StreamCall) (rs : List (Result (Unit {0}) Fault)) → AllMade a calls rs b → IsRun (writer_in a.order (state_seen a.state)) (ended_as calls rs) (writer_in b.order (state_seen b.state))
+  made_run a b [] [] h = ap (λ (w : WriterSeen W). writer_in w.order (state_seen w.state)) (sym h)
   made_run a b [] (r ∷ rs) h = absurd h
   made_run a b (call ∷ calls) [] h = absurd h
   made_run a b (call ∷ calls) (r ∷ rs) h =
       let moved = moves a h.0 call r h.1.0 in
-      (moved.0, subst (λ s. IsRun (writer_in s) (ended_as calls rs) (writer_in (state_seen b.state))) moved.1 (made_run h.0 b calls rs h.1.1))
+      let rest = subst (λ s. IsRun (writer_in h.0.order s) (ended_as calls rs) (writer_in b.order (state_seen b.state))) moved.1 (made_run h.0 b calls rs h.1.1) in
+      (moved.0, subst (λ (o : Endianness). IsRun (writer_in o (state_after (call_seen call) (outcome r) (state_seen a.state))) (ended_as calls rs) (writer_in b.order (state_seen b.state))) (order_stays a h.0 call r h.1.0) rest)
+
+  pub made_order : (a b : WriterSeen W) (calls : List StreamCall) (rs : List (Result (Unit {0}) Fault)) → AllMade a calls rs b → b.order ≡ a.order
+  made_order a b [] [] h = ap (λ (w : WriterSeen W). w.order) h
+  made_order a b [] (r ∷ rs) h = absurd h
+  made_order a b (call ∷ calls) [] h = absurd h
+  made_order a b (call ∷ calls) (r ∷ rs) h = made_order h.0 b calls rs h.1.1 ∙ order_stays a h.0 call r h.1.0
 
   -- ---- chunks
 
   -- a call that adds nothing
-  adds_none : (b : WriterSeen W) (base : List ℕ) (chunks : List Chunk) → Agrees memory b base head chunks → Agrees memory b base head (chunks ++ [])
-  adds_none b base chunks h = subst (λ (cs : List Chunk). Agrees memory b base head cs) (sym (append-nil chunks)) h
+  adds_none : (b : WriterSeen W) (base : List ℕ) (o : Endianness) (chunks : List Chunk) → Agrees memory b base (head o) chunks → Agrees memory b base (head o) (chunks ++ [])
+  adds_none b base o chunks h = subst (λ (cs : List Chunk). Agrees memory b base (head o) cs) (sym (append-nil chunks)) h
 
-  follows_one : (a b : WriterSeen W) (call : StreamCall) (r : Result (Unit {0}) Fault) → Made a call r b → Follows known memory a b head (taken (answered ((call_seen call, outcome r) ∷ [])))
-  follows_one a b Start (Ok x) h = record { followed = λ k base chunks at. adds_none b base chunks (h.means.begun k base chunks at) }
-  follows_one a b Start (Err (Io e)) h = record { followed = λ k base chunks at. adds_none b base chunks (h.means.kept k base head chunks at) }
-  follows_one a b Start (Err _) h = record { followed = λ k base chunks at. adds_none b base chunks (h.means.kept k base head chunks at) }
-  follows_one a b (Write chunk) (Ok x) h = record { followed = λ k base chunks at. h.means.appended k base head chunks at }
-  follows_one a b (Write chunk) (Err (Io e)) h = record { followed = λ k base chunks at. adds_none b base chunks (h.means.kept k base head chunks at) }
-  follows_one a b (Write chunk) (Err _) h = record { followed = λ k base chunks at. adds_none b base chunks (h.means.kept k base head chunks at) }
-  follows_one a b Finish (Ok x) h = record { followed = λ k base chunks at. adds_none b base chunks (h.means.kept k base head chunks at) }
-  follows_one a b Finish (Err (Io e)) h = record { followed = λ k base chunks at. adds_none b base chunks (h.means.kept k base head chunks at) }
-  follows_one a b Finish (Err _) h = record { followed = λ k base chunks at. adds_none b base chunks (h.means.kept k base head chunks at) }
+  follows_one : (a b : WriterSeen W) (call : StreamCall) (r : Result (Unit {0}) Fault) → Made a call r b → Follows known memory a b (head a.order) (taken (answered ((call_seen call, outcome r) ∷ [])))
+  follows_one a b Start (Ok x) h = record { followed = λ k base chunks at. adds_none b base a.order chunks (h.means.begun k base chunks at) }
+  follows_one a b Start (Err (Io e)) h = record { followed = λ k base chunks at. adds_none b base a.order chunks (h.means.kept k base (head a.order) chunks at) }
+  follows_one a b Start (Err _) h = record { followed = λ k base chunks at. adds_none b base a.order chunks (h.means.kept k base (head a.order) chunks at) }
+  follows_one a b (Write chunk) (Ok x) h = record { followed = λ k base chunks at. h.means.appended k base (head a.order) chunks at }
+  follows_one a b (Write chunk) (Err (Io e)) h = record { followed = λ k base chunks at. adds_none b base a.order chunks (h.means.kept k base (head a.order) chunks at) }
+  follows_one a b (Write chunk) (Err _) h = record { followed = λ k base chunks at. adds_none b base a.order chunks (h.means.kept k base (head a.order) chunks at) }
+  follows_one a b Finish (Ok x) h = record { followed = λ k base chunks at. adds_none b base a.order chunks (h.means.kept k base (head a.order) chunks at) }
+  follows_one a b Finish (Err (Io e)) h = record { followed = λ k base chunks at. adds_none b base a.order chunks (h.means.kept k base (head a.order) chunks at) }
+  follows_one a b Finish (Err _) h = record { followed = λ k base chunks at. adds_none b base a.order chunks (h.means.kept k base (head a.order) chunks at) }
 
   taken_first : (call : Call) (ok : Bool) (ps : List (Call × Bool)) → taken ((call, ok) ∷ []) ++ taken ps ≡ taken ((call, ok) ∷ ps)
   taken_first call true ps = ap (λ cs. cs ++ taken ps) (append-nil (added_by call))
   taken_first call false ps = refl
 
-  pub made_follow : (a b : WriterSeen W) (calls : List StreamCall) (rs : List (Result (Unit {0}) Fault)) → AllMade a calls rs b → Follows known memory a b head (taken (answered (ended_as calls rs)))
-  made_follow a b [] [] h = record { followed = λ k base chunks at. subst (λ (w : WriterSeen W). Agrees memory w base head (chunks ++ [])) (sym h) (adds_none a base chunks at) }
+  pub made_follow : (a b : WriterSeen W) (calls : List StreamCall) (rs : List (Result (Unit {0}) Fault)) → AllMade a calls rs b → Follows known memory a b (head a.order) (taken (answered (ended_as calls rs)))
+  made_follow a b [] [] h = record { followed = λ k base chunks at. subst (λ (w : WriterSeen W). Agrees memory w base (head a.order) (chunks ++ [])) (sym h) (adds_none a base a.order chunks at) }
   made_follow a b [] (r ∷ rs) h = absurd h
   made_follow a b (call ∷ calls) [] h = absurd h
   made_follow a b (call ∷ calls) (r ∷ rs) h =
       let one = follows_one a h.0 call r h.1.0 in
-      let more = made_follow h.0 b calls rs h.1.1 in
+      let rest_follows : Follows known memory h.0 b (head a.order) (taken (answered (ended_as calls rs))) =
+      subst (λ (o : Endianness). Follows known memory h.0 b (head o) (taken (answered (ended_as calls rs)))) (order_stays a h.0 call r h.1.0) (made_follow h.0 b calls rs h.1.1) in
       let first = taken (answered ((call_seen call, outcome r) ∷ [])) in
       let rest = taken (answered (ended_as calls rs)) in
       let all : first ++ rest ≡ taken (answered (ended_as (call ∷ calls) (r ∷ rs))) = taken_first (call_seen call) _ (answered (ended_as calls rs)) in
       record {
         followed = λ k base chunks at.
             let joined : (chunks ++ first) ++ rest ≡ chunks ++ taken (answered (ended_as (call ∷ calls) (r ∷ rs))) = append_assoc chunks first rest ∙ ap (λ cs. chunks ++ cs) all in
-            subst (λ (cs : List Chunk). Agrees memory b base head cs) joined (more.followed k base (chunks ++ first) (one.followed k base chunks at));
+            subst (λ (cs : List Chunk). Agrees memory b base (head a.order) cs) joined (rest_follows.followed k base (chunks ++ first) (one.followed k base chunks at));
       }
 
   -- ---- one call more

@@ -1,61 +1,73 @@
 -- A schema that is taken is carried, and has no dictionaries.
-use Rattle.std.proofs.Common.{◌≡◌, ◌≤◌, ◌^◌, [], ◌++◌, length, IsTrue, Err, refl, arith}
+use Rattle.std.proofs.Common.{◌≡◌, ◌≤◌, ◌^◌, ◌&&◌, [], length, IsTrue, Err, refl, ap, ◌∙◌, arith}
 use Rattle.std.proofs.lemmas.Bool.{and_parts}
-use Rattle.lower.specs.Counts.{fields_places, inner_places, own_place}
-use Rattle.lower.specs.Normal.{norm, norm_fields}
-use Rattle.lower.specs.TypeTrees.{TypeTree, plain, single, group, dictionary, extension, field, FieldTrees, no_fields, more_fields, Pairs}
+use Rattle.lower.specs.Counts.{field_places, fields_places, inner_places, own_place}
+use Rattle.lower.specs.Normal.{norm, norm_field, norm_fields}
+use Rattle.lower.specs.TypeTrees.{TypeTree, plain, single, group, dictionary, extension, FieldTree, field, FieldTrees, no_fields, more_fields, Pairs}
+use Rattle.lower_types.specs.declared.Endianness.{Endianness}
 use Rattle.ipc_base.specs.IdTrees.{IdTrees}
-use Rattle.ipc_model.specs.Carried.{IsCarried, are_whole, is_whole_type}
+use Rattle.ipc_carried.specs.Carried.{IsCarried, are_carried, is_carried_field, is_carried_type, is_structure}
 use Rattle.ipc_devices.specs.declared.fault.ArgFault.TheVariants.{FieldsShape, NotWritable, TooLarge}
 use Rattle.ipc_devices.specs.declared.fault.Fault.{Fault}
 use Rattle.ipc_devices.specs.declared.fault.Fault.TheVariants.{Argument, Memory}
 use Rattle.ipc_schema_write.specs.Refusals.{RefusesCount}
-use Rattle.ipc_schema_write.specs.WriterAnswers.{RefusesSchema, written}
-use Rattle.ipc_write.specs.Writers.{IsCarriedSchema, RefusesStart, are_carried}
+use Rattle.ipc_schema_write.specs.WriterAnswers.{RefusesSchema, written_as}
+use Rattle.ipc_write.specs.Writers.{RefusesStart}
 use Rattle.ipc_write.specs.declared.stream.WriterState.{WriterState}
 
-type_whole : (t : TypeTree) → IsTrue (is_whole_type t) → IsTrue (is_whole_type (norm t))
-type_whole (plain p) h = h
-type_whole (single s f) h = absurd cc
-type_whole (group g fs) h = absurd cc
-type_whole (dictionary keys t ordered) h = absurd cc
-type_whole (extension name t text) h = absurd cc
+-- the normal form has no dictionary and no union more
+mutual
+  normal_type : (t : TypeTree) → is_carried_type (norm t) ≡ is_carried_type t
+  normal_type (plain p) = refl
+  normal_type (single s f) = normal_field f
+  normal_type (group g fs) = ap (λ b. is_structure g && b) (normal_fields fs)
+  normal_type (dictionary keys t ordered) = refl
+  normal_type (extension name t text) = normal_type t
 
-fields_whole : (fs : FieldTrees) → IsTrue (are_carried fs) → IsTrue (are_whole (norm_fields fs))
-fields_whole no_fields h = refl
-fields_whole (more_fields (field name t nullable es) fs) h =
-    let (own, rest) = and_parts _ _ h in
-    let (none, whole) = and_parts _ _ own in
-    let here = type_whole t whole in
-    let after = fields_whole fs rest in
-    rw (here, after) refl
+  normal_field : (f : FieldTree) → is_carried_field (norm_field f) ≡ is_carried_field f
+  normal_field (field name t nullable metadata) = normal_type t
 
-pub written_carried : (fs : FieldTrees) (es : Pairs) (is : IdTrees) → IsCarriedSchema fs es → IsCarried (written fs es is)
-written_carried fs es is h = record { fields = fields_whole fs h.whole; order = refl }
+  normal_fields : (fs : FieldTrees) → are_carried (norm_fields fs) ≡ are_carried fs
+  normal_fields no_fields = refl
+  normal_fields (more_fields f fs) =
+      ap (λ b. b && are_carried (norm_fields fs)) (normal_field f) ∙ ap (λ b. is_carried_field f && b) (normal_fields fs)
 
--- fields of integers have no dictionary places
-no_inner : (t : TypeTree) → IsTrue (is_whole_type t) → own_place t ++ inner_places t ≡ []
-no_inner (plain p) h = refl
-no_inner (single s f) h = absurd cc
-no_inner (group g fs) h = absurd cc
-no_inner (dictionary keys t ordered) h = absurd cc
-no_inner (extension n t text) h = absurd cc
+pub written_carried : (o : Endianness) (fs : FieldTrees) (es : Pairs) (is : IdTrees) → IsTrue (are_carried fs) → IsCarried (written_as o fs es is)
+written_carried o fs es is h = record { fields = normal_fields fs ∙ h }
 
-no_places : (fs : FieldTrees) → IsTrue (are_carried fs) → fields_places fs ≡ []
-no_places no_fields h = refl
-no_places (more_fields (field name t nullable es) fs) h =
-    let (own, rest) = and_parts _ _ h in
-    let (none, whole) = and_parts _ _ own in
-    rw (no_inner t whole, no_places fs rest) refl
+-- carried fields have no dictionary places
+no_own : (t : TypeTree) → IsTrue (is_carried_type t) → own_place t ≡ []
+no_own (plain p) h = refl
+no_own (single s f) h = refl
+no_own (group g fs) h = refl
+no_own (dictionary keys t ordered) h = absurd cc
+no_own (extension n t text) h = no_own t h
+
+mutual
+  no_inner : (t : TypeTree) → IsTrue (is_carried_type t) → inner_places t ≡ []
+  no_inner (plain p) h = refl
+  no_inner (single s f) h = no_field f h
+  no_inner (group g fs) h = no_places fs (and_parts _ _ h).1
+  no_inner (dictionary keys t ordered) h = absurd cc
+  no_inner (extension n t text) h = no_inner t h
+
+  no_field : (f : FieldTree) → IsTrue (is_carried_field f) → field_places f ≡ []
+  no_field (field name t nullable metadata) h = rw (no_own t h, no_inner t h) refl
+
+  no_places : (fs : FieldTrees) → IsTrue (are_carried fs) → fields_places fs ≡ []
+  no_places no_fields h = refl
+  no_places (more_fields f fs) h =
+      let both = and_parts _ _ h in
+      rw (no_field f both.0, no_places fs both.1) refl
 
 -- so their ids by default are refused for want of memory alone
-pub refused_ids : (X : Type 0) (own : _) (fs : FieldTrees) (es : Pairs) (is : IdTrees) (e : Fault) → IsCarriedSchema fs es → RefusesCount {X = X} (Err e) (2 ^ 63 ≤ length (fields_places fs)) → RefusesStart own fs es is e
+pub refused_ids : (X : Type 0) (own : _) (fs : FieldTrees) (es : Pairs) (is : IdTrees) (e : Fault) → IsTrue (are_carried fs) → RefusesCount {X = X} (Err e) (2 ^ 63 ≤ length (fields_places fs)) → RefusesStart own fs es is e
 refused_ids X own fs es is Memory k h = tt
-refused_ids X own fs es is (Argument TooLarge) k h = absurd (omega (arith, rw (no_places fs k.whole) at h))
+refused_ids X own fs es is (Argument TooLarge) k h = absurd (omega (arith, rw (no_places fs k) at h))
 refused_ids X own fs es is _ k h = absurd h
 
 -- why a schema that is taken is refused
-pub refused_start : (s : WriterState) (fs : FieldTrees) (es : Pairs) (is : IdTrees) (e : Fault) → IsCarriedSchema fs es → RefusesSchema e fs es is → RefusesStart s fs es is e
+pub refused_start : (s : WriterState) (fs : FieldTrees) (es : Pairs) (is : IdTrees) (e : Fault) → IsTrue (are_carried fs) → RefusesSchema e fs es is → RefusesStart s fs es is e
 refused_start s fs es is Memory k h = tt
 refused_start s fs es is (Argument FieldsShape) k h = h
 refused_start s fs es is (Argument NotWritable) k h = h

@@ -1,5 +1,6 @@
 pub mod Acceptance
 pub mod Agreements
+pub mod NoKeys
 pub mod CarriedColumns
 pub mod CarriedHeads
 pub mod BatchMessages

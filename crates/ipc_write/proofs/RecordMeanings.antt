@@ -1,11 +1,9 @@
 -- The metadata and the body of a record batch mean its columns.
 use Rattle.std.proofs.Common.{arith, ◌≡◌, ℕ, ℤ, pos, ◌+◌, ◌^◌, ◌<◌, List, [], ◌∷◌, map, length, Some, None, Ok, refl, sym, ap, ◌∙◌, subst, All, SFits, length-append}
-use Rattle.std.proofs.lemmas.List.Elements.{All-cons, All-nil, All-take}
+use Rattle.std.proofs.lemmas.List.Elements.{All-cons, All-nil}
 use Rattle.std.specs.Int.{w64, next_multiple_of}
 use Rattle.std.specs.Option.{option_and_then}
-use Rattle.lower.specs.Counts.{fields_nodes}
 use Rattle.lower_types.specs.declared.Endianness.{Endianness}
-use Rattle.lower_types.specs.declared.Endianness.TheVariants.{Little}
 use Rattle.lower_arrays.specs.Layouts.{layouts, len_of}
 use Rattle.lower_arrays.specs.Slots.{AreArrays}
 use Rattle.lower_arrays.specs.AnyLayouts.{layout_of}
@@ -21,7 +19,6 @@ use Rattle.ipc_tables.specs.declared.message.MessageHeader.TheVariants.{RecordBa
 use Rattle.ipc_tables.specs.declared.message.RecordBatch.{RecordBatch}
 use Rattle.ipc_tables.proofs.Kept.{BufferFits, NodeFits, kept-buffers, kept-nodes, kept64-is}
 use Rattle.ipc_model.specs.Batches.{Lists, Schema, batch, entries_of, lists_of, record_meaning}
-use Rattle.ipc_model.specs.CarriedStreams.{IsCarriedLists}
 use Rattle.ipc_model.specs.Streams.{header_of, whole}
 use Rattle.ipc_model.specs.WrittenBatches as written
 use Rattle.ipc_plan.proofs.Batches.{columns_batch_law}
@@ -34,7 +31,7 @@ use Rattle.ipc_plan.specs.declared.plan.Plan.{Plan}
 use Rattle.ipc_write.specs.Batches.{IsPlanMessage, PlansChunk, rows_of}
 use Rattle.ipc_write.specs.Columns.{IsCarried}
 use Rattle.ipc_write.specs.Meaning.{IsRecord, MeansColumns, chunk_written, field_types, normal_type}
-use Rattle.ipc_write.proofs.CarriedColumns.{HasNoNulls, all_known, are_like, fits_long, have_rows, named_so, no_nulls_in, nodes_fit}
+use Rattle.ipc_write.proofs.CarriedColumns.{all_known, are_like, fits_long, have_rows, named_so, nodes_fit}
 use Rattle.ipc_write.proofs.Messages.{length_padded}
 
 -- ---- numbers that fit
@@ -79,22 +76,22 @@ record_read bytes version b len listed count root none nodes buffers end short n
     }
 
 -- what a plan lists, with its body, means the columns
-lists_mean : (schema : Schema) (extra : ℕ) (p : Plan) (columns : List AnyArray) → PlansColumns Little (map layout_of columns) p → AreArrays (layouts (map layout_of columns)) → All IsCarried columns
-    → AreEqualRows (λ a. len_of (layout_of a)) columns → schema.order ≡ Little → extra ≡ 0 → field_types schema.fields ≡ map normal_type columns
+lists_mean : (o : Endianness) (schema : Schema) (extra : ℕ) (p : Plan) (columns : List AnyArray) → PlansColumns o (map layout_of columns) p → AreArrays (layouts (map layout_of columns)) → All IsCarried columns
+    → AreEqualRows (λ a. len_of (layout_of a)) columns → schema.order ≡ o → extra ≡ 0 → field_types schema.fields ≡ map normal_type columns
     → batch (entries_of (lists_of_plan p) (whole (body_of_plan p)) schema.order extra []) (length (body_of_plan p)) schema None None ≡ Some (chunk_written columns)
-lists_mean schema extra p columns plans arrays carried rows order none types =
+lists_mean o schema extra p columns plans arrays carried rows order none types =
     let bytes = body_of_plan p in
     let s = entries_of (lists_of_plan p) (whole bytes) schema.order 0 [] in
     ap (λ n. batch (entries_of (lists_of_plan p) (whole bytes) schema.order n []) (length bytes) schema None None) none
-    ∙ columns_batch_law schema p (map layout_of columns) (rows_of columns) [] (subst (λ (o : Endianness). PlansColumns o (map layout_of columns) p) (sym order) plans) arrays
+    ∙ columns_batch_law schema p (map layout_of columns) (rows_of columns) [] (subst (λ (q : Endianness). PlansColumns q (map layout_of columns) p) (sym order) plans) arrays
     (are_like columns schema.fields types) (have_rows (rows_of columns) columns rows) (all_known s columns schema.ids carried)
     ∙ ap Some (named_so columns schema.fields types)
 
 -- the metadata and the body mean the columns
-pub means_columns : (metadata : List ℕ) (p : Plan) (columns : List AnyArray) → 0 < length metadata → length metadata < 2 ^ 31 → IsRecord metadata (lists_of_plan p) (length (body_of_plan p))
-    → PlansColumns Little (map layout_of columns) p → AreArrays (layouts (map layout_of columns)) → All IsCarried columns → AreEqualRows (λ a. len_of (layout_of a)) columns → MeansColumns metadata (body_of_plan p) columns
+pub means_columns : (o : Endianness) (metadata : List ℕ) (p : Plan) (columns : List AnyArray) → 0 < length metadata → length metadata < 2 ^ 31 → IsRecord metadata (lists_of_plan p) (length (body_of_plan p))
+    → PlansColumns o (map layout_of columns) p → AreArrays (layouts (map layout_of columns)) → All IsCarried columns → AreEqualRows (λ a. len_of (layout_of a)) columns → MeansColumns o metadata (body_of_plan p) columns
 unfolding record_meaning
-means_columns metadata p columns some short r plans arrays carried rows = record {
+means_columns o metadata p columns some short r plans arrays carried rows = record {
   written = λ head has. record {
     some = some;
     short = short;
@@ -103,28 +100,23 @@ means_columns metadata p columns some short r plans arrays carried rows = record
     tag = r.tag;
     long = r.long;
     means =
-        ap (λ o. option_and_then (λ lists. batch (entries_of lists (whole (body_of_plan p)) head.schema.order head.extra []) (length (body_of_plan p)) head.schema None None) o) r.lists
-        ∙ lists_mean head.schema head.extra p columns plans arrays carried rows has.order has.extra has.types_are;
+        ap (λ x. option_and_then (λ lists. batch (entries_of lists (whole (body_of_plan p)) head.schema.order head.extra []) (length (body_of_plan p)) head.schema None None) x) r.lists
+        ∙ lists_mean o head.schema head.extra p columns plans arrays carried rows has.order_is has.extra has.types_are;
   };
-  carried = λ head has. subst (IsCarriedLists head.schema) (sym r.lists) (record {
-    carried = has.carried;
-    no_nulls = All-take HasNoNulls (fields_nodes head.schema.fields) p.nodes.items
-        (subst (λ (ns : List FieldNode). All HasNoNulls ns) (sym plans.nodes_are) (no_nulls_in columns carried));
-  });
 }
 
 -- the message of a plan, with the plan's pieces, means the columns
-pub plan_means : (columns : List AnyArray) (p q : Plan) (rows : ℤ) (m : Message) (metadata : List ℕ) → PlansChunk columns p → IsPlanMessage m rows p → All IsCarried columns
+pub plan_means : (o : Endianness) (columns : List AnyArray) (p q : Plan) (rows : ℤ) (m : Message) (metadata : List ℕ) → PlansChunk o columns p → IsPlanMessage m rows p → All IsCarried columns
     → AreEqualRows (λ a. len_of (layout_of a)) columns → 0 < length metadata → length metadata < 2 ^ 31 → HaveRoot metadata (IsMessage 0) m → q.pieces.items ≡ p.pieces.items
-    → MeansColumns metadata (pieces_bytes Little q.pieces.items) columns
-plan_means columns p q rows m metadata h is carried equal some short root same =
+    → MeansColumns o metadata (pieces_bytes o q.pieces.items) columns
+plan_means o columns p q rows m metadata h is carried equal some short root same =
     let bs = joined h.plans.buffers in
-    let little : body_of_plan p ≡ pieces_bytes Little p.pieces.items = ap (λ (o : Endianness). pieces_bytes o p.pieces.items) h.plans.order_is in
-    let long : p.end ≡ length (body_of_plan p) = h.plans.end_is ∙ ap (λ (xs : List ℕ). length xs) (sym (little ∙ h.plans.body_is)) in
-    let fit_nodes : All NodeFits p.nodes.items = subst (λ (ns : List FieldNode). All NodeFits ns) (sym h.plans.nodes_are) (nodes_fit columns carried h.short) in
+    let ordered : body_of_plan p ≡ pieces_bytes o p.pieces.items = ap (λ (q : Endianness). pieces_bytes q p.pieces.items) h.plans.order_is in
+    let long : p.end ≡ length (body_of_plan p) = h.plans.end_is ∙ ap (λ (xs : List ℕ). length xs) (sym (ordered ∙ h.plans.body_is)) in
+    let fit_nodes : All NodeFits p.nodes.items = subst (λ (ns : List FieldNode). All NodeFits ns) (sym h.plans.nodes_are) (nodes_fit columns h.short) in
     let fit_buffers : All BufferFits p.buffers.items =
     subst (λ (es : List Buffer). All BufferFits es) (sym h.plans.entries_are) (buffers_fit 0 bs (omega (arith, h.plans.end_is, h.small))) in
     let read = record_read metadata V5 is.listed is.end (lists_of_plan p) (length (body_of_plan p)) (subst (λ (n : Message). HaveRoot metadata (IsMessage 0) n) is.value root)
     is.uncompressed is.nodes is.buffers (is.end_is ∙ ap pos long) (omega (arith, long, h.small)) fit_nodes fit_buffers in
-    subst (λ (xs : List ℕ). MeansColumns metadata xs columns) (little ∙ ap (λ ps. pieces_bytes Little ps) (sym same))
-    (means_columns metadata p columns some short read h.plans h.arrays carried equal)
+    subst (λ (xs : List ℕ). MeansColumns o metadata xs columns) (ordered ∙ ap (λ ps. pieces_bytes o ps) (sym same))
+    (means_columns o metadata p columns some short read h.plans h.arrays carried equal)

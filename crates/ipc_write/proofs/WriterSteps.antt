@@ -13,6 +13,7 @@ use Rattle.ipc_model.specs.Streams.{Head}
 use Rattle.lower.specs.TypeTrees.{FieldTrees, Pairs, TypeTree}
 use Rattle.ipc_schema_write.specs.Refusals.{RefusesCount}
 use Rattle.ipc_schema_write.specs.WriterAnswers.{RefusesSchema}
+use Rattle.lower_types.specs.declared.Endianness.{Endianness}
 use Rattle.lower_arrays.specs.declared.array.AnyArray.{AnyArray}
 use Rattle.ipc_write.specs.Batches.{HasLongMetadata, RefusesChunk}
 use Rattle.ipc_plan.specs.Sending.{Sends, seen_by}
@@ -41,9 +42,9 @@ refuses_types w columns ids NoMemory h = tt
 refuses_types w columns ids _ h = absurd h
 
 -- What refuses a chunk or a schema is no device.
-pub chunk_not_io : (columns : List AnyArray) (e : Fault) → RefusesChunk columns e → (P : Type 0) → OnIo {X = Unit {0}} (Err e) P
-chunk_not_io columns (Io x) h P = absurd h
-chunk_not_io columns _ h P = tt
+pub chunk_not_io : (o : Endianness) (columns : List AnyArray) (e : Fault) → RefusesChunk o columns e → (P : Type 0) → OnIo {X = Unit {0}} (Err e) P
+chunk_not_io o columns (Io x) h P = absurd h
+chunk_not_io o columns _ h P = tt
 
 pub schema_not_io : (e : Fault) (fs : FieldTrees) (es : Pairs) (is : IdTrees) → RefusesSchema e fs es is → (P : Type 0) → OnIo {X = Unit {0}} (Err e) P
 schema_not_io (Io x) fs es is h P = absurd h
@@ -91,9 +92,10 @@ on_sent (Err _) P p = tt
 
 -- A message was refused before it was sent.
 pub refused_step : {W : Type 0} (known grows : Bool) (failures room : W → ℕ) (memory : W → Memory) (a b : WriterSeen W) (bytes : List ℕ) (count : ℕ) (e : Fault)
-    → Kept a b → ((P : Type 0) → OnIo {X = Unit {0}} (Err e) P) → SendStep known grows failures room memory a (Err e) b bytes count
-refused_step known grows failures room memory a b bytes count e kept not_io = record {
+    → Kept a b → b.order ≡ a.order → ((P : Type 0) → OnIo {X = Unit {0}} (Err e) P) → SendStep known grows failures room memory a (Err e) b bytes count
+refused_step known grows failures room memory a b bytes count e kept order not_io = record {
   monotone = rw kept.device (omega arith);
+  order = order;
   io = not_io _;
   refused = on_refused (Unit {0}) e _ kept;
   all_sent = λ k. tt;
@@ -102,21 +104,21 @@ refused_step known grows failures room memory a b bytes count e kept not_io = re
 
 -- a chunk was refused before a message was made
 pub refused_chunk : {W : Type 0} (known grows : Bool) (failures room : W → ℕ) (memory : W → Memory) (a b : WriterSeen W) (e : Fault) (columns : List AnyArray)
-    → Kept a b → ((P : Type 0) → OnIo {X = Unit {0}} (Err e) P) → SendsChunk known grows failures room memory a (Err e) b columns
-refused_chunk known grows failures room memory a b e columns kept not_io = record {
+    → Kept a b → b.order ≡ a.order → ((P : Type 0) → OnIo {X = Unit {0}} (Err e) P) → SendsChunk known grows failures room memory a (Err e) b columns
+refused_chunk known grows failures room memory a b e columns kept order not_io = record {
   metadata = [];
   body = [];
   is = none_sent e _ not_io;
-  step = refused_step known grows failures room memory a b _ _ e kept not_io;
+  step = refused_step known grows failures room memory a b _ _ e kept order not_io;
 }
 
 -- a schema was refused before a message was made
 pub refused_schema : {W : Type 0} (known grows : Bool) (failures room : W → ℕ) (memory : W → Memory) (a b : WriterSeen W) (e : Fault) (head : Head)
-    → Kept a b → ((P : Type 0) → OnIo {X = Unit {0}} (Err e) P) → SendsSchema known grows failures room memory a (Err e) b head
-refused_schema known grows failures room memory a b e head kept not_io = record {
+    → Kept a b → b.order ≡ a.order → ((P : Type 0) → OnIo {X = Unit {0}} (Err e) P) → SendsSchema known grows failures room memory a (Err e) b head
+refused_schema known grows failures room memory a b e head kept order not_io = record {
   metadata = [];
   is = none_sent e _ not_io;
-  step = refused_step known grows failures room memory a b _ _ e kept not_io;
+  step = refused_step known grows failures room memory a b _ _ e kept order not_io;
 }
 
 -- ---- what was sent
@@ -128,38 +130,39 @@ fuller grows old new room n count h (inr full) = inr (full.0, omega (arith, h, f
 
 -- all was sent
 pub ok_step : {W X : Type 0} (known grows : Bool) (failures room : W → ℕ) (memory : W → Memory) (a b : WriterSeen W) (x : X) (u : Unit {0}) (bytes : List ℕ) (count : ℕ)
-    → Sends {X = X} known grows (seen_by failures room memory a.device) (seen_by failures room memory b.device) (Ok x) bytes → SendStep known grows failures room memory a (Ok u) b bytes count
-ok_step known grows failures room memory a b x u bytes count h = record { monotone = h.monotone; io = tt; refused = tt; all_sent = h.memory; some_sent = h.part }
+    → Sends {X = X} known grows (seen_by failures room memory a.device) (seen_by failures room memory b.device) (Ok x) bytes → b.order ≡ a.order → SendStep known grows failures room memory a (Ok u) b bytes count
+ok_step known grows failures room memory a b x u bytes count h order = record { monotone = h.monotone; order = order; io = tt; refused = tt; all_sent = h.memory; some_sent = h.part }
 
 -- the device failed on the way
 pub failed_step : {W X : Type 0} (known grows : Bool) (failures room : W → ℕ) (memory : W → Memory) (a b : WriterSeen W) (e : Fault) (bytes : List ℕ) (count : ℕ) → length bytes ≤ count
-    → Sends {X = X} known grows (seen_by failures room memory a.device) (seen_by failures room memory b.device) (Err e) bytes → b.state ≡ Failed → SendStep known grows failures room memory a (Err e) b bytes count
-failed_step known grows failures room memory a b (Io x) bytes count most h state = record {
+    → Sends {X = X} known grows (seen_by failures room memory a.device) (seen_by failures room memory b.device) (Err e) bytes → b.state ≡ Failed → b.order ≡ a.order → SendStep known grows failures room memory a (Err e) b bytes count
+failed_step known grows failures room memory a b (Io x) bytes count most h state order = record {
   monotone = h.monotone;
+  order = order;
   io = (state, fuller grows _ _ _ _ count most h.failed);
   refused = tt;
   all_sent = λ k. tt;
   some_sent = h.part;
 }
-failed_step known grows failures room memory a b _ bytes count most h state = absurd h.only
+failed_step known grows failures room memory a b _ bytes count most h state order = absurd h.only
 
 -- a message wasn't sent whole
 pub unsent_step : (X : Type 0) {W : Type 0} (known grows : Bool) (failures room : W → ℕ) (memory : W → Memory) (a b : WriterSeen W) (e : Fault) (bytes : List ℕ) (count : ℕ) (reason : Type 0) → length bytes ≤ count
-    → SendsOrRefuses {X = X} known grows failures room memory a.device (Err e) b.device bytes reason → LeavesState (Err e) a.state b.state → b.types ≡ a.types → b.ids ≡ a.ids
+    → SendsOrRefuses {X = X} known grows failures room memory a.device (Err e) b.device bytes reason → LeavesState (Err e) a.state b.state → b.order ≡ a.order → b.types ≡ a.types → b.ids ≡ a.ids
     → SendStep known grows failures room memory a (Err e) b bytes count
-unsent_step X known grows failures room memory a b (Argument TooLarge) bytes count reason most h state types ids =
-    refused_step known grows failures room memory a b bytes count (Argument TooLarge) (record { device = h.0; state = state; types = types; ids = ids }) (λ P. tt)
-unsent_step X known grows failures room memory a b (Io x) bytes count reason most h state types ids =
-    failed_step {X = X} known grows failures room memory a b (Io x) bytes count most h state
-unsent_step X known grows failures room memory a b _ bytes count reason most h state types ids = absurd h.only
+unsent_step X known grows failures room memory a b (Argument TooLarge) bytes count reason most h state order types ids =
+    refused_step known grows failures room memory a b bytes count (Argument TooLarge) (record { device = h.0; state = state; types = types; ids = ids }) order (λ P. tt)
+unsent_step X known grows failures room memory a b (Io x) bytes count reason most h state order types ids =
+    failed_step {X = X} known grows failures room memory a b (Io x) bytes count most h state order
+unsent_step X known grows failures room memory a b _ bytes count reason most h state order types ids = absurd h.only
 
 -- a message was handed to the device of a writer that takes what is answered
 pub sent_step : {W : Type 0} (known grows : Bool) (failures room : W → ℕ) (memory : W → Memory) (a b : WriterSeen W) (r : Result (Unit {0}) Fault) (bytes : List ℕ) (count : ℕ) (reason : Type 0) → length bytes ≤ count
-    → SendsOrRefuses known grows failures room memory a.device r b.device bytes reason → LeavesState r a.state b.state → b.types ≡ a.types → b.ids ≡ a.ids
+    → SendsOrRefuses known grows failures room memory a.device r b.device bytes reason → LeavesState r a.state b.state → b.order ≡ a.order → b.types ≡ a.types → b.ids ≡ a.ids
     → SendStep known grows failures room memory a r b bytes count
-sent_step known grows failures room memory a b (Ok x) bytes count reason most h state types ids = ok_step known grows failures room memory a b x x bytes count h
-sent_step known grows failures room memory a b (Err e) bytes count reason most h state types ids =
-    unsent_step (Unit {0}) known grows failures room memory a b e bytes count reason most h state types ids
+sent_step known grows failures room memory a b (Ok x) bytes count reason most h state order types ids = ok_step known grows failures room memory a b x x bytes count h order
+sent_step known grows failures room memory a b (Err e) bytes count reason most h state order types ids =
+    unsent_step (Unit {0}) known grows failures room memory a b e bytes count reason most h state order types ids
 
 -- a message and its body, which ends at its multiple, are the message's bytes
 pub message_sent : {W : Type 0} (known grows : Bool) (failures room : W → ℕ) (memory : W → Memory) (w : W) (r : Result (Unit {0}) Fault) (w' : W) (given metadata body : List ℕ) (reason : Type 0)
@@ -170,23 +173,23 @@ message_sent known grows failures room memory w r w' given metadata body reason 
 
 pub chunk_handed : {W : Type 0} (known grows : Bool) (failures room : W → ℕ) (memory : W → Memory) (a b : WriterSeen W) (r : Result (Unit {0}) Fault) (given metadata body : List ℕ) (reason : Type 0)
     → given ≡ metadata → length body % 64 ≡ 0 → SendsOrRefuses known grows failures room memory a.device r b.device (head_bytes given ++ body) reason → LeavesState r a.state b.state
-    → b.types ≡ a.types → b.ids ≡ a.ids → SendStep known grows failures room memory a r b (message_bytes metadata body) (message_len metadata body)
-chunk_handed known grows failures room memory a b r given metadata body reason same whole h state types ids =
+    → b.order ≡ a.order → b.types ≡ a.types → b.ids ≡ a.ids → SendStep known grows failures room memory a r b (message_bytes metadata body) (message_len metadata body)
+chunk_handed known grows failures room memory a b r given metadata body reason same whole h state order types ids =
     sent_step known grows failures room memory a b r (message_bytes metadata body) (message_len metadata body) reason (omega (arith, length_message metadata body))
-    (message_sent known grows failures room memory a.device r b.device given metadata body reason same whole h) state types ids
+    (message_sent known grows failures room memory a.device r b.device given metadata body reason same whole h) state order types ids
 
 -- where all was sent, the writer is as far as it was
 pub state_kept : (r : Result (Unit {0}) Fault) (s s' : WriterState) → LeavesState r s s' → OnOk r (s' ≡ s)
 state_kept (Ok x) s s' h = h
 state_kept (Err e) s s' h = tt
 
-long_chunk : (columns : List AnyArray) → HasLongMetadata columns → RefusesChunk columns (Argument TooLarge)
-long_chunk columns far = inr far
+long_chunk : (o : Endianness) (columns : List AnyArray) → HasLongMetadata o columns → RefusesChunk o columns (Argument TooLarge)
+long_chunk o columns far = inr far
 
 -- why a message isn't sent
 pub refused_send : {W V : Type 0} (known grows : Bool) (failures room : W → ℕ) (memory : W → Memory) (d d' : W) (w : WriterSeen V) (columns : List AnyArray) (ids : Option IdTrees) (r : Result (Unit {0}) Fault) (bytes : List ℕ) (reason : Type 0)
-    → SendsOrRefuses known grows failures room memory d r d' bytes reason → (reason → HasLongMetadata columns) → IfErr r (RefusesWrite w columns ids)
+    → SendsOrRefuses known grows failures room memory d r d' bytes reason → (reason → HasLongMetadata w.order columns) → IfErr r (RefusesWrite w columns ids)
 refused_send known grows failures room memory d d' w columns ids (Ok x) bytes reason h f = tt
-refused_send known grows failures room memory d d' w columns ids (Err (Argument TooLarge)) bytes reason h f = long_chunk columns (f h.1)
+refused_send known grows failures room memory d d' w columns ids (Err (Argument TooLarge)) bytes reason h f = long_chunk w.order columns (f h.1)
 refused_send known grows failures room memory d d' w columns ids (Err (Io e)) bytes reason h f = tt
 refused_send known grows failures room memory d d' w columns ids (Err _) bytes reason h f = absurd h.only

@@ -2,10 +2,11 @@
 -- (Arrow columnar format, "IPC Streaming Format".)
 use Rattle.std.specs.Prelude.{◌≡◌, ℕ, ◌⊎◌, Bool, IsTrue, List, [], ◌∷◌, ◌++◌, Result, OnOk, OnErr}
 use Rattle.lower.specs.TypeTrees.{TypeTree}
+use Rattle.lower_types.specs.declared.Endianness.{Endianness}
 use Rattle.ipc_devices.specs.Device.{Memory, before}
 use Rattle.ipc_devices.specs.declared.fault.Fault.{Fault}
 use Rattle.ipc_model.specs.Batches.{Chunk}
-use Rattle.ipc_model.specs.CarriedStreams.{IsCarriedStream}
+use Rattle.ipc_carried.specs.CarriedStreams.{IsCarriedStream}
 use Rattle.ipc_model.specs.Streams.{Head, nothing_known}
 use Rattle.ipc_model.specs.Writers.{IsStarted, IsFinished}
 use Rattle.ipc_write.specs.Meaning.{HeadHas}
@@ -13,10 +14,11 @@ use Rattle.ipc_write.specs.Writers.{WriterSeen}
 use Rattle.ipc_write.specs.declared.stream.WriterState.{WriterState}
 use Rattle.ipc_write.specs.declared.stream.WriterState.TheVariants.{New, Started, Finished, Failed}
 
--- a stream that was started and has these chunks, whose columns have the types that the writer takes, and whose messages are carried
-pub record IsOpen (types : List TypeTree) (bytes : List ℕ) (head : Head) (chunks : List Chunk) : Type 0 where
+-- a stream that was started and has these chunks, whose columns have the types that the writer takes, in its order of bytes, and whose
+-- messages are carried
+pub record IsOpen (order : Endianness) (types : List TypeTree) (bytes : List ℕ) (head : Head) (chunks : List Chunk) : Type 0 where
   pub stream : IsStarted bytes head nothing_known chunks
-  pub has : HeadHas head types
+  pub has : HeadHas order head types
   pub carried : IsCarriedStream bytes head
 
 -- one that was ended
@@ -32,21 +34,21 @@ pub record BreaksOff (bytes : List ℕ) (head : Head) (chunks : List Chunk) : Ty
   pub stood : ((sent ≡ []) × (chunks ≡ [])) ⊎ IsStarted sent head nothing_known chunks
 
 -- what the bytes of a writer in this state are
-abbrev pub StreamIs : WriterState → List TypeTree → List ℕ → Head → List Chunk → Type 0
-StreamIs New types bytes head chunks = (bytes ≡ []) × (chunks ≡ [])
-StreamIs Started types bytes head chunks = IsOpen types bytes head chunks
-StreamIs Finished types bytes head chunks = IsClosed bytes head chunks
-StreamIs Failed types bytes head chunks = BreaksOff bytes head chunks
+abbrev pub StreamIs : WriterState → Endianness → List TypeTree → List ℕ → Head → List Chunk → Type 0
+StreamIs New order types bytes head chunks = (bytes ≡ []) × (chunks ≡ [])
+StreamIs Started order types bytes head chunks = IsOpen order types bytes head chunks
+StreamIs Finished order types bytes head chunks = IsClosed bytes head chunks
+StreamIs Failed order types bytes head chunks = BreaksOff bytes head chunks
 
 -- what stands in a memory before its place: the bytes that were there before, and those of the stream
-pub record HoldsStream (m : Memory) (state : WriterState) (types : List TypeTree) (base : List ℕ) (head : Head) (chunks : List Chunk) : Type 0 where
+pub record HoldsStream (m : Memory) (state : WriterState) (order : Endianness) (types : List TypeTree) (base : List ℕ) (head : Head) (chunks : List Chunk) : Type 0 where
   pub bytes : List ℕ
   pub held : before m ≡ base ++ bytes
-  pub stream : StreamIs state types bytes head chunks
+  pub stream : StreamIs state order types bytes head chunks
 
 -- the device of a writer holds `base`, and then a stream of this schema and these chunks
 abbrev pub Agrees : {W : Type 0} → (W → Memory) → WriterSeen W → List ℕ → Head → List Chunk → Type 0
-Agrees memory w base head chunks = HoldsStream (memory w.device) w.state w.types base head chunks
+Agrees memory w base head chunks = HoldsStream (memory w.device) w.state w.order w.types base head chunks
 
 -- ---- calls
 

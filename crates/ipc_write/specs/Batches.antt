@@ -1,7 +1,7 @@
 -- The message of a chunk: Arrow columnar format, "RecordBatch message".
 use Rattle.std.specs.Prelude.{◌≡◌, ℕ, ℤ, pos, ◌≤◌, ◌^◌, ◌⊎◌, List, length, map, None, All}
 use Rattle.std.specs.Int.{next_multiple_of}
-use Rattle.lower_types.specs.declared.Endianness.TheVariants.{Little}
+use Rattle.lower_types.specs.declared.Endianness.{Endianness}
 use Rattle.lower_arrays.specs.Layouts.{layouts, len_of}
 use Rattle.lower_arrays.specs.Slots.{AreArrays}
 use Rattle.lower_arrays.specs.AnyLayouts.{layout_of}
@@ -47,9 +47,9 @@ abbrev pub chunk_slots : List AnyArray → List (List ℕ) → Slots
 chunk_slots columns buffers = message_of (pos (rows_of columns)) (map node_of (levels_of columns)) (entries_from 0 buffers) (pos (length (body buffers)))
 
 -- a plan of columns, which are arrays, whose lengths and whose end numbers of 64 bits, signed, can say
-pub record PlansChunk (columns : List AnyArray) (p : Plan) : Type 0 where
+pub record PlansChunk (order : Endianness) (columns : List AnyArray) (p : Plan) : Type 0 where
   pub arrays : AreArrays (layouts (map layout_of columns))
-  pub plans : PlansColumns Little (map layout_of columns) p
+  pub plans : PlansColumns order (map layout_of columns) p
   pub short : AreShort (levels_of columns)
   pub end_is : p.end ≡ body_length (body_lengths (levels_of columns))
   pub small : IsSayable p.end
@@ -66,25 +66,25 @@ pub record IsPlanMessage (m : Message) (rows : ℤ) (p : Plan) : Type 0 where
   pub buffers : listed.buffers.items ≡ p.buffers.items
   pub slots : message_slots m ≡ message_of rows p.nodes.items p.buffers.items (pos p.end)
 
--- A chunk as a message: its buffers are those of the columns' levels, numbers with the lowest byte first; the metadata list them, of version V5,
+-- A chunk as a message: its buffers are those of the columns' levels, numbers in this order of their bytes; the metadata list them, of version V5,
 -- without metadata of their own and strictly laid out, and the body are they.
-pub record IsChunkMessage (metadata sent : List ℕ) (columns : List AnyArray) : Type 0 where
+pub record IsChunkMessage (order : Endianness) (metadata sent : List ℕ) (columns : List AnyArray) : Type 0 where
   pub buffers : List (List (List ℕ))
-  pub have : HaveBuffers Little (levels_of columns) buffers
+  pub have : HaveBuffers order (levels_of columns) buffers
   pub metadata_is : IsEncoding metadata (chunk_slots columns (joined buffers))
   pub written : IsWritten metadata
   pub body_is : sent ≡ body (joined buffers)
 
 -- the metadata of a chunk's message would have more than 2^31 - 1 bytes
-pub record HasLongMetadata (columns : List AnyArray) : Type 0 where
+pub record HasLongMetadata (order : Endianness) (columns : List AnyArray) : Type 0 where
   pub buffers : List (List (List ℕ))
-  pub have : HaveBuffers Little (levels_of columns) buffers
+  pub have : HaveBuffers order (levels_of columns) buffers
   pub long : 2 ^ 31 ≤ next_multiple_of (message_size (chunk_slots columns (joined buffers))) 8
 
 -- why a chunk is refused
-abbrev pub RefusesChunk : List AnyArray → Fault → Type 0
-RefusesChunk columns (NotYetImplemented Pending) = ¬ All IsCarried columns
-RefusesChunk columns (Argument TooLong) = AreShort (levels_of columns) → ⊥
-RefusesChunk columns (Argument TooLarge) = (2 ^ 63 ≤ body_length (body_lengths (levels_of columns))) ⊎ HasLongMetadata columns
-RefusesChunk columns Memory = Unit {0}
-RefusesChunk columns _ = ⊥
+abbrev pub RefusesChunk : Endianness → List AnyArray → Fault → Type 0
+RefusesChunk order columns (NotYetImplemented Pending) = ¬ All IsCarried columns
+RefusesChunk order columns (Argument TooLong) = AreShort (levels_of columns) → ⊥
+RefusesChunk order columns (Argument TooLarge) = (2 ^ 63 ≤ body_length (body_lengths (levels_of columns))) ⊎ HasLongMetadata order columns
+RefusesChunk order columns Memory = Unit {0}
+RefusesChunk order columns _ = ⊥

@@ -7,11 +7,11 @@ use Rattle.ipc_devices.specs.declared.fault.Fault.{Fault}
 use Rattle.ipc_devices.specs.declared.fault.Fault.TheVariants.{Io}
 use Rattle.lower.specs.TypeTrees.{FieldTrees, Pairs}
 use Rattle.lower_arrays.specs.declared.array.AnyArray.{AnyArray}
-use Rattle.lower_types.specs.declared.Endianness.TheVariants.{Little}
+use Rattle.lower_types.specs.declared.Endianness.{Endianness}
 use Rattle.ipc_model.specs.WriterStates.{State, Writer, new_writer, started_writer, finished_writer, failed_writer, Outcome, is_taken, is_refused, is_broken}
 use Rattle.ipc_model.specs.Writers.{Call, start_call, write_call, finish_call}
 use Rattle.ipc_schema_write.specs.DefaultIds.{default_all}
-use Rattle.ipc_schema_write.specs.WriterAnswers.{written_head}
+use Rattle.ipc_schema_write.specs.WriterAnswers.{written_head_as}
 use Rattle.ipc_write.specs.Agreement.{Appends, Begins, Remains}
 use Rattle.ipc_write.specs.Framing.{prefix_bytes}
 use Rattle.ipc_write.specs.Meaning.{chunk_written}
@@ -34,9 +34,9 @@ state_seen Started = started_writer
 state_seen Finished = finished_writer
 state_seen Failed = failed_writer
 
--- a writer of a stream in this state: it writes the lowest byte first, and a stream has no footer
-abbrev pub writer_in : State → Writer
-writer_in s = record { state = s; order = Little; pairs = [] }
+-- a writer of a stream in this state: it writes in this order of bytes, and a stream has no footer
+abbrev pub writer_in : Endianness → State → Writer
+writer_in order s = record { state = s; order = order; pairs = [] }
 
 -- how a call ended that answered this
 abbrev pub outcome : Result Unit Fault → Outcome
@@ -54,10 +54,10 @@ ended_as _ _ = []
 -- what `start` says of itself
 pub record DoesStart {W : Type 0} (known grows : Bool) (failures room : W → ℕ) (memory : W → Memory) (a : WriterSeen W) (fields : FieldTrees) (metadata : Pairs) (ids : IdTrees) (r : Result Unit Fault) (b : WriterSeen W) : Type 0 where
   pub first : StateComesFirst (fault_unless_new a.state) a r b
-  pub step : SendsSchema known grows failures room memory a r b (written_head fields metadata ids)
+  pub step : SendsSchema known grows failures room memory a r b (written_head_as a.order fields metadata ids)
   pub ok : OnOk r (StartsWith a b fields metadata ids)
   pub only : IfErr r (RefusesStart a.state fields metadata ids)
-  pub means : Begins known memory a r b (written_head fields metadata ids)
+  pub means : Begins known memory a r b (written_head_as a.order fields metadata ids)
 
 -- what `write` says of itself
 pub record DoesWrite {W : Type 0} (known grows : Bool) (failures room : W → ℕ) (memory : W → Memory) (a : WriterSeen W) (columns : List AnyArray) (ids : Option IdTrees) (r : Result Unit Fault) (b : WriterSeen W) : Type 0 where

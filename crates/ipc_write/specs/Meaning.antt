@@ -3,14 +3,13 @@
 use Rattle.std.specs.Prelude.{◌≡◌, ℕ, List, [], ◌∷◌, map, Some}
 use Rattle.lower.specs.Normal.{norm}
 use Rattle.lower.specs.TypeTrees.{TypeTree, FieldTrees, no_fields, more_fields}
-use Rattle.lower_types.specs.declared.Endianness.TheVariants.{Little}
+use Rattle.lower_types.specs.declared.Endianness.{Endianness}
 use Rattle.lower_arrays.specs.Layouts.{type_of}
 use Rattle.lower_arrays.specs.AnyLayouts.{layout_of}
 use Rattle.lower_arrays.specs.Slots.{slots}
 use Rattle.lower_arrays.specs.declared.array.AnyArray.{AnyArray}
 use Rattle.ipc_model.specs.Batches.{Column, Chunk, Lists, field_type, lists_of}
-use Rattle.ipc_model.specs.Carried.{IsCarried as IsCarriedSchema}
-use Rattle.ipc_model.specs.CarriedStreams.{IsCarriedLists}
+use Rattle.ipc_carried.specs.Carried.{IsCarried as IsCarriedSchema}
 use Rattle.ipc_model.specs.Streams.{Head, Header, header_of, nothing_known}
 use Rattle.ipc_model.specs.WrittenLaws.{IsWritten}
 
@@ -30,10 +29,10 @@ abbrev pub field_types : FieldTrees → List TypeTree
 field_types no_fields = []
 field_types (more_fields f fs) = field_type f ∷ field_types fs
 
--- numbers have their lowest byte first, no buffer stands in front of a union's own, columns of these types are those of the fields, and the
+-- numbers have this order of their bytes, no buffer stands in front of a union's own, columns of these types are those of the fields, and the
 -- schema is carried
-pub record HeadHas (head : Head) (types : List TypeTree) : Type 0 where
-  pub order : head.schema.order ≡ Little
+pub record HeadHas (order : Endianness) (head : Head) (types : List TypeTree) : Type 0 where
+  pub order_is : head.schema.order ≡ order
   pub extra : head.extra ≡ 0
   pub types_are : field_types head.schema.fields ≡ types
   pub carried : IsCarriedSchema head.schema
@@ -46,7 +45,6 @@ pub record IsRecord (metadata : List ℕ) (listed : Lists) (size : ℕ) : Type 0
   pub long : header.body ≡ size
   pub lists : lists_of header.table ≡ Some listed
 
--- the metadata and the body mean these columns in each stream whose schema has their types, and are carried there
-pub record MeansColumns (metadata body : List ℕ) (columns : List AnyArray) : Type 0 where
-  pub written : (head : Head) → HeadHas head (map normal_type columns) → IsWritten head nothing_known metadata body (chunk_written columns)
-  pub carried : (head : Head) (has : HeadHas head (map normal_type columns)) → IsCarriedLists head.schema (lists_of (written head has).header.table)
+-- the metadata and the body mean these columns in each stream of this order of bytes whose schema has their types
+pub record MeansColumns (order : Endianness) (metadata body : List ℕ) (columns : List AnyArray) : Type 0 where
+  pub written : (head : Head) → HeadHas order head (map normal_type columns) → IsWritten head nothing_known metadata body (chunk_written columns)

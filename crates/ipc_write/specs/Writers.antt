@@ -1,5 +1,5 @@
 -- What the calls of a stream's writer do.
-use Rattle.std.specs.Prelude.{◌≡◌, ◌==◌, ◌&&◌, ℕ, ◌≤◌, Bool, true, IsTrue, List, [], ◌∷◌, Vec, length, map, All, Option, Some, None, IfSome, IsSomeAnd, Result, Ok, Err, OnOk}
+use Rattle.std.specs.Prelude.{◌≡◌, ℕ, ◌≤◌, Bool, if◌then◌else◌, IsTrue, List, [], ◌∷◌, Vec, length, map, All, Option, Some, None, IfSome, IsSomeAnd, Result, Ok, Err, OnOk}
 use Rattle.std.specs.List.{AllZip}
 use Rattle.std.specs.Borrow.{Bor}
 use Rattle.std.specs.declared.alloc.Global.{Global}
@@ -17,12 +17,14 @@ use Rattle.lower.specs.Normal.{norm}
 use Rattle.lower.specs.TypeTrees.{FieldTrees, Pairs, TypeTree, field, more_fields, no_fields}
 use Rattle.lower.specs.TypeViews.{type_view}
 use Rattle.ipc_schema_write.specs.DefaultIds.{default_all}
-use Rattle.ipc_model.specs.Carried.{is_whole_type}
+use Rattle.ipc_carried.specs.Carried.{are_carried}
 use Rattle.ipc_model.specs.Offers.{IsAcceptedChunk}
 use Rattle.ipc_model.specs.Schemas.{head_of}
 use Rattle.ipc_model.specs.Streams.{Head}
 use Rattle.ipc_model.specs.Writable.{IsWritable}
 use Rattle.ipc_schema_write.specs.WriterAnswers.{RefusesSchema}
+use Rattle.lower_types.specs.declared.Endianness.{Endianness}
+use Rattle.lower_types.specs.declared.Endianness.TheVariants.{Big, Little}
 use Rattle.lower_arrays.specs.AnyLayouts.{layout_of}
 use Rattle.lower_arrays.specs.declared.array.AnyArray.{AnyArray}
 use Rattle.ipc_plan.specs.Sending.{WritesSome}
@@ -31,24 +33,31 @@ use Rattle.ipc_write.specs.Columns.{IsCarried}
 use Rattle.ipc_write.specs.Framing.{message_bytes, message_len}
 use Rattle.ipc_write.specs.Meaning.{normal_type}
 use Rattle.ipc_write.specs.Sending.{FailsOrIsFull, OnSent}
+use Rattle.ipc_encode.specs.declared.common.WriteOptions.{WriteOptions}
 use Rattle.ipc_write.specs.declared.stream.StreamWriter.{StreamWriter}
 use Rattle.ipc_write.specs.declared.stream.WriterState.{WriterState}
 use Rattle.ipc_write.specs.declared.stream.WriterState.TheVariants.{New, Started, Finished, Failed}
 
 -- ---- what is seen of a writer
 
--- What a writer writes to, how far it is, the types of the columns that it takes, in their normal form,
--- and the ids that it was started with.
+-- What a writer writes to, how far it is, the order of the bytes of its numbers, the types of the columns that it takes, in their normal
+-- form, and the ids that it was started with.
 pub record WriterSeen (W : Type 0) : Type 0 where
   pub device : W
   pub state : WriterState
+  pub order : Endianness
   pub types : List TypeTree
   pub ids : IdTrees
+
+-- the order of the bytes of numbers that is chosen
+abbrev pub order_of : WriteOptions → Endianness
+order_of options = if options.big_endian then Big else Little
 
 abbrev pub seen : {W : Type 0} → StreamWriter W → WriterSeen W
 seen w = record {
   device = w.writer;
   state = w.state;
+  order = w.order;
   types = map type_view w.types.items;
   ids = all_ids_view w.ipc_fields.items;
 }
@@ -110,6 +119,7 @@ pub record Kept {W : Type 0} (a b : WriterSeen W) : Type 0 where
 -- What a call that sends these bytes does to its device, and what a refused one leaves.
 pub record SendStep {W : Type 0} (known grows : Bool) (failures room : W → ℕ) (memory : W → Memory) (a : WriterSeen W) (r : Result Unit Fault) (b : WriterSeen W) (bytes : List ℕ) (count : ℕ) : Type 0 where
   pub monotone : failures a.device ≤ failures b.device
+  pub order : b.order ≡ a.order
   pub io : OnIo r ((b.state ≡ Failed) × FailsOrIsFull grows (failures a.device) (failures b.device) (room a.device) count)
   pub refused : OnRefused r (Kept a b)
   pub all_sent : IsTrue known → OnOk r (WritesOver (memory a.device) (memory b.device) bytes)
@@ -125,7 +135,7 @@ LeavesState (Err _) s s' = s' ≡ s
 pub record SendsChunk {W : Type 0} (known grows : Bool) (failures room : W → ℕ) (memory : W → Memory) (a : WriterSeen W) (r : Result Unit Fault) (b : WriterSeen W) (columns : List AnyArray) : Type 0 where
   pub metadata : List ℕ
   pub body : List ℕ
-  pub is : OnSent r (IsChunkMessage metadata body columns)
+  pub is : OnSent r (IsChunkMessage a.order metadata body columns)
   pub step : SendStep known grows failures room memory a r b (message_bytes metadata body) (message_len metadata body)
 
 -- A call that sends a schema's message: metadata without a body, which begin a stream with this head where anything was sent.
@@ -141,8 +151,8 @@ RefusesWrite w columns ids (Argument FieldsDiffer) = IsSomeAnd ids (λ given. ¬
 RefusesWrite w columns ids (Argument ColumnCount) = RefusesTypes columns w.types (Argument ColumnCount)
 RefusesWrite w columns ids (Argument ColumnType) = RefusesTypes columns w.types (Argument ColumnType)
 RefusesWrite w columns ids (NotYetImplemented Pending) = HaveTypes columns w.types × ¬ All IsCarried columns
-RefusesWrite w columns ids (Argument TooLong) = RefusesChunk columns (Argument TooLong)
-RefusesWrite w columns ids (Argument TooLarge) = RefusesChunk columns (Argument TooLarge)
+RefusesWrite w columns ids (Argument TooLong) = RefusesChunk w.order columns (Argument TooLong)
+RefusesWrite w columns ids (Argument TooLarge) = RefusesChunk w.order columns (Argument TooLarge)
 RefusesWrite w columns ids NoMemory = Unit {0}
 RefusesWrite w columns ids (Io e) = Unit {0}
 RefusesWrite w columns ids _ = ⊥
@@ -168,7 +178,7 @@ pub record MayBeWritten {W : Type 0} (w : WriterSeen W) (fields : FieldTrees) (c
 -- Columns are written just where the writer takes them. Memory and devices aside, and where only their metadata would be too long.
 abbrev pub AnswersWrite : {W : Type 0} → WriterSeen W → FieldTrees → List AnyArray → Option IdTrees → Result Unit Fault → Type 0
 AnswersWrite w fs columns ids (Ok x) = MayBeWritten w fs columns ids
-AnswersWrite w fs columns ids (Err (Argument TooLarge)) = MayBeWritten w fs columns ids → HasLongMetadata columns
+AnswersWrite w fs columns ids (Err (Argument TooLarge)) = MayBeWritten w fs columns ids → HasLongMetadata w.order columns
 AnswersWrite w fs columns ids (Err e) = OwnFault e (¬ MayBeWritten w fs columns ids)
 
 -- this of all fields whose types are those that the writer takes
@@ -191,19 +201,9 @@ abbrev pub chosen_ids : Option (Vec IpcField Global) → FieldTrees → IdTrees
 chosen_ids None fs = default_all 0 fs
 chosen_ids (Some given) fs = all_ids_view given.items
 
--- fields of integers without metadata
-abbrev pub are_carried : FieldTrees → Bool
-are_carried no_fields = true
-are_carried (more_fields (field name t nullable metadata) fields) = ((length metadata == 0) && is_whole_type t) && are_carried fields
-
--- a schema that this writer takes: fields of integers, and no metadata
-pub record IsCarriedSchema (fields : FieldTrees) (metadata : Pairs) : Type 0 where
-  pub whole : IsTrue (are_carried fields)
-  pub without : metadata ≡ []
-
 -- A schema with these ids that is taken can be written.
 pub record IsTaken (fields : FieldTrees) (metadata : Pairs) (ids : IdTrees) : Type 0 where
-  pub carried : IsCarriedSchema fields metadata
+  pub carried : IsTrue (are_carried fields)
   pub writable : IsWritable fields metadata ids
 
 -- A writer was started.
@@ -217,7 +217,7 @@ pub record StartsWith {W : Type 0} (a b : WriterSeen W) (fields : FieldTrees) (m
 -- why a writer refuses a schema with these ids
 abbrev pub RefusesStart : WriterState → FieldTrees → Pairs → IdTrees → Fault → Type 0
 RefusesStart s fs es is (State e) = fault_unless_new s ≡ Some e
-RefusesStart s fs es is (NotYetImplemented Pending) = IsCarriedSchema fs es → ⊥
+RefusesStart s fs es is (NotYetImplemented Pending) = IsTrue (are_carried fs) → ⊥
 RefusesStart s fs es is (Argument e) = RefusesSchema (Argument e) fs es is
 RefusesStart s fs es is NoMemory = Unit {0}
 RefusesStart s fs es is (Io e) = Unit {0}

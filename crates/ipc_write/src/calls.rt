@@ -2,7 +2,7 @@
 ghost use Rattle.std.specs.Prelude.{IfOk, OnErr};
 ghost use Rattle.lower.specs.TypeViews.{fields_view, pairs_of};
 ghost use Rattle.ipc_schema_write.specs.DefaultIds.{default_all};
-ghost use Rattle.ipc_schema_write.specs.WriterAnswers.{written_head};
+ghost use Rattle.ipc_schema_write.specs.WriterAnswers.{written_head_as};
 ghost use Rattle.ipc_model.specs.WriterStates.{IsRun, answered};
 ghost use Rattle.ipc_model.specs.Writers.{taken};
 ghost use Rattle.ipc_write.specs.Agreement.{Follows};
@@ -60,10 +60,11 @@ pub fn run_calls<W: Writes + Drop>(
     ensures made { let fields = fields_view schema.now.fields.items in
         IfOk result (λ answers. AreMade W.known W.grows W.failures W.room W.memory fields (pairs_of schema.now.metadata.entries)
         (seen writer.old) calls.now answers.items (seen writer.new)) }
-    ensures run { IfOk result (λ answers. IsRun (writer_in (state_seen (seen writer.old).state)) (ended_as calls.now answers.items) (writer_in (state_seen (seen writer.new).state))) }
+    ensures run { IfOk result (λ answers. IsRun (writer_in (seen writer.old).order (state_seen (seen writer.old).state)) (ended_as calls.now answers.items)
+        (writer_in (seen writer.new).order (state_seen (seen writer.new).state))) }
     ensures follows { let fields = fields_view schema.now.fields.items in
         IfOk result (λ answers. Follows W.known W.memory (seen writer.old) (seen writer.new)
-        (written_head fields (pairs_of schema.now.metadata.entries) (default_all 0 fields))
+        (written_head_as (seen writer.old).order fields (pairs_of schema.now.metadata.entries) (default_all 0 fields))
         (taken (answered (ended_as calls.now answers.items)))) }
     ensures refused { let fields = fields_view schema.now.fields.items in
         OnErr result (FirstAreMade W.known W.grows W.failures W.room W.memory fields (pairs_of schema.now.metadata.entries)

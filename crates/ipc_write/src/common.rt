@@ -1,9 +1,7 @@
 //! What is written.
-ghost use Rattle.std.specs.Prelude.{◌≡◌, ◌↔◌, ◌%◌, ◌^◌, ◌<◌, [], length, All, IfErr, IfOk, IsTrue, None, OnOk};
-ghost use Rattle.lower.specs.TypeViews.{type_view};
+ghost use Rattle.std.specs.Prelude.{◌≡◌, ◌%◌, ◌^◌, ◌<◌, length, All, IfErr, IfOk, None, OnOk};
 ghost use Rattle.lower_arrays.specs.AnyLayouts.{layout_of};
 ghost use Rattle.lower_arrays.specs.Slots.{IsArray};
-ghost use Rattle.lower_types.specs.declared.Endianness.TheVariants.{Little};
 ghost use Rattle.ipc_devices.specs.declared.fault.Fault.TheVariants.{NotYetImplemented};
 ghost use Rattle.ipc_devices.specs.declared.fault.Nyi.TheVariants.{Pending};
 ghost use Rattle.ipc_plan.specs.Pieces.{pieces_bytes};
@@ -11,44 +9,31 @@ ghost use Rattle.ipc_tables.specs.Messages.{message_slots};
 ghost use Rattle.ipc_tables.specs.declared.message.MessageHeader.TheVariants.{RecordBatch as a_record_batch};
 ghost use Rattle.ipc_views.specs.declared.schema.MetadataVersion.TheVariants.{V5};
 ghost use Rattle.ipc_write.specs.Batches.{IsChunkMessage, IsPlanMessage, PlansChunk, RefusesChunk, message_of};
-ghost use Rattle.ipc_write.specs.Columns.{AreIntegers, HasIntegers, IsCarried, is_extension};
+ghost use Rattle.ipc_write.specs.Columns.{IsCarried};
 ghost use Rattle.ipc_write.specs.Meaning.{MeansColumns};
+ghost use Rattle.ipc_write.specs.Writers.{order_of};
 
 use ipc_base::chunk::Chunk;
+use ipc_carried::types::is_carried_type;
 use ipc_devices::{ArgFault, Fault, Nyi};
+pub use ipc_encode::common::{EncodedData, WriteOptions};
 use ipc_plan::plan::Plan;
 use ipc_plan::serialize::plan_columns;
 use ipc_tables::message::{Message, MessageHeader, RecordBatch};
 use ipc_views::{Buffer, FieldNode, MetadataVersion};
-use lower::datatypes::DataType;
 use lower::types::Endianness;
-use lower_arrays::array::{AnyArray, AnyPrimitive};
+use lower_arrays::array::AnyArray;
 use std::alloc::Global;
 use std::mem::replace;
 
-/// How a writer writes. There is nothing to choose yet.
-#[derive(Clone, Copy, Debug, Default, PartialEq, Eq, Hash)]
-pub struct WriteOptions {}
-
-/// An encoded message and its body.
-#[derive(Debug, Drop)]
-pub struct EncodedData {
-    /// The metadata: a table `Message` of the Arrow format, `Message.fbs`.
-    pub ipc_message: Vec<u8>,
-    /// The body: the buffers of a batch; empty for a schema.
-    pub arrow_data: Vec<u8>,
-}
-
-impl EncodedData {
-    /// No metadata and no body. It takes no memory.
-    pub fn empty(alloc: Global) -> EncodedData
-        ensures ipc_message { result.ipc_message.items ≡ [] }
-        ensures arrow_data { result.arrow_data.items ≡ [] }
-    {
-        EncodedData {
-            ipc_message: Vec::new(alloc),
-            arrow_data: Vec::new(alloc),
-        }
+// The order of the bytes of numbers.
+pub(crate) fn byte_order(options: WriteOptions) -> Endianness
+    ensures { result ≡ order_of options }
+{
+    if options.big_endian {
+        Endianness::Big
+    } else {
+        Endianness::Little
     }
 }
 
@@ -81,50 +66,13 @@ fn record_message(
     }
 }
 
-// Whether it is a column of integers of 8 to 64 bits.
-fn has_integers(array: &AnyArray) -> bool
-    ensures { IsTrue result ↔ HasIntegers array.now }
-{
-    match array {
-        AnyArray::Primitive(numbers) => are_integers(numbers),
-        _ => false,
-    }
-}
-
-// Whether the numbers are integers of 8 to 64 bits.
-fn are_integers(numbers: &AnyPrimitive) -> bool
-    ensures { IsTrue result ↔ AreIntegers numbers.now }
-{
-    match numbers {
-        AnyPrimitive::Int8(_)
-        | AnyPrimitive::Int16(_)
-        | AnyPrimitive::Int32(_)
-        | AnyPrimitive::Int64(_)
-        | AnyPrimitive::UInt8(_)
-        | AnyPrimitive::UInt16(_)
-        | AnyPrimitive::UInt32(_)
-        | AnyPrimitive::UInt64(_) => true,
-        _ => false,
-    }
-}
-
-fn is_extension(data_type: &DataType) -> bool
-    ensures { result ≡ is_extension (type_view data_type.now) }
-{
-    match data_type {
-        DataType::Extension(..) => true,
-        _ => false,
-    }
-}
-
-// Refuses a column that isn't written yet: one with a validity, of another kind than integers of 8 to 64
-// bits, or whose type is an extension.
+// Refuses a column that isn't written yet: one that has a dictionary or a union in it.
 fn check_column(array: &AnyArray) -> Result<(), Fault>
     ensures ok { OnOk result (IsCarried array.now) }
     ensures valid { IsArray (layout_of array.now) }
     ensures only { IfErr result (λ e. (e ≡ NotYetImplemented Pending) × ¬ IsCarried array.now) }
 {
-    if array.validity().is_some() || !has_integers(array) || is_extension(array.data_type()) {
+    if !is_carried_type(array.data_type()) {
         return Err(Fault::NotYetImplemented(Nyi::Pending));
     }
     Ok(())
@@ -142,18 +90,22 @@ fn check_columns(columns: &[AnyArray]) -> Result<(), Fault>
     Ok(())
 }
 
-/// Plans a chunk, little-endian. No byte of the columns is moved.
+/// Plans a chunk, with its numbers in this order of bytes. No byte of the columns is moved.
 ///
-/// Faults: `NotYetImplemented(Pending)` for a column with a validity, of another kind than integers of 8
-/// to 64 bits, or whose type is an extension; `Argument(TooLong)` where an array has more than `2^63 - 1`
+/// Faults: `NotYetImplemented(Pending)` for a column that has a dictionary or a union in it; `Argument(TooLong)` where an array has more than `2^63 - 1`
 /// slots; `Argument(TooLarge)` where the body would end past `2^63 - 1`; `Memory`.
-pub(crate) fn plan_chunk<'a>(alloc: Global, chunk: &'a Chunk<AnyArray>) -> Result<Plan<'a>, Fault>
+pub(crate) fn plan_chunk<'a>(
+    alloc: Global,
+    chunk: &'a Chunk<AnyArray>,
+    order: Endianness,
+) -> Result<Plan<'a>, Fault>
     ensures carried { OnOk result (All IsCarried chunk.now) }
-    ensures plans { IfOk result (λ plan. PlansChunk chunk.now plan) }
-    ensures only { IfErr result (RefusesChunk chunk.now) }
+    ensures order { IfOk result (λ plan. plan.order ≡ order) }
+    ensures plans { IfOk result (λ plan. PlansChunk plan.order chunk.now plan) }
+    ensures only { IfErr result (RefusesChunk order chunk.now) }
 {
     check_columns(chunk.arrays())?;
-    plan_columns(alloc, chunk.arrays(), Endianness::Little)
+    plan_columns(alloc, chunk.arrays(), order)
 }
 
 // The message of a record batch that lists what a plan does. The plan has its pieces left.
@@ -178,10 +130,11 @@ pub(crate) fn chunk_to_metadata(
     plan: &mut Plan<'_>,
 ) -> Result<Vec<u8>, Fault>
     requires carried { All IsCarried chunk.now }
-    requires plans { PlansChunk chunk.now plan.old }
-    ensures message { IfOk result (λ metadata. IsChunkMessage metadata.items (pieces_bytes Little plan.new.pieces.items) chunk.now) }
-    ensures only { IfErr result (RefusesChunk chunk.now) }
-    ensures means { IfOk result (λ metadata. MeansColumns metadata.items (pieces_bytes Little plan.new.pieces.items) chunk.now) }
+    requires plans { PlansChunk plan.old.order chunk.now plan.old }
+    ensures order { plan.new.order ≡ plan.old.order }
+    ensures message { IfOk result (λ metadata. IsChunkMessage plan.new.order metadata.items (pieces_bytes plan.new.order plan.new.pieces.items) chunk.now) }
+    ensures only { IfErr result (RefusesChunk plan.old.order chunk.now) }
+    ensures means { IfOk result (λ metadata. MeansColumns plan.new.order metadata.items (pieces_bytes plan.new.order plan.new.pieces.items) chunk.now) }
     ensures whole { IfOk result (λ metadata. length metadata.items % 8 ≡ 0) }
 {
     let Ok(length) = i64::try_from(chunk.len()) else {

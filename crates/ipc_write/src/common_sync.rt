@@ -1,7 +1,6 @@
 //! Sends messages to a device.
 ghost use Rattle.std.specs.Prelude.{◌≡◌, ◌+◌, ◌-◌, ◌^◌, ◌<◌, ◌≤◌, ◌++◌, length, IfOk, OnOk};
 ghost use Rattle.std.specs.Int.{next_multiple_of};
-ghost use Rattle.lower_types.specs.declared.Endianness.TheVariants.{Little};
 ghost use Rattle.ipc_plan.specs.Pieces.{pieces_bytes};
 ghost use Rattle.ipc_plan.specs.Sending.{Sends, seen_by};
 ghost use Rattle.ipc_write.specs.Framing.{head_bytes, head_len, message_bytes, padded, prefix_bytes};
@@ -102,18 +101,19 @@ pub fn write_message<W: Writes>(
 }
 
 /// Sends a message whose body is in pieces: what [`write_message`] sends before a body, and the pieces,
-/// little-endian. Of no pieces it is a message without a body.
+/// with numbers in this order of bytes. Of no pieces it is a message without a body.
 ///
 /// Faults as of [`write_message`].
 pub(crate) fn write_pieces<W: Writes>(
     writer: &mut W,
     metadata: &[u8],
     pieces: &[Piece<'_>],
+    order: Endianness,
 ) -> Result<(), Fault>
     ensures sends { SendsOrRefuses W.known W.grows W.failures W.room W.memory writer.old result writer.new
-        (head_bytes metadata.now ++ pieces_bytes Little pieces.now)
+        (head_bytes metadata.now ++ pieces_bytes order pieces.now)
         (2 ^ 31 ≤ next_multiple_of (length metadata.now) 8) }
 {
     write_metadata(writer, metadata)?;
-    send_pieces(writer, pieces, Endianness::Little)
+    send_pieces(writer, pieces, order)
 }

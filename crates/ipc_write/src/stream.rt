@@ -7,26 +7,27 @@ ghost use Rattle.ipc_devices.specs.declared.fault.Nyi.TheVariants.{Pending};
 ghost use Rattle.ipc_devices.specs.declared.fault.ArgFault.TheVariants.{FieldsDiffer, TooLarge};
 ghost use Rattle.ipc_write.specs.Framing.{head_bytes, prefix_bytes};
 ghost use Rattle.ipc_plan.specs.Pieces.{pieces_bytes};
-ghost use Rattle.lower_types.specs.declared.Endianness.TheVariants.{Little};
 ghost use Rattle.ipc_write.specs.Sending.{SendsOrRefuses};
 ghost use Rattle.ipc_write.specs.declared.stream.WriterState.TheVariants.{Failed, Finished, New, Started};
 ghost use Rattle.ipc_write.specs.Agreement.{Appends, Begins, IsFresh, Remains};
 ghost use Rattle.ipc_write.specs.Meaning.{chunk_written};
-ghost use Rattle.ipc_write.specs.Writers.{HasType, HaveTypes, IsCarriedSchema, RefusesFinish, RefusesStart, RefusesState, RefusesTypes, RefusesWrite, LeavesState, SendStep, SendsChunk, SendsSchema, StartsWith, StateComesFirst, TakesChunk, WritesExactly, are_carried, chosen_ids, fault_unless_new, fault_unless_started, normal_types, seen, seen_ids};
-ghost use Rattle.ipc_model.specs.Carried.{is_whole_type};
-ghost use Rattle.ipc_schema_write.specs.WriterAnswers.{written_head};
+ghost use Rattle.ipc_write.specs.Writers.{HasType, HaveTypes, RefusesFinish, RefusesStart, RefusesState, RefusesTypes, RefusesWrite, LeavesState, SendStep, SendsChunk, SendsSchema, StartsWith, StateComesFirst, TakesChunk, WritesExactly, chosen_ids, fault_unless_new, fault_unless_started, normal_types, order_of, seen, seen_ids};
+ghost use Rattle.ipc_carried.specs.Carried.{are_carried};
+ghost use Rattle.ipc_schema_write.specs.WriterAnswers.{byte_order, written_head_as};
 
-use crate::common::{WriteOptions, chunk_to_metadata, plan_chunk};
+use crate::common::{WriteOptions, byte_order, chunk_to_metadata, plan_chunk};
 use crate::common_sync::{write_continuation, write_pieces};
 use ipc_base::chunk::Chunk;
 use ipc_base::ipc::IpcField;
+use ipc_carried::types::are_carried;
 use ipc_devices::{ArgFault, Fault, Nyi, StateFault, Writes};
 use ipc_plan::pieces::Piece;
 use ipc_schema_write::defaults::default_ipc_fields;
 use ipc_schema_write::dictionaries::are_same_ids;
-use ipc_schema_write::schema::schema_to_bytes;
+use ipc_schema_write::schema::schema_to_bytes_as;
 use lower::datatypes::equal::is_same_type;
 use lower::datatypes::{DataType, Field, Schema};
+use lower::types::Endianness;
 use lower_arrays::array::AnyArray;
 use std::alloc::{AllocError, Global};
 
@@ -52,7 +53,8 @@ pub enum WriterState {
 pub struct StreamWriter<W> {
     pub(crate) alloc: Global,
     pub(crate) writer: W,
-    pub(crate) write_options: WriteOptions,
+    // of the bytes of numbers
+    pub(crate) order: Endianness,
     pub(crate) state: WriterState,
     // the types of the columns, in their normal form
     pub(crate) types: Vec<DataType>,
@@ -89,13 +91,14 @@ fn send<W: Writes>(
     state: &mut WriterState,
     metadata: &[u8],
     pieces: &[Piece<'_>],
+    order: Endianness,
 ) -> Result<(), Fault>
     ensures sends { SendsOrRefuses W.known W.grows W.failures W.room W.memory writer.old result writer.new
-        (head_bytes metadata.now ++ pieces_bytes Little pieces.now)
+        (head_bytes metadata.now ++ pieces_bytes order pieces.now)
         (2 ^ 31 ≤ next_multiple_of (length metadata.now) 8) }
     ensures state { LeavesState result state.old state.new }
 {
-    match write_pieces(writer, metadata, pieces) {
+    match write_pieces(writer, metadata, pieces, order) {
         Ok(()) => Ok(()),
         Err(Fault::Io(error)) => {
             *state = WriterState::Failed;
@@ -116,47 +119,22 @@ fn types_of_fields(alloc: Global, fields: &[Field]) -> Result<Vec<DataType>, All
     Ok(types)
 }
 
-// Whether the type is one of the integers.
-fn is_integer(data_type: &DataType) -> bool
-    ensures { result ≡ is_whole_type (type_view data_type.now) }
+// Whether the lowest byte of a number comes first.
+fn is_little_endian(order: Endianness) -> bool
+    ensures { byte_order result ≡ order }
 {
-    match data_type {
-        DataType::Int8
-        | DataType::Int16
-        | DataType::Int32
-        | DataType::Int64
-        | DataType::UInt8
-        | DataType::UInt16
-        | DataType::UInt32
-        | DataType::UInt64 => true,
-        _ => false,
+    match order {
+        Endianness::Little => true,
+        Endianness::Big => false,
     }
-}
-
-// Whether the fields are of integers, and without metadata.
-fn are_carried(fields: &[Field]) -> bool
-    ensures { result ≡ are_carried (fields_view fields.now) }
-{
-    for field in fields {
-        if !field.metadata.is_empty() {
-            return false;
-        }
-        if !is_integer(&field.data_type) {
-            return false;
-        }
-    }
-    true
 }
 
 // Refuses a schema whose columns this writer doesn't take.
 fn check_carried(schema: &Schema) -> Result<(), Fault>
-    ensures ok { OnOk result (IsCarriedSchema (fields_view schema.now.fields.items) (pairs_of schema.now.metadata.entries)) }
+    ensures ok { OnOk result (IsTrue (are_carried (fields_view schema.now.fields.items))) }
     ensures only { IfErr result (λ e. (e ≡ NotYetImplemented Pending)
-        × (IsCarriedSchema (fields_view schema.now.fields.items) (pairs_of schema.now.metadata.entries) → ⊥)) }
+        × (IsTrue (are_carried (fields_view schema.now.fields.items)) → ⊥)) }
 {
-    if !schema.metadata.is_empty() {
-        return Err(Fault::NotYetImplemented(Nyi::Pending));
-    }
     if !are_carried(&schema.fields) {
         return Err(Fault::NotYetImplemented(Nyi::Pending));
     }
@@ -208,12 +186,13 @@ impl<W: Writes + Drop> StreamWriter<W> {
     pub fn new(alloc: Global, writer: W, write_options: WriteOptions) -> StreamWriter<W>
         ensures device { (seen result).device ≡ writer }
         ensures state { (seen result).state ≡ New }
+        ensures order { (seen result).order ≡ order_of write_options }
         ensures means { IsFresh W.memory (seen result) }
     {
         StreamWriter {
             alloc,
             writer,
-            write_options,
+            order: byte_order(write_options),
             state: WriterState::New,
             types: Vec::new(alloc),
             ipc_fields: Vec::new(alloc),
@@ -238,9 +217,9 @@ impl<W: Writes + Drop> StreamWriter<W> {
     /// and on, in pre-order.
     ///
     /// Faults: `State(AlreadyStarted)`, `State(Finished)`, `State(Failed)` by the writer's state;
-    /// `NotYetImplemented(Pending)` where the schema has metadata, dictionaries or types other than
-    /// integers; `Argument(FieldsShape)` where the ids don't fit the fields; `Argument(NotWritable)`
-    /// where the schema's weight is above `2^30`; `Memory`: after these nothing was sent and the writer
+    /// `NotYetImplemented(Pending)` where a field has a dictionary or a union in it; `Argument(FieldsShape)`
+    /// where the ids don't fit the fields; `Argument(NotWritable)` where a type can't be written, or the
+    /// schema's weight is above `2^30`; `Memory`: after these nothing was sent and the writer
     /// is as it was. `Io` where the device failed, or where it is memory whose growth was refused: then
     /// some of the first bytes may have been sent, and each later `start`, `write` and `finish` answers
     /// `State(Failed)`.
@@ -248,7 +227,7 @@ impl<W: Writes + Drop> StreamWriter<W> {
         ensures first { StateComesFirst (fault_unless_new (seen self.old).state) (seen self.old) result (seen self.new) }
         ensures step { let fields = fields_view schema.now.fields.items in
             SendsSchema W.known W.grows W.failures W.room W.memory (seen self.old) result (seen self.new)
-            (written_head fields (pairs_of schema.now.metadata.entries) (chosen_ids ipc_fields fields)) }
+            (written_head_as (seen self.old).order fields (pairs_of schema.now.metadata.entries) (chosen_ids ipc_fields fields)) }
         ensures ok { let fields = fields_view schema.now.fields.items in
             OnOk result (StartsWith (seen self.old) (seen self.new) fields (pairs_of schema.now.metadata.entries)
             (chosen_ids ipc_fields fields)) }
@@ -257,7 +236,7 @@ impl<W: Writes + Drop> StreamWriter<W> {
             (chosen_ids ipc_fields fields)) }
         ensures means { let fields = fields_view schema.now.fields.items in
             Begins W.known W.memory (seen self.old) result (seen self.new)
-            (written_head fields (pairs_of schema.now.metadata.entries) (chosen_ids ipc_fields fields)) }
+            (written_head_as (seen self.old).order fields (pairs_of schema.now.metadata.entries) (chosen_ids ipc_fields fields)) }
     {
         self.check_new()?;
         check_carried(schema)?;
@@ -266,8 +245,15 @@ impl<W: Writes + Drop> StreamWriter<W> {
             None => default_ipc_fields(self.alloc, &schema.fields)?,
         };
         let types = types_of_fields(self.alloc, &schema.fields)?;
-        let metadata = schema_to_bytes(self.alloc, schema, &ipc_fields)?;
-        send(&mut self.writer, &mut self.state, &metadata, &[])?;
+        let is_little = is_little_endian(self.order);
+        let metadata = schema_to_bytes_as(self.alloc, schema, &ipc_fields, is_little)?;
+        send(
+            &mut self.writer,
+            &mut self.state,
+            &metadata,
+            &[],
+            self.order,
+        )?;
         self.state = WriterState::Started;
         self.types = types;
         self.ipc_fields = ipc_fields;
@@ -279,9 +265,9 @@ impl<W: Writes + Drop> StreamWriter<W> {
     ///
     /// Faults: `State(NotStarted)`, `State(Finished)`, `State(Failed)` by the writer's state;
     /// `Argument(FieldsDiffer)` for other ids; `Argument(ColumnCount)` for another number of columns;
-    /// `Argument(ColumnType)` for a column of another type, as one of an extension is;
-    /// `NotYetImplemented(Pending)` for a column with a validity, also one in which no slot is null;
-    /// `Argument(TooLarge)` where the body would end past `2^63 - 1`, or the metadata would have more
+    /// `Argument(ColumnType)` for a column of another type, both in their normal form;
+    /// `NotYetImplemented(Pending)` for a column that has a dictionary or a union in it;
+    /// `Argument(TooLong)` where an array has more than `2^63 - 1` slots; `Argument(TooLarge)` where the body would end past `2^63 - 1`, or the metadata would have more
     /// than `2^31 - 1` bytes; `Memory`: after these nothing was sent and the writer is as it was. `Io`
     /// where the device failed, or where it is memory whose growth was refused: then some of the first
     /// bytes may have been sent, and each later `start`, `write` and `finish` answers `State(Failed)`.
@@ -300,9 +286,15 @@ impl<W: Writes + Drop> StreamWriter<W> {
         self.check_started()?;
         self.check_ids(ipc_fields)?;
         check_types(columns.arrays(), &self.types)?;
-        let mut plan = plan_chunk(self.alloc, columns)?;
+        let mut plan = plan_chunk(self.alloc, columns, self.order)?;
         let metadata = chunk_to_metadata(self.alloc, columns, &mut plan)?;
-        send(&mut self.writer, &mut self.state, &metadata, &plan.pieces)
+        send(
+            &mut self.writer,
+            &mut self.state,
+            &metadata,
+            &plan.pieces,
+            plan.order,
+        )
     }
 
     /// Writes the mark that ends a stream.

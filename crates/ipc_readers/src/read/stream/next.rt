@@ -17,6 +17,7 @@ use crate::read::message::{Message, open_message};
 use crate::read::stream::metadata::StreamMetadata;
 use crate::read::stream::reader::{Batches, StreamReader, StreamState};
 use ipc_base::chunk::Chunk;
+use ipc_carried::types::are_carried;
 use ipc_devices::fault::{Fault, Nyi, OutOfSpecKind};
 use ipc_devices::{MemFile, Reads, read_into};
 use ipc_read::read::common::read_record_batch;
@@ -53,10 +54,13 @@ impl Batches {
     // The columns of a record batch of this body.
     fn columns(&mut self, batch: RecordBatchRef<'_>, body: &[u8]) -> Result<Chunk<AnyArray>, Fault>
         ensures described { self.new.metadata ≡ self.old.metadata }
-        ensures only { IfErr result (λ e. OwnFault e (IsStreamFault e)) }
+        ensures only { IfErr result (λ e. OwnFault e (IsStreamFault (head_of self.old.metadata).schema e)) }
         ensures own { OnIo result ⊥ }
         ensures memory { GivesColumns (head_of self.old.metadata) batch.entry body.now result }
     {
+        if !are_carried(&self.metadata.schema.fields) {
+            return Err(Fault::NotYetImplemented(Nyi::Pending));
+        }
         let mut bytes = MemFile::new(body);
         read_record_batch(
             self.alloc,
@@ -84,7 +88,7 @@ impl Batches {
     ) -> Result<Chunk<AnyArray>, Fault>
         requires { body_length < 2 ^ 63 }
         ensures described { self.new.metadata ≡ self.old.metadata }
-        ensures only { IfErr result (λ e. OwnFault e (IsStreamFault e)) }
+        ensures only { IfErr result (λ e. OwnFault e (IsStreamFault (head_of self.old.metadata).schema e)) }
         ensures gives { BodyGave R.gives (head_of self.old.metadata)
             (record { tag = 3; table = batch.entry; body = body_length }) reader.old result reader.new }
         ensures shown { R.shows reader.old body_length
@@ -106,7 +110,7 @@ impl Batches {
     ) -> Result<Chunk<AnyArray>, Fault>
         requires { message.body_length < 2 ^ 63 }
         ensures described { self.new.metadata ≡ self.old.metadata }
-        ensures only { IfErr result (λ e. OwnFault e (IsStreamFault e)) }
+        ensures only { IfErr result (λ e. OwnFault e (IsStreamFault (head_of self.old.metadata).schema e)) }
         ensures gives { BodyGave R.gives (head_of self.old.metadata) (header_seen message.entry)
             reader.old result reader.new }
         ensures shown { R.shows reader.old message.entry.body_length
@@ -194,7 +198,7 @@ impl<R: Reads + Drop> StreamReader<R> {
 
     // The next chunk, or None at the mark.
     fn read_item(&mut self) -> Result<Option<StreamState>, Fault>
-        ensures only { IfErr result (λ e. OwnFault e (IsStreamFault e)) }
+        ensures only { IfErr result (λ e. OwnFault e (IsStreamFault (head_of (metadata_of self.old)).schema e)) }
         ensures finished { is_over self.new ≡ is_over self.old }
         ensures described { metadata_of self.new ≡ metadata_of self.old }
         ensures gives { ItemGave R.gives (head_of (metadata_of self.old)) (begun_of self.old)
