@@ -5,6 +5,7 @@ mod demo;
 mod forms;
 mod printer;
 mod show;
+mod slots;
 
 use crate::class::class_of;
 use arrow2_ipc::io::ipc::fault::{Fault, Nyi, Reads, Seeks, Writes};

@@ -1,7 +1,9 @@
 //! What is printed, sent to the output in large writes.
+ghost use Rattle.std.specs.Prelude.{◌<◌};
 
 use arrow2_ipc::io::ipc::fault::{Fault, Writes};
 use ipc_write::common_sync::write_all;
+use itoa::{Buffer, Integer};
 use std::alloc::Global;
 
 // How much is kept before it is sent.
@@ -40,4 +42,35 @@ impl<'a, W: Writes> Printer<'a, W> {
         self.out.flush()?;
         Ok(())
     }
+
+    /// Adds a byte as two hexadecimal digits.
+    pub fn put_byte(&mut self, byte: u8) -> Result<(), Fault> {
+        self.put(&[hexadecimal(byte / 16), hexadecimal(byte % 16)])
+    }
+}
+
+/// Prints a whole number in decimal.
+pub fn put_number<W: Writes, N: Integer>(printer: &mut Printer<W>, number: N) -> Result<(), Fault> {
+    printer.put(Buffer::new().format(number).as_bytes())
+}
+
+/// Prints a text in double quotes, in which quotes, backslashes and control bytes are `\x` and two digits.
+pub fn put_text<W: Writes>(printer: &mut Printer<W>, text: &[u8]) -> Result<(), Fault> {
+    printer.put(b"\"")?;
+    for byte in text {
+        if *byte < 0x20 || *byte == 0x7f || *byte == b'"' || *byte == b'\\' {
+            printer.put(b"\\x")?;
+            printer.put_byte(*byte)?;
+        } else {
+            printer.put(&[*byte])?;
+        }
+    }
+    printer.put(b"\"")
+}
+
+// The lower case digit of a number below 16.
+fn hexadecimal(digit: u8) -> u8
+    requires { digit < 16 }
+{
+    b"0123456789abcdef"[digit as usize]
 }

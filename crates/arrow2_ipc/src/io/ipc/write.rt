@@ -1,8 +1,8 @@
 //! Writing.
-pub use ipc_encode::common::Record;
+pub use ipc_encode::common::{EncodedData, Record, WriteOptions};
 pub use ipc_encode::serialize::write;
 pub use ipc_schema_write::defaults::default_ipc_fields;
 pub use ipc_schema_write::schema::{schema_to_bytes, schema_to_bytes_as};
-pub use ipc_write::common::{EncodedData, WriteOptions};
+pub use ipc_tracker::tracker::DictionaryTracker;
 pub use ipc_write::common_sync::{write_all, write_continuation, write_message};
 pub use ipc_write::stream::{StreamWriter, WriterState};
