@@ -51,7 +51,8 @@ fn put_column(alloc: Global, columns: &mut Vec<AnyArray>, numbers: &[i32]) -> Re
     Ok(columns.push(int32(alloc, numbers)?)?)
 }
 
-fn int32(alloc: Global, numbers: &[i32]) -> Result<AnyArray, Fault> {
+/// A column of 32-bit numbers.
+pub fn int32(alloc: Global, numbers: &[i32]) -> Result<AnyArray, Fault> {
     let values = Buffer::new(Vec::from_slice(alloc, numbers)?)?;
     let array = PrimitiveArray::try_new(DataType::Int32, values, None)?;
     Ok(AnyArray::Primitive(AnyPrimitive::Int32(array)))

@@ -1,7 +1,10 @@
-//! Worked examples that data can't say, as proved tests over the public calls: devices with breaks and devices that fail,
-//! memory that is refused, memory that is shared, chunks of a type that is no array. What data can say is in `ipc_rows`.
+//! Worked examples that data can't say, as proved tests over the public calls: devices with breaks, devices that fail and devices that
+//! count, memory that is refused, memory that is shared, chunks of a type that is no array, batches of a thousand columns. What data can say
+//! is in `ipc_rows`.
 #![tactic(auto)]
 
+#[cfg(test)]
+mod batches;
 #[cfg(test)]
 mod blanks;
 #[cfg(test)]

@@ -1,5 +1,6 @@
 //! The calls that rows make, by their names. Each gives its value as compact JSON.
 
+mod appended;
 mod arrays;
 mod buffers;
 mod chunks;
@@ -9,6 +10,7 @@ mod messages;
 mod numbers;
 pub mod plain_schemas;
 mod plain_streams;
+mod projections;
 mod records;
 mod round_trips;
 mod schemas;
@@ -135,12 +137,18 @@ enum Call {
     CutStreamsOf,
     DamagedStreamsOf,
     DeviceBy,
+    ProjectionOf,
+    PreparedBy,
+    MovedBy,
+    MarkedBy,
+    Appended,
+    RecordOf,
     Ipcat,
     IpcatCut,
     IpcatDamaged,
 }
 
-const CALLS: [(&str, Call); 47] = [
+const CALLS: [(&str, Call); 53] = [
     ("slots_of", Call::SlotsOf),
     ("parts_of", Call::PartsOf),
     ("bits_of", Call::BitsOf),
@@ -185,6 +193,12 @@ const CALLS: [(&str, Call); 47] = [
     ("cut_streams_of", Call::CutStreamsOf),
     ("damaged_streams_of", Call::DamagedStreamsOf),
     ("device_by", Call::DeviceBy),
+    ("projection_of", Call::ProjectionOf),
+    ("prepared_by", Call::PreparedBy),
+    ("moved_by", Call::MovedBy),
+    ("marked_by", Call::MarkedBy),
+    ("appended", Call::Appended),
+    ("record_of", Call::RecordOf),
     ("ipcat", Call::Ipcat),
     ("ipcat_cut", Call::IpcatCut),
     ("ipcat_damaged", Call::IpcatDamaged),
@@ -236,6 +250,12 @@ fn put_called(alloc: Global, out: &mut Text, call: Call, parts: &Value) -> Resul
         Call::CutStreamsOf => plain_streams::cut_streams_of(alloc, out, parts),
         Call::DamagedStreamsOf => plain_streams::damaged_streams_of(alloc, out, parts),
         Call::DeviceBy => devices::device_by(alloc, out, parts),
+        Call::ProjectionOf => projections::projection_of(alloc, out, parts),
+        Call::PreparedBy => projections::prepared_by(alloc, out, parts),
+        Call::MovedBy => projections::moved_by(alloc, out, parts),
+        Call::MarkedBy => projections::marked_by(alloc, out, parts),
+        Call::Appended => appended::appended(alloc, out, parts),
+        Call::RecordOf => appended::record_of(alloc, out, parts),
         Call::Ipcat => tools::ipcat(alloc, out, parts),
         Call::IpcatCut => tools::ipcat_cut(alloc, out, parts),
         Call::IpcatDamaged => tools::ipcat_damaged(alloc, out, parts),

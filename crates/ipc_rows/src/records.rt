@@ -1,20 +1,28 @@
 //! Record messages: `{"fields": [FIELD, ..], "nodes": [[2, 0], ..], "buffers": [[0, 8], ..], "body": BYTES}`. Each node is a
-//! length and a count of nulls, each buffer a place and a length. `"order": "big"` has the highest byte of numbers first,
-//! `"chosen": [2, 0]` reads these columns, `"limit": 2` so many slots at most. `"message": BYTES` may stand in place of nodes and buffers.
+//! length and a count of nulls, each buffer a place and a length. `"order": "big"` has the highest byte of numbers first, `"version": "V4"` is
+//! that of the metadata, `"ids": [ID, ..]` are the fields' as in `schemas.rt`, `"chosen": [2, 0]` reads these columns and gives them in this
+//! order, `"limit": 2` reads so many slots at most. `"message": BYTES` may stand in place of nodes and buffers.
+ghost use Rattle.std.specs.Prelude.{length};
+ghost use Rattle.std.specs.Option.{option_copied};
+ghost use Rattle.ipc_read.specs.Columns.{ArePrepared};
 
 use crate::bytes::bytes;
 use crate::json::{self, count, items, member};
 use crate::plain::{PlainForm, all_columns, kinds_of};
-use crate::schemas::is_little_endian;
+use crate::projections::{in_order, prepared};
+use crate::schemas::{ids_of, is_little_endian};
+use crate::tables::version;
 use crate::trouble::Trouble;
 use crate::types::{LEVELS, fields};
 use ipc_base::chunk::Chunk;
 use ipc_base::ipc::IpcSchema;
 use ipc_devices::MemFile;
+use ipc_projections::read::projection::is_prepared;
 use ipc_read::read::Dictionaries;
 use ipc_read::read::common::read_record_batch;
 use ipc_views::{MessageHeaderRef, MessageRef, MetadataVersion, RecordBatchRef};
 use lower::datatypes::Field;
+use lower::datatypes::clones::clone_fields;
 use lower_arrays::array::AnyArray;
 use lower_types::Endianness;
 use serde_json::Value;
@@ -33,7 +41,8 @@ pub struct Record {
 #[derive(Drop)]
 pub struct RecordForm {
     pub fields: Vec<Field>,
-    is_little_endian: bool,
+    ids: IpcSchema,
+    version: MetadataVersion,
     chosen: Option<Vec<usize>>,
     limit: Option<usize>,
 }
@@ -58,9 +67,15 @@ fn form(alloc: Global, value: &Value) -> Result<RecordForm, Trouble> {
         None => None,
         Some(limit) => Some(count(Some(limit), "limit")?),
     };
-    Ok(RecordForm {
-        fields: fields(alloc, member(value, "fields")?, LEVELS)?,
+    let fields = fields(alloc, member(value, "fields")?, LEVELS)?;
+    let ids = IpcSchema {
+        fields: ids_of(alloc, value, &fields)?,
         is_little_endian: is_little_endian(value)?,
+    };
+    Ok(RecordForm {
+        fields,
+        ids,
+        version: version(value)?,
         chosen: chosen(alloc, value)?,
         limit,
     })
@@ -89,36 +104,64 @@ pub fn batch_of(message: &[u8]) -> Option<RecordBatchRef<'_>> {
 }
 
 impl RecordForm {
-    /// The columns that a record means by the reader.
+    /// The columns that a record means by the reader, in the order in which they are chosen.
     pub fn read(
         &self,
         alloc: Global,
         batch: RecordBatchRef,
         body: &[u8],
     ) -> Result<Chunk<AnyArray>, Trouble> {
-        let ids = IpcSchema {
-            fields: Vec::new(alloc),
-            is_little_endian: self.is_little_endian,
+        let Some(chosen) = &self.chosen else {
+            return self.read_prepared(alloc, batch, body, None);
         };
-        let chosen = match &self.chosen {
-            Some(chosen) => Some(chosen.as_slice()),
-            None => None,
-        };
+        let rising = prepared(alloc, chosen, self.fields.len())?;
+        if !is_prepared(&rising, self.fields.len()) {
+            return Err(Trouble::Row("chosen"));
+        }
+        let chunk = self.read_prepared(alloc, batch, body, Some(rising.as_slice()))?;
+        in_order(alloc, chunk, chosen)
+    }
+
+    // Those of a prepared projection, in rising order.
+    fn read_prepared(
+        &self,
+        alloc: Global,
+        batch: RecordBatchRef,
+        body: &[u8],
+        chosen: Option<&[usize]>,
+    ) -> Result<Chunk<AnyArray>, Trouble>
+        requires { ArePrepared (option_copied chosen) (length self.now.fields.items) }
+    {
         let dictionaries: Dictionaries = HashMap::new(alloc);
         Ok(read_record_batch(
             alloc,
             batch,
             &self.fields,
-            &ids,
+            &self.ids,
             chosen,
             self.limit,
             &dictionaries,
-            MetadataVersion::V5,
+            self.version,
             &mut MemFile::new(body),
             0,
             body.len() as u64,
             &mut Vec::new(alloc),
         )?)
+    }
+
+    /// The fields of the columns that are read.
+    pub fn chosen_fields(&self, alloc: Global) -> Result<Vec<Field>, Trouble> {
+        let Some(chosen) = &self.chosen else {
+            return Ok(clone_fields(&self.fields)?);
+        };
+        let mut out = Vec::new(alloc);
+        for column in chosen {
+            match self.fields.get(*column) {
+                Some(field) => out.push(field.clone()?)?,
+                None => return Err(Trouble::Row("chosen")),
+            }
+        }
+        Ok(out)
     }
 
     /// The same for the plain program.
@@ -127,17 +170,21 @@ impl RecordForm {
             Some(chosen) => chosen.clone()?,
             None => all_columns(alloc, self.fields.len())?,
         };
-        let order = if self.is_little_endian {
+        let order = if self.ids.is_little_endian {
             Endianness::Little
         } else {
             Endianness::Big
+        };
+        let extra = match self.version {
+            MetadataVersion::V5 => 0,
+            _ => 1,
         };
         Ok(PlainForm {
             kinds: kinds_of(alloc, &self.fields)?,
             chosen,
             limit: self.limit,
             order,
-            extra: 0,
+            extra,
         })
     }
 }

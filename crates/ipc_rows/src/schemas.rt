@@ -10,7 +10,7 @@ use crate::trouble::Trouble;
 use crate::types::{LEVELS, fields, metadata};
 use ipc_base::ipc::{IpcField, IpcSchema};
 use ipc_schema_write::defaults::default_ipc_fields;
-use lower::datatypes::Schema;
+use lower::datatypes::{Field, Schema};
 use serde_json::Value;
 use std::alloc::Global;
 
@@ -42,7 +42,7 @@ pub fn put_schema_of_row(
 ) -> Result<(), Trouble> {
     let is_little_endian = is_little_endian(value)?;
     let ids = IpcSchema {
-        fields: ids_of(alloc, value, schema)?,
+        fields: ids_of(alloc, value, &schema.fields)?,
         is_little_endian,
     };
     put_schema(out, schema, &ids);
@@ -56,11 +56,11 @@ pub fn put_schema(out: &mut Text, schema: &Schema, ids: &IpcSchema) {
     out.debug(ids);
 }
 
-/// The ids of a schema, or those by default.
-pub fn ids_of(alloc: Global, value: &Value, schema: &Schema) -> Result<Vec<IpcField>, Trouble> {
+/// The ids of some fields, or those by default.
+pub fn ids_of(alloc: Global, value: &Value, fields: &[Field]) -> Result<Vec<IpcField>, Trouble> {
     match value.get("ids") {
         Some(ids) => id_trees(alloc, ids, LEVELS),
-        None => Ok(default_ipc_fields(alloc, &schema.fields)?),
+        None => Ok(default_ipc_fields(alloc, fields)?),
     }
 }
 

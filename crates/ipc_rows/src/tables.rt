@@ -60,7 +60,8 @@ const VERSIONS: [(&str, MetadataVersion); 5] = [
     ("V5", MetadataVersion::V5),
 ];
 
-fn version(value: &Value) -> Result<MetadataVersion, Trouble> {
+/// The version of a message or a footer, which is V5 where nothing says otherwise.
+pub fn version(value: &Value) -> Result<MetadataVersion, Trouble> {
     match value.get("version") {
         None => Ok(MetadataVersion::V5),
         version => choice(version, &VERSIONS, "version"),

@@ -1,5 +1,6 @@
 //! Streams: bytes; or `{"fields": [FIELD, ..], "calls": [CALL, ..]}`, what a writer of these fields writes in these calls, refused ones among
-//! them; or a list of such parts, one behind the other. A call is `"start"`, `{"write": [ARRAY, ..]}` or `"finish"`.
+//! them; or a list of such parts, one behind the other. A call is `"start"`, `{"write": [ARRAY, ..]}` or `"finish"`. With `"big_endian": true` the
+//! highest byte of a number comes first.
 
 use crate::arrays::arrays;
 use crate::bytes::bytes;
@@ -50,10 +51,17 @@ fn part(alloc: Global, value: &Value) -> Result<Vec<u8>, Trouble> {
     write(alloc, &mut Text::new(alloc), value)
 }
 
+/// How a stream is written.
+pub fn options(value: &Value) -> WriteOptions {
+    WriteOptions {
+        big_endian: matches!(value.get("big_endian"), Some(Value::Bool(true))),
+    }
+}
+
 /// Makes the calls of a writer over memory. It appends what each answers, `"ok"` or its fault, and gives the bytes.
 pub fn write(alloc: Global, answers: &mut Text, value: &Value) -> Result<Vec<u8>, Trouble> {
     let schema = schema(alloc, value)?;
-    let mut writer = StreamWriter::new(alloc, Vec::new(alloc), WriteOptions::default());
+    let mut writer = StreamWriter::new(alloc, Vec::new(alloc), options(value));
     answers.put("[");
     for call in items(value.get("calls"), "calls")? {
         answers.comma();

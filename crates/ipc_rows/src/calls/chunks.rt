@@ -52,14 +52,14 @@ pub fn are_equal_rows(alloc: Global, value: &Value) -> Result<bool, Trouble> {
 /// Whether ids belong to fields.
 pub fn fits_of(alloc: Global, value: &Value) -> Result<bool, Trouble> {
     let schema = schema(alloc, value)?;
-    let ids = ids_of(alloc, value, &schema)?;
+    let ids = ids_of(alloc, value, &schema.fields)?;
     Ok(fits(&schema.fields, &ids))
 }
 
 /// A schema with clones of its ids.
 pub fn cloned_ids_of(alloc: Global, out: &mut Text, value: &Value) -> Result<(), Trouble> {
     let schema = schema(alloc, value)?;
-    let ids = ids_of(alloc, value, &schema)?;
+    let ids = ids_of(alloc, value, &schema.fields)?;
     let cloned = IpcSchema {
         fields: clone_ipc_fields(&ids)?,
         is_little_endian: is_little_endian(value)?,

@@ -2,8 +2,7 @@
 //! `[SLOTS, ..]` by the plain program, or null where the record means nothing.
 //!
 //! `"columns_by_both": RECORD` gives how their answers stand to each other: `"Columns"`, the same ones; `"NoColumns"`, the reader refuses
-//! what means nothing; `"Nulls"`, it doesn't carry the nulls that the nodes tell of; `"NoBatch"`, the message holds no record batch; else
-//! `"Differ"`. `"damaged_records_of": RECORD` makes both read the message with each damage, and gives `{"cuts": 200, "differ": [], "sets": 800}`:
+//! what means nothing; `"NoBatch"`, the message holds no record batch; else `"Differ"`. `"damaged_records_of": RECORD` makes both read the message with each damage, and gives `{"cuts": 200, "differ": [], "sets": 800}`:
 //! how many damages were tried, and those at which they differ. `"cut_bodies_of": RECORD` makes them read the body cut to each
 //! length, 0 first, and gives the answers as `runs.rt` shows them.
 
@@ -15,8 +14,7 @@ use crate::runs::Runs;
 use crate::text::Text;
 use crate::trouble::Trouble;
 use ipc_base::chunk::Chunk;
-use ipc_devices::fault::{Fault, Nyi};
-use ipc_views::RecordBatchRef;
+use ipc_devices::fault::Fault;
 use lower_arrays::array::AnyArray;
 use serde_json::Value;
 use std::alloc::Global;
@@ -26,7 +24,7 @@ pub fn columns_of(alloc: Global, out: &mut Text, value: &Value) -> Result<(), Tr
     let record = record_of(alloc, value)?;
     let batch = batch_of(&record.message).ok_or(Trouble::Row("record"))?;
     let chunk = record.form.read(alloc, batch, &record.body)?;
-    put_chunk(out, &chunk, &record.form.fields);
+    put_chunk(out, &chunk, &record.form.chosen_fields(alloc)?);
     Ok(())
 }
 
@@ -50,8 +48,6 @@ enum Answer {
     NoBatch,
     NoColumns,
     Columns,
-    // the reader doesn't carry nulls yet
-    Nulls,
     Differ,
 }
 
@@ -72,7 +68,6 @@ fn put_answer(out: &mut Text, answer: Answer) {
         Answer::NoBatch => "\"NoBatch\"",
         Answer::NoColumns => "\"NoColumns\"",
         Answer::Columns => "\"Columns\"",
-        Answer::Nulls => "\"Nulls\"",
         Answer::Differ => "\"Differ\"",
     });
 }
@@ -88,7 +83,6 @@ fn answer_of(
         return Ok(Answer::NoBatch);
     };
     let columns = plain.columns(alloc, &batch, body)?;
-    let has_nulls = tells_of_nulls(&batch, plain.kinds.len());
     let read = form.read(alloc, batch, body);
     if matches!(
         &read,
@@ -96,33 +90,16 @@ fn answer_of(
     ) {
         return Err(Trouble::Row("a record"));
     }
-    judged(alloc, &columns, &read, has_nulls)
-}
-
-// Whether one of the first nodes tells of nulls.
-fn tells_of_nulls(batch: &RecordBatchRef, count: usize) -> bool {
-    let Ok(Some(nodes)) = batch.nodes() else {
-        return false;
-    };
-    for index in 0..nodes.len() {
-        if index < count && nodes.get(index).null_count != 0 {
-            return true;
-        }
-    }
-    false
+    judged(alloc, &columns, &read)
 }
 
 fn judged(
     alloc: Global,
     plain: &Option<PlainColumns>,
     read: &Result<Chunk<AnyArray>, Trouble>,
-    has_nulls: bool,
 ) -> Result<Answer, Trouble> {
     Ok(match (plain, read) {
         (Some(columns), Ok(chunk)) if are_same(alloc, columns, chunk)? => Answer::Columns,
-        (Some(_), Err(Trouble::Refused(Fault::NotYetImplemented(Nyi::Pending)))) if has_nulls => {
-            Answer::Nulls
-        }
         (None, Err(Trouble::Refused(Fault::Io(_)))) => Answer::Differ,
         (None, Err(_)) => Answer::NoColumns,
         _ => Answer::Differ,

@@ -1,4 +1,4 @@
-//! Streams that are written and read by one call. `"round_trip_of": {"fields": [FIELD, ..], "calls": [CALL, ..]}`, with the calls of `written.rt`, gives
+//! Streams that are written and read by one call. `"round_trip_of": {"fields": [FIELD, ..], "calls": [CALL, ..]}`, with the calls and the order of bytes of `written.rt`, gives
 //! `{"answers": ["ok" or a fault, ..], "chunks": [CHUNK, ..], "is_finished": true, "is_schema_same": true}`; `"whole_of": STREAM` reads one, and gives
 //! `{"chunks": [CHUNK, ..], "is_finished": true}`.
 
@@ -9,7 +9,7 @@ use crate::schemas::schema;
 use crate::text::Text;
 use crate::trouble::Trouble;
 use crate::types::LEVELS;
-use crate::written::stream;
+use crate::written::{options, stream};
 use ipc_base::chunk::Chunk;
 use ipc_round_trip::read::{WholeStream, read_stream};
 use ipc_round_trip::round_trip::round_trip;
@@ -63,7 +63,7 @@ fn borrowed<'a>(alloc: Global, calls: &'a [Call]) -> Result<Vec<StreamCall<'a>>,
 pub fn round_trip_of(alloc: Global, out: &mut Text, value: &Value) -> Result<(), Trouble> {
     let schema = schema(alloc, value)?;
     let calls = calls_of(alloc, value)?;
-    let trip = round_trip(alloc, &schema, &borrowed(alloc, &calls)?)?;
+    let trip = round_trip(alloc, &schema, &borrowed(alloc, &calls)?, options(value))?;
     out.put("{\"answers\":[");
     for answer in &trip.answers {
         out.comma();

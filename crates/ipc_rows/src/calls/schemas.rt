@@ -7,11 +7,11 @@
 
 use crate::bytes::bytes;
 use crate::json::both;
-use crate::schemas::{ids_of, put_schema, put_schema_of_row, schema};
+use crate::schemas::{ids_of, is_little_endian, put_schema, put_schema_of_row, schema};
 use crate::text::Text;
 use crate::trouble::Trouble;
 use ipc_schema::read::schema::{deserialize_schema, deserialize_schema_counted};
-use ipc_schema_write::schema::{schema_to_bytes, serialize_schema};
+use ipc_schema_write::schema::{schema_to_bytes, schema_to_bytes_as, serialize_schema};
 use ipc_schema_write::weights::weigh_schema;
 use lower::datatypes::is_same_schema;
 use serde_json::Value;
@@ -47,8 +47,12 @@ pub fn visits_of(alloc: Global, out: &mut Text, value: &Value) -> Result<(), Tro
 
 fn message_of(alloc: Global, value: &Value) -> Result<Vec<u8>, Trouble> {
     let schema = schema(alloc, value)?;
-    let ids = ids_of(alloc, value, &schema)?;
-    Ok(schema_to_bytes(alloc, &schema, &ids)?)
+    let ids = ids_of(alloc, value, &schema.fields)?;
+    let message = match value.get("order") {
+        None => schema_to_bytes(alloc, &schema, &ids)?,
+        Some(_) => schema_to_bytes_as(alloc, &schema, &ids, is_little_endian(value)?)?,
+    };
+    Ok(message)
 }
 
 /// The bytes of a schema's message.
@@ -85,7 +89,7 @@ pub fn are_same_schemas(alloc: Global, value: &Value) -> Result<bool, Trouble> {
 /// What the tables of a schema weigh, or null where 64 bits don't hold it.
 pub fn weight_of(alloc: Global, out: &mut Text, value: &Value) -> Result<(), Trouble> {
     let schema = schema(alloc, value)?;
-    let ids = ids_of(alloc, value, &schema)?;
+    let ids = ids_of(alloc, value, &schema.fields)?;
     let tables = serialize_schema(alloc, &schema, &ids, true)?;
     match weigh_schema(&tables) {
         None => out.put("null"),

@@ -159,8 +159,8 @@ fn put_answer(out: &mut Text, reader: &mut Reader<'_>, fields: &[Field]) {
     out.put("]");
 }
 
-// The name and the type of each.
-fn put_columns(alloc: Global, out: &mut Text, fields: &[Field]) -> Result<(), Trouble> {
+/// Appends the name and the type of each field.
+pub fn put_columns(alloc: Global, out: &mut Text, fields: &[Field]) -> Result<(), Trouble> {
     for field in fields {
         out.comma();
         out.quoted(format!(in alloc; "{}: {:?}", field.name, field.data_type)?.as_str());

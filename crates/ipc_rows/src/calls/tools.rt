@@ -1,5 +1,5 @@
 //! The programs. `"ipcat": {"words": [WORD, ..], "input": BYTES}` runs ipcat over memory and gives its status and what it
-//! prints; `{"demo": true}` is an input too, the stream that `ipcat demo` writes. What isn't text is given by its length.
+//! prints; `{"demo": true}` is an input too, the stream that `ipcat demo` writes, and so is what a writer wrote (`written.rt`). What isn't text is given by its length.
 //!
 //! `"ipcat_cut"` of the same parts runs it on each beginning of the input, and gives how many there are, the lengths of those
 //! that wait, how many end too soon, and the lengths of those that answer anything else.
@@ -11,6 +11,7 @@ use crate::bytes::bytes;
 use crate::json::{items, member, text};
 use crate::text::Text;
 use crate::trouble::Trouble;
+use crate::written::stream;
 use ipc_devices::MemFile;
 use ipc_tools::cat::run;
 use serde_json::Value;
@@ -51,7 +52,7 @@ fn input_of(alloc: Global, value: &Value) -> Result<Vec<u8>, Trouble> {
     match value.get("input") {
         None => Ok(Vec::new(alloc)),
         Some(input) if input.get("demo").is_some() => demo(alloc),
-        Some(input) => bytes(alloc, input),
+        Some(input) => stream(alloc, input),
     }
 }
 

@@ -1,0 +1,186 @@
+//! Batches of many columns, read from a device that counts the bytes which it gives.
+
+use crate::fixtures::int32;
+use arrow2_ipc::array::{AnyArray, equal};
+use arrow2_ipc::chunk::Chunk;
+use arrow2_ipc::datatypes::{DataType, Field, Metadata};
+use arrow2_ipc::io::ipc::IpcSchema;
+use arrow2_ipc::io::ipc::fault::{Failures, Fault, OutOfSpecKind, Reads, Watched};
+use arrow2_ipc::io::ipc::format::{
+    Buffer, FieldNode, Message, MessageHeader, MessageHeaderRef, MessageRef, MetadataVersion,
+    RecordBatch, RecordBatchRef,
+};
+use arrow2_ipc::io::ipc::read::{Dictionaries, is_prepared, read_record_batch};
+use arrow2_ipc::io::ipc::write::default_ipc_fields;
+use std::alloc::Global;
+use std::collections::HashMap;
+use std::io::Cursor;
+
+// Columns of 32-bit numbers, of one row each, in which column j holds j.
+#[derive(Drop)]
+struct Columns {
+    fields: Vec<Field>,
+    nodes: Vec<FieldNode>,
+    buffers: Vec<Buffer>,
+    body: Vec<u8>,
+}
+
+fn columns(alloc: Global, count: u32) -> Result<Columns, Fault> {
+    let mut columns = Columns {
+        fields: Vec::new(alloc),
+        nodes: Vec::new(alloc),
+        buffers: Vec::new(alloc),
+        body: Vec::new(alloc),
+    };
+    for number in 0..count {
+        put_column(alloc, &mut columns, number)?;
+    }
+    Ok(columns)
+}
+
+fn put_column(alloc: Global, columns: &mut Columns, number: u32) -> Result<(), Fault> {
+    let field = Field {
+        name: String::new(alloc),
+        data_type: DataType::Int32,
+        is_nullable: false,
+        metadata: Metadata::new(alloc),
+    };
+    columns.fields.push(field)?;
+    let node = FieldNode {
+        length: 1,
+        null_count: 0,
+    };
+    columns.nodes.push(node)?;
+    let place = i64::from(number) * 4;
+    put_buffer(&mut columns.buffers, place, 0)?;
+    put_buffer(&mut columns.buffers, place, 4)?;
+    Ok(columns.body.extend_from_slice(&number.to_le_bytes())?)
+}
+
+fn put_buffer(buffers: &mut Vec<Buffer>, offset: i64, length: i64) -> Result<(), Fault> {
+    Ok(buffers.push(Buffer { offset, length })?)
+}
+
+// A batch as it is read: its message, its body, and what is known of it beforehand.
+#[derive(Drop)]
+struct Batch {
+    fields: Vec<Field>,
+    ids: IpcSchema,
+    message: Vec<u8>,
+    body: Vec<u8>,
+}
+
+fn batch_of(alloc: Global, columns: Columns) -> Result<Batch, Fault> {
+    let ids = IpcSchema {
+        fields: default_ipc_fields(alloc, &columns.fields)?,
+        is_little_endian: true,
+    };
+    let batch = RecordBatch {
+        length: 1,
+        nodes: columns.nodes,
+        buffers: columns.buffers,
+        compression: None,
+    };
+    let message = Message {
+        version: MetadataVersion::V5,
+        header: MessageHeader::RecordBatch(batch),
+        body_length: columns.body.len() as i64,
+        custom_metadata: None,
+    };
+    Ok(Batch {
+        fields: columns.fields,
+        ids,
+        message: message.to_bytes(alloc)?,
+        body: columns.body,
+    })
+}
+
+fn record_of(message: &[u8]) -> Result<RecordBatchRef<'_>, Fault> {
+    let message = match MessageRef::read_as_root(message) {
+        Ok(message) => message,
+        Err(e) => return Err(Fault::OutOfSpec(OutOfSpecKind::InvalidFlatbufferMessage(e))),
+    };
+    match message.header() {
+        Ok(Some(MessageHeaderRef::RecordBatch(record))) => Ok(record),
+        _ => Err(Fault::OutOfSpec(OutOfSpecKind::MissingMessageHeader)),
+    }
+}
+
+// Some columns of a batch, and how many bytes the device gave for them.
+fn read(
+    alloc: Global,
+    batch: &Batch,
+    chosen: &[usize],
+) -> Result<(Chunk<AnyArray>, u64), Fault> {
+    let record = record_of(&batch.message)?;
+    if !is_prepared(chosen, batch.fields.len()) {
+        return Err(Fault::OutOfSpec(OutOfSpecKind::InvalidDataType));
+    }
+    let dictionaries: Dictionaries = HashMap::new(alloc);
+    let mut device = Watched::new(Cursor::new(batch.body.as_slice()));
+    let chunk = read_record_batch(
+        alloc,
+        record,
+        &batch.fields,
+        &batch.ids,
+        Some(chosen),
+        None,
+        &dictionaries,
+        MetadataVersion::V5,
+        &mut device,
+        0,
+        batch.body.len() as u64,
+        &mut Vec::new(alloc),
+    )?;
+    Ok((chunk, device.given()))
+}
+
+// Whether a chunk has columns of one number each, which are these.
+fn has_numbers(alloc: Global, chunk: &Chunk<AnyArray>, numbers: &[i32]) -> Result<bool, Fault> {
+    if chunk.arrays().len() != numbers.len() {
+        return Ok(false);
+    }
+    for (column, number) in chunk.arrays().iter().zip(numbers) {
+        if !equal(column, &int32(alloc, &[*number])?) {
+            return Ok(false);
+        }
+    }
+    Ok(true)
+}
+
+// The last of a thousand columns is found, and four bytes are taken for it.
+#[test]
+fn one_of_a_thousand_columns_is_read(rt: HostRuntime) -> Result<(), Fault> {
+    let alloc = rt.alloc();
+    let batch = batch_of(alloc, columns(alloc, 1000)?)?;
+    let (chunk, given) = read(alloc, &batch, &[999])?;
+    assert!(rt; has_numbers(alloc, &chunk, &[999])?);
+    assert_eq!(rt; given, 4);
+    Ok(())
+}
+
+// A buffer less than all columns take is refused, whichever are chosen.
+#[test]
+fn a_buffer_less_than_a_thousand_columns_take_is_refused(rt: HostRuntime) -> Result<(), Fault> {
+    let alloc = rt.alloc();
+    let mut columns = columns(alloc, 1000)?;
+    let _last = columns.buffers.pop();
+    let batch = batch_of(alloc, columns)?;
+    let answer = read(alloc, &batch, &[999]);
+    assert!(rt; matches!(answer, Err(Fault::OutOfSpec(OutOfSpecKind::ExpectedBuffer))));
+    Ok(())
+}
+
+// Of columns that aren't chosen no byte is taken.
+#[test]
+fn a_device_gives_the_chosen_columns_alone(rt: HostRuntime) -> Result<(), Fault> {
+    let alloc = rt.alloc();
+    let batch = batch_of(alloc, columns(alloc, 5)?)?;
+    let (none, given) = read(alloc, &batch, &[])?;
+    assert!(rt; has_numbers(alloc, &none, &[])?);
+    assert_eq!(rt; given, 0);
+    let (some, given) = read(alloc, &batch, &[1, 4])?;
+    assert!(rt; has_numbers(alloc, &some, &[1, 4])?);
+    assert_eq!(rt; given, 8);
+    Ok(())
+}
