@@ -25,7 +25,7 @@ struct Columns {
     body: Vec<u8>,
 }
 
-fn columns(alloc: Global, count: u32) -> Result<Columns, Fault> {
+fn number_columns(alloc: Global, count: u32) -> Result<Columns, Fault> {
     let mut columns = Columns {
         fields: Vec::new(alloc),
         nodes: Vec::new(alloc),
@@ -107,11 +107,7 @@ fn record_of(message: &[u8]) -> Result<RecordBatchRef<'_>, Fault> {
 }
 
 // Some columns of a batch, and how many bytes the device gave for them.
-fn read(
-    alloc: Global,
-    batch: &Batch,
-    chosen: &[usize],
-) -> Result<(Chunk<AnyArray>, u64), Fault> {
+fn read(alloc: Global, batch: &Batch, chosen: &[usize]) -> Result<(Chunk<AnyArray>, u64), Fault> {
     let record = record_of(&batch.message)?;
     if !is_prepared(chosen, batch.fields.len()) {
         return Err(Fault::OutOfSpec(OutOfSpecKind::InvalidDataType));
@@ -152,7 +148,7 @@ fn has_numbers(alloc: Global, chunk: &Chunk<AnyArray>, numbers: &[i32]) -> Resul
 #[test]
 fn one_of_a_thousand_columns_is_read(rt: HostRuntime) -> Result<(), Fault> {
     let alloc = rt.alloc();
-    let batch = batch_of(alloc, columns(alloc, 1000)?)?;
+    let batch = batch_of(alloc, number_columns(alloc, 1000)?)?;
     let (chunk, given) = read(alloc, &batch, &[999])?;
     assert!(rt; has_numbers(alloc, &chunk, &[999])?);
     assert_eq!(rt; given, 4);
@@ -163,7 +159,7 @@ fn one_of_a_thousand_columns_is_read(rt: HostRuntime) -> Result<(), Fault> {
 #[test]
 fn a_buffer_less_than_a_thousand_columns_take_is_refused(rt: HostRuntime) -> Result<(), Fault> {
     let alloc = rt.alloc();
-    let mut columns = columns(alloc, 1000)?;
+    let mut columns = number_columns(alloc, 1000)?;
     let _last = columns.buffers.pop();
     let batch = batch_of(alloc, columns)?;
     let answer = read(alloc, &batch, &[999]);
@@ -175,7 +171,7 @@ fn a_buffer_less_than_a_thousand_columns_take_is_refused(rt: HostRuntime) -> Res
 #[test]
 fn a_device_gives_the_chosen_columns_alone(rt: HostRuntime) -> Result<(), Fault> {
     let alloc = rt.alloc();
-    let batch = batch_of(alloc, columns(alloc, 5)?)?;
+    let batch = batch_of(alloc, number_columns(alloc, 5)?)?;
     let (none, given) = read(alloc, &batch, &[])?;
     assert!(rt; has_numbers(alloc, &none, &[])?);
     assert_eq!(rt; given, 0);
