@@ -12,21 +12,18 @@ use Rattle.lower_rules.specs.Fields.{child_fields, field_type, FieldTypes}
 use Rattle.lower_arrays.specs.Layouts.{Layout, layout, no_layouts, more_layouts, lists, len_of, type_of}
 use Rattle.lower_arrays.specs.Lists.{list_seen, list_layout}
 use Rattle.ipc_base.specs.IdTrees.{IdTree, ids, IdTrees}
-use Rattle.ipc_devices.specs.Device.{Memory}
 use Rattle.ipc_model.specs.Kinds.{OffsetWidth, offset_width, Kind, null_kind, boolean_kind, number_kind, float_kind, fixed_binary_kind, binary_kind, utf8_kind, list_kind, map_kind, fixed_list_kind, struct_kind, union_kind, dictionary_kind, extension_kind}
 use Rattle.ipc_model.specs.TypeKinds.{field_kind, kind_of}
 use Rattle.ipc_model.specs.Entries.{Entries, Limit, rows}
-use Rattle.ipc_model.specs.Columns.{Begins, Offsets, last_offset, HasValues, IsWell}
+use Rattle.ipc_model.specs.Columns.{Begins, Offsets, last_offset, IsWell}
 use Rattle.ipc_model.specs.ReadArrays.{offset_type, first_type, array_at}
-use Rattle.ipc_columns.specs.Bodies.{entries}
 use Rattle.ipc_columns.specs.Kinds.{IsStored, IsRead}
 use Rattle.ipc_columns.specs.ListHeads.{AreListsAt}
-use Rattle.ipc_columns.specs.declared.read.body.Body.{Body}
 
 -- ---- types and ids
 
 pub same_stored : (t : TypeTree) → IsStored t t
-same_stored t = record { lies = refl; fields = refl; bytes_named = refl; slots_named = refl }
+same_stored t = record { lies = refl; fields = refl; bytes_named = refl; slots_named = refl; values_named = refl; ids_named = refl; mode_named = refl }
 
 field_is : (f : Field) → field_view f ≡ field (string_bytes f.name) (type_view f.data_type) f.is_nullable (pairs_of f.metadata.entries)
 field_is f = fold_out-Field TypeTree FieldTree type_step field_step f
@@ -39,15 +36,7 @@ child_type_is f = ap field_type (field_is f)
 
 pub ruleset child_fields_is = (child_kind_is, child_type_is)
 
--- ---- dictionaries: none is known
-
-pub no_dictionary :
-    {R : Type 0} (memory : R → Memory) (b : Body R) (f : PrimitiveType) (id : Option ℤ) (t : TypeTree) (a d k : ℕ) → HasValues (entries memory b) f id t a d k → ⊥
-unfolding entries
-no_dictionary memory b f None t a d k h = let told = h.known in absurd cc
-no_dictionary memory b f (Some id) t a d k h = let told = h.known in absurd cc
-
-pub ruleset columns = (same_stored, no_dictionary)
+pub ruleset columns = (same_stored)
 
 -- ---- levels
 

@@ -7,13 +7,17 @@ pub mod OffsetLists
 pub mod SpanLevels
 pub mod ListLevels
 pub mod ColumnLevels
+pub mod KnownValues
+pub mod KeyReads
 pub mod Tops
 pub mod Records
 pub mod StructReads
 pub mod UnionIds
 pub mod UnionRules
 pub mod UnionReads
+pub mod WholeReads
 pub mod Plain
 pub mod LimitLevels
 pub mod FixedReads
 pub mod MapReads
+pub mod VariantKinds

@@ -1,28 +1,17 @@
 -- The slots of a column that was read.
-use Rattle.std.proofs.Common.{◌≡◌, refl, ℕ, ℤ, Option, None, Some, Result, Ok, Err, ap, ◌∙◌}
+use Rattle.std.proofs.Common.{◌≡◌, ℕ, ℤ, Option, Result, Ok, Err, ap, ◌∙◌}
 use Rattle.lower.specs.TypeTrees.{TypeTree}
 use Rattle.lower_arrays.specs.Layouts.{Layout, type_of}
 use Rattle.lower_arrays.specs.Slots.{slots}
-use Rattle.ipc_devices.specs.Device.{Memory}
 use Rattle.ipc_devices.specs.Faults.{Answers}
 use Rattle.ipc_devices.specs.declared.fault.Fault.{Fault}
 use Rattle.ipc_model.proofs.ReadSlots.{read_slots_law}
 use Rattle.ipc_model.specs.Kinds.{Kind}
 use Rattle.ipc_model.specs.Entries.{Entries, Limit}
-use Rattle.ipc_model.specs.Columns.{IsWell, values_slots}
+use Rattle.ipc_model.specs.Columns.{IsWell}
 use Rattle.ipc_model.specs.ReadArrays.{array_at, AreValues}
 use Rattle.ipc_columns.proofs.ColumnLevels.{array_type}
-use Rattle.ipc_columns.specs.Bodies.{entries, known}
 use Rattle.ipc_columns.specs.ReadColumns.{IsColumn}
-use Rattle.ipc_columns.specs.declared.read.body.Body.{Body}
-
-no_slots : {R : Type 0} (memory : R → Memory) (b : Body R) (id : Option ℤ) → slots (known b id) ≡ values_slots (entries memory b) id
-unfolding entries
-no_slots memory b None = refl
-no_slots memory b (Some id) = refl
-
-pub values_are : {R : Type 0} (memory : R → Memory) (b : Body R) → AreValues (entries memory b) (known b)
-values_are memory b = record { each = no_slots memory b }
 
 pub slots_answered :
     {X : Type 0} (r : Result X Fault) (seen : X → Layout) (s : Entries) (vs : Option ℤ → Layout) (t : Kind) (u : TypeTree) (a b : ℕ) (limit : Limit) (P : Type 0) → (P → IsWell s t a b limit)

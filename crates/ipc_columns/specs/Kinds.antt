@@ -5,6 +5,8 @@ use Rattle.lower.specs.TypeTrees.{TypeTree}
 use Rattle.lower.specs.declared.datatypes.UnionMode.TheVariants.{Sparse, Dense}
 use Rattle.lower_flat.specs.FixedBinaries.{byte_size}
 use Rattle.lower_rules.specs.Fields.{child_fields}
+use Rattle.lower_rules.specs.Keys.{values_type}
+use Rattle.lower_rules.specs.Ids.{union_ids, union_mode}
 use Rattle.lower_rules.specs.ListTypes.{list_size}
 use Rattle.ipc_model.specs.Kinds.{OffsetWidth, offsets_32, offsets_64, Kind, null_kind, boolean_kind, number_kind, float_kind, fixed_binary_kind, binary_kind, utf8_kind, list_kind, map_kind, fixed_list_kind, struct_kind, union_kind, dictionary_kind, extension_kind, Kinds, no_kinds, more_kinds, nodes, all_nodes, buffers, all_buffers}
 use Rattle.ipc_model.specs.Entries.{Entries, listed}
@@ -16,6 +18,9 @@ pub record IsStored (own t : TypeTree) : Type 0 where
   pub fields : child_fields own ≡ child_fields t
   pub bytes_named : byte_size own ≡ byte_size t
   pub slots_named : list_size own ≡ list_size t
+  pub values_named : values_type own ≡ values_type t
+  pub ids_named : union_ids own ≡ union_ids t
+  pub mode_named : union_mode own ≡ union_mode t
 
 abbrev pub form_of : Bool → OffsetWidth
 form_of true = offsets_64
@@ -61,7 +66,7 @@ abbrev mutual
   IsRead (map_kind t) = IsRead t
   IsRead (fixed_list_kind n t) = IsRead t
   IsRead (struct_kind ts) = AreRead ts
-  IsRead (union_kind mode ids ts) = ⊥
+  IsRead (union_kind mode ids ts) = AreRead ts
   IsRead _ = Unit {0}
 
   pub AreRead : Kinds → Type 0

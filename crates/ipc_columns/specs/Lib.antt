@@ -6,6 +6,8 @@ pub mod Kinds
 pub mod FlatKinds
 pub mod ListHeads
 pub mod StructLevels
+pub mod UnionLevels
 pub mod Limits
 pub mod FixedLevels
+pub mod KeyLevels
 pub mod ReadColumns

@@ -1,19 +1,20 @@
 //! Reads a column by its type.
-ghost use Rattle.std.specs.Prelude.{◌≡◌, ◌+◌, map, IsTrue, IfOk, IfErr};
+ghost use Rattle.std.specs.Prelude.{◌≡◌, ◌+◌, map, None, IsTrue, IfOk, IfErr};
 ghost use Rattle.ipc_devices.specs.Faults.{OwnFault, Answers};
 ghost use Rattle.lower.specs.TypeTrees.{no_fields, more_fields};
-ghost use Rattle.lower.specs.TypeViews.{type_view, field_view, fields_view};
+ghost use Rattle.lower.specs.TypeViews.{type_view, field_view, fields_view, ids_of};
 ghost use Rattle.lower.specs.Physical.{physical};
-ghost use Rattle.lower.specs.declared.datatypes.physical_type.PhysicalType.TheVariants.{FixedSizeList, Map, Struct};
+ghost use Rattle.lower.specs.declared.datatypes.physical_type.PhysicalType.TheVariants.{FixedSizeList, Map, Struct, Union};
 ghost use Rattle.lower_flat.specs.FixedBinaries.{byte_size};
 ghost use Rattle.lower_rules.specs.Fields.{child_fields};
+ghost use Rattle.lower_rules.specs.Ids.{union_ids, union_mode};
 ghost use Rattle.lower_rules.specs.ListTypes.{list_with, list_size};
 ghost use Rattle.lower_arrays.specs.Layouts.{layouts};
 ghost use Rattle.lower_arrays.specs.AnyLayouts.{layout_of};
 ghost use Rattle.ipc_base.specs.IdTrees.{all_ids_view};
-ghost use Rattle.ipc_model.specs.Kinds.{list_kind, map_kind, fixed_list_kind, struct_kind, nodes, all_nodes, buffers, all_buffers};
+ghost use Rattle.ipc_model.specs.Kinds.{list_kind, map_kind, fixed_list_kind, struct_kind, union_kind, nodes, all_nodes, buffers, all_buffers};
 ghost use Rattle.ipc_model.specs.TypeKinds.{first_ids, field_kind, kinds_of, kind_of};
-ghost use Rattle.ipc_model.specs.Columns.{IsWell, AllHaveRows};
+ghost use Rattle.ipc_model.specs.Columns.{IsWell, AllHaveRows, AllWell};
 ghost use Rattle.ipc_model.specs.ReadArrays.{array_at, arrays_at, offset_type};
 ghost use Rattle.ipc_columns.specs.Bodies.{Stands, HasRoom, entries, known};
 ghost use Rattle.ipc_columns.specs.FlatKinds.{IsPlain, IsFlat, flat_kind};
@@ -24,7 +25,7 @@ ghost use Rattle.ipc_columns.specs.Steps.{Step};
 
 use crate::read::array::binary::read_binary;
 use crate::read::array::boolean::read_boolean;
-use crate::read::array::dictionary::unknown_dictionary;
+use crate::read::array::dictionary::read_dictionary;
 use crate::read::array::fixed_size_binary::{get_size, read_fixed_size_binary};
 use crate::read::array::fixed_size_list::{make_fixed_size_list, times_limit};
 use crate::read::array::list::{make_list, read_list_head};
@@ -32,6 +33,7 @@ use crate::read::array::map::{make_map, read_map_head};
 use crate::read::array::null::read_null;
 use crate::read::array::primitive::read_any_primitive;
 use crate::read::array::struct_::make_struct;
+use crate::read::array::union::{make_union, read_places, read_types};
 use crate::read::array::utf8::read_utf8;
 use crate::read::body::{Body, Place};
 use crate::read::ids::{child_of, others_of};
@@ -39,7 +41,7 @@ use crate::read::read_basic::read_head;
 use ipc_base::ipc::IpcField;
 use ipc_devices::fault::{Fault, Nyi, OutOfSpecKind};
 use ipc_devices::{Reads, Seeks};
-use lower::datatypes::{DataType, Field, PhysicalType};
+use lower::datatypes::{DataType, Field, PhysicalType, UnionMode};
 use lower::error::{Error, Rule};
 use lower_arrays::array::AnyArray;
 use std::alloc::Global;
@@ -201,9 +203,9 @@ fn read_as<R: Reads + Seeks>(
         DataType::LargeList(field) => read_list(
             alloc, field, own, ids, reader, body, place, limit, true,
         ),
-        DataType::Dictionary(keys, values, _) => Err(unknown_dictionary(
-            *keys, values, id, body, place, limit,
-        )),
+        DataType::Dictionary(keys, values, _) => read_dictionary(
+            alloc, *keys, values, own, id, reader, body, place, limit,
+        ),
         DataType::Struct(fields) => read_struct(
             alloc, fields, own, ids, reader, body, place, limit,
         ),
@@ -211,7 +213,9 @@ fn read_as<R: Reads + Seeks>(
             alloc, field, *size, own, ids, reader, body, place, limit,
         ),
         DataType::Map(field, _) => read_map(alloc, field, own, ids, reader, body, place, limit),
-        DataType::Union(_, _, _) => Err(Fault::NotYetImplemented(Nyi::Pending)),
+        DataType::Union(fields, type_ids, mode) => read_union(
+            alloc, fields, type_ids, *mode, own, ids, reader, body, place, limit,
+        ),
         DataType::Float16 | DataType::Float32 | DataType::Float64 => Err(Fault::NotYetImplemented(
             Nyi::Float,
         )),
@@ -451,15 +455,118 @@ fn read_fields<R: Reads + Seeks>(
     Ok((columns, place))
 }
 
+// The column of a union at a place, and the place behind it: before the children stand the types, and of a dense
+// union the offsets.
+#[cycle(columns)]
+#[tactic(auto, using(crate::proofs::ColumnLevels::columns, crate::proofs::Refusals::child_faults, crate::proofs::UnionReads::union_types_first))]
+fn read_union<R: Reads + Seeks>(
+    alloc: Global,
+    fields: &[Field],
+    type_ids: &Option<Vec<i32>>,
+    mode: UnionMode,
+    own: &DataType,
+    ids: &[IpcField],
+    reader: &mut R,
+    body: &Body<R>,
+    place: Place,
+    limit: Option<usize>,
+) -> Result<(AnyArray, Place), Fault>
+    requires lies { physical (type_view own.now) ≡ Union }
+    requires fields { child_fields (type_view own.now) ≡ fields_view fields.now }
+    requires ids_named { union_ids (type_view own.now) ≡ ids_of type_ids.now }
+    requires mode_named { union_mode (type_view own.now) ≡ mode }
+    requires room { let t = union_kind mode (ids_of type_ids.now) (kinds_of (fields_view fields.now) (all_ids_view ids.now)) in HasRoom body.now place (nodes t) (buffers body.now.extra t) }
+    requires stands { Stands R.still R.memory reader.old body.now }
+    ensures only { IfErr result (λ e. OwnFault e (IsColumnFault e)) }
+    ensures step { let t = union_kind mode (ids_of type_ids.now) (kinds_of (fields_view fields.now) (all_ids_view ids.now)) in
+        Step R.still R.memory R.failures R.given body.now (listed_in (entries R.memory body.now) body.now.extra t place.buffer) reader.old result reader.new }
+    ensures next { IfOk result (λ r. Follows body.now.extra (union_kind mode (ids_of type_ids.now) (kinds_of (fields_view fields.now) (all_ids_view ids.now))) place r.1) }
+    ensures memory { IsTrue R.known → let s = entries R.memory body.now in
+        let t = union_kind mode (ids_of type_ids.now) (kinds_of (fields_view fields.now) (all_ids_view ids.now)) in
+        Answers result (IsRead t × IsWell s t place.node place.buffer limit)
+        (λ r. layout_of r.0 ≡ array_at s (known body.now) t (type_view own.now) place.node place.buffer limit) }
+{
+    let types = read_types(alloc, reader, body, place, limit)?;
+    let rows = types.len();
+    match mode {
+        UnionMode::Sparse => {
+            let below = Place {
+                node: place.node + 1,
+                buffer: place.buffer + body.extra + 1,
+            };
+            let (columns, after) = read_fields(
+                alloc, fields, ids, reader, body, below, limit, rows,
+            )?;
+            let array = make_union(own, types, None, columns)?;
+            Ok((array, after))
+        }
+        UnionMode::Dense => {
+            let index = place.buffer + body.extra + 1;
+            let places = read_places(alloc, reader, body, index, rows)?;
+            let below = Place {
+                node: place.node + 1,
+                buffer: place.buffer + body.extra + 2,
+            };
+            let (columns, after) = read_whole_fields(alloc, fields, ids, reader, body, below)?;
+            let array = make_union(own, types, Some(places), columns)?;
+            Ok((array, after))
+        }
+    }
+}
+
+// The columns of some fields, one behind the other from a place on, each as a whole, and the place behind them.
+#[cycle(columns)]
+#[tactic(auto, using(crate::proofs::ColumnLevels::columns, crate::proofs::Refusals::child_faults))]
+fn read_whole_fields<R: Reads + Seeks>(
+    alloc: Global,
+    fields: &[Field],
+    ids: &[IpcField],
+    reader: &mut R,
+    body: &Body<R>,
+    start: Place,
+) -> Result<(Vec<AnyArray>, Place), Fault>
+    requires room { let ts = kinds_of (fields_view fields.now) (all_ids_view ids.now) in HasRoom body.now start (all_nodes ts) (all_buffers body.now.extra ts) }
+    requires stands { Stands R.still R.memory reader.old body.now }
+    ensures only { IfErr result (λ e. OwnFault e (IsColumnFault e)) }
+    ensures step { let ts = kinds_of (fields_view fields.now) (all_ids_view ids.now) in
+        Step R.still R.memory R.failures R.given body.now (all_listed (entries R.memory body.now) body.now.extra ts start.buffer) reader.old result reader.new }
+    ensures next { IfOk result (λ r. AllFollow body.now.extra (kinds_of (fields_view fields.now) (all_ids_view ids.now)) start r.1) }
+    ensures memory { IsTrue R.known → let s = entries R.memory body.now in let ts = kinds_of (fields_view fields.now) (all_ids_view ids.now) in
+        Answers result (AreRead ts × AllWell s ts start.node start.buffer)
+        (λ r. layouts (map layout_of r.0.items) ≡ arrays_at s (known body.now) ts (fields_view fields.now) start.node start.buffer None) }
+{
+    let mut columns = Vec::new(alloc);
+    let mut place = start;
+    let mut others = ids;
+    for field in fields {
+        let (child_id, child_ids) = child_of(field, others);
+        let (column, after) = read_as(
+            alloc,
+            &field.data_type,
+            &field.data_type,
+            child_id,
+            child_ids,
+            reader,
+            body,
+            place,
+            None,
+        )?;
+        columns.push(column)?;
+        place = after;
+        others = others_of(others);
+    }
+    Ok((columns, place))
+}
+
 /// The column of a type at a place, and the place behind it (Arrow columnar format, "RecordBatch message": nodes
 /// and buffers stand in pre-order). The id is that of the field whose type this is, and the others are those of
 /// its child fields. At most `limit` slots are read. Its entries have to be there, by the counts of its type.
 ///
-/// `Float` for floats, `Pending` for unions, `InvalidId` for dictionaries, of
-/// which none is known; `NegativeFooterLength` where a length, or the offset of a buffer that is used, is below 0,
-/// `InvalidBuffer` where such a buffer is too short, `Ended` where the device is, `InvalidDataType` for bytes
-/// or lists of the fixed size 0; where parts break a rule of their array `FallingOffset`, `Utf8`, `NoChild`, `ChildLength`,
-/// and the others of [`lower::error::Rule`]. `Io` and `Memory` come too, and no other.
+/// `Float` for floats; `InvalidId` where no dictionary is known under the id of a column of keys, `InvalidIdDataType` where
+/// its values have another type; `NegativeFooterLength` where a length, or the offset of a buffer that is used, is below 0,
+/// `InvalidBuffer` where such a buffer is too short, `Ended` where the device is, `InvalidDataType` for bytes or lists of the
+/// fixed size 0; where parts break a rule of their array `FallingOffset`, `Utf8`, `NoChild`, `ChildLength`, `UnionType`,
+/// `DictionaryKey`, and the others of [`lower::error::Rule`]. `Io` and `Memory` come too, and no other.
 #[tactic(auto, using(crate::proofs::ColumnLevels::same_stored))]
 pub fn read<R: Reads + Seeks>(
     alloc: Global,

@@ -1,32 +1,182 @@
-//! Refuses columns of keys: no dictionary is known, so none of them has values.
+//! Reads columns of dictionary keys, over the values that are known.
+ghost use Rattle.std.specs.Prelude.{◌≡◌, ◌+◌, Some, IsTrue, IfOk, IfErr};
+ghost use Rattle.ipc_devices.specs.Faults.{OnIo, OwnFault, Answers};
 ghost use Rattle.lower.specs.Normal.{norm};
+ghost use Rattle.lower.specs.Physical.{physical};
 ghost use Rattle.lower.specs.TypeViews.{type_view};
-ghost use Rattle.ipc_model.specs.Kinds.{dictionary_kind};
+ghost use Rattle.lower.specs.declared.datatypes.physical_type.PhysicalType.TheVariants.{Dictionary};
+ghost use Rattle.lower_rules.specs.AnyKeys.{keys_seen};
+ghost use Rattle.lower_rules.specs.Keys.{values_type as named_type};
+ghost use Rattle.lower_rules.specs.Rules.{DictionaryRules};
+ghost use Rattle.lower_arrays.specs.AnyLayouts.{layout_of};
+ghost use Rattle.lower_arrays.specs.Dictionaries.{dictionary_seen, dictionary_layout};
+ghost use Rattle.lower_arrays.specs.Layouts.{len_of, type_of};
+ghost use Rattle.ipc_model.specs.Columns.{values_type, IsWell};
+ghost use Rattle.ipc_model.specs.Entries.{listed, rows};
+ghost use Rattle.ipc_model.specs.Kinds.{number_kind, dictionary_kind};
+ghost use Rattle.ipc_model.specs.ReadArrays.{array_at};
 ghost use Rattle.ipc_model.specs.TypeKinds.{key_form};
-ghost use Rattle.ipc_model.specs.Columns.{IsWell};
-ghost use Rattle.ipc_columns.specs.Bodies.{entries};
-ghost use Rattle.ipc_columns.specs.Refusals.{IsColumnFault};
+ghost use Rattle.ipc_columns.specs.Bodies.{Stands, HasRoom, entries, known};
+ghost use Rattle.ipc_columns.specs.KeyLevels.{keys_at};
+ghost use Rattle.ipc_columns.specs.Kinds.{Follows, IsRead, listed_in};
+ghost use Rattle.ipc_columns.specs.Refusals.{IsBufferFault, IsColumnFault};
+ghost use Rattle.ipc_columns.specs.Steps.{Step};
 
+use crate::read::array::primitive::read_primitive;
 use crate::read::body::{Body, Place};
-use ipc_devices::Failures;
 use ipc_devices::fault::{Fault, OutOfSpecKind};
-use lower::datatypes::{DataType, IntegerType};
+use ipc_devices::{Failures, Reads, Seeks};
+use lower::datatypes::{DataType, IntegerType, is_same_normal_type};
+use lower_arrays::array::{AnyArray, DictionaryArray};
+use lower_rules::keys::DictionaryKeys;
+use std::alloc::Global;
+use std::rc::Rc;
 
-/// The fault of a column of keys at a place (Arrow columnar format, "Dictionary-encoded Layout"): `InvalidId`,
-/// as no dictionary is known. A column without an id is refused as if it had 0.
-#[tactic(auto, using(crate::proofs::ColumnLevels::columns))]
-pub fn unknown_dictionary<R: Failures>(
-    keys: IntegerType,
-    values: &DataType,
+/// The values that are known under an id, which share their memory with those of the map (Arrow columnar format,
+/// "Dictionary-encoded Layout").
+///
+/// `InvalidId` where none are known under it, or there is no id: then the fault names 0. `InvalidIdDataType` where
+/// they haven't this type, both in their normal form. `Memory` where the values have as many owners as can be
+/// counted.
+#[tactic(auto, using(crate::proofs::KnownValues::known_values))]
+pub fn shared_values<R: Failures>(
+    value_type: &DataType,
     id: Option<i64>,
+    body: &Body<R>,
+) -> Result<Rc<AnyArray>, Fault>
+    ensures own { OnIo result ⊥ }
+    ensures only { IfErr result (λ e. OwnFault e (IsColumnFault e)) }
+    ensures named { IfOk result (λ values. norm (type_of (layout_of values.value)) ≡ norm (type_view value_type.now)) }
+    ensures exact { Answers result (values_type (entries R.memory body.now) id ≡ Some (norm (type_view value_type.now)))
+        (λ values. layout_of values.value ≡ known body.now id) }
+{
+    let Some(requested_id) = id else {
+        return Err(OutOfSpecKind::InvalidId { requested_id: 0 }.into());
+    };
+    let Some(values) = body.dictionaries.get(&requested_id) else {
+        return Err(OutOfSpecKind::InvalidId { requested_id }.into());
+    };
+    if !is_same_normal_type(values.data_type(), value_type) {
+        return Err(OutOfSpecKind::InvalidIdDataType { requested_id }.into());
+    }
+    Ok(values.clone()?)
+}
+
+/// The keys of the column at a place: integers of one type, read as numbers are.
+///
+/// The faults are those of [`read_primitive`].
+pub fn read_keys<R: Reads + Seeks>(
+    alloc: Global,
+    keys: IntegerType,
+    reader: &mut R,
     body: &Body<R>,
     place: Place,
     limit: Option<usize>,
-) -> Fault
-    ensures only { IsColumnFault result }
-    ensures exact { IsWell (entries R.memory body.now) (dictionary_kind (key_form keys) id (norm (type_view values.now))) place.node place.buffer limit → ⊥ }
+) -> Result<DictionaryKeys, Fault>
+    requires room { HasRoom body.now place 1 2 }
+    requires stands { Stands R.still R.memory reader.old body.now }
+    ensures only { IfErr result (λ e. OwnFault e (IsBufferFault e)) }
+    ensures step { let s = entries R.memory body.now in
+        Step R.still R.memory R.failures R.given body.now (listed s place.buffer + listed s (place.buffer + 1)) reader.old result reader.new }
+    ensures memory { IsTrue R.known → let s = entries R.memory body.now in
+        Answers result (IsWell s (number_kind (key_form keys)) place.node place.buffer limit)
+        (λ read. keys_seen read ≡ keys_at s keys place.node place.buffer (rows s place.node limit)) }
 {
-    Fault::OutOfSpec(OutOfSpecKind::InvalidId {
-        requested_id: id.unwrap_or(0),
-    })
+    let data_type = DataType::from(keys);
+    match keys {
+        IntegerType::Int8 => {
+            let read = read_primitive(alloc, &data_type, reader, body, place, limit)?;
+            Ok(DictionaryKeys::Int8(read))
+        }
+        IntegerType::Int16 => {
+            let read = read_primitive(alloc, &data_type, reader, body, place, limit)?;
+            Ok(DictionaryKeys::Int16(read))
+        }
+        IntegerType::Int32 => {
+            let read = read_primitive(alloc, &data_type, reader, body, place, limit)?;
+            Ok(DictionaryKeys::Int32(read))
+        }
+        IntegerType::Int64 => {
+            let read = read_primitive(alloc, &data_type, reader, body, place, limit)?;
+            Ok(DictionaryKeys::Int64(read))
+        }
+        IntegerType::UInt8 => {
+            let read = read_primitive(alloc, &data_type, reader, body, place, limit)?;
+            Ok(DictionaryKeys::UInt8(read))
+        }
+        IntegerType::UInt16 => {
+            let read = read_primitive(alloc, &data_type, reader, body, place, limit)?;
+            Ok(DictionaryKeys::UInt16(read))
+        }
+        IntegerType::UInt32 => {
+            let read = read_primitive(alloc, &data_type, reader, body, place, limit)?;
+            Ok(DictionaryKeys::UInt32(read))
+        }
+        IntegerType::UInt64 => {
+            let read = read_primitive(alloc, &data_type, reader, body, place, limit)?;
+            Ok(DictionaryKeys::UInt64(read))
+        }
+    }
+}
+
+/// The array of keys over values. `PhysicalType` where the type is none of dictionaries with such keys,
+/// `DictionaryValues` where the values haven't the type that it names, `DictionaryKey` where a key that isn't null
+/// is below 0, or not less than there are values. `Memory` comes too, and no other.
+#[tactic(auto, using(crate::proofs::KeyReads::dictionary_rules))]
+pub fn make_dictionary(
+    own: &DataType,
+    keys: DictionaryKeys,
+    values: Rc<AnyArray>,
+) -> Result<AnyArray, Fault>
+    ensures own { OnIo result ⊥ }
+    ensures only { IfErr result (λ e. OwnFault e (IsColumnFault e)) }
+    ensures exact { let u = type_view own.now in let c = layout_of values.value in
+        Answers result (DictionaryRules u (keys_seen keys) (type_of c) (len_of c))
+        (λ array. layout_of array ≡ dictionary_layout (dictionary_seen u (keys_seen keys) c)) }
+{
+    let own = own.clone()?;
+    match DictionaryArray::try_new(own, keys, values) {
+        Ok(array) => Ok(AnyArray::Dictionary(array)),
+        Err(e) => Err(Fault::Lower(e)),
+    }
+}
+
+/// The column of keys at a place, and the place behind it (Arrow columnar format, "Dictionary-encoded Layout"): a
+/// node, a validity, and a key for each slot. Its values are those that are known under the id, shared. Its type
+/// is one of dictionaries with such keys, which names such values.
+///
+/// `InvalidId` and `InvalidIdDataType` as [`shared_values`] says, the faults of [`read_primitive`], and
+/// `DictionaryKey` where a key that isn't null names no value. `Io` and `Memory` come too, and no other.
+pub fn read_dictionary<R: Reads + Seeks>(
+    alloc: Global,
+    keys: IntegerType,
+    value_type: &DataType,
+    own: &DataType,
+    id: Option<i64>,
+    reader: &mut R,
+    body: &Body<R>,
+    place: Place,
+    limit: Option<usize>,
+) -> Result<(AnyArray, Place), Fault>
+    requires lies { physical (type_view own.now) ≡ Dictionary keys }
+    requires named { named_type (type_view own.now) ≡ type_view value_type.now }
+    requires room { HasRoom body.now place 1 2 }
+    requires stands { Stands R.still R.memory reader.old body.now }
+    ensures only { IfErr result (λ e. OwnFault e (IsColumnFault e)) }
+    ensures step { let t = dictionary_kind (key_form keys) id (norm (type_view value_type.now)) in
+        Step R.still R.memory R.failures R.given body.now (listed_in (entries R.memory body.now) body.now.extra t place.buffer) reader.old result reader.new }
+    ensures next { IfOk result (λ r. Follows body.now.extra (dictionary_kind (key_form keys) id (norm (type_view value_type.now))) place r.1) }
+    ensures memory { IsTrue R.known → let s = entries R.memory body.now in
+        let t = dictionary_kind (key_form keys) id (norm (type_view value_type.now)) in
+        Answers result (IsRead t × IsWell s t place.node place.buffer limit)
+        (λ r. layout_of r.0 ≡ array_at s (known body.now) t (type_view own.now) place.node place.buffer limit) }
+{
+    let values = shared_values(value_type, id, body)?;
+    let read = read_keys(alloc, keys, reader, body, place, limit)?;
+    let array = make_dictionary(own, read, values)?;
+    let after = Place {
+        node: place.node + 1,
+        buffer: place.buffer + 2,
+    };
+    Ok((array, after))
 }

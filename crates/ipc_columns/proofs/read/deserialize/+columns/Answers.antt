@@ -10,15 +10,16 @@ use Rattle.ipc_model.specs.Kinds.{Kind, list_kind}
 use Rattle.ipc_model.specs.TypeKinds.{first_ids, field_kind, kind_of}
 use Rattle.ipc_model.specs.Columns.{IsWell}
 use Rattle.ipc_model.specs.ReadArrays.{array_at}
-use Rattle.ipc_columns.specs.Bodies.{entries, known}
+use Rattle.ipc_columns.specs.Bodies.{HasRoom, entries, known}
 use Rattle.ipc_columns.specs.Kinds.{IsRead, form_of}
 use Rattle.ipc_columns.proofs.Fetches.{denies_through, refused}
 use Rattle.ipc_columns.proofs.ColumnLevels.{child_typed, list_len, list_well, list_array}
-use Rattle.std.proofs.Common.{List, map, drop, ◌<◌}
+use Rattle.std.proofs.Common.{List, None, map, drop, ◌<◌}
 use Rattle.std.proofs.lemmas.List.{map-append}
 use Rattle.std.proofs.Math.ListN.{drop_of_length-le}
 use Rattle.lower.specs.TypeTrees.{TypeTree, FieldTrees}
 use Rattle.lower.specs.TypeViews.{fields_view}
+use Rattle.lower.specs.declared.datatypes.DataType.{the_lemmas}
 use Rattle.lower.specs.declared.datatypes.Field.{Field}
 use Rattle.lower_rules.specs.Fields.{field_type}
 use Rattle.lower_arrays.specs.Layouts.{Layout, Layouts, layouts}
@@ -38,6 +39,23 @@ use Rattle.ipc_model.specs.Kinds.{map_kind, fixed_list_kind}
 use Rattle.ipc_columns.proofs.LimitLevels.{limit_same}
 use Rattle.ipc_columns.proofs.FixedReads.{fixed_child, fixed_typed, fixed_len, fixed_well, fixed_array}
 use Rattle.ipc_columns.proofs.MapReads.{map_kind_is, map_typed, map_pair, map_len, map_well, map_array}
+use Rattle.lower.specs.declared.datatypes.DataType.{DataType}
+use Rattle.ipc_model.specs.Kinds.{offsets_32, offsets_64, extension_kind}
+use Rattle.ipc_columns.proofs.VariantKinds.{list_kind_is, large_list_kind_is, fixed_list_kind_is, extension_kind_is}
+use Rattle.ipc_columns.specs.UnionLevels.{AreWhole, WholeSoFar}
+use Rattle.ipc_columns.proofs.WholeReads.{whole_one, whole_more, whole_end}
+use Rattle.lower.specs.TypeViews.{ids_of}
+use Rattle.lower.specs.declared.datatypes.UnionMode.{UnionMode}
+use Rattle.lower.specs.declared.datatypes.UnionMode.TheVariants.{Sparse, Dense}
+use Rattle.lower_types.specs.declared.PrimitiveType.TheVariants.{Int32}
+use Rattle.lower_rules.specs.Ids.{union_ids}
+use Rattle.lower_arrays.specs.Choices.{ChoicesFit}
+use Rattle.ipc_model.specs.Kinds.{nodes, buffers, union_kind}
+use Rattle.ipc_model.specs.Entries.{IsSize, node, Need, rows}
+use Rattle.ipc_model.specs.Columns.{AllWell}
+use Rattle.ipc_model.specs.ReadArrays.{integers_of}
+use Rattle.ipc_columns.specs.Kinds.{AreRead}
+use Rattle.ipc_columns.proofs.UnionReads.{union_kind_is, union_stored, UnionReads, union_types, sparse_children, dense_places, dense_children, sparse_rules, sparse_union, dense_rules, dense_union}
 use Rattle.ipc_columns.proofs.read.deserialize.+columns.Goals as goal
 
 pub read_list-returns-in_err-array-clause-memory : goal.read_list-returns-in_err-array-clause-memory
@@ -382,3 +400,379 @@ read_as-returns-in-Map-clause-memory g t c = λ k.
     map_kind_is d c.in-Map.field _ c.args.id is c.in-Map.is ∙ ap (λ (f : Field). map_kind (field_kind (field_view f) (first_ids is))) (sym c.deref-in-Map.ensures)
     in
     subst (λ (z : Kind). Answers c.read_map.result (IsRead z × IsWell s z a b limit) (λ r. layout_of r.0 ≡ array_at s vs z u a b limit)) (sym same) (c.read_map.ensures.memory k)
+
+pub read_as-returns-in-List-clause-memory : goal.read_as-returns-in-List-clause-memory
+read_as-returns-in-List-clause-memory g t c = λ k.
+    let s = entries g.R.Failures.memory c.args.body.now in
+    let vs = known c.args.body.now in
+    let d = c.args.data_type.now in
+    let is = all_ids_view c.args.ids.now in
+    let a = c.args.place.node in
+    let b = c.args.place.buffer in
+    let limit = c.args.limit in
+    let u = type_view c.args.own.now in
+    let same : kind_of (type_view d) c.args.id is ≡ list_kind offsets_32 (field_kind (field_view c.deref-in-List.result.now) (first_ids is)) =
+    list_kind_is d c.in-List.field c.args.id is c.in-List.is ∙ ap (λ (f : Field). list_kind offsets_32 (field_kind (field_view f) (first_ids is))) (sym c.deref-in-List.ensures)
+    in
+    subst (λ (z : Kind). Answers c.read_list.result (IsRead z × IsWell s z a b limit) (λ r. layout_of r.0 ≡ array_at s vs z u a b limit)) (sym same) (c.read_list.ensures.memory k)
+
+pub read_as-returns-in-LargeList-clause-memory : goal.read_as-returns-in-LargeList-clause-memory
+read_as-returns-in-LargeList-clause-memory g t c = λ k.
+    let s = entries g.R.Failures.memory c.args.body.now in
+    let vs = known c.args.body.now in
+    let d = c.args.data_type.now in
+    let is = all_ids_view c.args.ids.now in
+    let a = c.args.place.node in
+    let b = c.args.place.buffer in
+    let limit = c.args.limit in
+    let u = type_view c.args.own.now in
+    let same : kind_of (type_view d) c.args.id is ≡ list_kind offsets_64 (field_kind (field_view c.deref-in-LargeList.result.now) (first_ids is)) =
+    large_list_kind_is d c.in-LargeList.field c.args.id is c.in-LargeList.is ∙ ap (λ (f : Field). list_kind offsets_64 (field_kind (field_view f) (first_ids is))) (sym c.deref-in-LargeList.ensures)
+    in
+    subst (λ (z : Kind). Answers c.read_list-in-LargeList.result (IsRead z × IsWell s z a b limit) (λ r. layout_of r.0 ≡ array_at s vs z u a b limit)) (sym same) (c.read_list-in-LargeList.ensures.memory k)
+
+pub read_as-returns-in-FixedSizeList-clause-memory : goal.read_as-returns-in-FixedSizeList-clause-memory
+read_as-returns-in-FixedSizeList-clause-memory g t c = λ k.
+    let s = entries g.R.Failures.memory c.args.body.now in
+    let vs = known c.args.body.now in
+    let d = c.args.data_type.now in
+    let is = all_ids_view c.args.ids.now in
+    let a = c.args.place.node in
+    let b = c.args.place.buffer in
+    let limit = c.args.limit in
+    let u = type_view c.args.own.now in
+    let same : kind_of (type_view d) c.args.id is ≡ fixed_list_kind c.in-FixedSizeList.size (field_kind (field_view c.deref-in-FixedSizeList.result.now) (first_ids is)) =
+    fixed_list_kind_is d c.in-FixedSizeList.field c.in-FixedSizeList.size c.args.id is c.in-FixedSizeList.is ∙ ap (λ (f : Field). fixed_list_kind c.in-FixedSizeList.size (field_kind (field_view f) (first_ids is))) (sym c.deref-in-FixedSizeList.ensures)
+    in
+    subst (λ (z : Kind). Answers c.read_fixed_size_list.result (IsRead z × IsWell s z a b limit) (λ r. layout_of r.0 ≡ array_at s vs z u a b limit)) (sym same) (c.read_fixed_size_list.ensures.memory k)
+
+pub read_as-returns-in-Extension-clause-memory : goal.read_as-returns-in-Extension-clause-memory
+read_as-returns-in-Extension-clause-memory g t c = λ k.
+    let s = entries g.R.Failures.memory c.args.body.now in
+    let vs = known c.args.body.now in
+    let d = c.args.data_type.now in
+    let is = all_ids_view c.args.ids.now in
+    let a = c.args.place.node in
+    let b = c.args.place.buffer in
+    let limit = c.args.limit in
+    let u = type_view c.args.own.now in
+    let same : kind_of (type_view d) c.args.id is ≡ extension_kind (kind_of (type_view c.deref.result.now) c.args.id is) =
+    extension_kind_is d c.in-Extension.field-0 c.in-Extension.inner c.in-Extension.field-2 c.args.id is c.in-Extension.is
+    ∙ ap (λ (e : DataType). extension_kind (kind_of (type_view e) c.args.id is)) (sym c.deref.ensures)
+    in
+    subst (λ (z : Kind). Answers c.read_as.result (IsRead z × IsWell s z a b limit) (λ r. layout_of r.0 ≡ array_at s vs z u a b limit)) (sym same) (c.read_as.ensures.memory k)
+
+pub read_whole_fields-returns-in_err-column-clause-memory : goal.read_whole_fields-returns-in_err-column-clause-memory
+read_whole_fields-returns-in_err-column-clause-memory g t c = λ k.
+    let s = entries g.R.Failures.memory c.args.body.now in
+    let vs = known c.args.body.now in
+    let fs = c.args.fields.now in
+    let i = c.loop-field.field-index in
+    let f = c.field-item.result in
+    let is = all_ids_view c.loop-field.others.now in
+    let all = kinds_of (fields_view fs) (all_ids_view c.args.ids.now) in
+    let rest = kinds_of (fields_view (drop i fs)) is in
+    let kind = field_kind (field_view f) (first_ids is) in
+    let p = c.loop-field.place in
+    let xs = map layout_of c.loop-field.columns.items in
+    let inside : i < length fs = omega arith in
+    let same_kind = c.child_of-child_id.ensures.kind in
+    let rest' = kinds_of (fields_view (drop (i + 1) fs)) (other_ids is) in
+    let more : rest ≡ more_kinds kind rest' = kinds_left fs is i f inside c.field-item.is in
+    let fault = c.in_err-column.field-0.0 in
+    let denied : OwnFault fault (AreWhole s all c.args.start → ⊥) =
+    denies_through fault (IsRead kind × IsWell s kind p.node p.buffer None) (AreWhole s all c.args.start)
+    (λ h. whole_one s vs all rest rest' kind (fields_view fs) (fields_view (drop i fs)) c.args.start p xs more (c.loop-field.invariant.content k) h)
+    (subst (λ (z : Kind). OwnFault fault (IsRead z × IsWell s z p.node p.buffer None → ⊥)) (sym same_kind) (c.in_err-column.ensures.memory k))
+    in
+    refused c.from_residual.result fault _ _ c.from_residual.ensures denied
+
+pub read_whole_fields-loop-field-preserved : goal.read_whole_fields-loop-field-preserved
+read_whole_fields-loop-field-preserved g t c =
+    let s = entries g.R.Failures.memory c.args.body.now in
+    let vs = known c.args.body.now in
+    let fs = c.args.fields.now in
+    let i = c.loop-field.field-index in
+    let f = c.field-item.result in
+    let is = all_ids_view c.loop-field.others.now in
+    let all = kinds_of (fields_view fs) (all_ids_view c.args.ids.now) in
+    let rest = kinds_of (fields_view (drop i fs)) is in
+    let kind = field_kind (field_view f) (first_ids is) in
+    let p = c.loop-field.place in
+    let xs = map layout_of c.loop-field.columns.items in
+    let inside : i < length fs = omega arith in
+    let same_kind = c.child_of-child_id.ensures.kind in
+    let x = c.args.body.now.extra in
+    let q = c.in_ok-column.after in
+    let rest' = kinds_of (fields_view (drop (i + 1) fs)) (all_ids_view c.others_of-others.result.now) in
+    let more : rest ≡ more_kinds kind rest' =
+    kinds_left fs is i f inside c.field-item.is ∙ ap (λ (j : IdTrees). more_kinds kind (kinds_of (fields_view (drop (i + 1) fs)) j)) (sym c.others_of-others.ensures)
+    in
+    let next : Follows x kind p q = subst (λ (z : Kind). Follows x z p q) (sym same_kind) c.in_ok-column.ensures.next in
+    let e1 = ap (λ (z : Kinds). all_listed s x z p.buffer) more in
+    let e2 = ap (λ (n : ℕ). all_listed s x rest' n) next.buffer in
+    let e3 = ap (λ (z : Kind). listed_in s x z p.buffer) same_kind in
+    record {
+      places = left_more x all rest rest' kind c.args.start p q more c.loop-field.invariant.places next;
+      stands = c.in_ok-column.ensures.step.stands;
+      monotone = omega (arith, c.in_ok-column.ensures.step.monotone);
+      given = omega (arith, e1, e2, e3, c.in_ok-column.ensures.step.bounded, c.loop-field.invariant.given);
+      content = λ k.
+          let y = layout_of c.in_ok-column.column in
+          let read : (IsRead kind × IsWell s kind p.node p.buffer None) × (y ≡ array_at s vs kind (field_type (field_view f)) p.node p.buffer None) =
+          subst (λ (u : TypeTree). (IsRead kind × IsWell s kind p.node p.buffer None) × (y ≡ array_at s vs kind u p.node p.buffer None)) (sym c.child_of-child_id.ensures.named)
+          (subst (λ (z : Kind). (IsRead z × IsWell s z p.node p.buffer None) × (y ≡ array_at s vs z (type_view f.data_type) p.node p.buffer None)) (sym same_kind) (c.in_ok-column.ensures.memory k))
+          in
+          subst (λ (ys : List Layout). WholeSoFar s vs all rest' (fields_view fs) (fields_view (drop (i + 1) fs)) c.args.start q ys)
+          (sym (ap (map layout_of) c.in_ok-push.ensures.items ∙ map-append layout_of c.loop-field.columns.items (c.in_ok-column.column ∷ [])))
+          (whole_more x s vs all rest rest' kind (field_view f) (fields_view fs) (fields_view (drop i fs)) (fields_view (drop (i + 1) fs)) c.args.start p q xs
+          (extra_is g.R.Failures.memory c.args.body.now) more (fields_left fs i f inside c.field-item.is) next (c.loop-field.invariant.content k) y read);
+    }
+
+pub read_whole_fields-returns-clause-memory : goal.read_whole_fields-returns-clause-memory
+read_whole_fields-returns-clause-memory g t c = λ k.
+    let s = entries g.R.Failures.memory c.args.body.now in
+    let vs = known c.args.body.now in
+    let fs = c.args.fields.now in
+    let i = c.loop-field.field-index in
+    let is = all_ids_view c.loop-field.others.now in
+    let past : length fs ≤ i = omega arith in
+    let none : kinds_of (fields_view (drop i fs)) is ≡ no_kinds = ap (λ (gs : List Field). kinds_of (fields_view gs) is) (drop_of_length-le fs past) in
+    whole_end s vs (kinds_of (fields_view fs) (all_ids_view c.args.ids.now)) (kinds_of (fields_view (drop i fs)) is) (fields_view fs) (fields_view (drop i fs)) c.args.start c.loop-field.place
+    (map layout_of c.loop-field.columns.items) none (c.loop-field.invariant.content k)
+
+pub read_union-returns-in_err-types-clause-memory : goal.read_union-returns-in_err-types-clause-memory
+read_union-returns-in_err-types-clause-memory g t c = λ k.
+    let s = entries g.R.Failures.memory c.args.body.now in
+    let vs = known c.args.body.now in
+    let a = c.args.place.node in
+    let b = c.args.place.buffer in
+    let limit = c.args.limit in
+    let ids = ids_of c.args.type_ids.now in
+    let fs = fields_view c.args.fields.now in
+    let is = all_ids_view c.args.ids.now in
+    let ts = kinds_of fs is in
+    let u = type_view c.args.own.now in
+    let t = b + c.args.body.now.extra in
+    let at : t ≡ b + s.extra = ap (λ n. b + n) (extra_is g.R.Failures.memory c.args.body.now) in
+    let well : Type 0 = UnionReads s c.args.mode ids ts a b limit in
+    let fault = c.in_err-types.field-0.0 in
+    let denied : OwnFault fault (well → ⊥) =
+    denies_through fault (IsSize (node s a).length × Need s t (rows s a limit)) well (λ h. union_types s c.args.mode ids ts a b t limit at h) (c.in_err-types.ensures.memory k)
+    in
+    search rules
+
+pub read_union-returns-in_err-columns-in-Sparse-clause-memory : goal.read_union-returns-in_err-columns-in-Sparse-clause-memory
+read_union-returns-in_err-columns-in-Sparse-clause-memory g t c = λ k.
+    let s = entries g.R.Failures.memory c.args.body.now in
+    let vs = known c.args.body.now in
+    let a = c.args.place.node in
+    let b = c.args.place.buffer in
+    let limit = c.args.limit in
+    let ids = ids_of c.args.type_ids.now in
+    let fs = fields_view c.args.fields.now in
+    let is = all_ids_view c.args.ids.now in
+    let ts = kinds_of fs is in
+    let u = type_view c.args.own.now in
+    let t = b + c.args.body.now.extra in
+    let at : t ≡ b + s.extra = ap (λ n. b + n) (extra_is g.R.Failures.memory c.args.body.now) in
+    let zs = c.in_ok-types.types in
+    let head = c.in_ok-types.ensures.memory k in
+    let len : c.len-rows.result ≡ length zs = c.len-rows.ensures in
+    let well : Type 0 = UnionReads s Sparse ids ts a b limit in
+    let fault = c.in_err-columns-in-Sparse.field-0.0 in
+    let denied : OwnFault fault (well → ⊥) =
+    denies_through fault (AreRead ts × AllHaveRows s ts (a + 1) (t + 1) limit c.len-rows.result) well
+    (λ h. sparse_children s ids ts a b t c.len-rows.result limit at (len ∙ head.1.1) h) (c.in_err-columns-in-Sparse.ensures.memory k)
+    in
+    let denied_so : OwnFault fault (UnionReads s c.args.mode ids ts a b limit → ⊥) =
+    subst (λ (m : UnionMode). OwnFault fault (UnionReads s m ids ts a b limit → ⊥)) (sym c.in-Sparse.is) denied
+    in
+    search rules
+
+pub read_union-returns-in_err-array-in-Sparse-clause-memory : goal.read_union-returns-in_err-array-in-Sparse-clause-memory
+read_union-returns-in_err-array-in-Sparse-clause-memory g t c = λ k.
+    let s = entries g.R.Failures.memory c.args.body.now in
+    let vs = known c.args.body.now in
+    let a = c.args.place.node in
+    let b = c.args.place.buffer in
+    let limit = c.args.limit in
+    let ids = ids_of c.args.type_ids.now in
+    let fs = fields_view c.args.fields.now in
+    let is = all_ids_view c.args.ids.now in
+    let ts = kinds_of fs is in
+    let u = type_view c.args.own.now in
+    let t = b + c.args.body.now.extra in
+    let at : t ≡ b + s.extra = ap (λ n. b + n) (extra_is g.R.Failures.memory c.args.body.now) in
+    let zs = c.in_ok-types.types in
+    let head = c.in_ok-types.ensures.memory k in
+    let len : c.len-rows.result ≡ length zs = c.len-rows.ensures in
+    let cs = map layout_of c.in_ok-columns-in-Sparse.columns.items in
+    let read : (AreRead ts × AllHaveRows s ts (a + 1) (t + 1) limit (length zs)) × (layouts cs ≡ arrays_at s vs ts fs (a + 1) (t + 1) limit) =
+    subst (λ (n : ℕ). (AreRead ts × AllHaveRows s ts (a + 1) (t + 1) limit n) × (layouts cs ≡ arrays_at s vs ts fs (a + 1) (t + 1) limit)) len (c.in_ok-columns-in-Sparse.ensures.memory k)
+    in
+    let mode = c.requires.mode_named ∙ c.in-Sparse.is in
+    let well : Type 0 = UnionReads s Sparse ids ts a b limit in
+    let fault = c.in_err-array-in-Sparse.field-0.0 in
+    let denied : OwnFault fault (well → ⊥) =
+    denies_through fault (ChoicesFit u (union_ids u) zs None (layouts cs)) well
+    (λ h. sparse_rules s vs ids fs is u a b t limit zs cs c.requires.lies c.requires.ids_named c.requires.fields at head mode read h) c.in_err-array-in-Sparse.ensures.exact
+    in
+    let denied_so : OwnFault fault (UnionReads s c.args.mode ids ts a b limit → ⊥) =
+    subst (λ (m : UnionMode). OwnFault fault (UnionReads s m ids ts a b limit → ⊥)) (sym c.in-Sparse.is) denied
+    in
+    search rules
+
+pub read_union-returns-in_ok-array-in-Sparse-clause-memory : goal.read_union-returns-in_ok-array-in-Sparse-clause-memory
+read_union-returns-in_ok-array-in-Sparse-clause-memory g t c = λ k.
+    let s = entries g.R.Failures.memory c.args.body.now in
+    let vs = known c.args.body.now in
+    let a = c.args.place.node in
+    let b = c.args.place.buffer in
+    let limit = c.args.limit in
+    let ids = ids_of c.args.type_ids.now in
+    let fs = fields_view c.args.fields.now in
+    let is = all_ids_view c.args.ids.now in
+    let ts = kinds_of fs is in
+    let u = type_view c.args.own.now in
+    let t = b + c.args.body.now.extra in
+    let at : t ≡ b + s.extra = ap (λ n. b + n) (extra_is g.R.Failures.memory c.args.body.now) in
+    let zs = c.in_ok-types.types in
+    let head = c.in_ok-types.ensures.memory k in
+    let len : c.len-rows.result ≡ length zs = c.len-rows.ensures in
+    let cs = map layout_of c.in_ok-columns-in-Sparse.columns.items in
+    let read : (AreRead ts × AllHaveRows s ts (a + 1) (t + 1) limit (length zs)) × (layouts cs ≡ arrays_at s vs ts fs (a + 1) (t + 1) limit) =
+    subst (λ (n : ℕ). (AreRead ts × AllHaveRows s ts (a + 1) (t + 1) limit n) × (layouts cs ≡ arrays_at s vs ts fs (a + 1) (t + 1) limit)) len (c.in_ok-columns-in-Sparse.ensures.memory k)
+    in
+    let mode = c.requires.mode_named ∙ c.in-Sparse.is in
+    subst (λ (m : UnionMode). UnionReads s m ids ts a b limit × (layout_of c.in_ok-array-in-Sparse.array ≡ array_at s vs (union_kind m ids ts) u a b limit)) (sym c.in-Sparse.is)
+    (sparse_union s vs ids fs is u a b t limit zs cs c.requires.lies c.requires.ids_named c.requires.fields at head mode read (layout_of c.in_ok-array-in-Sparse.array) c.in_ok-array-in-Sparse.ensures.exact)
+
+pub read_union-returns-in_err-places-in-Dense-clause-memory : goal.read_union-returns-in_err-places-in-Dense-clause-memory
+read_union-returns-in_err-places-in-Dense-clause-memory g t c = λ k.
+    let s = entries g.R.Failures.memory c.args.body.now in
+    let vs = known c.args.body.now in
+    let a = c.args.place.node in
+    let b = c.args.place.buffer in
+    let limit = c.args.limit in
+    let ids = ids_of c.args.type_ids.now in
+    let fs = fields_view c.args.fields.now in
+    let is = all_ids_view c.args.ids.now in
+    let ts = kinds_of fs is in
+    let u = type_view c.args.own.now in
+    let t = b + c.args.body.now.extra in
+    let at : t ≡ b + s.extra = ap (λ n. b + n) (extra_is g.R.Failures.memory c.args.body.now) in
+    let zs = c.in_ok-types.types in
+    let head = c.in_ok-types.ensures.memory k in
+    let len : c.len-rows.result ≡ length zs = c.len-rows.ensures in
+    let well : Type 0 = UnionReads s Dense ids ts a b limit in
+    let fault = c.in_err-places-in-Dense.field-0.0 in
+    let denied : OwnFault fault (well → ⊥) =
+    denies_through fault (Need s (t + 1) (4 * c.len-rows.result)) well (λ h. dense_places s ids ts a b t c.len-rows.result limit at (len ∙ head.1.1) h) (c.in_err-places-in-Dense.ensures.memory k)
+    in
+    let denied_so : OwnFault fault (UnionReads s c.args.mode ids ts a b limit → ⊥) =
+    subst (λ (m : UnionMode). OwnFault fault (UnionReads s m ids ts a b limit → ⊥)) (sym c.in-Dense.is) denied
+    in
+    search rules
+
+pub read_union-returns-in_err-columns-in-Dense-clause-memory : goal.read_union-returns-in_err-columns-in-Dense-clause-memory
+read_union-returns-in_err-columns-in-Dense-clause-memory g t c = λ k.
+    let s = entries g.R.Failures.memory c.args.body.now in
+    let vs = known c.args.body.now in
+    let a = c.args.place.node in
+    let b = c.args.place.buffer in
+    let limit = c.args.limit in
+    let ids = ids_of c.args.type_ids.now in
+    let fs = fields_view c.args.fields.now in
+    let is = all_ids_view c.args.ids.now in
+    let ts = kinds_of fs is in
+    let u = type_view c.args.own.now in
+    let t = b + c.args.body.now.extra in
+    let at : t ≡ b + s.extra = ap (λ n. b + n) (extra_is g.R.Failures.memory c.args.body.now) in
+    let well : Type 0 = UnionReads s Dense ids ts a b limit in
+    let fault = c.in_err-columns-in-Dense.field-0.0 in
+    let denied : OwnFault fault (well → ⊥) =
+    denies_through fault (AreRead ts × AllWell s ts (a + 1) (t + 2)) well (λ h. dense_children s ids ts a b t limit at h) (c.in_err-columns-in-Dense.ensures.memory k)
+    in
+    let denied_so : OwnFault fault (UnionReads s c.args.mode ids ts a b limit → ⊥) =
+    subst (λ (m : UnionMode). OwnFault fault (UnionReads s m ids ts a b limit → ⊥)) (sym c.in-Dense.is) denied
+    in
+    search rules
+
+pub read_union-returns-in_err-array-in-Dense-clause-memory : goal.read_union-returns-in_err-array-in-Dense-clause-memory
+read_union-returns-in_err-array-in-Dense-clause-memory g t c = λ k.
+    let s = entries g.R.Failures.memory c.args.body.now in
+    let vs = known c.args.body.now in
+    let a = c.args.place.node in
+    let b = c.args.place.buffer in
+    let limit = c.args.limit in
+    let ids = ids_of c.args.type_ids.now in
+    let fs = fields_view c.args.fields.now in
+    let is = all_ids_view c.args.ids.now in
+    let ts = kinds_of fs is in
+    let u = type_view c.args.own.now in
+    let t = b + c.args.body.now.extra in
+    let at : t ≡ b + s.extra = ap (λ n. b + n) (extra_is g.R.Failures.memory c.args.body.now) in
+    let zs = c.in_ok-types.types in
+    let head = c.in_ok-types.ensures.memory k in
+    let len : c.len-rows.result ≡ length zs = c.len-rows.ensures in
+    let os = c.in_ok-places-in-Dense.places in
+    let places : Need s (t + 1) (4 * length zs) × (os ≡ integers_of s (t + 1) Int32 (length zs)) =
+    subst (λ (n : ℕ). Need s (t + 1) (4 * n) × (os ≡ integers_of s (t + 1) Int32 n)) len (c.in_ok-places-in-Dense.ensures.memory k)
+    in
+    let cs = map layout_of c.in_ok-columns-in-Dense.columns.items in
+    let read = c.in_ok-columns-in-Dense.ensures.memory k in
+    let mode = c.requires.mode_named ∙ c.in-Dense.is in
+    let well : Type 0 = UnionReads s Dense ids ts a b limit in
+    let fault = c.in_err-array-in-Dense.field-0.0 in
+    let denied : OwnFault fault (well → ⊥) =
+    denies_through fault (ChoicesFit u (union_ids u) zs (Some os) (layouts cs)) well
+    (λ h. dense_rules s vs ids fs is u a b t limit zs cs c.requires.lies c.requires.ids_named c.requires.fields at head os mode places read h) c.in_err-array-in-Dense.ensures.exact
+    in
+    let denied_so : OwnFault fault (UnionReads s c.args.mode ids ts a b limit → ⊥) =
+    subst (λ (m : UnionMode). OwnFault fault (UnionReads s m ids ts a b limit → ⊥)) (sym c.in-Dense.is) denied
+    in
+    search rules
+
+pub read_union-returns-in_ok-array-in-Dense-clause-memory : goal.read_union-returns-in_ok-array-in-Dense-clause-memory
+read_union-returns-in_ok-array-in-Dense-clause-memory g t c = λ k.
+    let s = entries g.R.Failures.memory c.args.body.now in
+    let vs = known c.args.body.now in
+    let a = c.args.place.node in
+    let b = c.args.place.buffer in
+    let limit = c.args.limit in
+    let ids = ids_of c.args.type_ids.now in
+    let fs = fields_view c.args.fields.now in
+    let is = all_ids_view c.args.ids.now in
+    let ts = kinds_of fs is in
+    let u = type_view c.args.own.now in
+    let t = b + c.args.body.now.extra in
+    let at : t ≡ b + s.extra = ap (λ n. b + n) (extra_is g.R.Failures.memory c.args.body.now) in
+    let zs = c.in_ok-types.types in
+    let head = c.in_ok-types.ensures.memory k in
+    let len : c.len-rows.result ≡ length zs = c.len-rows.ensures in
+    let os = c.in_ok-places-in-Dense.places in
+    let places : Need s (t + 1) (4 * length zs) × (os ≡ integers_of s (t + 1) Int32 (length zs)) =
+    subst (λ (n : ℕ). Need s (t + 1) (4 * n) × (os ≡ integers_of s (t + 1) Int32 n)) len (c.in_ok-places-in-Dense.ensures.memory k)
+    in
+    let cs = map layout_of c.in_ok-columns-in-Dense.columns.items in
+    let read = c.in_ok-columns-in-Dense.ensures.memory k in
+    let mode = c.requires.mode_named ∙ c.in-Dense.is in
+    subst (λ (m : UnionMode). UnionReads s m ids ts a b limit × (layout_of c.in_ok-array-in-Dense.array ≡ array_at s vs (union_kind m ids ts) u a b limit)) (sym c.in-Dense.is)
+    (dense_union s vs ids fs is u a b t limit zs cs c.requires.lies c.requires.ids_named c.requires.fields at head os mode places read (layout_of c.in_ok-array-in-Dense.array) c.in_ok-array-in-Dense.ensures.exact)
+
+pub read_as-read_union-requires : goal.read_as-read_union-requires
+read_as-read_union-requires g t c =
+    let d = c.args.data_type.now in
+    let is = all_ids_view c.args.ids.now in
+    let body = c.args.body.now in
+    let fs = c.in-Union.fields in
+    let ids = c.in-Union.type_ids in
+    let mode = c.in-Union.mode in
+    let stored = union_stored (type_view c.args.own.now) d fs ids mode c.in-Union.is c.requires.stored in
+    let slice : c.deref-in-Union.result.now ≡ fs.items = c.deref-in-Union.ensures.value in
+    let same : kind_of (type_view d) c.args.id is ≡ union_kind mode (ids_of ids) (kinds_of (fields_view c.deref-in-Union.result.now) is) =
+    union_kind_is d fs ids mode c.args.id is c.in-Union.is ∙ ap (λ (xs : List Field). union_kind mode (ids_of ids) (kinds_of (fields_view xs) is)) (sym slice)
+    in
+    let room = subst (λ (z : Kind). HasRoom body c.args.place (nodes z) (buffers body.extra z)) same c.requires.room in
+    λ κs within. (search (rules, the_lemmas), (within, (stored.0, (stored.1 ∙ ap fields_view (sym slice), (stored.2, (stored.3, (room, c.requires.stands)))))))

@@ -5,7 +5,8 @@ use Rattle.ipc_model.specs.TypeKinds.{kind_of}
 use Rattle.ipc_model.specs.Columns.{IsWell}
 use Rattle.ipc_columns.specs.Bodies.{entries, known}
 use Rattle.ipc_columns.specs.Kinds.{IsRead}
-use Rattle.ipc_columns.proofs.Tops.{values_are, slots_answered}
+use Rattle.ipc_columns.proofs.KnownValues.{values_are}
+use Rattle.ipc_columns.proofs.Tops.{slots_answered}
 use Rattle.ipc_columns.proofs.read.deserialize.read.Goals as goal
 
 pub returns-clause-memory : goal.returns-clause-memory
