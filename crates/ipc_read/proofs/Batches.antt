@@ -1,17 +1,17 @@
--- The entries that columns are read from are those of the batch, where no dictionary is known.
-use Rattle.std.proofs.Common.{◌≡◌, ℕ, [], map}
+-- The entries that columns are read from are those of the batch, over the dictionaries that are known.
+use Rattle.std.proofs.Common.{◌≡◌, ℕ, map}
 use Rattle.ipc_devices.specs.Device.{Memory}
 use Rattle.lower_types.specs.declared.Endianness.{Endianness}
 use Rattle.ipc_model.specs.Entries.{part_at}
 use Rattle.ipc_model.specs.Batches.{Lists, lists_of, entries_of}
 use Rattle.ipc_model.specs.Batches as model
-use Rattle.ipc_columns.specs.Bodies.{source, entries}
+use Rattle.ipc_columns.specs.Bodies.{known_dictionaries, source, entries}
 use Rattle.ipc_columns.specs.declared.read.body.Body.{Body}
 
 pub same_entries :
     {R : Type 0} (memory : R → Memory) (b : Body R) (lists : Lists) (m : model.Body) (order : Endianness) (extra : ℕ) → b.nodes ≡ lists.nodes → b.buffers ≡ lists.buffers
     → source memory b ≡ m.source → b.base ≡ m.base → b.order ≡ order → b.extra ≡ extra
-    → entries memory b ≡ entries_of lists m order extra []
+    → entries memory b ≡ entries_of lists m order extra (known_dictionaries b.dictionaries.now)
 unfolding entries entries_of
 same_entries memory b lists m order extra nodes buffers bytes base ordered fronted =
     λ i. record {
@@ -19,5 +19,5 @@ same_entries memory b lists m order extra nodes buffers bytes base ordered front
       parts = map (part_at (bytes i) (base i)) (buffers i);
       order = ordered i;
       extra = fronted i;
-      dictionaries = [];
+      dictionaries = known_dictionaries b.dictionaries.now;
     }

@@ -16,7 +16,7 @@ use Rattle.ipc_model.proofs.TypeKinds.{node_counts, buffer_counts}
 use Rattle.ipc_devices.specs.Faults.{OwnFault}
 use Rattle.ipc_devices.specs.declared.fault.Fault.{Fault}
 use Rattle.ipc_columns.specs.Refusals.{IsFaultOf}
-use Rattle.ipc_columns.specs.Bodies.{HasRoom, no_values}
+use Rattle.ipc_columns.specs.Bodies.{HasRoom}
 use Rattle.ipc_columns.specs.Kinds.{Follows, IsRead, listed_in}
 use Rattle.ipc_columns.specs.ReadColumns.{IsColumn}
 use Rattle.ipc_columns.specs.declared.read.body.Body.{Body}
@@ -130,12 +130,12 @@ module _ (extra : ℕ) (ts : Kinds) (is left : IdTrees) (j : ℕ) (p : Place) (t
         (subst (λ (x : ℕ). IsWell s (kind_at ts j) (nodes_before ts j) x limit) (sym (at.buffer ∙ ap (λ x. buffers_before x ts j) (sym e))) w.1)),
   )
 
-  pub column_there : (s : Entries) (limit : Limit) (u v : TypeTree) (x : Layout) → s.extra ≡ extra → u ≡ v → IsColumn s no_values t u p.node p.buffer limit x
-      → IsColumn s no_values (kind_at ts j) v (nodes_before ts j) (buffers_before s.extra ts j) limit x
-  column_there s limit u v x e typed is_column =
-      subst (λ (y : ℕ). IsColumn s no_values (kind_at ts j) v (nodes_before ts j) y limit x) (at.buffer ∙ ap (λ y. buffers_before y ts j) (sym e))
-      (subst (λ (y : ℕ). IsColumn s no_values (kind_at ts j) v y p.buffer limit x) at.node
-      (subst (λ (k : Kind). IsColumn s no_values k v p.node p.buffer limit x) same (subst (λ (w : TypeTree). IsColumn s no_values t w p.node p.buffer limit x) typed is_column)))
+  pub column_there : (s : Entries) (vs : Option ℤ → Layout) (limit : Limit) (u v : TypeTree) (x : Layout) → s.extra ≡ extra → u ≡ v → IsColumn s vs t u p.node p.buffer limit x
+      → IsColumn s vs (kind_at ts j) v (nodes_before ts j) (buffers_before s.extra ts j) limit x
+  column_there s vs limit u v x e typed is_column =
+      subst (λ (y : ℕ). IsColumn s vs (kind_at ts j) v (nodes_before ts j) y limit x) (at.buffer ∙ ap (λ y. buffers_before y ts j) (sym e))
+      (subst (λ (y : ℕ). IsColumn s vs (kind_at ts j) v y p.buffer limit x) at.node
+      (subst (λ (k : Kind). IsColumn s vs k v p.node p.buffer limit x) same (subst (λ (w : TypeTree). IsColumn s vs t w p.node p.buffer limit x) typed is_column)))
 
   -- its buffers list the same there
   pub listed_there : (s : Entries) → listed_in s extra t p.buffer ≡ listed_in s extra (kind_at ts j) (buffers_before extra ts j)

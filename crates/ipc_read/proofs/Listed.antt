@@ -122,12 +122,12 @@ parts_are lists b order extra known = refl
 
 -- what a device gave at most, by the lists of the batch
 pub given_total :
-    {R : Type 0} (memory : R → Memory) (b : Read R) (lists : Lists) (m : Body) (order : Endianness) (extra : ℕ) (o : Option Lists) (ts : Kinds) (js : List ℕ) (x y : ℕ)
-    → entries memory b ≡ entries_of lists m order extra [] → b.extra ≡ extra → o ≡ Some lists → y ≤ x + columns_listed (entries memory b) b.extra ts js
+    {R : Type 0} (memory : R → Memory) (b : Read R) (lists : Lists) (m : Body) (order : Endianness) (extra : ℕ) (known : Dictionaries) (o : Option Lists) (ts : Kinds) (js : List ℕ) (x y : ℕ)
+    → entries memory b ≡ entries_of lists m order extra known → b.extra ≡ extra → o ≡ Some lists → y ≤ x + columns_listed (entries memory b) b.extra ts js
     → y ≤ x + chosen_listed o extra ts js
-given_total memory b lists m order extra o ts js x y same fronted listed h =
-    let s = entries_of lists m order extra [] in
-    let total = columns_total m.source m.base lists.buffers s (parts_are lists m order extra []) extra ts js in
+given_total memory b lists m order extra known o ts js x y same fronted listed h =
+    let s = entries_of lists m order extra known in
+    let total = columns_total m.source m.base lists.buffers s (parts_are lists m order extra known) extra ts js in
     let e1 = ap (λ (r : Entries). columns_listed r b.extra ts js) same in
     let e2 = ap (λ (n : ℕ). columns_listed s n ts js) fronted in
     let e3 = ap (λ (l : Option Lists). chosen_listed l extra ts js) listed in

@@ -1,5 +1,5 @@
 -- What is read of a batch is what it means.
-use Rattle.std.proofs.Common.{arith, ◌≡◌, ℕ, zero, suc, pos, ◌+◌, ◌<◌, ◌≤◌, true, false, List, [], ◌∷◌, map, length, get_or, Option, None, Some, IsSome, IsOk, IfOk, Result, Ok, Err, ◌↔◌, refl, sym, ap, subst, ◌∙◌, All}
+use Rattle.std.proofs.Common.{arith, ◌≡◌, ℕ, ℤ, zero, suc, pos, ◌+◌, ◌<◌, ◌≤◌, true, false, List, [], ◌∷◌, map, length, get_or, Option, None, Some, IsSome, IsOk, IfOk, Result, Ok, Err, ◌↔◌, refl, sym, ap, subst, ◌∙◌, All}
 use Rattle.std.specs.List.{fold}
 use Rattle.std.specs.Option.{option_and_then}
 use Rattle.std.proofs.lemmas.List.{get_or-map, length-map}
@@ -7,7 +7,7 @@ use Rattle.std.proofs.lemmas.List.FromFn.{length-map-range_with_len}
 use Rattle.lower.specs.TypeTrees.{TypeTree, FieldTrees}
 use Rattle.lower_types.specs.declared.Endianness.{Endianness}
 use Rattle.lower_arrays.specs.AnyLayouts.{layout_of}
-use Rattle.lower_arrays.specs.Layouts.{len_of}
+use Rattle.lower_arrays.specs.Layouts.{Layout, len_of}
 use Rattle.lower_arrays.specs.Slots.{Slot, slots, slots_from}
 use Rattle.lower_arrays.specs.declared.array.AnyArray.{AnyArray}
 use Rattle.ipc_devices.specs.Faults.{OwnFault}
@@ -23,7 +23,6 @@ use Rattle.ipc_model.specs.Batches.{Schema, kinds, Body, Lists, lists_of, entrie
 use Rattle.ipc_model.specs.Entries.{Entries, Part, IsSize, size, part_at, node, Dictionaries, Limit, limited, rows}
 use Rattle.ipc_model.specs.Kinds.{Kind, Kinds, count, nodes, all_nodes, all_buffers}
 use Rattle.ipc_columns.proofs.Fetches.{denies_through}
-use Rattle.ipc_columns.specs.Bodies.{no_values}
 use Rattle.ipc_columns.specs.ReadColumns.{IsColumn}
 use Rattle.ipc_projections.proofs.Prepared.{prepared_projection}
 use Rattle.ipc_read.proofs.Refusals.{own_any}
@@ -38,7 +37,7 @@ some_of : {X : Type 0} (o : Option X) → IsSome o → (x : X) × (o ≡ Some x)
 some_of (Some x) h = (x, refl)
 some_of None h = absurd cc
 
-some_is : {X : Type 0} (o : Option X) (x : X) → o ≡ Some x → IsSome o
+pub some_is : {X : Type 0} (o : Option X) (x : X) → o ≡ Some x → IsSome o
 some_is o x e = rw e refl
 
 -- ---- rows
@@ -56,9 +55,9 @@ length-slots_from f a zero = refl
 length-slots_from f a (suc n) = ap suc (length-slots_from f (a + 1) n)
 
 array_rows :
-    (s : Entries) (t : Kind) (u : TypeTree) (a d : ℕ) (limit : Limit) (x : AnyArray) → IsColumn s no_values t u a d limit (layout_of x)
+    (s : Entries) (vs : Option ℤ → Layout) (t : Kind) (u : TypeTree) (a d : ℕ) (limit : Limit) (x : AnyArray) → IsColumn s vs t u a d limit (layout_of x)
     → len_of (layout_of x) ≡ rows s a limit
-array_rows s t u a d limit x is =
+array_rows s vs t u a d limit x is =
     sym (length-slots_from _ 0 (len_of (layout_of x))) ∙ ap length is.slots ∙ length-map-range_with_len _ 0 (rows s a limit)
 
 abbrev any_rows : AnyArray → ℕ
@@ -93,9 +92,9 @@ pub record IsListed (lists : Lists) (most extra : ℕ) (ts : Kinds) : Type 0 whe
 
 -- ---- from the columns to the batch
 
-module _ (s : Entries) (fs : FieldTrees) (ts : Kinds) (limit : Limit) where
+module _ (s : Entries) (vs : Option ℤ → Layout) (fs : FieldTrees) (ts : Kinds) (limit : Limit) where
   -- they have the rows of their arrays
-  all_read : (k : ℕ) (js : List ℕ) (xs : List AnyArray) → HasColumns s ts limit js → AreColumns s fs ts limit js xs
+  all_read : (k : ℕ) (js : List ℕ) (xs : List AnyArray) → HasColumns s ts limit js → AreColumns s vs fs ts limit js xs
       → ((i : ℕ) (d : AnyArray) → i < length xs → any_rows (get_or xs i d) ≡ k) → AllRead s ts limit k js
   all_read k [] xs has are each = tt
   all_read k (j ∷ js) [] has are each = absurd are
@@ -103,13 +102,13 @@ module _ (s : Entries) (fs : FieldTrees) (ts : Kinds) (limit : Limit) where
     (
       (address_law s ts limit j).from_whole has.0.1,
       column_rows s ts limit j
-          ∙ sym (array_rows s (kind_at ts j) (type_at fs j) (nodes_before ts j) (buffers_before s.extra ts j) limit x are.0)
+          ∙ sym (array_rows s vs (kind_at ts j) (type_at fs j) (nodes_before ts j) (buffers_before s.extra ts j) limit x are.0)
           ∙ each 0 x (omega arith),
     ),
     all_read k js xs has.1 are.1 (λ i d h. each (suc i) d (omega (arith, h))),
   )
 
-  chunk_is : (js : List ℕ) (xs : List AnyArray) → HasColumns s ts limit js → AreColumns s fs ts limit js xs → chunk_of s fs ts js limit ≡ chunk_seen xs
+  chunk_is : (js : List ℕ) (xs : List AnyArray) → HasColumns s ts limit js → AreColumns s vs fs ts limit js xs → chunk_of s fs ts js limit ≡ chunk_seen xs
   chunk_is [] [] has are = refl
   chunk_is [] (x ∷ xs) has are = absurd are
   chunk_is (j ∷ js) [] has are = absurd are
@@ -120,8 +119,21 @@ module _ (s : Entries) (fs : FieldTrees) (ts : Kinds) (limit : Limit) where
       let rest = chunk_is js xs has.1 are.1 in
       λ k. here k ∷ rest k
 
-  -- ---- from the batch to the columns
+  -- and the other way
+  each_rows : (k : ℕ) (js : List ℕ) (xs : List AnyArray) → AreColumns s vs fs ts limit js xs → AllRead s ts limit k js
+      → (i : ℕ) (d : AnyArray) → i < length xs → any_rows (get_or xs i d) ≡ k
+  each_rows k [] [] are v i d h = absurd (omega (arith, h))
+  each_rows k [] (x ∷ xs) are v i d h = absurd are
+  each_rows k (j ∷ js) [] are v i d h = absurd are
+  each_rows k (j ∷ js) (x ∷ xs) are v zero d h =
+      array_rows s vs (kind_at ts j) (type_at fs j) (nodes_before ts j) (buffers_before s.extra ts j) limit x are.0
+      ∙ sym (column_rows s ts limit j)
+      ∙ v.0.1
+  each_rows k (j ∷ js) (x ∷ xs) are v (suc i) d h = each_rows k js xs are.1 v.1 i d (omega (arith, h))
 
+-- ---- from the batch to the columns
+
+module _ (s : Entries) (ts : Kinds) (limit : Limit) where
   has_columns : (k : ℕ) (js : List ℕ) → AreReadAt ts js → AllRead s ts limit k js → HasColumns s ts limit js
   has_columns k [] read v = tt
   has_columns k (j ∷ js) read v = ((read.0, (address_law s ts limit j).to_whole v.0.0), has_columns k js read.1 v.1)
@@ -130,18 +142,7 @@ module _ (s : Entries) (fs : FieldTrees) (ts : Kinds) (limit : Limit) where
   are_read [] has = tt
   are_read (j ∷ js) has = (has.0.0, are_read js has.1)
 
-  each_rows : (k : ℕ) (js : List ℕ) (xs : List AnyArray) → AreColumns s fs ts limit js xs → AllRead s ts limit k js
-      → (i : ℕ) (d : AnyArray) → i < length xs → any_rows (get_or xs i d) ≡ k
-  each_rows k [] [] are v i d h = absurd (omega (arith, h))
-  each_rows k [] (x ∷ xs) are v i d h = absurd are
-  each_rows k (j ∷ js) [] are v i d h = absurd are
-  each_rows k (j ∷ js) (x ∷ xs) are v zero d h =
-      array_rows s (kind_at ts j) (type_at fs j) (nodes_before ts j) (buffers_before s.extra ts j) limit x are.0
-      ∙ sym (column_rows s ts limit j)
-      ∙ v.0.1
-  each_rows k (j ∷ js) (x ∷ xs) are v (suc i) d h = each_rows k js xs are.1 v.1 i d (omega (arith, h))
-
-equal_rows : (k : ℕ) (xs : List AnyArray) → ((i : ℕ) (d : AnyArray) → i < length xs → any_rows (get_or xs i d) ≡ k) → AreEqualRows any_rows xs
+pub equal_rows : (k : ℕ) (xs : List AnyArray) → ((i : ℕ) (d : AnyArray) → i < length xs → any_rows (get_or xs i d) ≡ k) → AreEqualRows any_rows xs
 equal_rows k [] each = λ j x h. absurd (omega (arith, h))
 equal_rows k (y ∷ ys) each = λ j x h. each j x h ∙ sym (each 0 y (omega arith))
 
@@ -152,20 +153,20 @@ projection_is None n h = tt
 projection_is (Some js) n h = prepared_projection js n h
 
 -- what was read of a batch: all but the count of the rows
-pub record Fetched (schema : Schema) (extra : ℕ) (known : Dictionaries) (b : Body) (t : Spot) (projection : Option (List ℕ)) (limit : Limit) (lists : Lists) (ys : List AnyArray) : Type 0 where
+pub record Fetched (schema : Schema) (extra : ℕ) (known : Dictionaries) (vs : Option ℤ → Layout) (b : Body) (t : Spot) (projection : Option (List ℕ)) (limit : Limit) (lists : Lists) (ys : List AnyArray) : Type 0 where
   pub listed : lists_of t ≡ Some lists
   pub judged : IsListed lists b.size extra (kinds schema)
   pub prepared : ArePrepared projection (count (kinds schema))
   pub has : HasColumns (entries_of lists b schema.order extra known) (kinds schema) limit (chosen projection (count (kinds schema)))
-  pub are : AreColumns (entries_of lists b schema.order extra known) schema.fields (kinds schema) limit (chosen projection (count (kinds schema))) ys
+  pub are : AreColumns (entries_of lists b schema.order extra known) vs schema.fields (kinds schema) limit (chosen projection (count (kinds schema))) ys
 
 batch_read :
-    (schema : Schema) (extra : ℕ) (known : Dictionaries) (b : Body) (t : Spot) (projection : Option (List ℕ)) (limit : Limit) (lists : Lists) (ys : List AnyArray)
-    → Fetched schema extra known b t projection limit lists ys → AreEqualRows any_rows ys
+    (schema : Schema) (extra : ℕ) (known : Dictionaries) (vs : Option ℤ → Layout) (b : Body) (t : Spot) (projection : Option (List ℕ)) (limit : Limit) (lists : Lists) (ys : List AnyArray)
+    → Fetched schema extra known vs b t projection limit lists ys → AreEqualRows any_rows ys
     → (k : ℕ) → ((i : ℕ) (d : AnyArray) → i < length ys → any_rows (get_or ys i d) ≡ k)
     → batch (entries_of lists b schema.order extra known) b.size schema projection limit ≡ Some (chunk_seen ys)
 unfolding entries_of
-batch_read schema extra known b t projection limit lists ys f equal k each =
+batch_read schema extra known vs b t projection limit lists ys f equal k each =
     let s = entries_of lists b schema.order extra known in
     let ts = kinds schema in
     let js = chosen projection (count ts) in
@@ -176,19 +177,19 @@ batch_read schema extra known b t projection limit lists ys f equal k each =
       };
       nodes_listed = f.judged.nodes;
       buffers_listed = omega (arith, f.judged.buffers, length-map lists.buffers (part_at b.source b.base));
-      columns = read_first s ts limit k js (all_read s schema.fields ts limit k js ys f.has f.are each);
+      columns = read_first s ts limit k js (all_read s vs schema.fields ts limit k js ys f.has f.are each);
     } in
     projected_is s b.size schema projection limit is ((projection_decides projection (count ts)).1 (projection_is projection (count ts) f.prepared))
-    ∙ ap Some (chunk_is s schema.fields ts limit js ys f.has f.are)
+    ∙ ap Some (chunk_is s vs schema.fields ts limit js ys f.has f.are)
 
-fetched_meaning :
-    (schema : Schema) (extra : ℕ) (known : Dictionaries) (b : Body) (t : Spot) (projection : Option (List ℕ)) (limit : Limit) (lists : Lists) (ys : List AnyArray)
-    → Fetched schema extra known b t projection limit lists ys → AreEqualRows any_rows ys
+pub fetched_meaning :
+    (schema : Schema) (extra : ℕ) (known : Dictionaries) (vs : Option ℤ → Layout) (b : Body) (t : Spot) (projection : Option (List ℕ)) (limit : Limit) (lists : Lists) (ys : List AnyArray)
+    → Fetched schema extra known vs b t projection limit lists ys → AreEqualRows any_rows ys
     → record_meaning schema extra known b t projection limit ≡ Some (chunk_seen ys)
 unfolding record_meaning
-fetched_meaning schema extra known b t projection limit lists ys f equal =
+fetched_meaning schema extra known vs b t projection limit lists ys f equal =
     ap (λ (o : Option Lists). option_and_then (λ (l : Lists). batch (entries_of l b schema.order extra known) b.size schema projection limit) o) f.listed
-    ∙ batch_read schema extra known b t projection limit lists ys f equal _ equal
+    ∙ batch_read schema extra known vs b t projection limit lists ys f equal _ equal
 
 -- ---- what is judged
 
@@ -216,7 +217,7 @@ judged_batch schema extra known b projection limit lists read v =
           nodes = v.nodes_listed;
           buffers = omega (arith, v.buffers_listed, length-map lists.buffers (part_at b.source b.base));
         };
-        has = has_columns s schema.fields ts limit k js read v.columns;
+        has = has_columns s ts limit k js read v.columns;
         rows = v.columns;
       },
     )
@@ -233,7 +234,7 @@ judged schema extra known b t projection limit lists listed h =
     let found = batch_some (entries_of lists b schema.order extra known) b.size schema projection limit c.0 c.1 in
     judged_batch schema extra known b projection limit lists h.read found.0
 
-some_listed : {X Y : Type 0} (f : X → Option Y) (o : Option X) → IsSome (option_and_then f o) → IsSome o
+pub some_listed : {X Y : Type 0} (f : X → Option Y) (o : Option X) → IsSome (option_and_then f o) → IsSome o
 some_listed f (Some x) h = refl
 some_listed f None h = h
 
@@ -247,24 +248,24 @@ listed_of schema extra known b t projection limit h =
 -- ---- the answer
 
 pub gives_batch :
-    (schema : Schema) (extra : ℕ) (known : Dictionaries) (b : Body) (t : Spot) (projection : Option (List ℕ)) (limit : Limit) (lists : Lists) (ys : List AnyArray) (r : Result (List AnyArray) Fault)
-    → Fetched schema extra known b t projection limit lists ys → (IsOk r ↔ AreEqualRows any_rows ys) → IfOk r (λ xs. xs ≡ ys)
+    (schema : Schema) (extra : ℕ) (known : Dictionaries) (vs : Option ℤ → Layout) (b : Body) (t : Spot) (projection : Option (List ℕ)) (limit : Limit) (lists : Lists) (ys : List AnyArray) (r : Result (List AnyArray) Fault)
+    → Fetched schema extra known vs b t projection limit lists ys → (IsOk r ↔ AreEqualRows any_rows ys) → IfOk r (λ xs. xs ≡ ys)
     → GivesBatch schema extra known b t projection limit r
-gives_batch schema extra known b t projection limit lists ys (Ok xs) f ok told =
-    let means = fetched_meaning schema extra known b t projection limit lists ys f (ok.0 refl) in (
+gives_batch schema extra known vs b t projection limit lists ys (Ok xs) f ok told =
+    let means = fetched_meaning schema extra known vs b t projection limit lists ys f (ok.0 refl) in (
       record {
         some = some_is _ (chunk_seen ys) means;
-        read = are_read (entries_of lists b schema.order extra known) schema.fields (kinds schema) limit (chosen projection (count (kinds schema))) f.has;
+        read = are_read (entries_of lists b schema.order extra known) (kinds schema) limit (chosen projection (count (kinds schema))) f.has;
       },
       means ∙ ap (λ (zs : List AnyArray). Some (chunk_seen zs)) (sym told),
     )
-gives_batch schema extra known b t projection limit lists ys (Err e) f ok told =
+gives_batch schema extra known vs b t projection limit lists ys (Err e) f ok told =
     own_any e _ (λ h.
     let s = entries_of lists b schema.order extra known in
     let ts = kinds schema in
     let js = chosen projection (count ts) in
     let j = judged schema extra known b t projection limit lists f.listed h in
-    let no : false ≡ true = ok.1 (equal_rows j.0 ys (each_rows s schema.fields ts limit j.0 js ys f.are j.1.rows)) in
+    let no : false ≡ true = ok.1 (equal_rows j.0 ys (each_rows s vs schema.fields ts limit j.0 js ys f.are j.1.rows)) in
     absurd cc)
 
 pub refused :

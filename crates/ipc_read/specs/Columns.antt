@@ -1,15 +1,15 @@
 -- Some columns of a batch, each at its place: behind all those before it.
 -- (Arrow columnar format, "RecordBatch message".)
-use Rattle.std.specs.Prelude.{◌≡◌, ℕ, ◌+◌, List, [], ◌∷◌, slice_get, Option, None, Some}
+use Rattle.std.specs.Prelude.{◌≡◌, ℕ, ℤ, ◌+◌, List, [], ◌∷◌, slice_get, Option, None, Some}
 use Rattle.lower.specs.TypeTrees.{FieldTrees}
 use Rattle.lower_arrays.specs.AnyLayouts.{layout_of}
+use Rattle.lower_arrays.specs.Layouts.{Layout}
 use Rattle.lower_arrays.specs.declared.array.AnyArray.{AnyArray}
 use Rattle.ipc_model.specs.AddressLaws.{IsWellInBatch}
 use Rattle.ipc_model.specs.Batches.{kind_at, type_at, nodes_before, buffers_before}
 use Rattle.ipc_model.specs.Entries.{Entries, Limit}
 use Rattle.ipc_model.specs.Kinds.{Kinds}
 use Rattle.ipc_columns.specs.Kinds.{IsRead, listed_in}
-use Rattle.ipc_columns.specs.Bodies.{no_values}
 use Rattle.ipc_columns.specs.ReadColumns.{IsColumn}
 use Rattle.ipc_projections.specs.Projections.{IsPrepared}
 
@@ -28,15 +28,15 @@ abbrev pub HasColumns : Entries → Kinds → Limit → List ℕ → Type 0
 HasColumns s ts limit [] = Unit {0}
 HasColumns s ts limit (j ∷ js) = (IsRead (kind_at ts j) × IsWellInBatch s ts limit j) × HasColumns s ts limit js
 
--- an array is that of column j
-abbrev pub IsColumnAt : Entries → FieldTrees → Kinds → Limit → ℕ → AnyArray → Type 0
-IsColumnAt s fs ts limit j x = IsColumn s no_values (kind_at ts j) (type_at fs j) (nodes_before ts j) (buffers_before s.extra ts j) limit (layout_of x)
+-- an array is that of column j, where vs are those of the dictionaries' values
+abbrev pub IsColumnAt : Entries → (Option ℤ → Layout) → FieldTrees → Kinds → Limit → ℕ → AnyArray → Type 0
+IsColumnAt s vs fs ts limit j x = IsColumn s vs (kind_at ts j) (type_at fs j) (nodes_before ts j) (buffers_before s.extra ts j) limit (layout_of x)
 
 -- the arrays are those of some columns, one by one
-abbrev pub AreColumns : Entries → FieldTrees → Kinds → Limit → List ℕ → List AnyArray → Type 0
-AreColumns s fs ts limit [] [] = Unit {0}
-AreColumns s fs ts limit (j ∷ js) (x ∷ xs) = IsColumnAt s fs ts limit j x × AreColumns s fs ts limit js xs
-AreColumns s fs ts limit _ _ = ⊥
+abbrev pub AreColumns : Entries → (Option ℤ → Layout) → FieldTrees → Kinds → Limit → List ℕ → List AnyArray → Type 0
+AreColumns s vs fs ts limit [] [] = Unit {0}
+AreColumns s vs fs ts limit (j ∷ js) (x ∷ xs) = IsColumnAt s vs fs ts limit j x × AreColumns s vs fs ts limit js xs
+AreColumns s vs fs ts limit _ _ = ⊥
 
 -- how many bytes the buffers of some columns list together
 abbrev pub columns_listed : Entries → ℕ → Kinds → List ℕ → ℕ

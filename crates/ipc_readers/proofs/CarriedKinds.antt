@@ -8,7 +8,7 @@ use Rattle.ipc_model.specs.Kinds.{Kind, Kinds, no_kinds, more_kinds, count}
 use Rattle.ipc_model.specs.TypeKinds.{plain_kind, single_kind, group_kind, first_ids, other_ids, kind_of, field_kind, kinds_of}
 use Rattle.ipc_columns.specs.Kinds.{IsRead, AreRead}
 use Rattle.ipc_read.specs.Columns.{AreReadAt}
-use Rattle.ipc_carried.specs.Carried.{is_structure, is_carried_type, is_carried_field, are_carried}
+use Rattle.ipc_carried.specs.Carried.{is_carried_type, is_carried_field, are_carried}
 
 both_true : (a b : Bool) → IsTrue (a && b) → IsTrue a × IsTrue b
 both_true true b h = (refl, h)
@@ -51,17 +51,15 @@ single_read large_list t h = h
 single_read (fixed_list n) t h = h
 single_read (entries sorted) t h = h
 
-group_read : (g : Group) (ts : Kinds) → IsTrue (is_structure g) → AreRead ts → IsRead (group_kind g ts)
-group_read structure ts s h = h
-group_read (choice type_ids mode) ts s h = absurd cc
+group_read : (g : Group) (ts : Kinds) → AreRead ts → IsRead (group_kind g ts)
+group_read structure ts h = h
+group_read (choice type_ids mode) ts h = h
 
 mutual
   type_read : (t : TypeTree) (id : Option ℤ) (is : IdTrees) → IsTrue (is_carried_type t) → IsRead (kind_of t id is)
   type_read (plain p) id is h = plain_read p
   type_read (single s f) id is h = single_read s (field_kind f (first_ids is)) (field_read f (first_ids is) h)
-  type_read (group g fs) id is h =
-      let both = both_true (is_structure g) (are_carried fs) h in
-      group_read g (kinds_of fs is) both.0 (fields_read fs is both.1)
+  type_read (group g fs) id is h = group_read g (kinds_of fs is) (fields_read fs is h)
   type_read (dictionary keys t ordered) id is h = absurd cc
   type_read (extension name t text) id is h = type_read t id is h
 

@@ -1,3 +1,4 @@
+pub mod NoDictionaries
 pub mod CarriedKinds
 pub mod Openings
 pub mod Sized

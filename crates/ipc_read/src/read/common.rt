@@ -10,7 +10,7 @@ ghost use Rattle.ipc_model.specs.Batches.{kinds, extra_of, lists_of, chosen};
 ghost use Rattle.ipc_model.specs.Kinds.{all_nodes, all_buffers};
 ghost use Rattle.ipc_model.specs.TypeKinds.{kinds_of};
 ghost use Rattle.ipc_columns.specs.Limits.{AreSmall};
-ghost use Rattle.ipc_columns.specs.Bodies.{Stands, HasRoom, entries};
+ghost use Rattle.ipc_columns.specs.Bodies.{Stands, HasRoom, entries, known, known_dictionaries};
 ghost use Rattle.ipc_columns.specs.Steps.{Step};
 ghost use Rattle.ipc_read.specs.Chunks.{GivesBatch, batch_schema, order_of};
 ghost use Rattle.ipc_read.specs.Columns.{ArePrepared, AreColumns, HasColumns, IsChosen, columns_listed};
@@ -185,7 +185,7 @@ pub fn read_columns<R: Reads + Seeks>(
     ensures memory { IsTrue R.known → let s = entries R.memory body.now in
         let js = chosen (option_copied projection.entry) (length fields.now) in
         let ts = kinds_of (fields_view fields.now) (all_ids_view ids.now) in
-        Answers result (HasColumns s ts limit js) (λ v. AreColumns s (fields_view fields.now) ts limit js v.items) }
+        Answers result (HasColumns s ts limit js) (λ v. AreColumns s (known body.now) (fields_view fields.now) ts limit js v.items) }
 {
     let mut columns = Vec::new(alloc);
     let mut place = Place { node: 0, buffer: 0 };
@@ -225,7 +225,7 @@ pub fn read_columns<R: Reads + Seeks>(
 /// there are fewer nodes than the columns of all fields take, `ExpectedBuffer` where there are too few
 /// buffers, `Compressed`, `NegativeFooterLength` where a length is below 0, `InvalidBuffersLength` where
 /// the buffers list more than `file_size` bytes, those of [`read_columns`], and `UnequalRows`. `Io` and
-/// `Memory` come too, and no other. No dictionary is known yet, and the scratch memory isn't used.
+/// `Memory` come too, and no other. The scratch memory isn't used.
 #[allow(clippy::too_many_arguments)]
 #[tactic(auto, using(crate::proofs::Refusals::batch_faults))]
 pub fn read_record_batch<R: Reads + Seeks>(
@@ -235,7 +235,7 @@ pub fn read_record_batch<R: Reads + Seeks>(
     ipc_schema: &IpcSchema,
     projection: Option<&[usize]>,
     limit: Option<usize>,
-    _dictionaries: &Dictionaries,
+    dictionaries: &Dictionaries,
     version: MetadataVersion,
     reader: &mut R,
     block_offset: u64,
@@ -250,7 +250,7 @@ pub fn read_record_batch<R: Reads + Seeks>(
     ensures given { let js = chosen (option_copied projection.entry) (length fields.now) in
         R.given reader.new ≤ R.given reader.old
         + chosen_listed (lists_of batch.entry) (extra_of version) (kinds (batch_schema fields.now ipc_schema.now)) js }
-    ensures memory { IsTrue R.known → GivesBatch (batch_schema fields.now ipc_schema.now) (extra_of version) []
+    ensures memory { IsTrue R.known → GivesBatch (batch_schema fields.now ipc_schema.now) (extra_of version) (known_dictionaries dictionaries.now)
         (record { source = (R.memory reader.old).whole; base = block_offset; size = file_size }) batch.entry
         (option_copied projection.entry) limit result }
     ensures whole { IsTrue R.still → (R.memory reader.new).whole ≡ (R.memory reader.old).whole }
@@ -265,6 +265,7 @@ pub fn read_record_batch<R: Reads + Seeks>(
         base: block_offset,
         order: byte_order(ipc_schema.is_little_endian),
         extra,
+        dictionaries,
         device: Snapshot::of(&*reader),
     };
     let ids = ipc_schema.fields.as_slice();

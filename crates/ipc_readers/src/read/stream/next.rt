@@ -20,6 +20,7 @@ use ipc_base::chunk::Chunk;
 use ipc_carried::types::are_carried;
 use ipc_devices::fault::{Fault, Nyi, OutOfSpecKind};
 use ipc_devices::{MemFile, Reads, read_into};
+use ipc_read::read::Dictionaries;
 use ipc_read::read::common::read_record_batch;
 use ipc_views::{MessageHeaderRef, RecordBatchRef};
 use lower::datatypes::Schema;
@@ -51,7 +52,7 @@ impl StreamState {
 }
 
 impl Batches {
-    // The columns of a record batch of this body.
+    // The columns of a record batch of this body. No dictionary is known: none that a stream has is read yet.
     fn columns(&mut self, batch: RecordBatchRef<'_>, body: &[u8]) -> Result<Chunk<AnyArray>, Fault>
         ensures described { self.new.metadata ≡ self.old.metadata }
         ensures only { IfErr result (λ e. OwnFault e (IsStreamFault (head_of self.old.metadata).schema e)) }
@@ -61,6 +62,7 @@ impl Batches {
         if !are_carried(&self.metadata.schema.fields) {
             return Err(Fault::NotYetImplemented(Nyi::Pending));
         }
+        let none: Dictionaries = HashMap::new(self.alloc);
         let mut bytes = MemFile::new(body);
         read_record_batch(
             self.alloc,
@@ -69,7 +71,7 @@ impl Batches {
             &self.metadata.ipc_schema,
             None,
             None,
-            &self.dictionaries,
+            &none,
             self.metadata.version,
             &mut bytes,
             0,
@@ -154,7 +156,6 @@ impl<R: Reads + Drop> StreamReader<R> {
         let batches = Batches {
             alloc,
             metadata,
-            dictionaries: HashMap::new(alloc),
             scratch: Vec::new(alloc),
         };
         Ok(StreamReader {

@@ -7,7 +7,6 @@ ghost use Rattle.lower.specs.TypeViews.{fields_view};
 use crate::read::begun::Begun;
 use crate::read::stream::metadata::StreamMetadata;
 use ipc_base::chunk::Chunk;
-use ipc_read::read::Dictionaries;
 use lower_arrays::array::AnyArray;
 use std::alloc::Global;
 
@@ -45,7 +44,6 @@ pub struct StreamReader<R> {
 pub(crate) struct Batches {
     pub(crate) alloc: Global,
     pub(crate) metadata: StreamMetadata,
-    pub(crate) dictionaries: Dictionaries,
     // room for parts of a body
     pub(crate) scratch: Vec<u8>,
     ghost fits: { IsTrue (all_fit (fields_view metadata.schema.fields.items)

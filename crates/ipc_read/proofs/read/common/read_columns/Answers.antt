@@ -11,7 +11,7 @@ use Rattle.ipc_model.specs.Columns.{IsWell}
 use Rattle.ipc_model.specs.Kinds.{Kind, count, nodes, buffers}
 use Rattle.ipc_model.specs.TypeKinds.{kind_of, kinds_of}
 use Rattle.ipc_model.proofs.TypeKinds.{node_counts, buffer_counts}
-use Rattle.ipc_columns.specs.Bodies.{entries}
+use Rattle.ipc_columns.specs.Bodies.{entries, known}
 use Rattle.ipc_columns.specs.Kinds.{IsRead}
 use Rattle.ipc_columns.specs.Refusals.{IsFaultOf}
 use Rattle.ipc_columns.proofs.Fetches.{denies_through, refused, failing}
@@ -29,6 +29,7 @@ use Rattle.ipc_read.proofs.read.common.read_columns.Goals as goal
 pub loop-index-init : goal.loop-index-init
 loop-index-init g c =
     let s = entries g.R.Failures.memory c.args.body.now in
+    let vs = known c.args.body.now in
     let fs = c.args.fields.now in
     let ts = kinds_of (fields_view fs) (all_ids_view c.args.ids.now) in
     let p : Option (List ℕ) = option_copied c.args.projection in
@@ -46,8 +47,8 @@ loop-index-init g c =
       stands = c.requires.stands;
       given = omega (arith, e);
       content = λ k.
-          subst (λ (xs : List AnyArray). SoFar s (fields_view fs) ts c.args.limit js (left_of p n (length xs) 0) xs) (sym none)
-          (so_start s (fields_view fs) ts c.args.limit js (left_of p n 0 0) (left_all p n));
+          subst (λ (xs : List AnyArray). SoFar s vs (fields_view fs) ts c.args.limit js (left_of p n (length xs) 0) xs) (sym none)
+          (so_start s vs (fields_view fs) ts c.args.limit js (left_of p n 0 0) (left_all p n));
     }
 
 pub skip-place-requires-clause-nodes : goal.skip-place-requires-clause-nodes
@@ -91,6 +92,7 @@ skip-place-requires-clause-buffers g c =
 pub loop-index-preserved-then-not-is_chosen : goal.loop-index-preserved-then-not-is_chosen
 loop-index-preserved-then-not-is_chosen g c =
     let s = entries g.R.Failures.memory c.args.body.now in
+    let vs = known c.args.body.now in
     let fs = c.args.fields.now in
     let is = all_ids_view c.args.ids.now in
     let extra = c.args.body.now.extra in
@@ -121,7 +123,7 @@ loop-index-preserved-then-not-is_chosen g c =
       monotone = c.loop-index.invariant.monotone;
       stands = c.loop-index.invariant.stands;
       given = omega (arith, e, c.loop-index.invariant.given);
-      content = λ k. so_same s (fields_view fs) ts c.args.limit (chosen p n) _ _ c.loop-index.columns.items stays (c.loop-index.invariant.content k);
+      content = λ k. so_same s vs (fields_view fs) ts c.args.limit (chosen p n) _ _ c.loop-index.columns.items stays (c.loop-index.invariant.content k);
     }
 
 pub read-requires-clause-room : goal.read-requires-clause-room
@@ -195,6 +197,7 @@ returns-in_err-column-clause-step g c =
 pub returns-in_err-column-clause-memory : goal.returns-in_err-column-clause-memory
 returns-in_err-column-clause-memory g c = λ k.
     let s = entries g.R.Failures.memory c.args.body.now in
+    let vs = known c.args.body.now in
     let fs = c.args.fields.now in
     let is = all_ids_view c.args.ids.now in
     let extra = c.args.body.now.extra in
@@ -220,7 +223,7 @@ returns-in_err-column-clause-memory g c = λ k.
     let denied : OwnFault fault (HasColumns s ts limit (chosen p n) → ⊥) =
     denies_through fault (IsRead t × IsWell s t place.node place.buffer limit) (HasColumns s ts limit (chosen p n))
     (λ h. well_here extra ts is left i place t at listed same s limit (sym (extra_is g.R.Failures.memory c.args.body.now))
-    (one_on s (fields_view fs) ts limit (chosen p n) _ _ c.loop-index.columns.items i more (c.loop-index.invariant.content k) h))
+    (one_on s vs (fields_view fs) ts limit (chosen p n) _ _ c.loop-index.columns.items i more (c.loop-index.invariant.content k) h))
     (c.in_err-column.ensures.memory k)
     in
     refused c.from_residual.result fault _ _ c.from_residual.ensures denied
@@ -258,6 +261,7 @@ returns-in_err-push-clause-step g c =
 pub loop-index-preserved : goal.loop-index-preserved
 loop-index-preserved g c =
     let s = entries g.R.Failures.memory c.args.body.now in
+    let vs = known c.args.body.now in
     let fs = c.args.fields.now in
     let is = all_ids_view c.args.ids.now in
     let extra = c.args.body.now.extra in
@@ -294,10 +298,10 @@ loop-index-preserved g c =
       stands = c.in_ok-column.ensures.step.stands;
       given = omega (arith, e1, e2, e3, c.loop-index.invariant.given, c.in_ok-column.ensures.step.bounded);
       content = λ k.
-          subst (λ (l : ℕ). SoFar s (fields_view fs) ts limit (chosen p n) (left_of p n l (i + 1)) c.push.new.self.items) grown
-          (so_more s (fields_view fs) ts limit (chosen p n) _ (left_of p n (m + 1) (i + 1)) c.loop-index.columns.items c.push.new.self.items i x more
+          subst (λ (l : ℕ). SoFar s vs (fields_view fs) ts limit (chosen p n) (left_of p n l (i + 1)) c.push.new.self.items) grown
+          (so_more s vs (fields_view fs) ts limit (chosen p n) _ (left_of p n (m + 1) (i + 1)) c.loop-index.columns.items c.push.new.self.items i x more
           (well_there extra ts is left i place t at listed same s limit fronted (c.in_ok-column.ensures.memory k).0)
-          (column_there extra ts is left i place t at listed same s limit (type_view f.data_type) (type_at (fields_view fs) i) (layout_of x) fronted
+          (column_there extra ts is left i place t at listed same s vs limit (type_view f.data_type) (type_at (fields_view fs) i) (layout_of x) fronted
           (type_there fs i f inside c.index-fields-index.is) (c.in_ok-column.ensures.memory k).1)
           pushed (c.loop-index.invariant.content k));
     }
@@ -308,5 +312,5 @@ returns-clause-memory g c = λ k.
     let p : Option (List ℕ) = option_copied c.args.projection in
     let n = length fs in
     let past : n ≤ c.loop-index.index = search rules in
-    so_end (entries g.R.Failures.memory c.args.body.now) (fields_view fs) (kinds_of (fields_view fs) (all_ids_view c.args.ids.now)) c.args.limit (chosen p n) _ c.loop-index.columns.items
+    so_end (entries g.R.Failures.memory c.args.body.now) (known c.args.body.now) (fields_view fs) (kinds_of (fields_view fs) (all_ids_view c.args.ids.now)) c.args.limit (chosen p n) _ c.loop-index.columns.items
     (left_none p n (length c.loop-index.columns.items) c.loop-index.index past c.loop-index.invariant.rest) (c.loop-index.invariant.content k)

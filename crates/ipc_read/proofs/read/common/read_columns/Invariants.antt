@@ -4,7 +4,7 @@ use Rattle.lower.specs.TypeViews.{fields_view}
 use Rattle.ipc_base.specs.IdTrees.{all_ids_view}
 use Rattle.ipc_model.specs.Batches.{chosen}
 use Rattle.ipc_model.specs.TypeKinds.{kinds_of}
-use Rattle.ipc_columns.specs.Bodies.{Stands, entries}
+use Rattle.ipc_columns.specs.Bodies.{Stands, entries, known}
 use Rattle.ipc_read.specs.Columns.{columns_listed}
 use Rattle.ipc_read.proofs.Chosen.{AreLeft, left_of}
 use Rattle.ipc_read.proofs.ColumnLists.{Among, SoFar}
@@ -25,6 +25,6 @@ invariant-loop-index g l = record {
       ≤ g.R.Failures.given l.fn.reader
       + columns_listed (entries g.R.Failures.memory l.body) l.body.extra (kinds_of (fields_view l.fields) (all_ids_view l.ids)) (chosen (option_copied l.projection) (length l.fields));
   content : IsTrue g.R.Failures.known
-      → SoFar (entries g.R.Failures.memory l.body) (fields_view l.fields) (kinds_of (fields_view l.fields) (all_ids_view l.ids)) l.limit (chosen (option_copied l.projection) (length l.fields))
+      → SoFar (entries g.R.Failures.memory l.body) (known l.body) (fields_view l.fields) (kinds_of (fields_view l.fields) (all_ids_view l.ids)) l.limit (chosen (option_copied l.projection) (length l.fields))
       (left_of (option_copied l.projection) (length l.fields) (length l.columns.items) l.index) l.columns.items;
 }

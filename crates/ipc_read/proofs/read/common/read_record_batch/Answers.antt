@@ -10,7 +10,7 @@ use Rattle.ipc_model.specs.Batches as model
 use Rattle.ipc_model.specs.Entries.{Entries}
 use Rattle.ipc_model.specs.TypeKinds.{kinds_of}
 use Rattle.ipc_model.proofs.TypeKinds.{node_count_law, buffer_count_law}
-use Rattle.ipc_columns.specs.Bodies.{entries}
+use Rattle.ipc_columns.specs.Bodies.{entries, known_dictionaries, array_under}
 use Rattle.ipc_read.specs.Chunks.{batch_schema, order_of}
 use Rattle.ipc_read.specs.Columns.{ArePrepared, HasColumns, AreColumns}
 use Rattle.ipc_read.specs.Sizes.{AreSizes, total_of, chosen_listed}
@@ -22,17 +22,19 @@ use Rattle.ipc_read.proofs.read.common.read_record_batch.Goals as goal
 
 pub returns-in_err-nodes-clause-memory : goal.returns-in_err-nodes-clause-memory
 returns-in_err-nodes-clause-memory g c = λ k.
+    let ds = known_dictionaries c.args.dictionaries.now in
     let fault = c.in_err-nodes.field-0.0 in
     let e : c.from_residual.result ≡ Err fault = search rules in
     let denied : OwnFault fault (IsSome (lists_of c.args.batch) → ⊥) = search rules in
     let schema : Schema = batch_schema c.args.fields.now c.args.ipc_schema.now in
     let body : model.Body = record { source = (g.R.Failures.memory c.args.reader.now).whole; base = c.args.block_offset; size = c.args.file_size } in
     let projection : Option (List ℕ) = option_copied c.args.projection in
-    rw e (refused fault (IsSome (lists_of c.args.batch)) schema (extra_of c.args.version) [] body c.args.batch projection c.args.limit denied
-    (λ h. listed_of schema (extra_of c.args.version) [] body c.args.batch projection c.args.limit h))
+    rw e (refused fault (IsSome (lists_of c.args.batch)) schema (extra_of c.args.version) ds body c.args.batch projection c.args.limit denied
+    (λ h. listed_of schema (extra_of c.args.version) ds body c.args.batch projection c.args.limit h))
 
 pub returns-in_err-check_lengths-clause-memory : goal.returns-in_err-check_lengths-clause-memory
 returns-in_err-check_lengths-clause-memory g c = λ k.
+    let ds = known_dictionaries c.args.dictionaries.now in
     let fault = c.in_err-check_lengths.field-0.0 in
     let e : c.from_residual-in_err-check_lengths.result ≡ Err fault = search rules in
     let lists : Lists = record { nodes = c.in_ok-nodes.nodes; buffers = c.in_ok-nodes.buffers } in
@@ -41,13 +43,14 @@ returns-in_err-check_lengths-clause-memory g c = λ k.
     let schema : Schema = batch_schema c.args.fields.now c.args.ipc_schema.now in
     let body : model.Body = record { source = (g.R.Failures.memory c.args.reader.now).whole; base = c.args.block_offset; size = c.args.file_size } in
     let projection : Option (List ℕ) = option_copied c.args.projection in
-    rw e (refused fault P schema (extra_of c.args.version) [] body c.args.batch projection c.args.limit denied
+    rw e (refused fault P schema (extra_of c.args.version) ds body c.args.batch projection c.args.limit denied
     (λ h.
-    let j = (judged schema (extra_of c.args.version) [] body c.args.batch projection c.args.limit lists c.in_ok-nodes.ensures.exact.1 h).1.listed in
+    let j = (judged schema (extra_of c.args.version) ds body c.args.batch projection c.args.limit lists c.in_ok-nodes.ensures.exact.1 h).1.listed in
     (j.sizes, j.total)))
 
 pub returns-in_err-check_counts-clause-memory : goal.returns-in_err-check_counts-clause-memory
 returns-in_err-check_counts-clause-memory g c = λ k.
+    let ds = known_dictionaries c.args.dictionaries.now in
     let fault = c.in_err-check_counts.field-0.0 in
     let e : c.from_residual-in_err-check_counts.result ≡ Err fault = search rules in
     let lists : Lists = record { nodes = c.in_ok-nodes.nodes; buffers = c.in_ok-nodes.buffers } in
@@ -60,13 +63,14 @@ returns-in_err-check_counts-clause-memory g c = λ k.
     let body : model.Body = record { source = (g.R.Failures.memory c.args.reader.now).whole; base = c.args.block_offset; size = c.args.file_size } in
     let projection : Option (List ℕ) = option_copied c.args.projection in
     let fronted = ap (λ (x : ℕ). fields_buffers x fs) c.count_extra-extra.ensures.extra in
-    rw e (refused fault P schema extra [] body c.args.batch projection c.args.limit denied
+    rw e (refused fault P schema extra ds body c.args.batch projection c.args.limit denied
     (λ h.
-    let j = (judged schema extra [] body c.args.batch projection c.args.limit lists c.in_ok-nodes.ensures.exact.1 h).1.listed in
+    let j = (judged schema extra ds body c.args.batch projection c.args.limit lists c.in_ok-nodes.ensures.exact.1 h).1.listed in
     (omega (arith, j.nodes, node_count_law fs is), omega (arith, j.buffers, buffer_count_law extra fs is, fronted))))
 
 pub returns-in_err-columns-clause-memory : goal.returns-in_err-columns-clause-memory
 returns-in_err-columns-clause-memory g c = λ k.
+    let ds = known_dictionaries c.args.dictionaries.now in
     let fault = c.in_err-columns.field-0.0 in
     let fs = c.args.fields.now in
     let e : c.from_residual-in_err-columns.result ≡ Err fault = search rules in
@@ -77,22 +81,24 @@ returns-in_err-columns-clause-memory g c = λ k.
     let extra = extra_of c.args.version in
     let projection : Option (List ℕ) = option_copied c.args.projection in
     let limit = c.args.limit in
-    let same : entries g.R.Failures.memory _ ≡ entries_of lists body order extra [] =
+    let same : entries g.R.Failures.memory _ ≡ entries_of lists body order extra ds =
     same_entries g.R.Failures.memory _ lists body order extra refl refl (ap (λ r. (g.R.Failures.memory r).whole) c.of.ensures) refl c.byte_order.ensures c.count_extra-extra.ensures.extra in
     let ts = kinds schema in
     let js = chosen projection (length fs) in
     let ids_are : c.as_slice-ids.result.now ≡ c.args.ipc_schema.now.fields.items = search rules in
     let counted = sym (field_count fs (all_ids_view c.args.ipc_schema.now.fields.items)) in
-    let denied : OwnFault fault (HasColumns (entries_of lists body order extra []) ts limit js → ⊥) =
-    subst (λ (l : List IpcField). OwnFault fault (HasColumns (entries_of lists body order extra []) (kinds_of (fields_view fs) (all_ids_view l)) limit js → ⊥)) ids_are
+    let denied : OwnFault fault (HasColumns (entries_of lists body order extra ds) ts limit js → ⊥) =
+    subst (λ (l : List IpcField). OwnFault fault (HasColumns (entries_of lists body order extra ds) (kinds_of (fields_view fs) (all_ids_view l)) limit js → ⊥)) ids_are
     (subst (λ (s : Entries). OwnFault fault (HasColumns s (kinds_of (fields_view fs) (all_ids_view c.as_slice-ids.result.now)) limit js → ⊥)) same (c.in_err-columns.ensures.memory k)) in
-    rw e (refused fault (HasColumns (entries_of lists body order extra []) ts limit js) schema extra [] body c.args.batch projection limit denied
+    rw e (refused fault (HasColumns (entries_of lists body order extra ds) ts limit js) schema extra ds body c.args.batch projection limit denied
     (λ h.
-    let j = (judged schema extra [] body c.args.batch projection limit lists c.in_ok-nodes.ensures.exact.1 h).1 in
-    subst (λ (n : ℕ). HasColumns (entries_of lists body order extra []) ts limit (chosen projection n)) (sym counted) j.has))
+    let j = (judged schema extra ds body c.args.batch projection limit lists c.in_ok-nodes.ensures.exact.1 h).1 in
+    subst (λ (n : ℕ). HasColumns (entries_of lists body order extra ds) ts limit (chosen projection n)) (sym counted) j.has))
 
 pub returns-clause-memory : goal.returns-clause-memory
 returns-clause-memory g c = λ k.
+    let ds = known_dictionaries c.args.dictionaries.now in
+    let vs = array_under c.args.dictionaries.now in
     let fs = c.args.fields.now in
     let is = all_ids_view c.args.ipc_schema.now.fields.items in
     let ys = c.in_ok-columns.columns.items in
@@ -103,7 +109,7 @@ returns-clause-memory g c = λ k.
     let extra = extra_of c.args.version in
     let projection : Option (List ℕ) = option_copied c.args.projection in
     let limit = c.args.limit in
-    let same : entries g.R.Failures.memory _ ≡ entries_of lists body order extra [] =
+    let same : entries g.R.Failures.memory _ ≡ entries_of lists body order extra ds =
     same_entries g.R.Failures.memory _ lists body order extra refl refl (ap (λ r. (g.R.Failures.memory r).whole) c.of.ensures) refl c.byte_order.ensures c.count_extra-extra.ensures.extra in
     let ts = kinds schema in
     let js = chosen projection (length fs) in
@@ -115,7 +121,7 @@ returns-clause-memory g c = λ k.
     let noded : c.len.result ≡ length lists.nodes = search rules in
     let listed : c.len-2.result ≡ length lists.buffers = search rules in
     let counted = sym (field_count fs is) in
-    gives_batch schema extra [] body c.args.batch projection limit lists ys c.try_new.result
+    gives_batch schema extra ds vs body c.args.batch projection limit lists ys c.try_new.result
     (record {
       listed = c.in_ok-nodes.ensures.exact.1;
       judged = record {
@@ -125,12 +131,12 @@ returns-clause-memory g c = λ k.
         buffers = omega (arith, counts.1, fronted, listed, buffer_count_law extra (fields_view fs) is);
       };
       prepared = subst (λ (n : ℕ). ArePrepared projection n) counted c.requires.prepared;
-      has = subst (λ (n : ℕ). HasColumns (entries_of lists body order extra []) ts limit (chosen projection n)) counted
-          (subst (λ (l : List IpcField). HasColumns (entries_of lists body order extra []) (kinds_of (fields_view fs) (all_ids_view l)) limit js) ids_are
+      has = subst (λ (n : ℕ). HasColumns (entries_of lists body order extra ds) ts limit (chosen projection n)) counted
+          (subst (λ (l : List IpcField). HasColumns (entries_of lists body order extra ds) (kinds_of (fields_view fs) (all_ids_view l)) limit js) ids_are
           (subst (λ (s : Entries). HasColumns s (kinds_of (fields_view fs) (all_ids_view c.as_slice-ids.result.now)) limit js) same read.0));
-      are = subst (λ (n : ℕ). AreColumns (entries_of lists body order extra []) (fields_view fs) ts limit (chosen projection n) ys) counted
-          (subst (λ (l : List IpcField). AreColumns (entries_of lists body order extra []) (fields_view fs) (kinds_of (fields_view fs) (all_ids_view l)) limit js ys) ids_are
-          (subst (λ (s : Entries). AreColumns s (fields_view fs) (kinds_of (fields_view fs) (all_ids_view c.as_slice-ids.result.now)) limit js ys) same read.1));
+      are = subst (λ (n : ℕ). AreColumns (entries_of lists body order extra ds) vs (fields_view fs) ts limit (chosen projection n) ys) counted
+          (subst (λ (l : List IpcField). AreColumns (entries_of lists body order extra ds) vs (fields_view fs) (kinds_of (fields_view fs) (all_ids_view l)) limit js ys) ids_are
+          (subst (λ (s : Entries). AreColumns s vs (fields_view fs) (kinds_of (fields_view fs) (all_ids_view c.as_slice-ids.result.now)) limit js ys) same read.1));
     })
     c.try_new.ensures.ok c.try_new.ensures.value
 
@@ -148,34 +154,36 @@ read_columns-requires-clause-room g c =
 
 pub returns-in_err-columns-clause-given : goal.returns-in_err-columns-clause-given
 returns-in_err-columns-clause-given g c =
+    let ds = known_dictionaries c.args.dictionaries.now in
     let fs = c.args.fields.now in
     let lists : Lists = record { nodes = c.in_ok-nodes.nodes; buffers = c.in_ok-nodes.buffers } in
     let body : model.Body = record { source = (g.R.Failures.memory c.args.reader.now).whole; base = c.args.block_offset; size = c.args.file_size } in
     let order = order_of c.args.ipc_schema.now.is_little_endian in
     let extra = extra_of c.args.version in
-    let same : entries g.R.Failures.memory _ ≡ entries_of lists body order extra [] =
+    let same : entries g.R.Failures.memory _ ≡ entries_of lists body order extra ds =
     same_entries g.R.Failures.memory _ lists body order extra refl refl (ap (λ r. (g.R.Failures.memory r).whole) c.of.ensures) refl c.byte_order.ensures c.count_extra-extra.ensures.extra in
     let js = chosen (option_copied c.args.projection) (length fs) in
     let old = g.R.Failures.given c.args.reader.now in
     let new = g.R.Failures.given c.read_columns.new.reader in
     let ids_are : c.as_slice-ids.result.now ≡ c.args.ipc_schema.now.fields.items = search rules in
     subst (λ (l : List IpcField). new ≤ old + chosen_listed (lists_of c.args.batch) extra (kinds_of (fields_view fs) (all_ids_view l)) js) ids_are
-    (given_total g.R.Failures.memory _ lists body order extra (lists_of c.args.batch) (kinds_of (fields_view fs) (all_ids_view c.as_slice-ids.result.now)) js old new same
+    (given_total g.R.Failures.memory _ lists body order extra ds (lists_of c.args.batch) (kinds_of (fields_view fs) (all_ids_view c.as_slice-ids.result.now)) js old new same
     c.count_extra-extra.ensures.extra c.in_ok-nodes.ensures.exact.1 c.in_err-columns.ensures.step.bounded)
 
 pub returns-clause-given : goal.returns-clause-given
 returns-clause-given g c =
+    let ds = known_dictionaries c.args.dictionaries.now in
     let fs = c.args.fields.now in
     let lists : Lists = record { nodes = c.in_ok-nodes.nodes; buffers = c.in_ok-nodes.buffers } in
     let body : model.Body = record { source = (g.R.Failures.memory c.args.reader.now).whole; base = c.args.block_offset; size = c.args.file_size } in
     let order = order_of c.args.ipc_schema.now.is_little_endian in
     let extra = extra_of c.args.version in
-    let same : entries g.R.Failures.memory _ ≡ entries_of lists body order extra [] =
+    let same : entries g.R.Failures.memory _ ≡ entries_of lists body order extra ds =
     same_entries g.R.Failures.memory _ lists body order extra refl refl (ap (λ r. (g.R.Failures.memory r).whole) c.of.ensures) refl c.byte_order.ensures c.count_extra-extra.ensures.extra in
     let js = chosen (option_copied c.args.projection) (length fs) in
     let old = g.R.Failures.given c.args.reader.now in
     let new = g.R.Failures.given c.read_columns.new.reader in
     let ids_are : c.as_slice-ids.result.now ≡ c.args.ipc_schema.now.fields.items = search rules in
     subst (λ (l : List IpcField). new ≤ old + chosen_listed (lists_of c.args.batch) extra (kinds_of (fields_view fs) (all_ids_view l)) js) ids_are
-    (given_total g.R.Failures.memory _ lists body order extra (lists_of c.args.batch) (kinds_of (fields_view fs) (all_ids_view c.as_slice-ids.result.now)) js old new same
+    (given_total g.R.Failures.memory _ lists body order extra ds (lists_of c.args.batch) (kinds_of (fields_view fs) (all_ids_view c.as_slice-ids.result.now)) js old new same
     c.count_extra-extra.ensures.extra c.in_ok-nodes.ensures.exact.1 c.in_ok-columns.ensures.step.bounded)
