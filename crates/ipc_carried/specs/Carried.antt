@@ -1,18 +1,14 @@
--- What streams carry so far, where they are read and where they are written: columns of all types but those that have a dictionary or a
--- union in them, at any depth. What a stream means is defined for all types; this stands beside it.
+-- What streams carry so far, where they are read and where they are written: columns of all types but those that have a dictionary in
+-- them, at any depth. What a stream means is defined for all types; this stands beside it.
 use Rattle.std.specs.Prelude.{◌&&◌, Bool, true, false, IsTrue}
-use Rattle.lower.specs.TypeTrees.{Group, structure, choice, TypeTree, plain, single, group, dictionary, extension, FieldTree, field, FieldTrees, no_fields, more_fields}
+use Rattle.lower.specs.TypeTrees.{TypeTree, plain, single, group, dictionary, extension, FieldTree, field, FieldTrees, no_fields, more_fields}
 use Rattle.ipc_model.specs.Batches.{Schema}
-
-abbrev pub is_structure : Group → Bool
-is_structure structure = true
-is_structure (choice ids mode) = false
 
 abbrev mutual
   pub is_carried_type : TypeTree → Bool
   is_carried_type (plain p) = true
   is_carried_type (single s f) = is_carried_field f
-  is_carried_type (group g fs) = is_structure g && are_carried fs
+  is_carried_type (group g fs) = are_carried fs
   is_carried_type (dictionary keys t ordered) = false
   is_carried_type (extension name t text) = is_carried_type t
 

@@ -1,4 +1,4 @@
-//! What streams carry so far: columns of all types but those that have a dictionary or a union in them.
+//! What streams carry so far: columns of all types but those that have a dictionary in them.
 #![tactic(auto)]
 
 pub mod streams;

@@ -5,7 +5,7 @@ ghost use Rattle.ipc_carried.specs.Carried.{are_carried, is_carried_type};
 
 use lower::datatypes::{DataType, Field};
 
-/// Whether columns of the type are carried in streams: neither it nor a type in it is a dictionary or a union.
+/// Whether columns of the type are carried in streams: neither it nor a type in it is a dictionary.
 /// It takes no memory.
 #[cycle(types)]
 pub fn is_carried_type(data_type: &DataType) -> bool
@@ -16,8 +16,8 @@ pub fn is_carried_type(data_type: &DataType) -> bool
         | DataType::LargeList(field)
         | DataType::FixedSizeList(field, _)
         | DataType::Map(field, _) => is_carried_type(&field.data_type),
-        DataType::Struct(fields) => are_carried(fields),
-        DataType::Union(..) | DataType::Dictionary(..) => false,
+        DataType::Struct(fields) | DataType::Union(fields, _, _) => are_carried(fields),
+        DataType::Dictionary(..) => false,
         DataType::Extension(_, inner, _) => is_carried_type(inner),
         _ => true,
     }

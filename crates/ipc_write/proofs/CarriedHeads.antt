@@ -6,7 +6,7 @@ use Rattle.lower.specs.Normal.{norm, norm_field, norm_fields}
 use Rattle.lower.specs.TypeTrees.{TypeTree, plain, single, group, dictionary, extension, FieldTree, field, FieldTrees, no_fields, more_fields, Pairs}
 use Rattle.lower_types.specs.declared.Endianness.{Endianness}
 use Rattle.ipc_base.specs.IdTrees.{IdTrees}
-use Rattle.ipc_carried.specs.Carried.{IsCarried, are_carried, is_carried_field, is_carried_type, is_structure}
+use Rattle.ipc_carried.specs.Carried.{IsCarried, are_carried, is_carried_field, is_carried_type}
 use Rattle.ipc_devices.specs.declared.fault.ArgFault.TheVariants.{FieldsShape, NotWritable, TooLarge}
 use Rattle.ipc_devices.specs.declared.fault.Fault.{Fault}
 use Rattle.ipc_devices.specs.declared.fault.Fault.TheVariants.{Argument, Memory}
@@ -15,12 +15,12 @@ use Rattle.ipc_schema_write.specs.WriterAnswers.{RefusesSchema, written_as}
 use Rattle.ipc_write.specs.Writers.{RefusesStart}
 use Rattle.ipc_write.specs.declared.stream.WriterState.{WriterState}
 
--- the normal form has no dictionary and no union more
+-- the normal form has no dictionary more
 mutual
   normal_type : (t : TypeTree) → is_carried_type (norm t) ≡ is_carried_type t
   normal_type (plain p) = refl
   normal_type (single s f) = normal_field f
-  normal_type (group g fs) = ap (λ b. is_structure g && b) (normal_fields fs)
+  normal_type (group g fs) = normal_fields fs
   normal_type (dictionary keys t ordered) = refl
   normal_type (extension name t text) = normal_type t
 
@@ -47,7 +47,7 @@ mutual
   no_inner : (t : TypeTree) → IsTrue (is_carried_type t) → inner_places t ≡ []
   no_inner (plain p) h = refl
   no_inner (single s f) h = no_field f h
-  no_inner (group g fs) h = no_places fs (and_parts _ _ h).1
+  no_inner (group g fs) h = no_places fs h
   no_inner (dictionary keys t ordered) h = absurd cc
   no_inner (extension n t text) h = no_inner t h
 

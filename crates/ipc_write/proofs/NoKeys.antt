@@ -80,7 +80,7 @@ type_unkeyed (extension name t text) k h e = type_unkeyed t k h e
 fields_below : (t : TypeTree) → IsTrue (is_carried_type t) → IsTrue (are_carried (child_fields t))
 fields_below (plain p) h = refl
 fields_below (single s f) h = ap (λ b. b && true) h
-fields_below (group g fs) h = (and_parts _ _ h).1
+fields_below (group g fs) h = h
 fields_below (dictionary keys_type t ordered) h = refl
 fields_below (extension name t text) h = fields_below t h
 

@@ -66,7 +66,7 @@ fn record_message(
     }
 }
 
-// Refuses a column that isn't written yet: one that has a dictionary or a union in it.
+// Refuses a column that isn't written yet: one that has a dictionary in it.
 fn check_column(array: &AnyArray) -> Result<(), Fault>
     ensures ok { OnOk result (IsCarried array.now) }
     ensures valid { IsArray (layout_of array.now) }
@@ -92,7 +92,7 @@ fn check_columns(columns: &[AnyArray]) -> Result<(), Fault>
 
 /// Plans a chunk, with its numbers in this order of bytes. No byte of the columns is moved.
 ///
-/// Faults: `NotYetImplemented(Pending)` for a column that has a dictionary or a union in it; `Argument(TooLong)` where an array has more than `2^63 - 1`
+/// Faults: `NotYetImplemented(Pending)` for a column that has a dictionary in it; `Argument(TooLong)` where an array has more than `2^63 - 1`
 /// slots; `Argument(TooLarge)` where the body would end past `2^63 - 1`; `Memory`.
 pub(crate) fn plan_chunk<'a>(
     alloc: Global,

@@ -217,7 +217,7 @@ impl<W: Writes + Drop> StreamWriter<W> {
     /// and on, in pre-order.
     ///
     /// Faults: `State(AlreadyStarted)`, `State(Finished)`, `State(Failed)` by the writer's state;
-    /// `NotYetImplemented(Pending)` where a field has a dictionary or a union in it; `Argument(FieldsShape)`
+    /// `NotYetImplemented(Pending)` where a field has a dictionary in it; `Argument(FieldsShape)`
     /// where the ids don't fit the fields; `Argument(NotWritable)` where a type can't be written, or the
     /// schema's weight is above `2^30`; `Memory`: after these nothing was sent and the writer
     /// is as it was. `Io` where the device failed, or where it is memory whose growth was refused: then
@@ -266,7 +266,7 @@ impl<W: Writes + Drop> StreamWriter<W> {
     /// Faults: `State(NotStarted)`, `State(Finished)`, `State(Failed)` by the writer's state;
     /// `Argument(FieldsDiffer)` for other ids; `Argument(ColumnCount)` for another number of columns;
     /// `Argument(ColumnType)` for a column of another type, both in their normal form;
-    /// `NotYetImplemented(Pending)` for a column that has a dictionary or a union in it;
+    /// `NotYetImplemented(Pending)` for a column that has a dictionary in it;
     /// `Argument(TooLong)` where an array has more than `2^63 - 1` slots; `Argument(TooLarge)` where the body would end past `2^63 - 1`, or the metadata would have more
     /// than `2^31 - 1` bytes; `Memory`: after these nothing was sent and the writer is as it was. `Io`
     /// where the device failed, or where it is memory whose growth was refused: then some of the first
