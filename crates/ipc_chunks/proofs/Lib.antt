@@ -1,0 +1,9 @@
+pub mod Taken
+pub mod Dictionaries
+pub mod Fields
+pub mod Messages
+pub mod Counts
+pub mod Rows
+pub mod Types
+pub mod Refusals
+pub mod Meanings

@@ -1,0 +1,58 @@
+-- What the messages of a chunk do to a reader.
+-- (Arrow columnar format, "IPC Streaming Format".)
+use Rattle.std.specs.Prelude.{◌≢◌, ◌⊎◌, Bool, ℕ, IsTrue, List, [], ◌∷◌, ◌++◌, length}
+use Rattle.std.specs.List.{AllByRecursion}
+use Rattle.lower_types.specs.declared.Endianness.{Endianness}
+use Rattle.lower_arrays.specs.Layouts.{Layout, layouts}
+use Rattle.lower_arrays.specs.Slots.{AreArrays}
+use Rattle.ipc_base.specs.Fitting.{AllFit}
+use Rattle.ipc_base.specs.IdTrees.{IdTrees}
+use Rattle.ipc_devices.specs.declared.fault.ArgFault.TheVariants.{ColumnCount, DictionaryReplaced, FieldsShape, NotWritable, SharedDictionary, TooLarge, TooLong}
+use Rattle.ipc_devices.specs.declared.fault.Fault.{Fault}
+use Rattle.ipc_devices.specs.declared.fault.Fault.TheVariants.{Argument, Memory}
+use Rattle.ipc_encode.specs.declared.common.EncodedData.{EncodedData}
+use Rattle.ipc_laws.specs.Chunks.{head_encoded}
+use Rattle.ipc_laws.specs.Messages.{chunk_written, message_bytes}
+use Rattle.ipc_laws.specs.Moves.{MeansChunk}
+use Rattle.ipc_model.specs.Accepted.{AreKept, AreShared, IsEncoded, IsSayable, body_length}
+use Rattle.ipc_model.specs.Offers.{offer_of}
+use Rattle.ipc_model.specs.Writable.{IsWritable}
+use Rattle.ipc_tracker.specs.Places.{HaveIds, keyed_of}
+use Rattle.ipc_tracker.specs.Trackers.{Remembered}
+use Rattle.ipc_chunks.specs.Chunks.{EncodesChunk, RefusesChunk, encoded_fields, id_number}
+
+-- messages as they stand in a stream, one behind the other
+abbrev pub encoded_bytes : List EncodedData → List ℕ
+encoded_bytes [] = []
+encoded_bytes (encoded ∷ rest) = message_bytes encoded.ipc_message.items encoded.arrow_data.items ++ encoded_bytes rest
+
+-- the messages of the dictionaries, and then that of the columns
+abbrev pub chunk_bytes : List EncodedData → EncodedData → List ℕ
+chunk_bytes dictionaries encoded = encoded_bytes dictionaries ++ message_bytes encoded.ipc_message.items encoded.arrow_data.items
+
+-- What is encoded of columns that are accepted means just these columns, in a stream of their types, whatever follows; and a reader that
+-- knew what was remembered before knows what is remembered then.
+abbrev pub MeaningLaw : Type 0
+MeaningLaw = (order : Endianness) (m after : Remembered) (fixed : Bool) (columns : List Layout) (is : IdTrees) (dictionaries : List EncodedData) (encoded : EncodedData)
+    → EncodesChunk order m fixed columns is dictionaries encoded after → IsEncoded is (offer_of columns is)
+    → MeansChunk (head_encoded order is columns) (chunk_bytes dictionaries encoded) m after (chunk_written columns)
+
+-- ---- refusals
+
+-- which condition a chunk that is refused doesn't meet
+abbrev pub Misses : Remembered → Bool → List Layout → IdTrees → Fault → Type 0
+Misses m fixed columns is Memory = Unit {0}
+Misses m fixed columns is (Argument ColumnCount) = length columns ≢ id_number is
+Misses m fixed columns is (Argument FieldsShape) = (AllFit (encoded_fields columns) is → ⊥) ⊎ (HaveIds (keyed_of (layouts columns) is) → ⊥)
+Misses m fixed columns is (Argument NotWritable) = IsWritable (encoded_fields columns) [] is → ⊥
+Misses m fixed columns is (Argument (SharedDictionary j)) = AreShared (offer_of columns is).dictionaries → ⊥
+Misses m fixed columns is (Argument (DictionaryReplaced j)) =
+    IsTrue fixed × (AllByRecursion (λ p. AreKept (m p.id) p.values) (offer_of columns is).dictionaries → ⊥)
+Misses m fixed columns is (Argument TooLong) = AllByRecursion IsSayable (offer_of columns is).nodes → ⊥
+Misses m fixed columns is (Argument TooLarge) = AllByRecursion (λ lengths. IsSayable (body_length lengths)) (offer_of columns is).bodies → ⊥
+Misses m fixed columns is _ = ⊥
+
+-- Of columns, which are arrays, each refusal but that of memory names a condition of the columns that are encoded, and it isn't met.
+abbrev pub MissesLaw : Type 0
+MissesLaw = (m : Remembered) (fixed : Bool) (columns : List Layout) (is : IdTrees) (e : Fault) → AreArrays (layouts columns) → RefusesChunk m fixed columns is e
+    → Misses m fixed columns is e

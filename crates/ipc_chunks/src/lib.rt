@@ -1,0 +1,6 @@
+//! Encodes chunks as the messages of a stream.
+#![tactic(auto)]
+
+pub mod common;
+pub mod laws;
+mod writable;
