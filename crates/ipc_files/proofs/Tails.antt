@@ -1,0 +1,110 @@
+-- What a file's metadata mean, by its head, its tail and its footer.
+use Rattle.std.proofs.Common.{◌≡◌, ℕ, ◌+◌, ◌-◌, ◌^◌, ◌<◌, ◌≤◌, Bool, true, false, List, length, take, drop, Option, None, Ok, Err, refl, sym, ap, ◌∙◌, arith, nat_lt, bytes_eq, if◌then◌else◌, ◌&&◌, not}
+use Rattle.std.specs.Int.{w32, from_le_bytes}
+use Rattle.std.proofs.lemmas.Slice.Eq.{bytes_eq-Decides}
+use Rattle.std.proofs.lemmas.List.{take_all, drop-drop, length-drop}
+use Rattle.ipc_devices.specs.declared.fault.Fault.TheVariants.{OutOfSpec}
+use Rattle.ipc_devices.specs.declared.fault.OutOfSpecKind.TheVariants.{InvalidFooter, NegativeFooterLength}
+use Rattle.ipc_views.specs.Tables.{root_at}
+use Rattle.ipc_model.specs.Files.{FileMetadata, footer_at, footer_of_length, last, magic, metadata_of}
+use Rattle.ipc_model.specs.Schemas.{made, given}
+use Rattle.ipc_files.specs.Files.{footer_length, stated_length}
+
+-- ---- tests
+
+below : (n m : ℕ) → n < m → nat_lt n m ≡ true
+below n m h = search arith
+
+not-below : (n m : ℕ) → m ≤ n → nat_lt n m ≡ false
+not-below n m h = search arith
+
+is-below : (n m : ℕ) → nat_lt n m ≡ true → n < m
+is-below n m h = search arith
+
+isnt-below : (n m : ℕ) → nat_lt n m ≡ false → m ≤ n
+isnt-below n m h = search arith
+
+same-bytes : (xs ys : List ℕ) → xs ≡ ys → bytes_eq xs ys ≡ true
+same-bytes xs ys h = (bytes_eq-Decides xs ys).1 h
+
+not-false : (b : Bool) → not b ≡ false → b ≡ true
+not-false true e = refl
+not-false false e = cc
+
+-- ---- the length of a footer
+
+pub tail-magic : (tail : List ℕ) (other : Bool) → length tail ≡ 10 → other ≡ not (bytes_eq (take 6 (drop 4 tail)) magic) → other ≡ false
+    → bytes_eq (drop 4 tail) magic ≡ true
+tail-magic tail other len test same =
+    let whole : take 6 (drop 4 tail) ≡ drop 4 tail = take_all 6 (drop 4 tail) (omega (arith, length-drop 4 tail, len)) in
+    ap (λ xs. bytes_eq xs magic) (sym whole) ∙ not-false _ (sym test ∙ same)
+
+pub states : (tail : List ℕ) (n : ℕ) → bytes_eq (drop 4 tail) magic ≡ true → from_le_bytes w32 (take 4 tail) ≡ n → n < 2 ^ 31 → footer_length tail ≡ Ok n
+unfolding footer_length
+states tail n m is h = rw (m, is, below n (2 ^ 31) h) refl
+
+pub states-below-0 : (tail : List ℕ) (n : ℕ) → bytes_eq (drop 4 tail) magic ≡ true → from_le_bytes w32 (take 4 tail) ≡ n → 2 ^ 31 ≤ n → footer_length tail ≡ Err (OutOfSpec NegativeFooterLength)
+unfolding footer_length
+states-below-0 tail n m is h = rw (m, is, not-below n (2 ^ 31) h) refl
+
+stated-by : (t : Bool) (m n k : ℕ) → nat_lt n m ≡ t → (if t then Ok n else Err (OutOfSpec NegativeFooterLength)) ≡ Ok k → (nat_lt k m ≡ true) × (n ≡ k)
+stated-by true m n k e s = let same : n ≡ k = cc in (ap (λ x. nat_lt x m) (sym same) ∙ e, same)
+stated-by false m n k e s = cc
+
+stated-where : (b : Bool) (n k : ℕ) → (if b then stated_length n else Err (OutOfSpec InvalidFooter)) ≡ Ok k
+    → (b ≡ true) × ((nat_lt k (2 ^ 31) ≡ true) × (n ≡ k))
+stated-where true n k s = (refl, stated-by (nat_lt n (2 ^ 31)) (2 ^ 31) n k refl s)
+stated-where false n k s = cc
+
+-- what a tail is that states a length
+abbrev Stated : List ℕ → ℕ → Type 0
+Stated tail k = (bytes_eq (drop 4 tail) magic ≡ true) × ((nat_lt k (2 ^ 31) ≡ true) × (from_le_bytes w32 (take 4 tail) ≡ k))
+
+is-stated : (tail : List ℕ) (k : ℕ) → footer_length tail ≡ Ok k → Stated tail k
+unfolding footer_length
+is-stated tail k s = stated-where (bytes_eq (drop 4 tail) magic) (from_le_bytes w32 (take 4 tail)) k s
+
+-- ---- the metadata
+
+-- the last 6 bytes end the last 10
+ends : (bytes : List ℕ) → 10 ≤ length bytes → drop 4 (last 10 bytes) ≡ last 6 bytes
+ends bytes h = let e : length bytes - 10 + 4 ≡ length bytes - 6 = omega (arith, h) in
+    drop-drop 4 (length bytes - 10) bytes ∙ ap (λ n. drop n bytes) e
+
+abbrev Meant : List ℕ → ℕ → Option FileMetadata
+Meant bytes n = given (made (root_at (take n (last (n + 10) bytes)))) (footer_at (length bytes))
+
+-- A file with its head, its tail and the footer that it states means what the footer says.
+pub metadata-is : (bytes : List ℕ) (n : ℕ) → take 6 bytes ≡ magic → n + 10 ≤ length bytes → footer_length (last 10 bytes) ≡ Ok n → metadata_of bytes ≡ Meant bytes n
+unfolding metadata_of
+metadata-is bytes n head fits s =
+    let st = is-stated (last 10 bytes) n s in
+    let tail : bytes_eq (last 6 bytes) magic ≡ true = ap (λ xs. bytes_eq xs magic) (sym (ends bytes (omega (arith, fits)))) ∙ st.0 in
+    rw (not-below (length bytes) 10 (omega (arith, fits)), same-bytes (take 6 bytes) magic head, tail, st.1.1, st.1.0, not-below (length bytes) (n + 10) fits) refl
+
+no-head : (a b c : Bool) (o : Option FileMetadata) → (b ≡ true → ⊥) → (if a then None else if b && c then o else None) ≡ None
+no-head true b c o e = refl
+no-head false true c o e = absurd (e refl)
+no-head false false c o e = refl
+
+pub other-head : (bytes : List ℕ) → (take 6 bytes ≡ magic → ⊥) → metadata_of bytes ≡ None
+unfolding metadata_of
+other-head bytes h = no-head (nat_lt (length bytes) 10) (bytes_eq (take 6 bytes) magic) (bytes_eq (last 6 bytes) magic)
+    (footer_of_length bytes (from_le_bytes w32 (take 4 (last 10 bytes)))) (λ e. h ((bytes_eq-Decides (take 6 bytes) magic).0 e))
+
+no-tail : (a b c t u : Bool) (o : Option FileMetadata) → (a ≡ false → c ≡ true → t ≡ true → u ≡ false → ⊥)
+    → (if a then None else if b && c then (if t then (if u then None else o) else None) else None) ≡ None
+no-tail true b c t u o h = refl
+no-tail false false c t u o h = refl
+no-tail false true false t u o h = refl
+no-tail false true true false u o h = refl
+no-tail false true true true true o h = refl
+no-tail false true true true false o h = absurd (h refl refl refl refl)
+
+pub other-tail : (bytes : List ℕ) → ((n : ℕ) → n + 10 ≤ length bytes → footer_length (last 10 bytes) ≡ Ok n → ⊥) → metadata_of bytes ≡ None
+unfolding metadata_of
+other-tail bytes h =
+    let n = from_le_bytes w32 (take 4 (last 10 bytes)) in
+    no-tail (nat_lt (length bytes) 10) (bytes_eq (take 6 bytes) magic) (bytes_eq (last 6 bytes) magic) (nat_lt n (2 ^ 31)) (nat_lt (length bytes) (n + 10)) (Meant bytes n)
+    (λ long tail small whole. h n (isnt-below (length bytes) (n + 10) whole)
+    (states (last 10 bytes) n (ap (λ xs. bytes_eq xs magic) (ends bytes (isnt-below (length bytes) 10 long)) ∙ tail) refl (is-below n (2 ^ 31) small)))

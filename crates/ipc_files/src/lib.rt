@@ -1,0 +1,4 @@
+//! Reads files.
+#![tactic(auto)]
+
+pub mod read;

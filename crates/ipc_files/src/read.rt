@@ -1,0 +1,2 @@
+//! Reads the Arrow IPC file format.
+pub mod file;

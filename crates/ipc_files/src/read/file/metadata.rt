@@ -1,0 +1,193 @@
+//! The metadata of a file, which its footer holds.
+ghost use Rattle.std.specs.Prelude.{◌≡◌, ◌+◌, ◌≤◌, ◌<◌, ◌^◌, length, take, drop, IsTrue, IfOk, IfErr, OnErr};
+ghost use Rattle.ipc_devices.specs.Device.{Rises, after};
+ghost use Rattle.ipc_devices.specs.Faults.{OnIo, OwnFault, Answers};
+ghost use Rattle.ipc_devices.specs.declared.fault.Fault.TheVariants.{Ended};
+ghost use Rattle.lower.specs.TypeViews.{fields_view, schema_view, pairs_of};
+ghost use Rattle.ipc_base.specs.Fitting.{AllFit};
+ghost use Rattle.ipc_base.specs.IdTrees.{all_ids_view, ipc_schema_view};
+ghost use Rattle.ipc_model.specs.Files.{magic, metadata_of, or_no_blocks};
+ghost use Rattle.ipc_files.specs.Footers.{file_seen, optional_blocks, GivesPart};
+ghost use Rattle.ipc_files.specs.Files.{FileFault, HeadFault, TailFault, GivesTail, footer_length};
+
+use crate::read::file::footer::deserialize_footer;
+use ipc_base::ipc::IpcSchema;
+use ipc_devices::fault::{Fault, Nyi, OutOfSpecKind};
+use ipc_devices::{Reads, Seeks, fill, read_bytes};
+use ipc_views::Block;
+use lower::datatypes::clones::clone_metadata;
+use lower::datatypes::{Metadata, Schema};
+use std::alloc::{AllocError, Global};
+
+// What stands at both ends of a file: ARROW1.
+const ARROW_MAGIC_V2: [u8; 6] = *b"ARROW1";
+
+// What a file of the older Feather format begins with.
+const ARROW_MAGIC_V1: [u8; 4] = *b"FEA1";
+
+/// What the footer of a file says of all that stands before it.
+#[derive(Debug, Drop)]
+pub struct FileMetadata {
+    /// The names and the types of the columns.
+    pub schema: Schema,
+    /// The ids of the dictionaries, and the byte order of the bodies.
+    pub ipc_schema: IpcSchema,
+    /// Where the record batches stand.
+    pub blocks: Vec<Block>,
+    /// Where the dictionary batches stand, where the footer says it.
+    pub(crate) dictionaries: Option<Vec<Block>>,
+    /// The number of bytes of the file.
+    pub size: u64,
+    /// The pairs of texts that belong to the file.
+    pub custom_metadata: Metadata,
+}
+
+impl FileMetadata {
+    /// Where the dictionary batches stand. There are none where the footer has no vector of them. It takes no memory.
+    pub fn dictionary_blocks(&self) -> &[Block]
+        ensures { result.now ≡ or_no_blocks (optional_blocks self.now.dictionaries) }
+    {
+        match &self.dictionaries {
+            Some(blocks) => blocks.as_slice(),
+            None => &[],
+        }
+    }
+
+    /// The same once more; it fails only where there is no memory.
+    pub fn clone(&self) -> Result<FileMetadata, AllocError>
+        ensures schema { IfOk result (λ copy. schema_view copy.schema ≡ schema_view self.now.schema) }
+        ensures ids { IfOk result (λ copy.
+            ipc_schema_view copy.ipc_schema ≡ ipc_schema_view self.now.ipc_schema) }
+        ensures blocks { IfOk result (λ copy. copy.blocks.items ≡ self.now.blocks.items) }
+        ensures dictionaries { IfOk result (λ copy.
+            optional_blocks copy.dictionaries ≡ optional_blocks self.now.dictionaries) }
+        ensures size { IfOk result (λ copy. copy.size ≡ self.now.size) }
+        ensures pairs { IfOk result (λ copy.
+            pairs_of copy.custom_metadata.entries ≡ pairs_of self.now.custom_metadata.entries) }
+    {
+        let dictionaries = match &self.dictionaries {
+            Some(blocks) => Some(blocks.clone()?),
+            None => None,
+        };
+        Ok(FileMetadata {
+            schema: self.schema.clone()?,
+            ipc_schema: self.ipc_schema.clone()?,
+            blocks: self.blocks.clone()?,
+            dictionaries,
+            size: self.size,
+            custom_metadata: clone_metadata(&self.custom_metadata)?,
+        })
+    }
+}
+
+// Reads until the buffer is full.
+fn read_exact<R: Reads>(reader: &mut R, buf: &mut [u8]) -> Result<(), Fault>
+    ensures only { IfErr result (λ e. OwnFault e (e ≡ Ended)) }
+    ensures monotone { R.failures reader.old ≤ R.failures reader.new }
+    ensures failed { OnIo result (Rises (R.failures reader.old) (R.failures reader.new)) }
+    ensures given { R.given reader.new ≤ R.given reader.old + length buf.old }
+    ensures memory { IsTrue R.known → Answers result
+        (length buf.old ≤ length (after (R.memory reader.old)))
+        (λ _. buf.new ≡ take (length buf.old) (after (R.memory reader.old))) }
+    ensures whole { IsTrue R.still → (R.memory reader.new).whole ≡ (R.memory reader.old).whole }
+{
+    let n = fill(reader, buf)?;
+    if n < buf.len() {
+        return Err(Fault::Ended);
+    }
+    Ok(())
+}
+
+// Reads what a file has to begin with.
+fn read_head<R: Reads>(reader: &mut R) -> Result<(), Fault>
+    ensures only { IfErr result (λ e. OwnFault e (HeadFault e)) }
+    ensures monotone { R.failures reader.old ≤ R.failures reader.new }
+    ensures failed { OnIo result (Rises (R.failures reader.old) (R.failures reader.new)) }
+    ensures memory { IsTrue R.known → Answers result
+        (take 6 (after (R.memory reader.old)) ≡ magic)
+        (λ _. Unit {0}) }
+    ensures whole { IsTrue R.still → (R.memory reader.new).whole ≡ (R.memory reader.old).whole }
+{
+    let mut head = [0; 6];
+    read_exact(reader, &mut head)?;
+    if head == ARROW_MAGIC_V2 {
+        return Ok(());
+    }
+    if head.starts_with(&ARROW_MAGIC_V1) {
+        return Err(Fault::NotYetImplemented(Nyi::FeatherV1));
+    }
+    Err(Fault::OutOfSpec(OutOfSpecKind::InvalidHeader))
+}
+
+// The length of the footer, as the last ten bytes of a file state it.
+#[tactic(auto, unfolding(crate::specs::Files::footer_length))]
+fn footer_length(tail: &[u8; 10]) -> Result<u32, Fault>
+    ensures value { result ≡ footer_length tail.now }
+    ensures short { IfOk result (λ n. n < 2 ^ 31) }
+    ensures only { IfErr result (λ e. OwnFault e (TailFault e)) }
+    ensures device { OnIo result ⊥ }
+{
+    if &tail[4..] != &ARROW_MAGIC_V2[..] {
+        return Err(Fault::OutOfSpec(OutOfSpecKind::InvalidFooter));
+    }
+    let mut length = [0; 4];
+    length.copy_from_slice(&tail[..4]);
+    let length = u32::from_le_bytes(length);
+    if length > i32::MAX as u32 {
+        return Err(Fault::OutOfSpec(OutOfSpecKind::NegativeFooterLength));
+    }
+    Ok(length)
+}
+
+// Where the file ends, and how long its footer is.
+fn read_footer_len<R: Reads + Seeks>(reader: &mut R) -> Result<(u64, u32), Fault>
+    ensures inside { IfOk result (λ t. t.1 + 10 ≤ t.0) }
+    ensures short { IfOk result (λ t. t.1 < 2 ^ 31) }
+    ensures only { IfErr result (λ e. OwnFault e (TailFault e)) }
+    ensures monotone { R.failures reader.old ≤ R.failures reader.new }
+    ensures failed { OnIo result (Rises (R.failures reader.old) (R.failures reader.new)) }
+    ensures memory { IsTrue R.known → GivesTail (R.memory reader.old).whole result }
+    ensures whole { IsTrue R.still → (R.memory reader.new).whole ≡ (R.memory reader.old).whole }
+{
+    let end = reader.seek_end()?;
+    if end < 10 {
+        return Err(Fault::Ended);
+    }
+    reader.seek_to(end - 10)?;
+    let mut tail = [0; 10];
+    read_exact(reader, &mut tail)?;
+    let length = footer_length(&tail)?;
+    if (length as u64) + 10 > end {
+        return Err(Fault::Ended);
+    }
+    Ok((end, length))
+}
+
+/// Reads what the footer of a file says. The file begins where the reader stands, and ends where the device does.
+///
+/// Over memory that is read from its beginning it is Ok exactly where the file's metadata have a meaning. Faults:
+/// `Ended` where the file is shorter than its head and its tail, or than the footer that it states;
+/// `NotYetImplemented(FeatherV1)` and `OutOfSpec(InvalidHeader)` where it begins with `FEA1`, or with anything else but
+/// `ARROW1`; `OutOfSpec(InvalidFooter)` where it doesn't end with that; `OutOfSpec(NegativeFooterLength)` where the
+/// length of the footer is below 0; of the footer those of [`deserialize_footer`]; `Io` and `Memory`. For a stated length
+/// that isn't there no memory is taken. After a fault the reader stands anywhere.
+pub fn read_file_metadata<R: Reads + Seeks>(
+    alloc: Global,
+    reader: &mut R,
+) -> Result<FileMetadata, Fault>
+    ensures only { IfErr result (λ e. OwnFault e (FileFault e)) }
+    ensures fits { IfOk result (λ m. AllFit (fields_view m.schema.fields.items)
+        (all_ids_view m.ipc_schema.fields.items)) }
+    ensures monotone { R.failures reader.old ≤ R.failures reader.new }
+    ensures failed { OnIo result (Rises (R.failures reader.old) (R.failures reader.new)) }
+    ensures memory { IsTrue R.known → (R.memory reader.old).place ≡ 0
+        → GivesPart file_seen result (metadata_of (R.memory reader.old).whole) }
+    ensures whole { IsTrue R.still → (R.memory reader.new).whole ≡ (R.memory reader.old).whole }
+{
+    let start = reader.position()?;
+    read_head(reader)?;
+    let (end, length) = read_footer_len(reader)?;
+    reader.seek_to(end - 10 - length as u64)?;
+    let footer = read_bytes(alloc, reader, length as usize)?;
+    deserialize_footer(alloc, &footer, end.saturating_sub(start))
+}
