@@ -1,5 +1,6 @@
 //! Reading.
 pub use ipc_devices::OutOfSpecKind;
+pub use ipc_files::read::file::{FileMetadata, read_file_metadata};
 pub use ipc_projections::read::prepare::prepare_projection;
 pub use ipc_projections::read::projection::{
     ProjectionIter, ProjectionResult, apply_projection, is_prepared, is_projection, is_reordering,

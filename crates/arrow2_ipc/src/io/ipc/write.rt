@@ -1,4 +1,5 @@
 //! Writing.
+pub use ipc_chunks::common::{encode_chunk, encode_chunk_amortized};
 pub use ipc_encode::common::{EncodedData, Record, WriteOptions};
 pub use ipc_encode::serialize::write;
 pub use ipc_schema_write::defaults::default_ipc_fields;
