@@ -1,6 +1,6 @@
 -- Columns of every kind, by their levels.
 use Rattle.std.specs.Prelude.{string_bytes}
-use Rattle.std.proofs.Common.{◌≡◌, refl, ℕ, ℤ, ◌+◌, List, [], ◌∷◌, Option, None, Some, sym, ap, subst, ◌∙◌}
+use Rattle.std.proofs.Common.{◌≡◌, refl, ℕ, ℤ, ◌+◌, List, [], ◌∷◌, Option, Some, sym, ap, subst, ◌∙◌}
 use Rattle.lower.specs.TypeTrees.{TypeTree, field, FieldTree, FieldTrees, no_fields, more_fields}
 use Rattle.lower.specs.TypeViews.{type_step, field_step, type_view, field_view, pairs_of}
 use Rattle.lower.specs.declared.datatypes.Field.{Field}
@@ -17,7 +17,7 @@ use Rattle.ipc_model.specs.TypeKinds.{field_kind, kind_of}
 use Rattle.ipc_model.specs.Entries.{Entries, Limit, rows}
 use Rattle.ipc_model.specs.Columns.{Begins, Offsets, last_offset, IsWell}
 use Rattle.ipc_model.specs.ReadArrays.{offset_type, first_type, array_at}
-use Rattle.ipc_columns.specs.Kinds.{IsStored, IsRead}
+use Rattle.ipc_columns.specs.Kinds.{IsStored}
 use Rattle.ipc_columns.specs.ListHeads.{AreListsAt}
 
 -- ---- types and ids
@@ -79,31 +79,27 @@ array_type s vs (extension_kind t) u a b limit = array_type s vs t u a b limit
 -- what is known of the column of lists at node a and buffer b: k are read, the last offset, the child's kind
 module _ (s : Entries) (vs : Option ℤ → Layout) (form : OffsetWidth) (t : Kind) (u : TypeTree) (a b : ℕ) (limit : Limit) (os : List ℕ) (v : Validity) (last : ℕ) (f : FieldTree) (ut : TypeTree)
     (at : AreListsAt s form a b (rows s a limit) os v last) (fields : child_fields u ≡ more_fields f no_fields) (typed : field_type f ≡ ut) where
-  pub list_child : IsRead (list_kind form t) × IsWell s (list_kind form t) a b limit → IsRead t × IsWell s t (a + 1) (b + 2) (Some last)
-  list_child h = (h.0, subst (λ (n : ℕ). IsWell s t (a + 1) (b + 2) (Some n)) (sym at.ends) h.1.2.0)
+  pub list_child : IsWell s (list_kind form t) a b limit → IsWell s t (a + 1) (b + 2) (Some last)
+  list_child h = subst (λ (n : ℕ). IsWell s t (a + 1) (b + 2) (Some n)) (sym at.ends) h.2.0
 
   pub child_typed : (c : Layout) → c ≡ array_at s vs t ut (a + 1) (b + 2) (Some last) → FieldTypes (child_fields u) (type_of c ∷ [])
   child_typed c e = subst (λ (fs : FieldTrees). FieldTypes fs (type_of c ∷ [])) (sym fields) (ap type_of e ∙ array_type s vs t ut (a + 1) (b + 2) (Some last) ∙ sym typed, tt)
 
-  pub list_len : (c : Layout) → c ≡ array_at s vs t ut (a + 1) (b + 2) (Some last) → IsRead (list_kind form t) × IsWell s (list_kind form t) a b limit → len_of c ≡ last
+  pub list_len : (c : Layout) → c ≡ array_at s vs t ut (a + 1) (b + 2) (Some last) → IsWell s (list_kind form t) a b limit → len_of c ≡ last
   list_len c e h =
-      ap len_of e ∙ array_len s vs t ut (a + 1) (b + 2) (Some last) ∙ ap (λ n. rows s (a + 1) (Some n)) at.ends ∙ h.1.2.1 ∙ sym at.ends
+      ap len_of e ∙ array_len s vs t ut (a + 1) (b + 2) (Some last) ∙ ap (λ n. rows s (a + 1) (Some n)) at.ends ∙ h.2.1 ∙ sym at.ends
 
   pub list_well : (c : Layout) → Begins s a b (rows s a limit) × Offsets s (b + 1) (offset_width form) (rows s a limit)
-      → (IsRead t × IsWell s t (a + 1) (b + 2) (Some last)) × (c ≡ array_at s vs t ut (a + 1) (b + 2) (Some last)) → len_of c ≡ last
-      → IsRead (list_kind form t) × IsWell s (list_kind form t) a b limit
-  list_well c head child len =
-      let n = last_offset s (b + 1) (offset_width form) (rows s a limit) in (
-        child.0.0,
-        (
-          head.0,
-          head.1,
-          (
-            subst (λ (m : ℕ). IsWell s t (a + 1) (b + 2) (Some m)) at.ends child.0.1,
-            ap (λ m. rows s (a + 1) (Some m)) (sym at.ends) ∙ sym (array_len s vs t ut (a + 1) (b + 2) (Some last)) ∙ sym (ap len_of child.1) ∙ len ∙ at.ends,
-          ),
-        ),
-      )
+      → IsWell s t (a + 1) (b + 2) (Some last) × (c ≡ array_at s vs t ut (a + 1) (b + 2) (Some last)) → len_of c ≡ last
+      → IsWell s (list_kind form t) a b limit
+  list_well c head child len = (
+    head.0,
+    head.1,
+    (
+      subst (λ (m : ℕ). IsWell s t (a + 1) (b + 2) (Some m)) at.ends child.0,
+      ap (λ m. rows s (a + 1) (Some m)) (sym at.ends) ∙ sym (array_len s vs t ut (a + 1) (b + 2) (Some last)) ∙ sym (ap len_of child.1) ∙ len ∙ at.ends,
+    ),
+  )
 
   pub list_array : (c : Layout) (p : PrimitiveType) (x : Layout) → p ≡ offset_type form → c ≡ array_at s vs t ut (a + 1) (b + 2) (Some last) → x ≡ list_layout (list_seen u p os c v)
       → x ≡ array_at s vs (list_kind form t) u a b limit

@@ -11,12 +11,12 @@ use Rattle.std.specs.declared.rc.Rc.{Rc}
 use Rattle.lower.specs.Normal.{norm}
 use Rattle.lower.specs.TypeTrees.{TypeTree}
 use Rattle.lower_arrays.specs.AnyLayouts.{layout_of}
-use Rattle.lower_arrays.specs.Layouts.{Layout, type_of, len_of}
+use Rattle.lower_arrays.specs.Layouts.{type_of, len_of}
 use Rattle.lower_arrays.specs.Slots.{Slot, slot_at, slots, slots_from}
 use Rattle.lower_arrays.specs.declared.array.AnyArray.{AnyArray}
 use Rattle.ipc_devices.specs.Device.{Memory}
 use Rattle.ipc_model.specs.Columns.{values_type, slots_in, values_slots}
-use Rattle.ipc_model.specs.Entries.{Entries, Dictionary, Dictionaries, dictionary_at}
+use Rattle.ipc_model.specs.Entries.{Dictionary, dictionary_at}
 use Rattle.ipc_model.specs.ReadArrays.{AreValues}
 use Rattle.ipc_columns.specs.Bodies.{dictionary_of, known_entry, known_dictionaries, array_found, entries, known}
 use Rattle.ipc_columns.specs.declared.read.body.Body.{Body}

@@ -6,11 +6,11 @@ use Rattle.lower.specs.declared.datatypes.UnionMode.TheVariants.{Sparse, Dense}
 use Rattle.lower_types.specs.NumberTypes.{width_of}
 use Rattle.lower_types.specs.declared.PrimitiveType.TheVariants.{Int8, Int32}
 use Rattle.lower_rules.specs.Fields.{child_fields}
-use Rattle.lower_arrays.specs.Layouts.{nothing, truths, numbers, fixed_bytes, bytes, texts, lists, fixed_lists, maps, records, choices, keys, Layout, layout, Layouts, no_layouts, more_layouts}
+use Rattle.lower_arrays.specs.Layouts.{nothing, truths, numbers, fixed_bytes, bytes, texts, lists, fixed_lists, maps, records, choices, keys, Layout, layout, no_layouts, more_layouts}
 use Rattle.ipc_devices.specs.Device.{Memory}
 use Rattle.ipc_model.specs.Kinds.{offsets_32, offset_width, Kind, null_kind, boolean_kind, number_kind, float_kind, fixed_binary_kind, binary_kind, utf8_kind, list_kind, map_kind, fixed_list_kind, struct_kind, union_kind, dictionary_kind, extension_kind, Kinds, no_kinds, more_kinds, count, nodes, buffers}
-use Rattle.ipc_model.specs.Entries.{Entries, IsSize, size, node, Limit, rows, times, bytes_for, Need}
-use Rattle.ipc_model.specs.Columns.{Begins, last_offset, HasBytes, AreTexts, IsUnion, HasTypes, Reaches, HasValues, IsPair, IsList, IsWell, AllHaveRows, AllWell}
+use Rattle.ipc_model.specs.Entries.{Entries, node, Limit, rows, times, bytes_for, Need}
+use Rattle.ipc_model.specs.Columns.{Begins, last_offset, HasBytes, AreTexts, HasTypes, Reaches, HasValues, IsPair, IsList, IsWell, AllHaveRows}
 use Rattle.ipc_model.specs.ReadArrays.{bits_of, numbers_of, integers_of, offsets_of, bytes_of, offset_type, key_type, first_type, other_fields, only, masked_level, whole_level, cut_by, array_at, arrays_at}
 use Rattle.ipc_columns.specs.Bodies.{entries}
 use Rattle.ipc_columns.specs.Limits.{IsTimes, SameRows}

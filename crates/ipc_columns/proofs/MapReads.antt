@@ -1,5 +1,5 @@
 -- Columns of maps.
-use Rattle.std.proofs.Common.{arith, ◌≡◌, refl, ℕ, ℤ, ◌+◌, ◌<◌, ◌≤◌, Bool, Box, Global, List, [], ◌∷◌, Option, None, Some, sym, ap, subst, ◌∙◌}
+use Rattle.std.proofs.Common.{arith, ◌≡◌, refl, ℕ, ℤ, ◌+◌, Bool, Box, Global, List, [], ◌∷◌, Option, Some, sym, ap, subst, ◌∙◌}
 use denote.Hole.Carrier.{out}
 use Rattle.lower.specs.TypeTrees.{Plain, null, boolean, int8, int16, int32, int64, uint8, uint16, uint32, uint64, float16, float32, float64, timestamp, date32, date64, time32, time64, duration, interval, binary, fixed_binary, large_binary, utf8, large_utf8, decimal, decimal256, list, large_list, fixed_list, entries as pairs, structure, choice, TypeTree, plain, single, group, dictionary, extension, FieldTree, FieldTrees, no_fields, more_fields}
 use Rattle.lower.specs.TypeViews.{type_step, field_step, type_view, field_view}
@@ -13,8 +13,7 @@ use Rattle.lower.specs.declared.datatypes.physical_type.PhysicalType.TheVariants
 use Rattle.lower.specs.declared.error.Error.{Error}
 use Rattle.lower.specs.declared.error.Error.TheVariants.{OutOfSpec}
 use Rattle.lower.specs.declared.error.Rule.TheVariants.{ValidityLength, OffsetsPastValues, ChildType, MapChild, PhysicalType as WrongType}
-use Rattle.lower_flat.specs.Validities.{Validity, ValidityFits}
-use Rattle.lower_flat.specs.Spans.{span_count}
+use Rattle.lower_flat.specs.Validities.{Validity}
 use Rattle.lower_rules.specs.Fields.{child_fields, field_type, FieldTypes, IsPair}
 use Rattle.lower_arrays.specs.Layouts.{Layout, layout, no_layouts, more_layouts, maps, len_of, type_of}
 use Rattle.lower_arrays.specs.Maps.{map_seen, map_layout, BreaksMap}

@@ -7,7 +7,7 @@ use Rattle.lower_flat.specs.FixedBinaries.{byte_size}
 use Rattle.ipc_base.specs.IdTrees.{IdTrees}
 use Rattle.ipc_model.specs.TypeKinds.{kind_of}
 use Rattle.ipc_columns.specs.FlatKinds.{IsPlain, IsFlat, flat_kind}
-use Rattle.ipc_columns.specs.Kinds.{IsStored, IsRead}
+use Rattle.ipc_columns.specs.Kinds.{IsStored}
 
 plain_kind_is : (t : TypeTree) (id : Option ℤ) (is : IdTrees) → IsPlain t → kind_of t id is ≡ flat_kind (physical t) (byte_size t)
 plain_kind_is (plain null) id is h = refl
@@ -78,41 +78,6 @@ plain_flat (single s f) h = absurd h
 plain_flat (group g fs) h = absurd h
 plain_flat (dictionary k t o) h = absurd h
 plain_flat (extension n t x) h = absurd h
-
-pub plain_read : (t : TypeTree) (id : Option ℤ) (is : IdTrees) → IsPlain t → IsRead (kind_of t id is)
-plain_read (plain null) id is h = tt
-plain_read (plain boolean) id is h = tt
-plain_read (plain int8) id is h = tt
-plain_read (plain int16) id is h = tt
-plain_read (plain int32) id is h = tt
-plain_read (plain int64) id is h = tt
-plain_read (plain uint8) id is h = tt
-plain_read (plain uint16) id is h = tt
-plain_read (plain uint32) id is h = tt
-plain_read (plain uint64) id is h = tt
-plain_read (plain float16) id is h = absurd h
-plain_read (plain float32) id is h = absurd h
-plain_read (plain float64) id is h = absurd h
-plain_read (plain (timestamp unit _)) id is h = tt
-plain_read (plain date32) id is h = tt
-plain_read (plain date64) id is h = tt
-plain_read (plain (time32 unit)) id is h = tt
-plain_read (plain (time64 unit)) id is h = tt
-plain_read (plain (duration unit)) id is h = tt
-plain_read (plain (interval YearMonth)) id is h = tt
-plain_read (plain (interval DayTime)) id is h = tt
-plain_read (plain (interval MonthDayNano)) id is h = tt
-plain_read (plain binary) id is h = tt
-plain_read (plain (fixed_binary n)) id is h = tt
-plain_read (plain large_binary) id is h = tt
-plain_read (plain utf8) id is h = tt
-plain_read (plain large_utf8) id is h = tt
-plain_read (plain (decimal p q)) id is h = tt
-plain_read (plain (decimal256 p q)) id is h = tt
-plain_read (single s f) id is h = absurd h
-plain_read (group g fs) id is h = absurd h
-plain_read (dictionary k t o) id is h = absurd h
-plain_read (extension n t x) id is h = absurd h
 
 -- the same of a type that is stored as this one
 pub stored_kind :

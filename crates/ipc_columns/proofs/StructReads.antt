@@ -15,7 +15,7 @@ use Rattle.ipc_model.specs.Entries.{Entries, Limit, rows}
 use Rattle.ipc_model.specs.Columns.{IsSome, AllHaveRows, IsWell}
 use Rattle.ipc_model.specs.ReadArrays.{array_at, arrays_at}
 use Rattle.ipc_columns.specs.Bodies.{entries}
-use Rattle.ipc_columns.specs.Kinds.{IsRead, Follows}
+use Rattle.ipc_columns.specs.Kinds.{Follows}
 use Rattle.ipc_columns.specs.StructLevels.{over, Left, HaveRows, SoFar}
 use Rattle.ipc_columns.specs.declared.read.body.Body.{Body}
 use Rattle.ipc_columns.specs.declared.read.body.Place.{Place}
@@ -61,20 +61,20 @@ module _ (extra : ℕ) (s : Entries) (vs : Option ℤ → Layout) (all rest rest
   behind : q.buffer ≡ p.buffer + buffers s.extra t
   behind = next.buffer ∙ ap (λ n. p.buffer + buffers n t) same_extra
 
-  pub one_on : HaveRows s all start limit k → (IsRead t × IsWell s t p.node p.buffer limit) × (rows s p.node limit ≡ k)
-  one_on h = let w = subst (λ ts. HaveRows s ts p limit k) more (so.on h) in ((w.0.0, w.1.0.0), w.1.0.1)
+  pub one_on : HaveRows s all start limit k → IsWell s t p.node p.buffer limit × (rows s p.node limit ≡ k)
+  one_on h = let w = subst (λ ts. HaveRows s ts p limit k) more (so.on h) in w.0
 
-  pub so_more : (x : Layout) → (IsRead t × IsWell s t p.node p.buffer limit) × (x ≡ array_at s vs t (field_type f) p.node p.buffer limit) → len_of x ≡ k
+  pub so_more : (x : Layout) → IsWell s t p.node p.buffer limit × (x ≡ array_at s vs t (field_type f) p.node p.buffer limit) → len_of x ≡ k
       → SoFar s vs all rest' fs gs' start q limit k (xs ++ x ∷ [])
   so_more x read len =
       let count : rows s p.node limit ≡ k = sym (array_len s vs t (field_type f) p.node p.buffer limit) ∙ sym (ap len_of read.1) ∙ len in
       record {
         on = λ h.
             let w = subst (λ ts. HaveRows s ts p limit k) more (so.on h) in
-            (w.0.1, subst (λ n. AllHaveRows s rest' q.node n limit k) (sym behind) (subst (λ n. AllHaveRows s rest' n (p.buffer + buffers s.extra t) limit k) (sym next.node) w.1.1));
+            subst (λ n. AllHaveRows s rest' q.node n limit k) (sym behind) (subst (λ n. AllHaveRows s rest' n (p.buffer + buffers s.extra t) limit k) (sym next.node) w.1);
         back = λ h.
             so.back (subst (λ ts. HaveRows s ts p limit k) (sym more)
-            ((read.0.0, h.0), ((read.0.1, count), subst (λ n. AllHaveRows s rest' n (p.buffer + buffers s.extra t) limit k) next.node (subst (λ n. AllHaveRows s rest' q.node n limit k) behind h.1))));
+            ((read.0, count), subst (λ n. AllHaveRows s rest' n (p.buffer + buffers s.extra t) limit k) next.node (subst (λ n. AllHaveRows s rest' q.node n limit k) behind h)));
         same =
             over_more xs x (arrays_at s vs rest' gs' q.node q.buffer limit)
             ∙ ap (λ y. over xs (more_layouts y (arrays_at s vs rest' gs' q.node q.buffer limit))) read.1
@@ -108,13 +108,13 @@ some_arrays s vs (more_kinds t ts) fs a b limit h = tt
 
 -- the next column of what is left
 pub one_of : (s : Entries) (vs : Option ℤ → Layout) (all rest rest' : Kinds) (t : Kind) (fs gs : FieldTrees) (start p : Place) (limit : Limit) (k : ℕ) (xs : List Layout) → rest ≡ more_kinds t rest'
-    → SoFar s vs all rest fs gs start p limit k xs → HaveRows s all start limit k → (IsRead t × IsWell s t p.node p.buffer limit) × (rows s p.node limit ≡ k)
+    → SoFar s vs all rest fs gs start p limit k xs → HaveRows s all start limit k → IsWell s t p.node p.buffer limit × (rows s p.node limit ≡ k)
 one_of s vs all rest rest' t fs gs start p limit k xs more so h =
-    let w = subst (λ ts. HaveRows s ts p limit k) more (so.on h) in ((w.0.0, w.1.0.0), w.1.0.1)
+    let w = subst (λ ts. HaveRows s ts p limit k) more (so.on h) in w.0
 
 pub so_end : (s : Entries) (vs : Option ℤ → Layout) (all rest : Kinds) (fs gs : FieldTrees) (start p : Place) (limit : Limit) (k : ℕ) (xs : List Layout) → rest ≡ no_kinds → SoFar s vs all rest fs gs start p limit k xs
     → HaveRows s all start limit k × (layouts xs ≡ arrays_at s vs all fs start.node start.buffer limit)
 so_end s vs all rest fs gs start p limit k xs e so = (
-  so.back (subst (λ ts. HaveRows s ts p limit k) (sym e) (tt, tt)),
+  so.back (subst (λ ts. HaveRows s ts p limit k) (sym e) tt),
   sym (over_none xs) ∙ (λ i. over xs (arrays_at s vs (sym e i) gs p.node p.buffer limit)) ∙ so.same,
 )

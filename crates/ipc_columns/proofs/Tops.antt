@@ -14,15 +14,14 @@ use Rattle.ipc_columns.proofs.ColumnLevels.{array_type}
 use Rattle.ipc_columns.specs.ReadColumns.{IsColumn}
 
 pub slots_answered :
-    {X : Type 0} (r : Result X Fault) (seen : X → Layout) (s : Entries) (vs : Option ℤ → Layout) (t : Kind) (u : TypeTree) (a b : ℕ) (limit : Limit) (P : Type 0) → (P → IsWell s t a b limit)
-    → AreValues s vs → Answers r P (λ x. seen x ≡ array_at s vs t u a b limit)
-    → Answers r P (λ x. IsColumn s vs t u a b limit (seen x))
-slots_answered (Ok x) seen s vs t u a b limit P f values h = (
+    {X : Type 0} (r : Result X Fault) (seen : X → Layout) (s : Entries) (vs : Option ℤ → Layout) (t : Kind) (u : TypeTree) (a b : ℕ) (limit : Limit) → AreValues s vs
+    → Answers r (IsWell s t a b limit) (λ x. seen x ≡ array_at s vs t u a b limit) → Answers r (IsWell s t a b limit) (λ x. IsColumn s vs t u a b limit (seen x))
+slots_answered (Ok x) seen s vs t u a b limit values h = (
   h.0,
   record {
     array = h.1;
     type = ap type_of h.1 ∙ array_type s vs t u a b limit;
-    slots = ap slots h.1 ∙ read_slots_law s vs t u a b limit values (f h.0);
+    slots = ap slots h.1 ∙ read_slots_law s vs t u a b limit values h.0;
   },
 )
-slots_answered (Err e) seen s vs t u a b limit P f values h = h
+slots_answered (Err e) seen s vs t u a b limit values h = h

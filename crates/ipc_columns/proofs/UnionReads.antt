@@ -28,12 +28,12 @@ use Rattle.ipc_base.specs.IdTrees.{IdTrees}
 use Rattle.ipc_devices.specs.Device.{Memory}
 use Rattle.ipc_model.specs.Kinds.{Kinds, all_nodes, all_buffers, union_kind}
 use Rattle.ipc_model.specs.Entries.{Entries, IsSize, node, bytes, listed, Need, Limit, rows}
-use Rattle.ipc_model.specs.Columns.{HasTypes, Reaches, IsWell, AllHaveRows, AllWell}
+use Rattle.ipc_model.specs.Columns.{IsWell, AllHaveRows, AllWell}
 use Rattle.ipc_model.specs.Numbers.{integer_of}
 use Rattle.ipc_model.specs.ReadArrays.{integers_of, array_at, arrays_at}
 use Rattle.ipc_model.specs.TypeKinds.{kinds_of, kind_of}
 use Rattle.ipc_columns.specs.Bodies.{HasRoom, entries}
-use Rattle.ipc_columns.specs.Kinds.{IsStored, IsRead, AreRead, listed_in}
+use Rattle.ipc_columns.specs.Kinds.{IsStored, listed_in}
 use Rattle.ipc_columns.specs.declared.read.body.Body.{Body}
 use Rattle.ipc_columns.specs.declared.read.body.Place.{Place}
 use Rattle.ipc_columns.proofs.FlatLevels.{order_is, pieces_are}
@@ -88,33 +88,29 @@ pub ruleset union_types_first = (union_room, types_bound)
 
 -- ---- what a well formed union has, whose types stand in buffer t
 
--- a union of a mode is read and well formed
-abbrev pub UnionReads : Entries → UnionMode → TypeIds → Kinds → ℕ → ℕ → Limit → Type 0
-UnionReads s mode ids ts a b limit = IsRead (union_kind mode ids ts) × IsWell s (union_kind mode ids ts) a b limit
-
 types_of : (s : Entries) (mode : UnionMode) (ids : TypeIds) (ts : Kinds) (a b : ℕ) (limit : Limit) → IsWell s (union_kind mode ids ts) a b limit
     → IsSize (node s a).length × Need s (b + s.extra) (rows s a limit)
 types_of s Sparse ids ts a b limit h = (h.0, h.2.types)
 types_of s Dense ids ts a b limit h = (h.0, h.2.types)
 
 pub union_types : (s : Entries) (mode : UnionMode) (ids : TypeIds) (ts : Kinds) (a b t : ℕ) (limit : Limit) → t ≡ b + s.extra
-    → UnionReads s mode ids ts a b limit → IsSize (node s a).length × Need s t (rows s a limit)
+    → IsWell s (union_kind mode ids ts) a b limit → IsSize (node s a).length × Need s t (rows s a limit)
 union_types s mode ids ts a b t limit at h =
-    subst (λ (m : ℕ). IsSize (node s a).length × Need s m (rows s a limit)) (sym at) (types_of s mode ids ts a b limit h.1)
+    subst (λ (m : ℕ). IsSize (node s a).length × Need s m (rows s a limit)) (sym at) (types_of s mode ids ts a b limit h)
 
 pub sparse_children : (s : Entries) (ids : TypeIds) (ts : Kinds) (a b t n : ℕ) (limit : Limit) → t ≡ b + s.extra → n ≡ rows s a limit
-    → UnionReads s Sparse ids ts a b limit → AreRead ts × AllHaveRows s ts (a + 1) (t + 1) limit n
+    → IsWell s (union_kind Sparse ids ts) a b limit → AllHaveRows s ts (a + 1) (t + 1) limit n
 sparse_children s ids ts a b t n limit at count h =
-    (h.0, subst (λ (k : ℕ). AllHaveRows s ts (a + 1) (t + 1) limit k) (sym count) (subst (λ (m : ℕ). AllHaveRows s ts (a + 1) (m + 1) limit (rows s a limit)) (sym at) h.1.3))
+    subst (λ (k : ℕ). AllHaveRows s ts (a + 1) (t + 1) limit k) (sym count) (subst (λ (m : ℕ). AllHaveRows s ts (a + 1) (m + 1) limit (rows s a limit)) (sym at) h.3)
 
 pub dense_places : (s : Entries) (ids : TypeIds) (ts : Kinds) (a b t n : ℕ) (limit : Limit) → t ≡ b + s.extra → n ≡ rows s a limit
-    → UnionReads s Dense ids ts a b limit → Need s (t + 1) (4 * n)
+    → IsWell s (union_kind Dense ids ts) a b limit → Need s (t + 1) (4 * n)
 dense_places s ids ts a b t n limit at count h =
-    subst (λ (k : ℕ). Need s (t + 1) (4 * k)) (sym count) (subst (λ (m : ℕ). Need s (m + 1) (4 * rows s a limit)) (sym at) h.1.3.offsets)
+    subst (λ (k : ℕ). Need s (t + 1) (4 * k)) (sym count) (subst (λ (m : ℕ). Need s (m + 1) (4 * rows s a limit)) (sym at) h.3.offsets)
 
 pub dense_children : (s : Entries) (ids : TypeIds) (ts : Kinds) (a b t : ℕ) (limit : Limit) → t ≡ b + s.extra
-    → UnionReads s Dense ids ts a b limit → AreRead ts × AllWell s ts (a + 1) (t + 2)
-dense_children s ids ts a b t limit at h = (h.0, subst (λ (m : ℕ). AllWell s ts (a + 1) (m + 2)) (sym at) h.1.4)
+    → IsWell s (union_kind Dense ids ts) a b limit → AllWell s ts (a + 1) (t + 2)
+dense_children s ids ts a b t limit at h = subst (λ (m : ℕ). AllWell s ts (a + 1) (m + 2)) (sym at) h.4
 
 -- ---- a whole union
 
@@ -131,46 +127,46 @@ module _ (s : Entries) (vs : Option ℤ → Layout) (ids : TypeIds) (fs : FieldT
     (head : (IsSize (node s a).length × Need s t (rows s a limit)) × ((zs ≡ integers_of s t Int8 (rows s a limit)) × (length zs ≡ rows s a limit))) where
   -- the children stand slot by slot
   module _ (mode : union_mode u ≡ Sparse)
-      (read : (AreRead (kinds_of fs is) × AllHaveRows s (kinds_of fs is) (a + 1) (t + 1) limit (length zs)) × (layouts cs ≡ arrays_at s vs (kinds_of fs is) fs (a + 1) (t + 1) limit)) where
+      (read : AllHaveRows s (kinds_of fs is) (a + 1) (t + 1) limit (length zs) × (layouts cs ≡ arrays_at s vs (kinds_of fs is) fs (a + 1) (t + 1) limit)) where
     rows_had : AllHaveRows s (kinds_of fs is) (a + 1) (t + 1) limit (rows s a limit)
-    rows_had = subst (λ (k : ℕ). AllHaveRows s (kinds_of fs is) (a + 1) (t + 1) limit k) head.1.1 read.0.1
+    rows_had = subst (λ (k : ℕ). AllHaveRows s (kinds_of fs is) (a + 1) (t + 1) limit k) head.1.1 read.0
 
-    pub sparse_rules : UnionReads s Sparse ids (kinds_of fs is) a b limit → ChoicesFit u (union_ids u) zs None (layouts cs)
+    pub sparse_rules : IsWell s (union_kind Sparse ids (kinds_of fs is)) a b limit → ChoicesFit u (union_ids u) zs None (layouts cs)
     sparse_rules h =
         let typed = children_typed s vs u fs is (a + 1) (t + 1) limit (layouts cs) fields read.1 in
         let many = columns_count s vs (kinds_of fs is) fs (a + 1) (t + 1) limit (layouts cs) read.1 in
         let even : AllHave (rows s a limit) (layouts cs) =
         subst (λ (ls : Layouts). AllHave (rows s a limit) ls) (sym read.1) (arrays_have s vs (kinds_of fs is) fs (a + 1) (t + 1) limit (rows s a limit) rows_had)
         in
-        sparse_fits s vs ids (kinds_of fs is) u fs a b t limit zs cs lies named fields at head.1.0 typed many mode even h.1
+        sparse_fits s vs ids (kinds_of fs is) u fs a b t limit zs cs lies named fields at head.1.0 typed many mode even h
 
     pub sparse_union : (x : Layout) → ChoicesFit u (union_ids u) zs None (layouts cs) × (x ≡ union_layout (union_seen u zs cs None))
-        → UnionReads s Sparse ids (kinds_of fs is) a b limit × (x ≡ array_at s vs (union_kind Sparse ids (kinds_of fs is)) u a b limit)
+        → IsWell s (union_kind Sparse ids (kinds_of fs is)) a b limit × (x ≡ array_at s vs (union_kind Sparse ids (kinds_of fs is)) u a b limit)
     sparse_union x made =
         let typed = children_typed s vs u fs is (a + 1) (t + 1) limit (layouts cs) fields read.1 in
         let many = columns_count s vs (kinds_of fs is) fs (a + 1) (t + 1) limit (layouts cs) read.1 in (
-          (read.0.0, sparse_well s vs ids (kinds_of fs is) u fs a b t limit zs cs lies named fields at head.1.0 typed many head.0 rows_had made.0),
+          sparse_well s vs ids (kinds_of fs is) u fs a b t limit zs cs lies named fields at head.1.0 typed many head.0 rows_had made.0,
           sparse_array s vs ids (kinds_of fs is) u fs a b t limit zs cs lies named fields at head.1.0 typed many x read.1 made.1,
         )
 
   -- the children are whole
   module _ (os : List ℤ) (mode : union_mode u ≡ Dense) (places : Need s (t + 1) (4 * length zs) × (os ≡ integers_of s (t + 1) Int32 (length zs)))
-      (read : (AreRead (kinds_of fs is) × AllWell s (kinds_of fs is) (a + 1) (t + 2)) × (layouts cs ≡ arrays_at s vs (kinds_of fs is) fs (a + 1) (t + 2) None)) where
+      (read : AllWell s (kinds_of fs is) (a + 1) (t + 2) × (layouts cs ≡ arrays_at s vs (kinds_of fs is) fs (a + 1) (t + 2) None)) where
     places_read : os ≡ integers_of s (t + 1) Int32 (rows s a limit)
     places_read = places.1 ∙ ap (λ k. integers_of s (t + 1) Int32 k) head.1.1
 
-    pub dense_rules : UnionReads s Dense ids (kinds_of fs is) a b limit → ChoicesFit u (union_ids u) zs (Some os) (layouts cs)
+    pub dense_rules : IsWell s (union_kind Dense ids (kinds_of fs is)) a b limit → ChoicesFit u (union_ids u) zs (Some os) (layouts cs)
     dense_rules h =
         let typed = children_typed s vs u fs is (a + 1) (t + 2) None (layouts cs) fields read.1 in
         let many = columns_count s vs (kinds_of fs is) fs (a + 1) (t + 2) None (layouts cs) read.1 in
-        dense_fits s vs ids (kinds_of fs is) u fs a b t limit zs cs lies named fields at head.1.0 typed many os places_read read.1 mode h.1
+        dense_fits s vs ids (kinds_of fs is) u fs a b t limit zs cs lies named fields at head.1.0 typed many os places_read read.1 mode h
 
     pub dense_union : (x : Layout) → ChoicesFit u (union_ids u) zs (Some os) (layouts cs) × (x ≡ union_layout (union_seen u zs cs (Some os)))
-        → UnionReads s Dense ids (kinds_of fs is) a b limit × (x ≡ array_at s vs (union_kind Dense ids (kinds_of fs is)) u a b limit)
+        → IsWell s (union_kind Dense ids (kinds_of fs is)) a b limit × (x ≡ array_at s vs (union_kind Dense ids (kinds_of fs is)) u a b limit)
     dense_union x made =
         let typed = children_typed s vs u fs is (a + 1) (t + 2) None (layouts cs) fields read.1 in
         let many = columns_count s vs (kinds_of fs is) fs (a + 1) (t + 2) None (layouts cs) read.1 in
         let need = subst (λ (k : ℕ). Need s (t + 1) (4 * k)) head.1.1 places.0 in (
-          (read.0.0, dense_well s vs ids (kinds_of fs is) u fs a b t limit zs cs lies named fields at head.1.0 typed many os places_read read.1 head.0 need read.0.1 made.0),
+          dense_well s vs ids (kinds_of fs is) u fs a b t limit zs cs lies named fields at head.1.0 typed many os places_read read.1 head.0 need read.0 made.0,
           dense_array s vs ids (kinds_of fs is) u fs a b t limit zs cs lies named fields at head.1.0 typed many os places_read read.1 x made.1,
         )

@@ -1,4 +1,4 @@
--- Where a column of a kind stands among the entries, and which kinds are read.
+-- Where a column of a kind stands among the entries.
 use Rattle.std.specs.Prelude.{◌≡◌, ℕ, ◌+◌, Bool, true, false}
 use Rattle.lower.specs.Physical.{physical}
 use Rattle.lower.specs.TypeTrees.{TypeTree}
@@ -57,18 +57,3 @@ abbrev mutual
   pub all_listed : Entries → ℕ → Kinds → ℕ → ℕ
   all_listed s extra no_kinds b = 0
   all_listed s extra (more_kinds t ts) b = listed_in s extra t b + all_listed s extra ts (b + buffers extra t)
-
--- the kinds that are read
-abbrev mutual
-  pub IsRead : Kind → Type 0
-  IsRead (list_kind w t) = IsRead t
-  IsRead (extension_kind t) = IsRead t
-  IsRead (map_kind t) = IsRead t
-  IsRead (fixed_list_kind n t) = IsRead t
-  IsRead (struct_kind ts) = AreRead ts
-  IsRead (union_kind mode ids ts) = AreRead ts
-  IsRead _ = Unit {0}
-
-  pub AreRead : Kinds → Type 0
-  AreRead no_kinds = Unit {0}
-  AreRead (more_kinds t ts) = IsRead t × AreRead ts

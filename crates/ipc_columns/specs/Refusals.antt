@@ -1,7 +1,7 @@
 -- Which faults of the input's reading a column can answer.
 use Rattle.ipc_devices.specs.declared.fault.Fault.{Fault}
 use Rattle.ipc_devices.specs.declared.fault.Fault.TheVariants.{Ended, OutOfSpec, NotYetImplemented, Lower}
-use Rattle.ipc_devices.specs.declared.fault.Nyi.TheVariants.{Float, Pending}
+use Rattle.ipc_devices.specs.declared.fault.Nyi.TheVariants.{Float}
 use Rattle.ipc_devices.specs.declared.fault.OutOfSpecKind.TheVariants.{NegativeFooterLength, InvalidBuffer, InvalidDataType, InvalidId, InvalidIdDataType}
 use Rattle.ipc_model.specs.Kinds.{Kind, number_kind, extension_kind}
 
@@ -22,7 +22,6 @@ IsColumnFault (OutOfSpec InvalidDataType) = Unit {0}
 IsColumnFault (OutOfSpec (InvalidId _)) = Unit {0}
 IsColumnFault (OutOfSpec (InvalidIdDataType _)) = Unit {0}
 IsColumnFault (NotYetImplemented Float) = Unit {0}
-IsColumnFault (NotYetImplemented Pending) = Unit {0}
 IsColumnFault (Lower e) = Unit {0}
 IsColumnFault _ = ⊥
 

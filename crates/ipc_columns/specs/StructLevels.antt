@@ -7,7 +7,6 @@ use Rattle.ipc_model.specs.Kinds.{Kinds, all_nodes, all_buffers}
 use Rattle.ipc_model.specs.Entries.{Entries, Limit}
 use Rattle.ipc_model.specs.Columns.{AllHaveRows}
 use Rattle.ipc_model.specs.ReadArrays.{arrays_at}
-use Rattle.ipc_columns.specs.Kinds.{AreRead}
 use Rattle.ipc_columns.specs.declared.read.body.Place.{Place}
 
 -- n records of the columns cs
@@ -24,8 +23,9 @@ pub record Left (extra : ℕ) (all rest : Kinds) (start p : Place) : Type 0 wher
   pub node : p.node + all_nodes rest ≡ start.node + all_nodes all
   pub buffer : p.buffer + all_buffers extra rest ≡ start.buffer + all_buffers extra all
 
+-- the columns of some kinds from a place on are well formed, and k slots of each are read
 abbrev pub HaveRows : Entries → Kinds → Place → Limit → ℕ → Type 0
-HaveRows s ts p limit k = AreRead ts × AllHaveRows s ts p.node p.buffer limit k
+HaveRows s ts p limit k = AllHaveRows s ts p.node p.buffer limit k
 
 -- xs are the arrays of the columns before the rest, which are well formed
 pub record SoFar (s : Entries) (vs : Option ℤ → Layout) (all rest : Kinds) (fs gs : FieldTrees) (start p : Place) (limit : Limit) (k : ℕ) (xs : List Layout) : Type 0 where

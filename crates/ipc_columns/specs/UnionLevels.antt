@@ -6,12 +6,12 @@ use Rattle.ipc_model.specs.Kinds.{Kinds}
 use Rattle.ipc_model.specs.Entries.{Entries}
 use Rattle.ipc_model.specs.Columns.{AllWell}
 use Rattle.ipc_model.specs.ReadArrays.{arrays_at}
-use Rattle.ipc_columns.specs.Kinds.{AreRead}
 use Rattle.ipc_columns.specs.StructLevels.{over}
 use Rattle.ipc_columns.specs.declared.read.body.Place.{Place}
 
+-- the columns of some kinds from a place on are well formed as wholes
 abbrev pub AreWhole : Entries → Kinds → Place → Type 0
-AreWhole s ts p = AreRead ts × AllWell s ts p.node p.buffer
+AreWhole s ts p = AllWell s ts p.node p.buffer
 
 -- xs are the arrays of the columns before the rest, which are well formed
 pub record WholeSoFar (s : Entries) (vs : Option ℤ → Layout) (all rest : Kinds) (fs gs : FieldTrees) (start p : Place) (xs : List Layout) : Type 0 where

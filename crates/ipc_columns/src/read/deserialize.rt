@@ -18,7 +18,7 @@ ghost use Rattle.ipc_model.specs.Columns.{IsWell, AllHaveRows, AllWell};
 ghost use Rattle.ipc_model.specs.ReadArrays.{array_at, arrays_at, offset_type};
 ghost use Rattle.ipc_columns.specs.Bodies.{Stands, HasRoom, entries, known};
 ghost use Rattle.ipc_columns.specs.FlatKinds.{IsPlain, IsFlat, flat_kind};
-ghost use Rattle.ipc_columns.specs.Kinds.{IsStored, Follows, AllFollow, IsRead, AreRead, form_of, listed_in, all_listed};
+ghost use Rattle.ipc_columns.specs.Kinds.{IsStored, Follows, AllFollow, form_of, listed_in, all_listed};
 ghost use Rattle.ipc_columns.specs.ReadColumns.{IsColumn};
 ghost use Rattle.ipc_columns.specs.Refusals.{IsColumnFault, IsFaultOf};
 ghost use Rattle.ipc_columns.specs.Steps.{Step};
@@ -107,7 +107,7 @@ fn read_flat<R: Reads + Seeks>(
         | PhysicalType::Struct
         | PhysicalType::Union
         | PhysicalType::Map
-        | PhysicalType::Dictionary(_) => Err(Fault::NotYetImplemented(Nyi::Pending)),
+        | PhysicalType::Dictionary(_) => unreachable!(),
     }
 }
 
@@ -158,7 +158,7 @@ fn read_plain<R: Reads + Seeks>(
         Step R.still R.memory R.failures R.given body.now (listed_in (entries R.memory body.now) body.now.extra t place.buffer) reader.old result reader.new }
     ensures next { IfOk result (λ r. Follows body.now.extra (kind_of (type_view data_type.now) id (all_ids_view ids.now)) place r.1) }
     ensures memory { IsTrue R.known → let s = entries R.memory body.now in let t = kind_of (type_view data_type.now) id (all_ids_view ids.now) in
-        Answers result (IsRead t × IsWell s t place.node place.buffer limit)
+        Answers result (IsWell s t place.node place.buffer limit)
         (λ r. layout_of r.0 ≡ array_at s (known body.now) t (type_view own.now) place.node place.buffer limit) }
 {
     let physical_type = own.to_physical_type();
@@ -190,7 +190,7 @@ fn read_as<R: Reads + Seeks>(
         Step R.still R.memory R.failures R.given body.now (listed_in (entries R.memory body.now) body.now.extra t place.buffer) reader.old result reader.new }
     ensures next { IfOk result (λ r. Follows body.now.extra (kind_of (type_view data_type.now) id (all_ids_view ids.now)) place r.1) }
     ensures memory { IsTrue R.known → let s = entries R.memory body.now in let t = kind_of (type_view data_type.now) id (all_ids_view ids.now) in
-        Answers result (IsRead t × IsWell s t place.node place.buffer limit)
+        Answers result (IsWell s t place.node place.buffer limit)
         (λ r. layout_of r.0 ≡ array_at s (known body.now) t (type_view own.now) place.node place.buffer limit) }
 {
     match data_type {
@@ -248,7 +248,7 @@ fn read_list<R: Reads + Seeks>(
     ensures next { IfOk result (λ r. Follows body.now.extra (list_kind (form_of is_large) (field_kind (field_view field.now) (first_ids (all_ids_view ids.now)))) place r.1) }
     ensures memory { IsTrue R.known → let s = entries R.memory body.now in
         let t = list_kind (form_of is_large) (field_kind (field_view field.now) (first_ids (all_ids_view ids.now))) in
-        Answers result (IsRead t × IsWell s t place.node place.buffer limit)
+        Answers result (IsWell s t place.node place.buffer limit)
         (λ r. layout_of r.0 ≡ array_at s (known body.now) t (type_view own.now) place.node place.buffer limit) }
 {
     let head = read_list_head(alloc, reader, body, place, limit, is_large)?;
@@ -296,7 +296,7 @@ fn read_fixed_size_list<R: Reads + Seeks>(
         Step R.still R.memory R.failures R.given body.now (listed_in (entries R.memory body.now) body.now.extra t start.buffer) reader.old result reader.new }
     ensures next { IfOk result (λ r. Follows body.now.extra (fixed_list_kind size (field_kind (field_view field.now) (first_ids (all_ids_view ids.now)))) start r.1) }
     ensures memory { IsTrue R.known → let s = entries R.memory body.now in let t = fixed_list_kind size (field_kind (field_view field.now) (first_ids (all_ids_view ids.now))) in
-        Answers result (IsRead t × IsWell s t start.node start.buffer limit)
+        Answers result (IsWell s t start.node start.buffer limit)
         (λ r. layout_of r.0 ≡ array_at s (known body.now) t (type_view own.now) start.node start.buffer limit) }
 {
     if size == 0 {
@@ -346,7 +346,7 @@ fn read_map<R: Reads + Seeks>(
         Step R.still R.memory R.failures R.given body.now (listed_in (entries R.memory body.now) body.now.extra t start.buffer) reader.old result reader.new }
     ensures next { IfOk result (λ r. Follows body.now.extra (map_kind (field_kind (field_view field.now) (first_ids (all_ids_view ids.now)))) start r.1) }
     ensures memory { IsTrue R.known → let s = entries R.memory body.now in let t = map_kind (field_kind (field_view field.now) (first_ids (all_ids_view ids.now))) in
-        Answers result (IsRead t × IsWell s t start.node start.buffer limit)
+        Answers result (IsWell s t start.node start.buffer limit)
         (λ r. layout_of r.0 ≡ array_at s (known body.now) t (type_view own.now) start.node start.buffer limit) }
 {
     let head = read_map_head(alloc, reader, body, start, limit)?;
@@ -393,7 +393,7 @@ fn read_struct<R: Reads + Seeks>(
         Step R.still R.memory R.failures R.given body.now (listed_in (entries R.memory body.now) body.now.extra t place.buffer) reader.old result reader.new }
     ensures next { IfOk result (λ r. Follows body.now.extra (struct_kind (kinds_of (fields_view fields.now) (all_ids_view ids.now))) place r.1) }
     ensures memory { IsTrue R.known → let s = entries R.memory body.now in let t = struct_kind (kinds_of (fields_view fields.now) (all_ids_view ids.now)) in
-        Answers result (IsRead t × IsWell s t place.node place.buffer limit)
+        Answers result (IsWell s t place.node place.buffer limit)
         (λ r. layout_of r.0 ≡ array_at s (known body.now) t (type_view own.now) place.node place.buffer limit) }
 {
     let head = read_head(alloc, reader, body, place, limit)?;
@@ -426,7 +426,7 @@ fn read_fields<R: Reads + Seeks>(
         Step R.still R.memory R.failures R.given body.now (all_listed (entries R.memory body.now) body.now.extra ts start.buffer) reader.old result reader.new }
     ensures next { IfOk result (λ r. AllFollow body.now.extra (kinds_of (fields_view fields.now) (all_ids_view ids.now)) start r.1) }
     ensures memory { IsTrue R.known → let s = entries R.memory body.now in let ts = kinds_of (fields_view fields.now) (all_ids_view ids.now) in
-        Answers result (AreRead ts × AllHaveRows s ts start.node start.buffer limit rows)
+        Answers result (AllHaveRows s ts start.node start.buffer limit rows)
         (λ r. layouts (map layout_of r.0.items) ≡ arrays_at s (known body.now) ts (fields_view fields.now) start.node start.buffer limit) }
 {
     let mut columns = Vec::new(alloc);
@@ -483,7 +483,7 @@ fn read_union<R: Reads + Seeks>(
     ensures next { IfOk result (λ r. Follows body.now.extra (union_kind mode (ids_of type_ids.now) (kinds_of (fields_view fields.now) (all_ids_view ids.now))) place r.1) }
     ensures memory { IsTrue R.known → let s = entries R.memory body.now in
         let t = union_kind mode (ids_of type_ids.now) (kinds_of (fields_view fields.now) (all_ids_view ids.now)) in
-        Answers result (IsRead t × IsWell s t place.node place.buffer limit)
+        Answers result (IsWell s t place.node place.buffer limit)
         (λ r. layout_of r.0 ≡ array_at s (known body.now) t (type_view own.now) place.node place.buffer limit) }
 {
     let types = read_types(alloc, reader, body, place, limit)?;
@@ -532,7 +532,7 @@ fn read_whole_fields<R: Reads + Seeks>(
         Step R.still R.memory R.failures R.given body.now (all_listed (entries R.memory body.now) body.now.extra ts start.buffer) reader.old result reader.new }
     ensures next { IfOk result (λ r. AllFollow body.now.extra (kinds_of (fields_view fields.now) (all_ids_view ids.now)) start r.1) }
     ensures memory { IsTrue R.known → let s = entries R.memory body.now in let ts = kinds_of (fields_view fields.now) (all_ids_view ids.now) in
-        Answers result (AreRead ts × AllWell s ts start.node start.buffer)
+        Answers result (AllWell s ts start.node start.buffer)
         (λ r. layouts (map layout_of r.0.items) ≡ arrays_at s (known body.now) ts (fields_view fields.now) start.node start.buffer None) }
 {
     let mut columns = Vec::new(alloc);
@@ -585,7 +585,7 @@ pub fn read<R: Reads + Seeks>(
         Step R.still R.memory R.failures R.given body.now (listed_in (entries R.memory body.now) body.now.extra t place.buffer) reader.old result reader.new }
     ensures next { IfOk result (λ r. Follows body.now.extra (kind_of (type_view data_type.now) id (all_ids_view ids.now)) place r.1) }
     ensures memory { IsTrue R.known → let s = entries R.memory body.now in let t = kind_of (type_view data_type.now) id (all_ids_view ids.now) in
-        Answers result (IsRead t × IsWell s t place.node place.buffer limit)
+        Answers result (IsWell s t place.node place.buffer limit)
         (λ r. IsColumn s (known body.now) t (type_view data_type.now) place.node place.buffer limit (layout_of r.0)) }
 {
     read_as(

@@ -2,7 +2,8 @@
 ghost use Rattle.std.specs.Prelude.{◌≡◌, ◌+◌, Some, IsTrue, IfOk, IfErr};
 ghost use Rattle.ipc_devices.specs.Faults.{OnIo, OwnFault, Answers};
 ghost use Rattle.lower.specs.Normal.{norm};
-ghost use Rattle.lower.specs.Physical.{physical};
+ghost use Rattle.lower.specs.Physical.{integer, physical};
+ghost use Rattle.lower.specs.TypeTrees.{plain};
 ghost use Rattle.lower.specs.TypeViews.{type_view};
 ghost use Rattle.lower.specs.declared.datatypes.physical_type.PhysicalType.TheVariants.{Dictionary};
 ghost use Rattle.lower_rules.specs.AnyKeys.{keys_seen};
@@ -18,7 +19,7 @@ ghost use Rattle.ipc_model.specs.ReadArrays.{array_at};
 ghost use Rattle.ipc_model.specs.TypeKinds.{key_form};
 ghost use Rattle.ipc_columns.specs.Bodies.{Stands, HasRoom, entries, known};
 ghost use Rattle.ipc_columns.specs.KeyLevels.{keys_at};
-ghost use Rattle.ipc_columns.specs.Kinds.{Follows, IsRead, listed_in};
+ghost use Rattle.ipc_columns.specs.Kinds.{Follows, listed_in};
 ghost use Rattle.ipc_columns.specs.Refusals.{IsBufferFault, IsColumnFault};
 ghost use Rattle.ipc_columns.specs.Steps.{Step};
 
@@ -62,17 +63,19 @@ pub fn shared_values<R: Failures>(
     Ok(values.clone()?)
 }
 
-/// The keys of the column at a place: integers of one type, read as numbers are.
+/// The keys of the column at a place: integers of one type, which the data type is, read as numbers are.
 ///
 /// The faults are those of [`read_primitive`].
 pub fn read_keys<R: Reads + Seeks>(
     alloc: Global,
     keys: IntegerType,
+    data_type: &DataType,
     reader: &mut R,
     body: &Body<R>,
     place: Place,
     limit: Option<usize>,
 ) -> Result<DictionaryKeys, Fault>
+    requires typed { type_view data_type.now ≡ plain (integer keys) }
     requires room { HasRoom body.now place 1 2 }
     requires stands { Stands R.still R.memory reader.old body.now }
     ensures only { IfErr result (λ e. OwnFault e (IsBufferFault e)) }
@@ -82,38 +85,37 @@ pub fn read_keys<R: Reads + Seeks>(
         Answers result (IsWell s (number_kind (key_form keys)) place.node place.buffer limit)
         (λ read. keys_seen read ≡ keys_at s keys place.node place.buffer (rows s place.node limit)) }
 {
-    let data_type = DataType::from(keys);
     match keys {
         IntegerType::Int8 => {
-            let read = read_primitive(alloc, &data_type, reader, body, place, limit)?;
+            let read = read_primitive(alloc, data_type, reader, body, place, limit)?;
             Ok(DictionaryKeys::Int8(read))
         }
         IntegerType::Int16 => {
-            let read = read_primitive(alloc, &data_type, reader, body, place, limit)?;
+            let read = read_primitive(alloc, data_type, reader, body, place, limit)?;
             Ok(DictionaryKeys::Int16(read))
         }
         IntegerType::Int32 => {
-            let read = read_primitive(alloc, &data_type, reader, body, place, limit)?;
+            let read = read_primitive(alloc, data_type, reader, body, place, limit)?;
             Ok(DictionaryKeys::Int32(read))
         }
         IntegerType::Int64 => {
-            let read = read_primitive(alloc, &data_type, reader, body, place, limit)?;
+            let read = read_primitive(alloc, data_type, reader, body, place, limit)?;
             Ok(DictionaryKeys::Int64(read))
         }
         IntegerType::UInt8 => {
-            let read = read_primitive(alloc, &data_type, reader, body, place, limit)?;
+            let read = read_primitive(alloc, data_type, reader, body, place, limit)?;
             Ok(DictionaryKeys::UInt8(read))
         }
         IntegerType::UInt16 => {
-            let read = read_primitive(alloc, &data_type, reader, body, place, limit)?;
+            let read = read_primitive(alloc, data_type, reader, body, place, limit)?;
             Ok(DictionaryKeys::UInt16(read))
         }
         IntegerType::UInt32 => {
-            let read = read_primitive(alloc, &data_type, reader, body, place, limit)?;
+            let read = read_primitive(alloc, data_type, reader, body, place, limit)?;
             Ok(DictionaryKeys::UInt32(read))
         }
         IntegerType::UInt64 => {
-            let read = read_primitive(alloc, &data_type, reader, body, place, limit)?;
+            let read = read_primitive(alloc, data_type, reader, body, place, limit)?;
             Ok(DictionaryKeys::UInt64(read))
         }
     }
@@ -168,11 +170,12 @@ pub fn read_dictionary<R: Reads + Seeks>(
     ensures next { IfOk result (λ r. Follows body.now.extra (dictionary_kind (key_form keys) id (norm (type_view value_type.now))) place r.1) }
     ensures memory { IsTrue R.known → let s = entries R.memory body.now in
         let t = dictionary_kind (key_form keys) id (norm (type_view value_type.now)) in
-        Answers result (IsRead t × IsWell s t place.node place.buffer limit)
+        Answers result (IsWell s t place.node place.buffer limit)
         (λ r. layout_of r.0 ≡ array_at s (known body.now) t (type_view own.now) place.node place.buffer limit) }
 {
     let values = shared_values(value_type, id, body)?;
-    let read = read_keys(alloc, keys, reader, body, place, limit)?;
+    let key_type = DataType::from(keys);
+    let read = read_keys(alloc, keys, &key_type, reader, body, place, limit)?;
     let array = make_dictionary(own, read, values)?;
     let after = Place {
         node: place.node + 1,

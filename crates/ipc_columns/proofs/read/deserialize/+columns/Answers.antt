@@ -11,7 +11,7 @@ use Rattle.ipc_model.specs.TypeKinds.{first_ids, field_kind, kind_of}
 use Rattle.ipc_model.specs.Columns.{IsWell}
 use Rattle.ipc_model.specs.ReadArrays.{array_at}
 use Rattle.ipc_columns.specs.Bodies.{HasRoom, entries, known}
-use Rattle.ipc_columns.specs.Kinds.{IsRead, form_of}
+use Rattle.ipc_columns.specs.Kinds.{form_of}
 use Rattle.ipc_columns.proofs.Fetches.{denies_through, refused}
 use Rattle.ipc_columns.proofs.ColumnLevels.{child_typed, list_len, list_well, list_array}
 use Rattle.std.proofs.Common.{List, None, map, drop, ◌<◌}
@@ -54,8 +54,7 @@ use Rattle.ipc_model.specs.Kinds.{nodes, buffers, union_kind}
 use Rattle.ipc_model.specs.Entries.{IsSize, node, Need, rows}
 use Rattle.ipc_model.specs.Columns.{AllWell}
 use Rattle.ipc_model.specs.ReadArrays.{integers_of}
-use Rattle.ipc_columns.specs.Kinds.{AreRead}
-use Rattle.ipc_columns.proofs.UnionReads.{union_kind_is, union_stored, UnionReads, union_types, sparse_children, dense_places, dense_children, sparse_rules, sparse_union, dense_rules, dense_union}
+use Rattle.ipc_columns.proofs.UnionReads.{union_kind_is, union_stored, union_types, sparse_children, dense_places, dense_children, sparse_rules, sparse_union, dense_rules, dense_union}
 use Rattle.ipc_columns.proofs.read.deserialize.+columns.Goals as goal
 
 pub read_list-returns-in_err-array-clause-memory : goal.read_list-returns-in_err-array-clause-memory
@@ -71,12 +70,12 @@ read_list-returns-in_err-array-clause-memory g t c = λ k.
     let head = c.in_ok-head.head in
     let at = (c.in_ok-head.ensures.memory k).1 in
     let x = layout_of c.in_ok-child.child in
-    let child : (IsRead kind × IsWell s kind (a + 1) (b + 2) (Some head.last)) × (x ≡ array_at s vs kind ut (a + 1) (b + 2) (Some head.last)) =
-    subst (λ (z : Kind). (IsRead z × IsWell s z (a + 1) (b + 2) (Some head.last)) × (x ≡ array_at s vs z ut (a + 1) (b + 2) (Some head.last)))
+    let child : IsWell s kind (a + 1) (b + 2) (Some head.last) × (x ≡ array_at s vs kind ut (a + 1) (b + 2) (Some head.last)) =
+    subst (λ (z : Kind). IsWell s z (a + 1) (b + 2) (Some head.last) × (x ≡ array_at s vs z ut (a + 1) (b + 2) (Some head.last)))
     (sym c.child_of-child_id.ensures.kind) (c.in_ok-child.ensures.memory k)
     in
     let fault = c.in_err-array.field-0.0 in
-    let well : Type 0 = IsRead (list_kind form kind) × IsWell s (list_kind form kind) a b c.args.limit in
+    let well : Type 0 = IsWell s (list_kind form kind) a b c.args.limit in
     let denied : OwnFault fault (well → ⊥) =
     denies_through fault (FieldTypes (child_fields u) (type_of x ∷ []) × (len_of x ≡ head.last)) well
     (λ h. (
@@ -100,8 +99,8 @@ read_list-returns-clause-memory g t c = λ k.
     let head = c.in_ok-head.head in
     let read = c.in_ok-head.ensures.memory k in
     let x = layout_of c.in_ok-child.child in
-    let child : (IsRead kind × IsWell s kind (a + 1) (b + 2) (Some head.last)) × (x ≡ array_at s vs kind ut (a + 1) (b + 2) (Some head.last)) =
-    subst (λ (z : Kind). (IsRead z × IsWell s z (a + 1) (b + 2) (Some head.last)) × (x ≡ array_at s vs z ut (a + 1) (b + 2) (Some head.last)))
+    let child : IsWell s kind (a + 1) (b + 2) (Some head.last) × (x ≡ array_at s vs kind ut (a + 1) (b + 2) (Some head.last)) =
+    subst (λ (z : Kind). IsWell s z (a + 1) (b + 2) (Some head.last) × (x ≡ array_at s vs z ut (a + 1) (b + 2) (Some head.last)))
     (sym c.child_of-child_id.ensures.kind) (c.in_ok-child.ensures.memory k)
     in
     let made = c.in_ok-array.ensures.exact in (
@@ -131,9 +130,9 @@ read_fields-returns-in_err-column-clause-memory g t c = λ k.
     let fault = c.in_err-column.field-0.0 in
     let well : Type 0 = HaveRows s all c.args.start limit c.args.rows in
     let denied : OwnFault fault (well → ⊥) =
-    denies_through fault (IsRead kind × IsWell s kind p.node p.buffer limit) well
+    denies_through fault (IsWell s kind p.node p.buffer limit) well
     (λ h. (one_of s vs all rest rest' kind (fields_view fs) (fields_view (drop i fs)) c.args.start p limit c.args.rows xs more (c.loop-field.invariant.content k) h).0)
-    (subst (λ (z : Kind). OwnFault fault (IsRead z × IsWell s z p.node p.buffer limit → ⊥)) (sym same_kind) (c.in_err-column.ensures.memory k))
+    (subst (λ (z : Kind). OwnFault fault (IsWell s z p.node p.buffer limit → ⊥)) (sym same_kind) (c.in_err-column.ensures.memory k))
     in
     refused c.from_residual.result fault _ _ c.from_residual.ensures denied
 
@@ -192,9 +191,9 @@ read_fields-loop-field-preserved g t c =
       given = omega (arith, e1, e2, e3, c.in_ok-column.ensures.step.bounded, c.loop-field.invariant.given);
       content = λ k.
           let y = layout_of c.in_ok-column.column in
-          let read : (IsRead kind × IsWell s kind p.node p.buffer limit) × (y ≡ array_at s vs kind (field_type (field_view f)) p.node p.buffer limit) =
-          subst (λ (u : TypeTree). (IsRead kind × IsWell s kind p.node p.buffer limit) × (y ≡ array_at s vs kind u p.node p.buffer limit)) (sym c.child_of-child_id.ensures.named)
-          (subst (λ (z : Kind). (IsRead z × IsWell s z p.node p.buffer limit) × (y ≡ array_at s vs z (type_view f.data_type) p.node p.buffer limit)) (sym same_kind) (c.in_ok-column.ensures.memory k))
+          let read : IsWell s kind p.node p.buffer limit × (y ≡ array_at s vs kind (field_type (field_view f)) p.node p.buffer limit) =
+          subst (λ (u : TypeTree). IsWell s kind p.node p.buffer limit × (y ≡ array_at s vs kind u p.node p.buffer limit)) (sym c.child_of-child_id.ensures.named)
+          (subst (λ (z : Kind). IsWell s z p.node p.buffer limit × (y ≡ array_at s vs z (type_view f.data_type) p.node p.buffer limit)) (sym same_kind) (c.in_ok-column.ensures.memory k))
           in
           subst (λ (ys : List Layout). SoFar s vs all rest' (fields_view fs) (fields_view (drop (i + 1) fs)) c.args.start q limit c.args.rows ys)
           (sym (ap (map layout_of) c.in_ok-push.ensures.items ∙ map-append layout_of c.loop-field.columns.items (c.in_ok-column.column ∷ [])))
@@ -230,15 +229,15 @@ read_struct-returns-in_err-array-clause-memory g t c = λ k.
     let head = c.in_ok-head.ensures.memory k in
     let same : layouts cs ≡ arrays_at s vs ts fs (a + 1) (b + 1) limit = (c.in_ok-columns.ensures.memory k).1 in
     let fault = c.in_err-array.field-0.0 in
-    let well : Type 0 = IsRead (struct_kind ts) × IsWell s (struct_kind ts) a b limit in
+    let well : Type 0 = IsWell s (struct_kind ts) a b limit in
     let denied : OwnFault fault (well → ⊥) =
     denies_through fault (HasChild (layouts cs) × ChildTypes (child_fields u) (layouts cs) × AllHave n (layouts cs)) well
     (λ h. (
-      subst (λ (ls : Layouts). HasChild ls) (sym same) (arrays_some s vs ts fs (a + 1) (b + 1) limit h.1.0),
+      subst (λ (ls : Layouts). HasChild ls) (sym same) (arrays_some s vs ts fs (a + 1) (b + 1) limit h.0),
       subst (λ (ls : Layouts). ChildTypes (child_fields u) ls) (sym same)
           (subst (λ (gs : FieldTrees). ChildTypes gs (arrays_at s vs ts fs (a + 1) (b + 1) limit)) (sym c.requires.fields) (arrays_typed s vs fs is (a + 1) (b + 1) limit)),
       subst (λ (ls : Layouts). AllHave n ls) (sym same)
-          (arrays_have s vs ts fs (a + 1) (b + 1) limit n (subst (λ (m : ℕ). AllHaveRows s ts (a + 1) (b + 1) limit m) (sym head.1.0) h.1.2)),
+          (arrays_have s vs ts fs (a + 1) (b + 1) limit n (subst (λ (m : ℕ). AllHaveRows s ts (a + 1) (b + 1) limit m) (sym head.1.0) h.2)),
     ))
     c.in_err-array.ensures.exact
     in
@@ -258,18 +257,18 @@ read_map-returns-in_err-array-clause-memory g t c = λ k.
     let head = c.in_ok-head.head in
     let x = layout_of c.in_ok-child.child in
     let at = (c.in_ok-head.ensures.memory k).1 in
-    let child : (IsRead kind × IsWell s kind (a + 1) (b + 2) (Some head.last)) × (x ≡ array_at s vs kind ut (a + 1) (b + 2) (Some head.last)) =
-    subst (λ (z : Kind). (IsRead z × IsWell s z (a + 1) (b + 2) (Some head.last)) × (x ≡ array_at s vs z ut (a + 1) (b + 2) (Some head.last)))
+    let child : IsWell s kind (a + 1) (b + 2) (Some head.last) × (x ≡ array_at s vs kind ut (a + 1) (b + 2) (Some head.last)) =
+    subst (λ (z : Kind). IsWell s z (a + 1) (b + 2) (Some head.last) × (x ≡ array_at s vs z ut (a + 1) (b + 2) (Some head.last)))
     (sym c.child_of-child_id.ensures.kind) (c.in_ok-child.ensures.memory k)
     in
     let fault = c.in_err-array.field-0.0 in
-    let well : Type 0 = IsRead (map_kind kind) × IsWell s (map_kind kind) a b limit in
+    let well : Type 0 = IsWell s (map_kind kind) a b limit in
     let denied : OwnFault fault (well → ⊥) =
     denies_through fault (IsPair (type_of x) × FieldTypes (child_fields u) (type_of x ∷ []) × (len_of x ≡ head.last)) well
     (λ h. (
-      map_pair s vs kind u a b limit head.offsets head.validity head.last f ut c.child_of-child_id.result.0 (all_ids_view c.child_of-child_id.result.1.now) at c.requires.fields c.child_of-child_id.ensures.named c.child_of-child_id.ensures.kind x child.1 h.1,
+      map_pair s vs kind u a b limit head.offsets head.validity head.last f ut c.child_of-child_id.result.0 (all_ids_view c.child_of-child_id.result.1.now) at c.requires.fields c.child_of-child_id.ensures.named c.child_of-child_id.ensures.kind x child.1 h,
       map_typed s vs kind u a b limit head.offsets head.validity head.last f ut c.child_of-child_id.result.0 (all_ids_view c.child_of-child_id.result.1.now) at c.requires.fields c.child_of-child_id.ensures.named c.child_of-child_id.ensures.kind x child.1,
-      map_len s vs kind u a b limit head.offsets head.validity head.last f ut c.child_of-child_id.result.0 (all_ids_view c.child_of-child_id.result.1.now) at c.requires.fields c.child_of-child_id.ensures.named c.child_of-child_id.ensures.kind x child.1 h.1,
+      map_len s vs kind u a b limit head.offsets head.validity head.last f ut c.child_of-child_id.result.0 (all_ids_view c.child_of-child_id.result.1.now) at c.requires.fields c.child_of-child_id.ensures.named c.child_of-child_id.ensures.kind x child.1 h,
     ))
     c.in_err-array.ensures.exact
     in
@@ -289,12 +288,12 @@ read_map-returns-clause-memory g t c = λ k.
     let head = c.in_ok-head.head in
     let x = layout_of c.in_ok-child.child in
     let at = (c.in_ok-head.ensures.memory k).1 in
-    let child : (IsRead kind × IsWell s kind (a + 1) (b + 2) (Some head.last)) × (x ≡ array_at s vs kind ut (a + 1) (b + 2) (Some head.last)) =
-    subst (λ (z : Kind). (IsRead z × IsWell s z (a + 1) (b + 2) (Some head.last)) × (x ≡ array_at s vs z ut (a + 1) (b + 2) (Some head.last)))
+    let child : IsWell s kind (a + 1) (b + 2) (Some head.last) × (x ≡ array_at s vs kind ut (a + 1) (b + 2) (Some head.last)) =
+    subst (λ (z : Kind). IsWell s z (a + 1) (b + 2) (Some head.last) × (x ≡ array_at s vs z ut (a + 1) (b + 2) (Some head.last)))
     (sym c.child_of-child_id.ensures.kind) (c.in_ok-child.ensures.memory k)
     in
     let made = c.in_ok-array.ensures.exact in (
-      (child.0.0, map_well s vs kind u a b limit head.offsets head.validity head.last f ut c.child_of-child_id.result.0 (all_ids_view c.child_of-child_id.result.1.now) at c.requires.fields c.child_of-child_id.ensures.named c.child_of-child_id.ensures.kind x (c.in_ok-head.ensures.memory k).0 child.0.1 child.1 made.0.0 made.0.2),
+      map_well s vs kind u a b limit head.offsets head.validity head.last f ut c.child_of-child_id.result.0 (all_ids_view c.child_of-child_id.result.1.now) at c.requires.fields c.child_of-child_id.ensures.named c.child_of-child_id.ensures.kind x (c.in_ok-head.ensures.memory k).0 child.0 child.1 made.0.0 made.0.2,
       map_array s vs kind u a b limit head.offsets head.validity head.last f ut c.child_of-child_id.result.0 (all_ids_view c.child_of-child_id.result.1.now) at c.requires.fields c.child_of-child_id.ensures.named c.child_of-child_id.ensures.kind x (layout_of c.in_ok-array.array) child.1 made.1,
     )
 
@@ -316,17 +315,17 @@ read_fixed_size_list-returns-in_err-array-clause-memory g t c = λ k.
     let same = limit_same g.R.Failures.memory c.args.body.now limit n most c.times_limit-most.ensures in
     let some : 0 < n = omega (arith, c.if-size-eq0.false) in
     let read = c.in_ok-head.ensures.memory k in
-    let child : (IsRead kind × IsWell s kind (a + 1) (b + 1) most) × (x ≡ array_at s vs kind ut (a + 1) (b + 1) most) =
-    subst (λ (z : Kind). (IsRead z × IsWell s z (a + 1) (b + 1) most) × (x ≡ array_at s vs z ut (a + 1) (b + 1) most))
+    let child : IsWell s kind (a + 1) (b + 1) most × (x ≡ array_at s vs kind ut (a + 1) (b + 1) most) =
+    subst (λ (z : Kind). IsWell s z (a + 1) (b + 1) most × (x ≡ array_at s vs z ut (a + 1) (b + 1) most))
     (sym c.child_of-child_id.ensures.kind) (c.in_ok-child.ensures.memory k)
     in
     let fault = c.in_err-array.field-0.0 in
-    let well : Type 0 = IsRead (fixed_list_kind n kind) × IsWell s (fixed_list_kind n kind) a b limit in
+    let well : Type 0 = IsWell s (fixed_list_kind n kind) a b limit in
     let denied : OwnFault fault (well → ⊥) =
     denies_through fault (FieldTypes (child_fields u) (type_of x ∷ []) × (len_of x ≡ head.rows * n)) well
     (λ h. (
       fixed_typed s vs n kind u a b limit most head.validity head.rows f ut some same read.1.0 read.1.1 c.requires.fields c.child_of-child_id.ensures.named x child.1,
-      fixed_len s vs n kind u a b limit most head.validity head.rows f ut some same read.1.0 read.1.1 c.requires.fields c.child_of-child_id.ensures.named x child.1 h.1,
+      fixed_len s vs n kind u a b limit most head.validity head.rows f ut some same read.1.0 read.1.1 c.requires.fields c.child_of-child_id.ensures.named x child.1 h,
     ))
     c.in_err-array.ensures.exact
     in
@@ -350,13 +349,13 @@ read_fixed_size_list-returns-clause-memory g t c = λ k.
     let same = limit_same g.R.Failures.memory c.args.body.now limit n most c.times_limit-most.ensures in
     let some : 0 < n = omega (arith, c.if-size-eq0.false) in
     let read = c.in_ok-head.ensures.memory k in
-    let child : (IsRead kind × IsWell s kind (a + 1) (b + 1) most) × (x ≡ array_at s vs kind ut (a + 1) (b + 1) most) =
-    subst (λ (z : Kind). (IsRead z × IsWell s z (a + 1) (b + 1) most) × (x ≡ array_at s vs z ut (a + 1) (b + 1) most))
+    let child : IsWell s kind (a + 1) (b + 1) most × (x ≡ array_at s vs kind ut (a + 1) (b + 1) most) =
+    subst (λ (z : Kind). IsWell s z (a + 1) (b + 1) most × (x ≡ array_at s vs z ut (a + 1) (b + 1) most))
     (sym c.child_of-child_id.ensures.kind) (c.in_ok-child.ensures.memory k)
     in
     let made = c.in_ok-array.ensures.exact in (
-      (child.0.0, fixed_well s vs n kind u a b limit most head.validity head.rows f ut some same read.1.0 read.1.1 c.requires.fields c.child_of-child_id.ensures.named x read.0 child.0.1 child.1 made.0.1),
-      fixed_array s vs n kind u a b limit most head.validity head.rows f ut some same read.1.0 read.1.1 c.requires.fields c.child_of-child_id.ensures.named x (layout_of c.in_ok-array.array) child.0.1 child.1 made.1,
+      fixed_well s vs n kind u a b limit most head.validity head.rows f ut some same read.1.0 read.1.1 c.requires.fields c.child_of-child_id.ensures.named x read.0 child.0 child.1 made.0.1,
+      fixed_array s vs n kind u a b limit most head.validity head.rows f ut some same read.1.0 read.1.1 c.requires.fields c.child_of-child_id.ensures.named x (layout_of c.in_ok-array.array) child.0 child.1 made.1,
     )
 
 pub read_fixed_size_list-returns-in_err-child-clause-memory : goal.read_fixed_size_list-returns-in_err-child-clause-memory
@@ -378,11 +377,11 @@ read_fixed_size_list-returns-in_err-child-clause-memory g t c = λ k.
     let read = c.in_ok-head.ensures.memory k in
     let kind' = kind_of ut c.child_of-child_id.result.0 (all_ids_view c.child_of-child_id.result.1.now) in
     let fault = c.in_err-child.field-0.0 in
-    let well : Type 0 = IsRead (fixed_list_kind n kind) × IsWell s (fixed_list_kind n kind) a b limit in
+    let well : Type 0 = IsWell s (fixed_list_kind n kind) a b limit in
     let denied : OwnFault fault (well → ⊥) =
-    denies_through fault (IsRead kind × IsWell s kind (a + 1) (b + 1) most) well
-    (λ h. (h.0, fixed_child s vs n kind u a b limit most head.validity head.rows f ut some same read.1.0 read.1.1 c.requires.fields c.child_of-child_id.ensures.named h.1))
-    (subst (λ (z : Kind). OwnFault fault (IsRead z × IsWell s z (a + 1) (b + 1) most → ⊥)) (sym c.child_of-child_id.ensures.kind) (c.in_err-child.ensures.memory k))
+    denies_through fault (IsWell s kind (a + 1) (b + 1) most) well
+    (λ h. fixed_child s vs n kind u a b limit most head.validity head.rows f ut some same read.1.0 read.1.1 c.requires.fields c.child_of-child_id.ensures.named h)
+    (subst (λ (z : Kind). OwnFault fault (IsWell s z (a + 1) (b + 1) most → ⊥)) (sym c.child_of-child_id.ensures.kind) (c.in_err-child.ensures.memory k))
     in
     search rules
 
@@ -399,7 +398,7 @@ read_as-returns-in-Map-clause-memory g t c = λ k.
     let same : kind_of (type_view d) c.args.id is ≡ map_kind (field_kind (field_view c.deref-in-Map.result.now) (first_ids is)) =
     map_kind_is d c.in-Map.field _ c.args.id is c.in-Map.is ∙ ap (λ (f : Field). map_kind (field_kind (field_view f) (first_ids is))) (sym c.deref-in-Map.ensures)
     in
-    subst (λ (z : Kind). Answers c.read_map.result (IsRead z × IsWell s z a b limit) (λ r. layout_of r.0 ≡ array_at s vs z u a b limit)) (sym same) (c.read_map.ensures.memory k)
+    subst (λ (z : Kind). Answers c.read_map.result (IsWell s z a b limit) (λ r. layout_of r.0 ≡ array_at s vs z u a b limit)) (sym same) (c.read_map.ensures.memory k)
 
 pub read_as-returns-in-List-clause-memory : goal.read_as-returns-in-List-clause-memory
 read_as-returns-in-List-clause-memory g t c = λ k.
@@ -414,7 +413,7 @@ read_as-returns-in-List-clause-memory g t c = λ k.
     let same : kind_of (type_view d) c.args.id is ≡ list_kind offsets_32 (field_kind (field_view c.deref-in-List.result.now) (first_ids is)) =
     list_kind_is d c.in-List.field c.args.id is c.in-List.is ∙ ap (λ (f : Field). list_kind offsets_32 (field_kind (field_view f) (first_ids is))) (sym c.deref-in-List.ensures)
     in
-    subst (λ (z : Kind). Answers c.read_list.result (IsRead z × IsWell s z a b limit) (λ r. layout_of r.0 ≡ array_at s vs z u a b limit)) (sym same) (c.read_list.ensures.memory k)
+    subst (λ (z : Kind). Answers c.read_list.result (IsWell s z a b limit) (λ r. layout_of r.0 ≡ array_at s vs z u a b limit)) (sym same) (c.read_list.ensures.memory k)
 
 pub read_as-returns-in-LargeList-clause-memory : goal.read_as-returns-in-LargeList-clause-memory
 read_as-returns-in-LargeList-clause-memory g t c = λ k.
@@ -429,7 +428,7 @@ read_as-returns-in-LargeList-clause-memory g t c = λ k.
     let same : kind_of (type_view d) c.args.id is ≡ list_kind offsets_64 (field_kind (field_view c.deref-in-LargeList.result.now) (first_ids is)) =
     large_list_kind_is d c.in-LargeList.field c.args.id is c.in-LargeList.is ∙ ap (λ (f : Field). list_kind offsets_64 (field_kind (field_view f) (first_ids is))) (sym c.deref-in-LargeList.ensures)
     in
-    subst (λ (z : Kind). Answers c.read_list-in-LargeList.result (IsRead z × IsWell s z a b limit) (λ r. layout_of r.0 ≡ array_at s vs z u a b limit)) (sym same) (c.read_list-in-LargeList.ensures.memory k)
+    subst (λ (z : Kind). Answers c.read_list-in-LargeList.result (IsWell s z a b limit) (λ r. layout_of r.0 ≡ array_at s vs z u a b limit)) (sym same) (c.read_list-in-LargeList.ensures.memory k)
 
 pub read_as-returns-in-FixedSizeList-clause-memory : goal.read_as-returns-in-FixedSizeList-clause-memory
 read_as-returns-in-FixedSizeList-clause-memory g t c = λ k.
@@ -444,7 +443,7 @@ read_as-returns-in-FixedSizeList-clause-memory g t c = λ k.
     let same : kind_of (type_view d) c.args.id is ≡ fixed_list_kind c.in-FixedSizeList.size (field_kind (field_view c.deref-in-FixedSizeList.result.now) (first_ids is)) =
     fixed_list_kind_is d c.in-FixedSizeList.field c.in-FixedSizeList.size c.args.id is c.in-FixedSizeList.is ∙ ap (λ (f : Field). fixed_list_kind c.in-FixedSizeList.size (field_kind (field_view f) (first_ids is))) (sym c.deref-in-FixedSizeList.ensures)
     in
-    subst (λ (z : Kind). Answers c.read_fixed_size_list.result (IsRead z × IsWell s z a b limit) (λ r. layout_of r.0 ≡ array_at s vs z u a b limit)) (sym same) (c.read_fixed_size_list.ensures.memory k)
+    subst (λ (z : Kind). Answers c.read_fixed_size_list.result (IsWell s z a b limit) (λ r. layout_of r.0 ≡ array_at s vs z u a b limit)) (sym same) (c.read_fixed_size_list.ensures.memory k)
 
 pub read_as-returns-in-Extension-clause-memory : goal.read_as-returns-in-Extension-clause-memory
 read_as-returns-in-Extension-clause-memory g t c = λ k.
@@ -460,7 +459,7 @@ read_as-returns-in-Extension-clause-memory g t c = λ k.
     extension_kind_is d c.in-Extension.field-0 c.in-Extension.inner c.in-Extension.field-2 c.args.id is c.in-Extension.is
     ∙ ap (λ (e : DataType). extension_kind (kind_of (type_view e) c.args.id is)) (sym c.deref.ensures)
     in
-    subst (λ (z : Kind). Answers c.read_as.result (IsRead z × IsWell s z a b limit) (λ r. layout_of r.0 ≡ array_at s vs z u a b limit)) (sym same) (c.read_as.ensures.memory k)
+    subst (λ (z : Kind). Answers c.read_as.result (IsWell s z a b limit) (λ r. layout_of r.0 ≡ array_at s vs z u a b limit)) (sym same) (c.read_as.ensures.memory k)
 
 pub read_whole_fields-returns-in_err-column-clause-memory : goal.read_whole_fields-returns-in_err-column-clause-memory
 read_whole_fields-returns-in_err-column-clause-memory g t c = λ k.
@@ -481,9 +480,9 @@ read_whole_fields-returns-in_err-column-clause-memory g t c = λ k.
     let more : rest ≡ more_kinds kind rest' = kinds_left fs is i f inside c.field-item.is in
     let fault = c.in_err-column.field-0.0 in
     let denied : OwnFault fault (AreWhole s all c.args.start → ⊥) =
-    denies_through fault (IsRead kind × IsWell s kind p.node p.buffer None) (AreWhole s all c.args.start)
+    denies_through fault (IsWell s kind p.node p.buffer None) (AreWhole s all c.args.start)
     (λ h. whole_one s vs all rest rest' kind (fields_view fs) (fields_view (drop i fs)) c.args.start p xs more (c.loop-field.invariant.content k) h)
-    (subst (λ (z : Kind). OwnFault fault (IsRead z × IsWell s z p.node p.buffer None → ⊥)) (sym same_kind) (c.in_err-column.ensures.memory k))
+    (subst (λ (z : Kind). OwnFault fault (IsWell s z p.node p.buffer None → ⊥)) (sym same_kind) (c.in_err-column.ensures.memory k))
     in
     refused c.from_residual.result fault _ _ c.from_residual.ensures denied
 
@@ -519,9 +518,9 @@ read_whole_fields-loop-field-preserved g t c =
       given = omega (arith, e1, e2, e3, c.in_ok-column.ensures.step.bounded, c.loop-field.invariant.given);
       content = λ k.
           let y = layout_of c.in_ok-column.column in
-          let read : (IsRead kind × IsWell s kind p.node p.buffer None) × (y ≡ array_at s vs kind (field_type (field_view f)) p.node p.buffer None) =
-          subst (λ (u : TypeTree). (IsRead kind × IsWell s kind p.node p.buffer None) × (y ≡ array_at s vs kind u p.node p.buffer None)) (sym c.child_of-child_id.ensures.named)
-          (subst (λ (z : Kind). (IsRead z × IsWell s z p.node p.buffer None) × (y ≡ array_at s vs z (type_view f.data_type) p.node p.buffer None)) (sym same_kind) (c.in_ok-column.ensures.memory k))
+          let read : IsWell s kind p.node p.buffer None × (y ≡ array_at s vs kind (field_type (field_view f)) p.node p.buffer None) =
+          subst (λ (u : TypeTree). IsWell s kind p.node p.buffer None × (y ≡ array_at s vs kind u p.node p.buffer None)) (sym c.child_of-child_id.ensures.named)
+          (subst (λ (z : Kind). IsWell s z p.node p.buffer None × (y ≡ array_at s vs z (type_view f.data_type) p.node p.buffer None)) (sym same_kind) (c.in_ok-column.ensures.memory k))
           in
           subst (λ (ys : List Layout). WholeSoFar s vs all rest' (fields_view fs) (fields_view (drop (i + 1) fs)) c.args.start q ys)
           (sym (ap (map layout_of) c.in_ok-push.ensures.items ∙ map-append layout_of c.loop-field.columns.items (c.in_ok-column.column ∷ [])))
@@ -555,7 +554,7 @@ read_union-returns-in_err-types-clause-memory g t c = λ k.
     let u = type_view c.args.own.now in
     let t = b + c.args.body.now.extra in
     let at : t ≡ b + s.extra = ap (λ n. b + n) (extra_is g.R.Failures.memory c.args.body.now) in
-    let well : Type 0 = UnionReads s c.args.mode ids ts a b limit in
+    let well : Type 0 = IsWell s (union_kind c.args.mode ids ts) a b limit in
     let fault = c.in_err-types.field-0.0 in
     let denied : OwnFault fault (well → ⊥) =
     denies_through fault (IsSize (node s a).length × Need s t (rows s a limit)) well (λ h. union_types s c.args.mode ids ts a b t limit at h) (c.in_err-types.ensures.memory k)
@@ -579,14 +578,14 @@ read_union-returns-in_err-columns-in-Sparse-clause-memory g t c = λ k.
     let zs = c.in_ok-types.types in
     let head = c.in_ok-types.ensures.memory k in
     let len : c.len-rows.result ≡ length zs = c.len-rows.ensures in
-    let well : Type 0 = UnionReads s Sparse ids ts a b limit in
+    let well : Type 0 = IsWell s (union_kind Sparse ids ts) a b limit in
     let fault = c.in_err-columns-in-Sparse.field-0.0 in
     let denied : OwnFault fault (well → ⊥) =
-    denies_through fault (AreRead ts × AllHaveRows s ts (a + 1) (t + 1) limit c.len-rows.result) well
+    denies_through fault (AllHaveRows s ts (a + 1) (t + 1) limit c.len-rows.result) well
     (λ h. sparse_children s ids ts a b t c.len-rows.result limit at (len ∙ head.1.1) h) (c.in_err-columns-in-Sparse.ensures.memory k)
     in
-    let denied_so : OwnFault fault (UnionReads s c.args.mode ids ts a b limit → ⊥) =
-    subst (λ (m : UnionMode). OwnFault fault (UnionReads s m ids ts a b limit → ⊥)) (sym c.in-Sparse.is) denied
+    let denied_so : OwnFault fault (IsWell s (union_kind c.args.mode ids ts) a b limit → ⊥) =
+    subst (λ (m : UnionMode). OwnFault fault (IsWell s (union_kind m ids ts) a b limit → ⊥)) (sym c.in-Sparse.is) denied
     in
     search rules
 
@@ -608,18 +607,18 @@ read_union-returns-in_err-array-in-Sparse-clause-memory g t c = λ k.
     let head = c.in_ok-types.ensures.memory k in
     let len : c.len-rows.result ≡ length zs = c.len-rows.ensures in
     let cs = map layout_of c.in_ok-columns-in-Sparse.columns.items in
-    let read : (AreRead ts × AllHaveRows s ts (a + 1) (t + 1) limit (length zs)) × (layouts cs ≡ arrays_at s vs ts fs (a + 1) (t + 1) limit) =
-    subst (λ (n : ℕ). (AreRead ts × AllHaveRows s ts (a + 1) (t + 1) limit n) × (layouts cs ≡ arrays_at s vs ts fs (a + 1) (t + 1) limit)) len (c.in_ok-columns-in-Sparse.ensures.memory k)
+    let read : AllHaveRows s ts (a + 1) (t + 1) limit (length zs) × (layouts cs ≡ arrays_at s vs ts fs (a + 1) (t + 1) limit) =
+    subst (λ (n : ℕ). AllHaveRows s ts (a + 1) (t + 1) limit n × (layouts cs ≡ arrays_at s vs ts fs (a + 1) (t + 1) limit)) len (c.in_ok-columns-in-Sparse.ensures.memory k)
     in
     let mode = c.requires.mode_named ∙ c.in-Sparse.is in
-    let well : Type 0 = UnionReads s Sparse ids ts a b limit in
+    let well : Type 0 = IsWell s (union_kind Sparse ids ts) a b limit in
     let fault = c.in_err-array-in-Sparse.field-0.0 in
     let denied : OwnFault fault (well → ⊥) =
     denies_through fault (ChoicesFit u (union_ids u) zs None (layouts cs)) well
     (λ h. sparse_rules s vs ids fs is u a b t limit zs cs c.requires.lies c.requires.ids_named c.requires.fields at head mode read h) c.in_err-array-in-Sparse.ensures.exact
     in
-    let denied_so : OwnFault fault (UnionReads s c.args.mode ids ts a b limit → ⊥) =
-    subst (λ (m : UnionMode). OwnFault fault (UnionReads s m ids ts a b limit → ⊥)) (sym c.in-Sparse.is) denied
+    let denied_so : OwnFault fault (IsWell s (union_kind c.args.mode ids ts) a b limit → ⊥) =
+    subst (λ (m : UnionMode). OwnFault fault (IsWell s (union_kind m ids ts) a b limit → ⊥)) (sym c.in-Sparse.is) denied
     in
     search rules
 
@@ -641,11 +640,11 @@ read_union-returns-in_ok-array-in-Sparse-clause-memory g t c = λ k.
     let head = c.in_ok-types.ensures.memory k in
     let len : c.len-rows.result ≡ length zs = c.len-rows.ensures in
     let cs = map layout_of c.in_ok-columns-in-Sparse.columns.items in
-    let read : (AreRead ts × AllHaveRows s ts (a + 1) (t + 1) limit (length zs)) × (layouts cs ≡ arrays_at s vs ts fs (a + 1) (t + 1) limit) =
-    subst (λ (n : ℕ). (AreRead ts × AllHaveRows s ts (a + 1) (t + 1) limit n) × (layouts cs ≡ arrays_at s vs ts fs (a + 1) (t + 1) limit)) len (c.in_ok-columns-in-Sparse.ensures.memory k)
+    let read : AllHaveRows s ts (a + 1) (t + 1) limit (length zs) × (layouts cs ≡ arrays_at s vs ts fs (a + 1) (t + 1) limit) =
+    subst (λ (n : ℕ). AllHaveRows s ts (a + 1) (t + 1) limit n × (layouts cs ≡ arrays_at s vs ts fs (a + 1) (t + 1) limit)) len (c.in_ok-columns-in-Sparse.ensures.memory k)
     in
     let mode = c.requires.mode_named ∙ c.in-Sparse.is in
-    subst (λ (m : UnionMode). UnionReads s m ids ts a b limit × (layout_of c.in_ok-array-in-Sparse.array ≡ array_at s vs (union_kind m ids ts) u a b limit)) (sym c.in-Sparse.is)
+    subst (λ (m : UnionMode). IsWell s (union_kind m ids ts) a b limit × (layout_of c.in_ok-array-in-Sparse.array ≡ array_at s vs (union_kind m ids ts) u a b limit)) (sym c.in-Sparse.is)
     (sparse_union s vs ids fs is u a b t limit zs cs c.requires.lies c.requires.ids_named c.requires.fields at head mode read (layout_of c.in_ok-array-in-Sparse.array) c.in_ok-array-in-Sparse.ensures.exact)
 
 pub read_union-returns-in_err-places-in-Dense-clause-memory : goal.read_union-returns-in_err-places-in-Dense-clause-memory
@@ -665,13 +664,13 @@ read_union-returns-in_err-places-in-Dense-clause-memory g t c = λ k.
     let zs = c.in_ok-types.types in
     let head = c.in_ok-types.ensures.memory k in
     let len : c.len-rows.result ≡ length zs = c.len-rows.ensures in
-    let well : Type 0 = UnionReads s Dense ids ts a b limit in
+    let well : Type 0 = IsWell s (union_kind Dense ids ts) a b limit in
     let fault = c.in_err-places-in-Dense.field-0.0 in
     let denied : OwnFault fault (well → ⊥) =
     denies_through fault (Need s (t + 1) (4 * c.len-rows.result)) well (λ h. dense_places s ids ts a b t c.len-rows.result limit at (len ∙ head.1.1) h) (c.in_err-places-in-Dense.ensures.memory k)
     in
-    let denied_so : OwnFault fault (UnionReads s c.args.mode ids ts a b limit → ⊥) =
-    subst (λ (m : UnionMode). OwnFault fault (UnionReads s m ids ts a b limit → ⊥)) (sym c.in-Dense.is) denied
+    let denied_so : OwnFault fault (IsWell s (union_kind c.args.mode ids ts) a b limit → ⊥) =
+    subst (λ (m : UnionMode). OwnFault fault (IsWell s (union_kind m ids ts) a b limit → ⊥)) (sym c.in-Dense.is) denied
     in
     search rules
 
@@ -689,13 +688,13 @@ read_union-returns-in_err-columns-in-Dense-clause-memory g t c = λ k.
     let u = type_view c.args.own.now in
     let t = b + c.args.body.now.extra in
     let at : t ≡ b + s.extra = ap (λ n. b + n) (extra_is g.R.Failures.memory c.args.body.now) in
-    let well : Type 0 = UnionReads s Dense ids ts a b limit in
+    let well : Type 0 = IsWell s (union_kind Dense ids ts) a b limit in
     let fault = c.in_err-columns-in-Dense.field-0.0 in
     let denied : OwnFault fault (well → ⊥) =
-    denies_through fault (AreRead ts × AllWell s ts (a + 1) (t + 2)) well (λ h. dense_children s ids ts a b t limit at h) (c.in_err-columns-in-Dense.ensures.memory k)
+    denies_through fault (AllWell s ts (a + 1) (t + 2)) well (λ h. dense_children s ids ts a b t limit at h) (c.in_err-columns-in-Dense.ensures.memory k)
     in
-    let denied_so : OwnFault fault (UnionReads s c.args.mode ids ts a b limit → ⊥) =
-    subst (λ (m : UnionMode). OwnFault fault (UnionReads s m ids ts a b limit → ⊥)) (sym c.in-Dense.is) denied
+    let denied_so : OwnFault fault (IsWell s (union_kind c.args.mode ids ts) a b limit → ⊥) =
+    subst (λ (m : UnionMode). OwnFault fault (IsWell s (union_kind m ids ts) a b limit → ⊥)) (sym c.in-Dense.is) denied
     in
     search rules
 
@@ -723,14 +722,14 @@ read_union-returns-in_err-array-in-Dense-clause-memory g t c = λ k.
     let cs = map layout_of c.in_ok-columns-in-Dense.columns.items in
     let read = c.in_ok-columns-in-Dense.ensures.memory k in
     let mode = c.requires.mode_named ∙ c.in-Dense.is in
-    let well : Type 0 = UnionReads s Dense ids ts a b limit in
+    let well : Type 0 = IsWell s (union_kind Dense ids ts) a b limit in
     let fault = c.in_err-array-in-Dense.field-0.0 in
     let denied : OwnFault fault (well → ⊥) =
     denies_through fault (ChoicesFit u (union_ids u) zs (Some os) (layouts cs)) well
     (λ h. dense_rules s vs ids fs is u a b t limit zs cs c.requires.lies c.requires.ids_named c.requires.fields at head os mode places read h) c.in_err-array-in-Dense.ensures.exact
     in
-    let denied_so : OwnFault fault (UnionReads s c.args.mode ids ts a b limit → ⊥) =
-    subst (λ (m : UnionMode). OwnFault fault (UnionReads s m ids ts a b limit → ⊥)) (sym c.in-Dense.is) denied
+    let denied_so : OwnFault fault (IsWell s (union_kind c.args.mode ids ts) a b limit → ⊥) =
+    subst (λ (m : UnionMode). OwnFault fault (IsWell s (union_kind m ids ts) a b limit → ⊥)) (sym c.in-Dense.is) denied
     in
     search rules
 
@@ -758,7 +757,7 @@ read_union-returns-in_ok-array-in-Dense-clause-memory g t c = λ k.
     let cs = map layout_of c.in_ok-columns-in-Dense.columns.items in
     let read = c.in_ok-columns-in-Dense.ensures.memory k in
     let mode = c.requires.mode_named ∙ c.in-Dense.is in
-    subst (λ (m : UnionMode). UnionReads s m ids ts a b limit × (layout_of c.in_ok-array-in-Dense.array ≡ array_at s vs (union_kind m ids ts) u a b limit)) (sym c.in-Dense.is)
+    subst (λ (m : UnionMode). IsWell s (union_kind m ids ts) a b limit × (layout_of c.in_ok-array-in-Dense.array ≡ array_at s vs (union_kind m ids ts) u a b limit)) (sym c.in-Dense.is)
     (dense_union s vs ids fs is u a b t limit zs cs c.requires.lies c.requires.ids_named c.requires.fields at head os mode places read (layout_of c.in_ok-array-in-Dense.array) c.in_ok-array-in-Dense.ensures.exact)
 
 pub read_as-read_union-requires : goal.read_as-read_union-requires

@@ -11,10 +11,10 @@ use Rattle.ipc_model.specs.Columns.{IsWell}
 use Rattle.ipc_model.specs.ReadArrays.{array_at}
 use Rattle.ipc_columns.specs.Bodies.{entries, known}
 use Rattle.ipc_columns.specs.FlatKinds.{flat_kind}
-use Rattle.ipc_columns.specs.Kinds.{Follows, IsRead}
+use Rattle.ipc_columns.specs.Kinds.{Follows}
 use Rattle.ipc_columns.proofs.Fetches.{denies_through, refused, failing}
 use Rattle.ipc_columns.specs.Refusals.{IsFaultOf}
-use Rattle.ipc_columns.proofs.Plain.{plain_read, stored_kind}
+use Rattle.ipc_columns.proofs.Plain.{stored_kind}
 use Rattle.ipc_columns.proofs.Refusals.{same_kind}
 use Rattle.ipc_columns.proofs.read.deserialize.read_plain.Goals as goal
 
@@ -46,10 +46,10 @@ returns-in_err-array-clause-memory g c = λ k.
     ∙ ap (λ (p : PhysicalType). flat_kind p (byte_size own)) (sym c.to_physical_type-physical_type.ensures)
     in
     let fault = c.in_err-array.field-0.0 in
-    let well : Type 0 = IsRead kind × IsWell s kind a b c.args.limit in
+    let well : Type 0 = IsWell s kind a b c.args.limit in
     let denied : OwnFault fault (well → ⊥) =
     denies_through fault (IsWell s (flat_kind lies (byte_size own)) a b c.args.limit) well
-    (λ h. subst (λ (z : Kind). IsWell s z a b c.args.limit) same h.1) (c.in_err-array.ensures.memory k)
+    (λ h. subst (λ (z : Kind). IsWell s z a b c.args.limit) same h) (c.in_err-array.ensures.memory k)
     in
     refused c.from_residual.result fault _ _ c.from_residual.ensures denied
 
@@ -77,6 +77,6 @@ returns-clause-memory g c = λ k.
     in
     let x = layout_of c.in_ok-array.array in
     let read = c.in_ok-array.ensures.memory k in (
-      (plain_read t c.args.id (all_ids_view c.args.ids.now) c.requires.plain, subst (λ (z : Kind). IsWell s z a b c.args.limit) (sym same) read.0),
+      subst (λ (z : Kind). IsWell s z a b c.args.limit) (sym same) read.0,
       subst (λ (z : Kind). x ≡ array_at s (known c.args.body.now) z own a b c.args.limit) (sym same) read.1,
     )

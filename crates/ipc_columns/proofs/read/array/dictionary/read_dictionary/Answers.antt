@@ -12,7 +12,6 @@ use Rattle.ipc_model.specs.Entries.{Need, rows}
 use Rattle.ipc_model.specs.Kinds.{dictionary_kind}
 use Rattle.ipc_model.specs.TypeKinds.{key_form}
 use Rattle.ipc_columns.specs.Bodies.{entries, known}
-use Rattle.ipc_columns.specs.Kinds.{IsRead}
 use Rattle.ipc_columns.proofs.Fetches.{denies_through, refused}
 use Rattle.ipc_columns.proofs.KeyReads.{keys_rules, keys_well, keys_array}
 use Rattle.ipc_columns.proofs.KnownValues.{values_count}
@@ -24,8 +23,8 @@ returns-in_err-values-clause-memory g c = λ k.
     let v = type_view c.args.value_type.now in
     let t = dictionary_kind (key_form c.args.keys) c.args.id (norm v) in
     let fault = c.in_err-values.field-0.0 in
-    let well : Type 0 = IsRead t × IsWell s t c.args.place.node c.args.place.buffer c.args.limit in
-    let denied : OwnFault fault (well → ⊥) = denies_through fault (values_type s c.args.id ≡ Some (norm v)) well (λ h. h.1.2.known) c.in_err-values.ensures.exact in
+    let well : Type 0 = IsWell s t c.args.place.node c.args.place.buffer c.args.limit in
+    let denied : OwnFault fault (well → ⊥) = denies_through fault (values_type s c.args.id ≡ Some (norm v)) well (λ h. h.2.known) c.in_err-values.ensures.exact in
     refused c.from_residual.result fault _ _ c.from_residual.ensures denied
 
 pub returns-in_err-read-clause-memory : goal.returns-in_err-read-clause-memory
@@ -37,9 +36,9 @@ returns-in_err-read-clause-memory g c = λ k.
     let n = rows s a c.args.limit in
     let t = dictionary_kind f c.args.id (norm (type_view c.args.value_type.now)) in
     let fault = c.in_err-read.field-0.0 in
-    let well : Type 0 = IsRead t × IsWell s t a b c.args.limit in
+    let well : Type 0 = IsWell s t a b c.args.limit in
     let denied : OwnFault fault (well → ⊥) =
-    denies_through fault (Begins s a b n × Need s (b + 1) (width_of f * n)) well (λ h. (h.1.0, h.1.1)) (c.in_err-read.ensures.memory k)
+    denies_through fault (Begins s a b n × Need s (b + 1) (width_of f * n)) well (λ h. (h.0, h.1)) (c.in_err-read.ensures.memory k)
     in
     refused c.from_residual-in_err-read.result fault _ _ c.from_residual-in_err-read.ensures denied
 
@@ -58,10 +57,10 @@ returns-in_err-array-clause-memory g c = λ k.
     let many : len_of l ≡ length (values_slots s id) = ap len_of found.1 ∙ values_count g.R.Failures.memory c.args.body.now id in
     let t = dictionary_kind (key_form c.args.keys) id (norm v) in
     let fault = c.in_err-array.field-0.0 in
-    let well : Type 0 = IsRead t × IsWell s t a b c.args.limit in
+    let well : Type 0 = IsWell s t a b c.args.limit in
     let denied : OwnFault fault (well → ⊥) =
     denies_through fault (DictionaryRules u ks (type_of l) (len_of l)) well
-    (λ h. keys_rules s vs c.args.keys u v id a b c.args.limit ks l c.requires.lies c.requires.named c.in_ok-values.ensures.named many (c.in_ok-read.ensures.memory k).1 h.1)
+    (λ h. keys_rules s vs c.args.keys u v id a b c.args.limit ks l c.requires.lies c.requires.named c.in_ok-values.ensures.named many (c.in_ok-read.ensures.memory k).1 h)
     c.in_err-array.ensures.exact
     in
     refused c.from_residual-in_err-array.result fault _ _ c.from_residual-in_err-array.ensures denied
@@ -81,6 +80,6 @@ returns-clause-memory g c = λ k.
     let read = c.in_ok-read.ensures.memory k in
     let made = c.in_ok-array.ensures.exact in
     let many : len_of l ≡ length (values_slots s id) = ap len_of found.1 ∙ values_count g.R.Failures.memory c.args.body.now id in (
-      (tt, keys_well s vs c.args.keys u v id a b c.args.limit ks l c.requires.lies c.requires.named c.in_ok-values.ensures.named many read.1 read.0 found.0 made.0),
+      keys_well s vs c.args.keys u v id a b c.args.limit ks l c.requires.lies c.requires.named c.in_ok-values.ensures.named many read.1 read.0 found.0 made.0,
       keys_array s vs c.args.keys u v id a b c.args.limit ks l c.requires.lies c.requires.named c.in_ok-values.ensures.named many read.1 found.1 (layout_of c.in_ok-array.array) made.1,
     )

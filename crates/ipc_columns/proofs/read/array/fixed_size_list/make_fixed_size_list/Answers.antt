@@ -1,4 +1,4 @@
-use Rattle.std.proofs.Common.{arith, rules, ◌≡◌, ◌*◌, ap, ◌∙◌}
+use Rattle.std.proofs.Common.{rules, ◌≡◌, ◌*◌, ap, ◌∙◌}
 use Rattle.lower.specs.TypeViews.{type_view}
 use Rattle.lower_arrays.specs.Layouts.{len_of}
 use Rattle.lower_arrays.specs.FixedLists.{fixed_list_seen, fixed_list_layout}

@@ -1,4 +1,4 @@
-use Rattle.std.proofs.Common.{◌≡◌, ◌+◌, subst}
+use Rattle.std.proofs.Common.{◌+◌, subst}
 use Rattle.ipc_model.specs.Kinds.{offsets_32}
 use Rattle.ipc_model.specs.Entries.{rows}
 use Rattle.ipc_model.specs.Columns.{Offsets}
