@@ -8,7 +8,6 @@ use Rattle.ipc_model.specs.AddressLaws.{IsWellInBatch}
 use Rattle.ipc_model.specs.Batches.{kind_at}
 use Rattle.ipc_model.specs.Entries.{Entries, Limit}
 use Rattle.ipc_model.specs.Kinds.{Kinds}
-use Rattle.ipc_columns.specs.Kinds.{IsRead}
 use Rattle.ipc_columns.specs.Refusals.{IsFaultOf}
 use Rattle.ipc_read.specs.Columns.{HasColumns, IsColumnAt, AreColumns}
 use Rattle.ipc_read.specs.Refusals.{IsFaultOfSome}
@@ -44,12 +43,12 @@ module _ (s : Entries) (vs : Option ℤ → Layout) (fs : FieldTrees) (ts : Kind
   so_same left rest xs e so = subst (λ (l : List ℕ). SoFar s vs fs ts limit js l xs) e so
 
   -- the first that is left
-  pub one_on : (left rest : List ℕ) (xs : List AnyArray) (i : ℕ) → left ≡ i ∷ rest → SoFar s vs fs ts limit js left xs → HasColumns s ts limit js → IsRead (kind_at ts i) × IsWellInBatch s ts limit i
+  pub one_on : (left rest : List ℕ) (xs : List AnyArray) (i : ℕ) → left ≡ i ∷ rest → SoFar s vs fs ts limit js left xs → HasColumns s ts limit js → IsWellInBatch s ts limit i
   one_on left rest xs i more so h =
       let w : HasColumns s ts limit (i ∷ rest) = subst (λ (l : List ℕ). HasColumns s ts limit l) more (so.on h) in
       w.0
 
-  pub so_more : (left rest : List ℕ) (xs ys : List AnyArray) (i : ℕ) (x : AnyArray) → left ≡ i ∷ rest → IsRead (kind_at ts i) × IsWellInBatch s ts limit i
+  pub so_more : (left rest : List ℕ) (xs ys : List AnyArray) (i : ℕ) (x : AnyArray) → left ≡ i ∷ rest → IsWellInBatch s ts limit i
       → IsColumnAt s vs fs ts limit i x → ys ≡ xs ++ x ∷ [] → SoFar s vs fs ts limit js left xs → SoFar s vs fs ts limit js rest ys
   so_more left rest xs ys i x more well column pushed so =
       subst (λ (l : List AnyArray). SoFar s vs fs ts limit js rest l) (sym pushed)

@@ -17,7 +17,7 @@ use Rattle.ipc_devices.specs.Faults.{OwnFault}
 use Rattle.ipc_devices.specs.declared.fault.Fault.{Fault}
 use Rattle.ipc_columns.specs.Refusals.{IsFaultOf}
 use Rattle.ipc_columns.specs.Bodies.{HasRoom}
-use Rattle.ipc_columns.specs.Kinds.{Follows, IsRead, listed_in}
+use Rattle.ipc_columns.specs.Kinds.{Follows, listed_in}
 use Rattle.ipc_columns.specs.ReadColumns.{IsColumn}
 use Rattle.ipc_columns.specs.declared.read.body.Body.{Body}
 use Rattle.ipc_columns.specs.declared.read.body.Place.{Place}
@@ -115,20 +115,16 @@ module _ (extra : ℕ) (ts : Kinds) (is left : IdTrees) (j : ℕ) (p : Place) (t
       }
 
   -- it is well formed here, or there
-  pub well_there : (s : Entries) (limit : Limit) → s.extra ≡ extra → IsRead t × IsWell s t p.node p.buffer limit → IsRead (kind_at ts j) × IsWellInBatch s ts limit j
-  well_there s limit e w = (
-    subst (λ (k : Kind). IsRead k) same w.0,
-    subst (λ (x : ℕ). IsWell s (kind_at ts j) (nodes_before ts j) x limit) (at.buffer ∙ ap (λ x. buffers_before x ts j) (sym e))
-        (subst (λ (x : ℕ). IsWell s (kind_at ts j) x p.buffer limit) at.node (subst (λ (k : Kind). IsWell s k p.node p.buffer limit) same w.1)),
-  )
+  pub well_there : (s : Entries) (limit : Limit) → s.extra ≡ extra → IsWell s t p.node p.buffer limit → IsWellInBatch s ts limit j
+  well_there s limit e w =
+      subst (λ (x : ℕ). IsWell s (kind_at ts j) (nodes_before ts j) x limit) (at.buffer ∙ ap (λ x. buffers_before x ts j) (sym e))
+      (subst (λ (x : ℕ). IsWell s (kind_at ts j) x p.buffer limit) at.node (subst (λ (k : Kind). IsWell s k p.node p.buffer limit) same w))
 
-  pub well_here : (s : Entries) (limit : Limit) → s.extra ≡ extra → IsRead (kind_at ts j) × IsWellInBatch s ts limit j → IsRead t × IsWell s t p.node p.buffer limit
-  well_here s limit e w = (
-    subst (λ (k : Kind). IsRead k) (sym same) w.0,
-    subst (λ (k : Kind). IsWell s k p.node p.buffer limit) (sym same)
-        (subst (λ (x : ℕ). IsWell s (kind_at ts j) x p.buffer limit) (sym at.node)
-        (subst (λ (x : ℕ). IsWell s (kind_at ts j) (nodes_before ts j) x limit) (sym (at.buffer ∙ ap (λ x. buffers_before x ts j) (sym e))) w.1)),
-  )
+  pub well_here : (s : Entries) (limit : Limit) → s.extra ≡ extra → IsWellInBatch s ts limit j → IsWell s t p.node p.buffer limit
+  well_here s limit e w =
+      subst (λ (k : Kind). IsWell s k p.node p.buffer limit) (sym same)
+      (subst (λ (x : ℕ). IsWell s (kind_at ts j) x p.buffer limit) (sym at.node)
+      (subst (λ (x : ℕ). IsWell s (kind_at ts j) (nodes_before ts j) x limit) (sym (at.buffer ∙ ap (λ x. buffers_before x ts j) (sym e))) w))
 
   pub column_there : (s : Entries) (vs : Option ℤ → Layout) (limit : Limit) (u v : TypeTree) (x : Layout) → s.extra ≡ extra → u ≡ v → IsColumn s vs t u p.node p.buffer limit x
       → IsColumn s vs (kind_at ts j) v (nodes_before ts j) (buffers_before s.extra ts j) limit x

@@ -5,7 +5,6 @@ use Rattle.std.specs.Option.{option_and_then}
 use Rattle.std.proofs.lemmas.List.{get_or-map, length-map}
 use Rattle.std.proofs.lemmas.List.FromFn.{length-map-range_with_len}
 use Rattle.lower.specs.TypeTrees.{TypeTree, FieldTrees}
-use Rattle.lower_types.specs.declared.Endianness.{Endianness}
 use Rattle.lower_arrays.specs.AnyLayouts.{layout_of}
 use Rattle.lower_arrays.specs.Layouts.{Layout, len_of}
 use Rattle.lower_arrays.specs.Slots.{Slot, slots, slots_from}
@@ -21,13 +20,13 @@ use Rattle.ipc_model.proofs.Needs.{node_law}
 use Rattle.ipc_model.proofs.Pruned.{batch_some, projected_is, projection_decides, read_first}
 use Rattle.ipc_model.specs.Batches.{Schema, kinds, Body, Lists, lists_of, entries_of, kind_at, type_at, nodes_before, buffers_before, rows_at, slots_of_column, chosen, IsProjection, AllRead, first_rows, IsBatch, Chunk, chunk_of, batch, record_meaning}
 use Rattle.ipc_model.specs.Entries.{Entries, Part, IsSize, size, part_at, node, Dictionaries, Limit, limited, rows}
-use Rattle.ipc_model.specs.Kinds.{Kind, Kinds, count, nodes, all_nodes, all_buffers}
+use Rattle.ipc_model.specs.Kinds.{Kind, Kinds, count, all_nodes, all_buffers}
 use Rattle.ipc_columns.proofs.Fetches.{denies_through}
 use Rattle.ipc_columns.specs.ReadColumns.{IsColumn}
 use Rattle.ipc_projections.proofs.Prepared.{prepared_projection}
 use Rattle.ipc_read.proofs.Refusals.{own_any}
 use Rattle.ipc_read.specs.Chunks.{column_seen, chunk_seen, HasMeaning, GivesBatch}
-use Rattle.ipc_read.specs.Columns.{ArePrepared, AreReadAt, HasColumns, AreColumns}
+use Rattle.ipc_read.specs.Columns.{ArePrepared, HasColumns, AreColumns}
 use Rattle.ipc_read.specs.Sizes.{AreSizes, total_of}
 
 -- ---- options
@@ -60,7 +59,7 @@ array_rows :
 array_rows s vs t u a d limit x is =
     sym (length-slots_from _ 0 (len_of (layout_of x))) ∙ ap length is.slots ∙ length-map-range_with_len _ 0 (rows s a limit)
 
-abbrev any_rows : AnyArray → ℕ
+abbrev pub any_rows : AnyArray → ℕ
 any_rows x = len_of (layout_of x)
 
 -- ---- the sizes of buffers
@@ -100,7 +99,7 @@ module _ (s : Entries) (vs : Option ℤ → Layout) (fs : FieldTrees) (ts : Kind
   all_read k (j ∷ js) [] has are each = absurd are
   all_read k (j ∷ js) (x ∷ xs) has are each = (
     (
-      (address_law s ts limit j).from_whole has.0.1,
+      (address_law s ts limit j).from_whole has.0,
       column_rows s ts limit j
           ∙ sym (array_rows s vs (kind_at ts j) (type_at fs j) (nodes_before ts j) (buffers_before s.extra ts j) limit x are.0)
           ∙ each 0 x (omega arith),
@@ -114,7 +113,7 @@ module _ (s : Entries) (vs : Option ℤ → Layout) (fs : FieldTrees) (ts : Kind
   chunk_is (j ∷ js) [] has are = absurd are
   chunk_is (j ∷ js) (x ∷ xs) has are =
       let law = address_law s ts limit j in
-      let slots_are : slots_of_column s ts limit j ≡ slots (layout_of x) = law.slots (law.from_whole has.0.1) ∙ sym are.0.slots in
+      let slots_are : slots_of_column s ts limit j ≡ slots (layout_of x) = law.slots (law.from_whole has.0) ∙ sym are.0.slots in
       let here : record { type = type_at fs j; slots = slots_of_column s ts limit j } ≡ column_seen x = λ i. record { type = sym are.0.type i; slots = slots_are i } in
       let rest = chunk_is js xs has.1 are.1 in
       λ k. here k ∷ rest k
@@ -134,13 +133,9 @@ module _ (s : Entries) (vs : Option ℤ → Layout) (fs : FieldTrees) (ts : Kind
 -- ---- from the batch to the columns
 
 module _ (s : Entries) (ts : Kinds) (limit : Limit) where
-  has_columns : (k : ℕ) (js : List ℕ) → AreReadAt ts js → AllRead s ts limit k js → HasColumns s ts limit js
-  has_columns k [] read v = tt
-  has_columns k (j ∷ js) read v = ((read.0, (address_law s ts limit j).to_whole v.0.0), has_columns k js read.1 v.1)
-
-  are_read : (js : List ℕ) → HasColumns s ts limit js → AreReadAt ts js
-  are_read [] has = tt
-  are_read (j ∷ js) has = (has.0.0, are_read js has.1)
+  has_columns : (k : ℕ) (js : List ℕ) → AllRead s ts limit k js → HasColumns s ts limit js
+  has_columns k [] v = tt
+  has_columns k (j ∷ js) v = ((address_law s ts limit j).to_whole v.0.0, has_columns k js v.1)
 
 pub equal_rows : (k : ℕ) (xs : List AnyArray) → ((i : ℕ) (d : AnyArray) → i < length xs → any_rows (get_or xs i d) ≡ k) → AreEqualRows any_rows xs
 equal_rows k [] each = λ j x h. absurd (omega (arith, h))
@@ -200,11 +195,10 @@ pub record Judged (schema : Schema) (extra : ℕ) (known : Dictionaries) (b : Bo
 
 judged_batch :
     (schema : Schema) (extra : ℕ) (known : Dictionaries) (b : Body) (projection : Option (List ℕ)) (limit : Limit) (lists : Lists)
-    → AreReadAt (kinds schema) (chosen projection (count (kinds schema)))
     → IsBatch (entries_of lists b schema.order extra known) b.size (kinds schema) (chosen projection (count (kinds schema))) limit
     → (k : ℕ) × Judged schema extra known b projection limit lists k
 unfolding entries_of
-judged_batch schema extra known b projection limit lists read v =
+judged_batch schema extra known b projection limit lists v =
     let s = entries_of lists b schema.order extra known in
     let ts = kinds schema in
     let js = chosen projection (count ts) in
@@ -217,7 +211,7 @@ judged_batch schema extra known b projection limit lists read v =
           nodes = v.nodes_listed;
           buffers = omega (arith, v.buffers_listed, length-map lists.buffers (part_at b.source b.base));
         };
-        has = has_columns s ts limit k js read v.columns;
+        has = has_columns s ts limit k js v.columns;
         rows = v.columns;
       },
     )
@@ -229,10 +223,10 @@ pub judged :
 unfolding record_meaning
 judged schema extra known b t projection limit lists listed h =
     let meant : Option Lists → Option Chunk = λ (o : Option Lists). option_and_then (λ (l : Lists). batch (entries_of l b schema.order extra known) b.size schema projection limit) o in
-    let there : IsSome (meant (Some lists)) = subst (λ (o : Option Lists). IsSome (meant o)) listed h.some in
+    let there : IsSome (meant (Some lists)) = subst (λ (o : Option Lists). IsSome (meant o)) listed h in
     let c = some_of (meant (Some lists)) there in
     let found = batch_some (entries_of lists b schema.order extra known) b.size schema projection limit c.0 c.1 in
-    judged_batch schema extra known b projection limit lists h.read found.0
+    judged_batch schema extra known b projection limit lists found.0
 
 pub some_listed : {X Y : Type 0} (f : X → Option Y) (o : Option X) → IsSome (option_and_then f o) → IsSome o
 some_listed f (Some x) h = refl
@@ -243,7 +237,7 @@ pub listed_of : (schema : Schema) (extra : ℕ) (known : Dictionaries) (b : Body
     → HasMeaning schema extra known b t projection limit → IsSome (lists_of t)
 unfolding record_meaning
 listed_of schema extra known b t projection limit h =
-    some_listed (λ (l : Lists). batch (entries_of l b schema.order extra known) b.size schema projection limit) (lists_of t) h.some
+    some_listed (λ (l : Lists). batch (entries_of l b schema.order extra known) b.size schema projection limit) (lists_of t) h
 
 -- ---- the answer
 
@@ -252,13 +246,8 @@ pub gives_batch :
     → Fetched schema extra known vs b t projection limit lists ys → (IsOk r ↔ AreEqualRows any_rows ys) → IfOk r (λ xs. xs ≡ ys)
     → GivesBatch schema extra known b t projection limit r
 gives_batch schema extra known vs b t projection limit lists ys (Ok xs) f ok told =
-    let means = fetched_meaning schema extra known vs b t projection limit lists ys f (ok.0 refl) in (
-      record {
-        some = some_is _ (chunk_seen ys) means;
-        read = are_read (entries_of lists b schema.order extra known) (kinds schema) limit (chosen projection (count (kinds schema))) f.has;
-      },
-      means ∙ ap (λ (zs : List AnyArray). Some (chunk_seen zs)) (sym told),
-    )
+    let means = fetched_meaning schema extra known vs b t projection limit lists ys f (ok.0 refl) in
+    (some_is _ (chunk_seen ys) means, means ∙ ap (λ (zs : List AnyArray). Some (chunk_seen zs)) (sym told))
 gives_batch schema extra known vs b t projection limit lists ys (Err e) f ok told =
     own_any e _ (λ h.
     let s = entries_of lists b schema.order extra known in

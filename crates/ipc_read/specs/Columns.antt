@@ -9,7 +9,7 @@ use Rattle.ipc_model.specs.AddressLaws.{IsWellInBatch}
 use Rattle.ipc_model.specs.Batches.{kind_at, type_at, nodes_before, buffers_before}
 use Rattle.ipc_model.specs.Entries.{Entries, Limit}
 use Rattle.ipc_model.specs.Kinds.{Kinds}
-use Rattle.ipc_columns.specs.Kinds.{IsRead, listed_in}
+use Rattle.ipc_columns.specs.Kinds.{listed_in}
 use Rattle.ipc_columns.specs.ReadColumns.{IsColumn}
 use Rattle.ipc_projections.specs.Projections.{IsPrepared}
 
@@ -18,15 +18,10 @@ abbrev pub ArePrepared : Option (List ℕ) → ℕ → Type 0
 ArePrepared None n = Unit {0}
 ArePrepared (Some js) n = IsPrepared js n
 
--- the kinds of some columns are read
-abbrev pub AreReadAt : Kinds → List ℕ → Type 0
-AreReadAt ts [] = Unit {0}
-AreReadAt ts (j ∷ js) = IsRead (kind_at ts j) × AreReadAt ts js
-
--- some columns are read, and well formed
+-- some columns are well formed
 abbrev pub HasColumns : Entries → Kinds → Limit → List ℕ → Type 0
 HasColumns s ts limit [] = Unit {0}
-HasColumns s ts limit (j ∷ js) = (IsRead (kind_at ts j) × IsWellInBatch s ts limit j) × HasColumns s ts limit js
+HasColumns s ts limit (j ∷ js) = IsWellInBatch s ts limit j × HasColumns s ts limit js
 
 -- an array is that of column j, where vs are those of the dictionaries' values
 abbrev pub IsColumnAt : Entries → (Option ℤ → Layout) → FieldTrees → Kinds → Limit → ℕ → AnyArray → Type 0

@@ -1,6 +1,5 @@
-use Rattle.std.proofs.Common.{arith, rules, ◌≡◌, ℕ, ◌+◌, ◌<◌, ◌≤◌, List, [], ◌∷◌, length, Option, IsTrue, true, false, refl, sym, ap, subst, ◌∙◌, length-append}
+use Rattle.std.proofs.Common.{arith, rules, ◌≡◌, ℕ, ◌+◌, ◌<◌, ◌≤◌, List, [], ◌∷◌, length, Option, true, false, refl, sym, ap, subst, ◌∙◌, length-append}
 use Rattle.std.specs.Option.{option_copied}
-use Rattle.lower.specs.Counts as types
 use Rattle.lower.specs.TypeViews.{type_view, fields_view}
 use Rattle.lower_arrays.specs.AnyLayouts.{layout_of}
 use Rattle.lower_arrays.specs.declared.array.AnyArray.{AnyArray}
@@ -8,11 +7,10 @@ use Rattle.ipc_base.specs.IdTrees.{all_ids_view}
 use Rattle.ipc_devices.specs.Faults.{OwnFault}
 use Rattle.ipc_model.specs.Batches.{kind_at, type_at, chosen}
 use Rattle.ipc_model.specs.Columns.{IsWell}
-use Rattle.ipc_model.specs.Kinds.{Kind, count, nodes, buffers}
+use Rattle.ipc_model.specs.Kinds.{count}
 use Rattle.ipc_model.specs.TypeKinds.{kind_of, kinds_of}
 use Rattle.ipc_model.proofs.TypeKinds.{node_counts, buffer_counts}
 use Rattle.ipc_columns.specs.Bodies.{entries, known}
-use Rattle.ipc_columns.specs.Kinds.{IsRead}
 use Rattle.ipc_columns.specs.Refusals.{IsFaultOf}
 use Rattle.ipc_columns.proofs.Fetches.{denies_through, refused, failing}
 use Rattle.ipc_columns.proofs.StructReads.{extra_is}
@@ -221,7 +219,7 @@ returns-in_err-column-clause-memory g c = λ k.
     let more = left_more p n m i inside here in
     let fault = c.in_err-column.field-0.0 in
     let denied : OwnFault fault (HasColumns s ts limit (chosen p n) → ⊥) =
-    denies_through fault (IsRead t × IsWell s t place.node place.buffer limit) (HasColumns s ts limit (chosen p n))
+    denies_through fault (IsWell s t place.node place.buffer limit) (HasColumns s ts limit (chosen p n))
     (λ h. well_here extra ts is left i place t at listed same s limit (sym (extra_is g.R.Failures.memory c.args.body.now))
     (one_on s vs (fields_view fs) ts limit (chosen p n) _ _ c.loop-index.columns.items i more (c.loop-index.invariant.content k) h))
     (c.in_err-column.ensures.memory k)

@@ -1,4 +1,4 @@
-use Rattle.std.proofs.Common.{arith, rules, ◌≡◌, ℕ, ◌+◌, ◌≤◌, Err, [], List, length, Option, refl, IsSome, Some, ap, sym, subst}
+use Rattle.std.proofs.Common.{arith, rules, ◌≡◌, ℕ, ◌+◌, ◌≤◌, Err, List, length, Option, refl, IsSome, ap, sym, subst}
 use Rattle.std.specs.Option.{option_copied}
 use Rattle.lower.specs.Counts.{fields_nodes, fields_buffers}
 use Rattle.lower.specs.TypeViews.{fields_view}
