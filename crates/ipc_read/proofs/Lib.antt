@@ -9,3 +9,7 @@ pub mod ColumnPlaces
 pub mod Batches
 pub mod Listed
 pub mod Meanings
+pub mod ValueReads
+pub mod PlaceLists
+pub mod KnownDictionaries
+pub mod DictionaryMeanings

@@ -21,6 +21,19 @@ claims_through (Io e) P Q f h = tt
 claims_through Memory P Q f h = tt
 claims_through (Lower e) P Q f h = f h
 
+-- one from which another follows, where the fault is the input's
+pub claims_own : (e : Fault) (P Q : Type 0) → (P → OwnFault e Q) → OwnFault e P → OwnFault e Q
+claims_own (OutOfSpec k) P Q f h = f h
+claims_own Ended P Q f h = f h
+claims_own (NotYetImplemented n) P Q f h = f h
+claims_own (Schema s) P Q f h = f h
+claims_own (Argument a) P Q f h = f h
+claims_own (State s) P Q f h = f h
+claims_own TooManyDictionaries P Q f h = f h
+claims_own (Io e) P Q f h = tt
+claims_own Memory P Q f h = tt
+claims_own (Lower e) P Q f h = f h
+
 pub own_any : (e : Fault) (P : Type 0) → P → OwnFault e P
 own_any (OutOfSpec k) P h = h
 own_any Ended P h = h

@@ -1,4 +1,5 @@
 pub mod Sizes
 pub mod Columns
 pub mod Chunks
+pub mod DictionaryBatches
 pub mod Refusals

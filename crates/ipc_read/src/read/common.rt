@@ -37,7 +37,7 @@ use std::snapshot::Snapshot;
 
 // The entries of a batch, which isn't compressed.
 #[tactic(auto, unfolding(ipc_model::specs::Batches::lists_of), using(crate::proofs::NodeLengths::node_lengths))]
-fn entries_of<'a>(batch: &RecordBatchRef<'a>) -> Result<(Nodes<'a>, Buffers<'a>), Fault>
+pub(crate) fn entries_of<'a>(batch: &RecordBatchRef<'a>) -> Result<(Nodes<'a>, Buffers<'a>), Fault>
     ensures own { OnIo result ⊥ }
     ensures only { IfErr result (λ e. OwnFault e (IsListFault e)) }
     ensures small { IfOk result (λ r. AreSmall r.0) }
@@ -75,7 +75,7 @@ fn listed_bytes(buffers: &Buffers) -> Result<u128, Fault>
 }
 
 // Refuses buffers that are together longer than what holds them.
-fn check_lengths(buffers: &Buffers, file_size: u64) -> Result<(), Fault>
+pub(crate) fn check_lengths(buffers: &Buffers, file_size: u64) -> Result<(), Fault>
     ensures own { OnIo result ⊥ }
     ensures only { IfErr result (λ e. OwnFault e (IsListFault e)) }
     ensures exact { Answers result (AreSizes buffers.now × (total_of buffers.now ≤ file_size)) (λ _. Unit {0}) }
@@ -108,7 +108,7 @@ fn check_counts(nodes: usize, buffers: usize, fields: &[Field], extra: usize) ->
 }
 
 // The order of the bytes of a number.
-fn byte_order(is_little_endian: bool) -> Endianness
+pub(crate) fn byte_order(is_little_endian: bool) -> Endianness
     ensures { result ≡ order_of is_little_endian }
 {
     if is_little_endian {
@@ -119,7 +119,7 @@ fn byte_order(is_little_endian: bool) -> Endianness
 }
 
 // How many buffers stand in front of a union's own.
-fn count_extra(version: MetadataVersion) -> usize
+pub(crate) fn count_extra(version: MetadataVersion) -> usize
     ensures extra { result ≡ extra_of version }
     ensures small { result ≤ 1 }
 {

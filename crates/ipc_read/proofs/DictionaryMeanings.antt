@@ -1,0 +1,102 @@
+-- What is known after a dictionary batch.
+use Rattle.std.proofs.Common.{◌≡◌, refl, ℕ, ℤ, Bool, true, false, [], ◌∷◌, Option, None, Some, IsSome, IfSome, Result, Ok, Err, sym, ap, subst, ◌∙◌, inl, inr}
+use Rattle.std.specs.Option.{option_and_then}
+use Rattle.lower.specs.Normal.{norm}
+use Rattle.lower_arrays.specs.AnyLayouts.{layout_of}
+use Rattle.lower_arrays.specs.Layouts.{type_of}
+use Rattle.lower_arrays.specs.Slots.{slots}
+use Rattle.lower_arrays.specs.declared.array.AnyArray.{AnyArray}
+use Rattle.ipc_devices.specs.Faults.{OwnFault}
+use Rattle.ipc_devices.specs.declared.fault.Fault.{Fault}
+use Rattle.ipc_devices.specs.declared.fault.TableFault.{TableFault}
+use Rattle.ipc_views.specs.Spot.{Spot}
+use Rattle.ipc_model.specs.Batches.{Schema, kinds, Body, lists_of, record_meaning, Place, places, place_of, values_schema, with_values, values_meaning, batch_meaning, dictionary_meaning}
+use Rattle.ipc_model.specs.Entries.{Dictionaries}
+use Rattle.ipc_model.specs.Kinds.{Kind}
+use Rattle.ipc_columns.proofs.Refusals.{kind_column}
+use Rattle.ipc_columns.specs.Bodies.{dictionary_of}
+use Rattle.ipc_columns.specs.Refusals.{IsFaultOf, IsColumnFault}
+use Rattle.ipc_laws.specs.Agreement.{KnowAlike}
+use Rattle.ipc_read.proofs.Meanings.{some_is, some_listed}
+use Rattle.ipc_read.proofs.Refusals.{claims_through, claims_own, own_any}
+use Rattle.ipc_read.specs.Chunks.{HasMeaning}
+use Rattle.ipc_read.specs.DictionaryBatches.{GivesColumn, whole_head, dictionary_head, place_listed, head_listed, values_listed, GivesDictionary, IsHeadFault, IsValuesFault, IsDictionaryFault}
+use Rattle.ipc_read.specs.Sizes.{chosen_listed}
+
+-- ---- faults
+
+pub head_in_dictionary : (e : Fault) → OwnFault e (IsHeadFault e) → OwnFault e (IsDictionaryFault e)
+head_in_dictionary e h = claims_through e (IsHeadFault e) (IsDictionaryFault e) (λ f. inl f) h
+
+values_are : (t : Kind) (e : Fault) → IsValuesFault t e → OwnFault e (IsDictionaryFault e)
+values_are t e h = elim h [
+  | inl f ↦ own_any e (IsDictionaryFault e) (inr (inl f))
+  | inr f ↦ claims_through e (IsColumnFault e) (IsDictionaryFault e) (λ c. inr (inr c)) (kind_column t e (own_any e (IsFaultOf t e) f))
+]
+
+pub values_in_dictionary : (t : Kind) (e : Fault) → OwnFault e (IsValuesFault t e) → OwnFault e (IsDictionaryFault e)
+values_in_dictionary t e h = claims_own e (IsValuesFault t e) (IsDictionaryFault e) (values_are t e) h
+
+pub ruleset dictionary_faults = (head_in_dictionary, values_in_dictionary)
+
+-- ---- the meaning, by the head of the batch
+
+nothing : {X : Type 0} (o : Option X) → o ≡ None → IsSome o → ⊥
+nothing None e h = absurd cc
+nothing (Some x) e h = absurd cc
+
+by_head : (schema : Schema) (extra : ℕ) (known : Dictionaries) (b : Body) (i : Result ℤ TableFault) (d : Result Bool TableFault) (v : Result (Option Spot) TableFault)
+    → batch_meaning schema extra known b i d v ≡ option_and_then (λ (h : ℤ × Spot). option_and_then (values_meaning schema extra known b h.0 h.1) (place_of (places schema.fields schema.ids) h.0)) (whole_head i d v)
+by_head schema extra known b (Ok id) (Ok false) (Ok (Some t)) = refl
+by_head schema extra known b (Ok id) (Ok false) (Ok None) = refl
+by_head schema extra known b (Ok id) (Ok false) (Err e) = refl
+by_head schema extra known b (Ok id) (Ok true) v = refl
+by_head schema extra known b (Ok id) (Err e) v = refl
+by_head schema extra known b (Err e) d v = refl
+
+module _ (schema : Schema) (extra : ℕ) (known : Dictionaries) (b : Body) (t : Spot) where
+  meaning_is : dictionary_meaning schema extra known b t
+      ≡ option_and_then (λ (h : ℤ × Spot). option_and_then (values_meaning schema extra known b h.0 h.1) (place_of (places schema.fields schema.ids) h.0)) (dictionary_head t)
+  unfolding dictionary_meaning
+  meaning_is = by_head schema extra known b _ _ _
+
+  -- a batch with a meaning has a head
+  pub head_there : IsSome (dictionary_meaning schema extra known b t) → IsSome (dictionary_head t)
+  head_there h = some_listed _ (dictionary_head t) (subst (λ (o : Option Dictionaries). IsSome o) meaning_is h)
+
+  module _ (id : ℤ) (v : Spot) (headed : dictionary_head t ≡ Some (id, v)) where
+    placed_is : dictionary_meaning schema extra known b t ≡ option_and_then (values_meaning schema extra known b id v) (place_of (places schema.fields schema.ids) id)
+    placed_is =
+        meaning_is
+        ∙ ap (option_and_then (λ (h : ℤ × Spot). option_and_then (values_meaning schema extra known b h.0 h.1) (place_of (places schema.fields schema.ids) h.0))) headed
+
+    -- its id has a place
+    pub place_there : IsSome (dictionary_meaning schema extra known b t) → IsSome (place_of (places schema.fields schema.ids) id)
+    place_there h = some_listed _ (place_of (places schema.fields schema.ids) id) (subst (λ (o : Option Dictionaries). IsSome o) placed_is h)
+
+    pub no_place : place_of (places schema.fields schema.ids) id ≡ None → IsSome (dictionary_meaning schema extra known b t) → ⊥
+    no_place none h = nothing (place_of (places schema.fields schema.ids) id) none (place_there h)
+
+    module _ (p : Place) (placed : place_of (places schema.fields schema.ids) id ≡ Some p) where
+      valued_is : dictionary_meaning schema extra known b t ≡ option_and_then (with_values known id p) (record_meaning (values_schema p schema.order) extra known b v None None)
+      valued_is = placed_is ∙ ap (option_and_then (values_meaning schema extra known b id v)) placed
+
+      -- and its values have a meaning
+      pub values_there : IsSome (dictionary_meaning schema extra known b t) → HasMeaning (values_schema p schema.order) extra known b v None None
+      values_there h = some_listed _ _ (subst (λ (o : Option Dictionaries). IsSome o) valued_is h)
+
+      -- they are known then
+      pub dictionary_given : {X : Type 0} (x : AnyArray) (r : X) (after : Dictionaries) → GivesColumn (values_schema p schema.order) extra known b v p.type (Ok x)
+          → KnowAlike ((id, dictionary_of (layout_of x)) ∷ known) after → GivesDictionary schema extra known b t (Ok r) after
+      dictionary_given x r after given same =
+          let named : norm p.type ≡ norm (type_of (layout_of x)) = ap norm (sym given.1.1) in
+          let means : dictionary_meaning schema extra known b t ≡ Some ((id, dictionary_of (layout_of x)) ∷ known) =
+          valued_is
+          ∙ ap (option_and_then (with_values known id p)) given.1.0
+          ∙ (λ i. Some ((id, record { type = named i; slots = slots (layout_of x) }) ∷ known))
+          in
+          (some_is _ _ means, subst (λ (o : Option Dictionaries). IfSome o (λ ds. KnowAlike ds after)) (sym means) same)
+
+      -- what its values list
+      pub listed_is : values_listed schema extra t ≡ chosen_listed (lists_of v) extra (kinds (values_schema p schema.order)) (0 ∷ [])
+      listed_is = ap (head_listed schema extra) headed ∙ ap (place_listed extra schema.order v) placed

@@ -1,0 +1,97 @@
+-- What a dictionary batch is read to.
+-- (Arrow columnar format, "Dictionary messages".)
+use Rattle.std.specs.Prelude.{◌≡◌, ◌⊎◌, ℕ, ℤ, Bool, false, [], ◌∷◌, Option, None, Some, IsSome, IfSome, IsTrue, Result, Ok}
+use Rattle.std.specs.Option.{option_map}
+use Rattle.std.specs.Ordering.{int_eq}
+use Rattle.lower.specs.Normal.{norm}
+use Rattle.lower.specs.TypeTrees.{TypeTree}
+use Rattle.lower_types.specs.declared.Endianness.{Endianness}
+use Rattle.lower_arrays.specs.AnyLayouts.{layout_of}
+use Rattle.lower_arrays.specs.Layouts.{type_of}
+use Rattle.lower_arrays.specs.declared.array.AnyArray.{AnyArray}
+use Rattle.ipc_devices.specs.Faults.{Answers}
+use Rattle.ipc_devices.specs.declared.fault.Fault.{Fault}
+use Rattle.ipc_devices.specs.declared.fault.Fault.TheVariants.{OutOfSpec, NotYetImplemented}
+use Rattle.ipc_devices.specs.declared.fault.Nyi.TheVariants.{Delta}
+use Rattle.ipc_devices.specs.declared.fault.OutOfSpecKind.TheVariants.{InvalidFlatbufferIsDelta, InvalidFlatbufferId, InvalidFlatbufferData, MissingData, InvalidId}
+use Rattle.ipc_devices.specs.declared.fault.TableFault.{TableFault}
+use Rattle.ipc_views.specs.MessageSlots.{dictionary_batch_id, dictionary_batch_is_delta, dictionary_batch_data}
+use Rattle.ipc_views.specs.Spot.{Spot}
+use Rattle.ipc_model.specs.Batches.{Schema, kinds, Body, lists_of, record_meaning, Place, places, place_of, values_schema, dictionary_meaning}
+use Rattle.ipc_model.specs.Entries.{Dictionary, Dictionaries, dictionary_at}
+use Rattle.ipc_model.specs.Kinds.{Kind}
+use Rattle.ipc_columns.specs.Refusals.{IsFaultOf, IsColumnFault}
+use Rattle.ipc_laws.specs.Agreement.{KnowAlike}
+use Rattle.ipc_read.specs.Chunks.{column_seen, HasMeaning}
+use Rattle.ipc_read.specs.Refusals.{IsListFault}
+use Rattle.ipc_read.specs.Sizes.{chosen_listed}
+
+-- ---- the values
+
+-- A batch of one column was read: exactly where it has a meaning, and then the array is that column, of the type u.
+abbrev pub GivesColumn : Schema → ℕ → Dictionaries → Body → Spot → TypeTree → Result AnyArray Fault → Type 0
+GivesColumn schema extra known b t u r =
+    Answers r (HasMeaning schema extra known b t None None)
+    (λ x. (record_meaning schema extra known b t None None ≡ Some (column_seen x ∷ [])) × (type_of (layout_of x) ≡ u))
+
+-- ---- the head
+
+-- the id of a batch that is no delta, and the batch of its values
+abbrev pub whole_head : Result ℤ TableFault → Result Bool TableFault → Result (Option Spot) TableFault → Option (ℤ × Spot)
+whole_head (Ok id) (Ok false) (Ok (Some values)) = Some (id, values)
+whole_head _ _ _ = None
+
+abbrev pub dictionary_head : Spot → Option (ℤ × Spot)
+dictionary_head t = whole_head (dictionary_batch_id t) (dictionary_batch_is_delta t) (dictionary_batch_data t)
+
+-- how many bytes the buffers of the values of a place list together: none where there is no place
+abbrev pub place_listed : ℕ → Endianness → Spot → Option Place → ℕ
+place_listed extra order values None = 0
+place_listed extra order values (Some p) = chosen_listed (lists_of values) extra (kinds (values_schema p order)) (0 ∷ [])
+
+abbrev pub head_listed : Schema → ℕ → Option (ℤ × Spot) → ℕ
+head_listed schema extra None = 0
+head_listed schema extra (Some h) = place_listed extra schema.order h.1 (place_of (places schema.fields schema.ids) h.0)
+
+-- how many bytes the buffers of a dictionary batch's values list together
+abbrev pub values_listed : Schema → ℕ → Spot → ℕ
+values_listed schema extra t = head_listed schema extra (dictionary_head t)
+
+-- ---- the batch
+
+-- A dictionary batch was read: exactly where it has a meaning, and then what is known is what is known after it.
+abbrev pub GivesDictionary : {X : Type 0} → Schema → ℕ → Dictionaries → Body → Spot → Result X Fault → Dictionaries → Type 0
+GivesDictionary schema extra known b t r after =
+    Answers r (IsSome (dictionary_meaning schema extra known b t)) (λ _. IfSome (dictionary_meaning schema extra known b t) (λ ds. KnowAlike ds after))
+
+-- A dictionary batch, which is no delta, has put values under its id, which is that of a field; those under the other ids are as they were. Where the
+-- bytes that were read are known, the values are of the type of the first field with this id, both in the normal form.
+pub record PutsValues (known : Bool) (schema : Schema) (t : Spot) (before after : Dictionaries) : Type 0 where
+  pub id : ℤ
+  pub values : Spot
+  pub place : Place
+  pub head : dictionary_head t ≡ Some (id, values)
+  pub placed : place_of (places schema.fields schema.ids) id ≡ Some place
+  pub there : IsSome (dictionary_at after id)
+  pub typed : IsTrue known → option_map (λ (d : Dictionary). d.type) (dictionary_at after id) ≡ Some (norm place.type)
+  pub others : (other : ℤ) → int_eq id other ≡ false → dictionary_at after other ≡ dictionary_at before other
+
+-- ---- faults
+
+-- which faults the values of a dictionary can answer: of what the batch lists, or of their column
+abbrev pub IsValuesFault : Kind → Fault → Type 0
+IsValuesFault t e = IsListFault e ⊎ IsFaultOf t e
+
+-- of what a dictionary batch says of itself
+abbrev pub IsHeadFault : Fault → Type 0
+IsHeadFault (OutOfSpec (InvalidFlatbufferIsDelta e)) = Unit {0}
+IsHeadFault (OutOfSpec (InvalidFlatbufferId e)) = Unit {0}
+IsHeadFault (OutOfSpec (InvalidFlatbufferData e)) = Unit {0}
+IsHeadFault (OutOfSpec MissingData) = Unit {0}
+IsHeadFault (OutOfSpec (InvalidId _)) = Unit {0}
+IsHeadFault (NotYetImplemented Delta) = Unit {0}
+IsHeadFault _ = ⊥
+
+-- of a dictionary batch
+abbrev pub IsDictionaryFault : Fault → Type 0
+IsDictionaryFault e = IsHeadFault e ⊎ (IsListFault e ⊎ IsColumnFault e)

@@ -1,0 +1,239 @@
+//! Reads dictionary batches.
+ghost use Rattle.std.specs.Prelude.{◌≡◌, ◌+◌, ◌++◌, ◌≤◌, [], ◌∷◌, None, Some, IsSome, IfErr, IsTrue, MatchOption, OnErr, OnOk};
+ghost use Rattle.std.specs.HashMap.{IsUnchanged};
+ghost use Rattle.ipc_devices.specs.Device.{Rises};
+ghost use Rattle.ipc_devices.specs.Faults.{OnIo, OwnFault, Answers};
+ghost use Rattle.lower.specs.Counts.{nodes, buffers};
+ghost use Rattle.lower.specs.TypeViews.{type_view, fields_view};
+ghost use Rattle.ipc_base.specs.IdTrees.{all_ids_view};
+ghost use Rattle.ipc_model.specs.Batches.{kinds, extra_of, lists_of, own_place, inner_places, places, place_of, values_schema};
+ghost use Rattle.ipc_model.specs.TypeKinds.{kind_of};
+ghost use Rattle.ipc_columns.specs.Bodies.{known_dictionaries};
+ghost use Rattle.ipc_read.specs.Chunks.{batch_schema, order_of};
+ghost use Rattle.ipc_read.specs.DictionaryBatches.{GivesColumn, GivesDictionary, PutsValues, dictionary_head, values_listed, IsHeadFault, IsValuesFault, IsDictionaryFault};
+ghost use Rattle.ipc_read.specs.Refusals.{IsListFault};
+ghost use Rattle.ipc_read.specs.Sizes.{chosen_listed};
+
+use crate::read::Dictionaries;
+use crate::read::common::{byte_order, check_lengths, count_extra, entries_of};
+use ipc_base::ipc::{IpcField, IpcSchema};
+use ipc_columns::read::body::{Body, Place};
+use ipc_columns::read::deserialize::read;
+use ipc_columns::read::ids::{first_of, others_of};
+use ipc_devices::fault::{Fault, Nyi, OutOfSpecKind};
+use ipc_devices::{Reads, Seeks};
+use ipc_views::{DictionaryBatchRef, MetadataVersion, RecordBatchRef};
+use lower::datatypes::{DataType, Field, count_buffers, count_nodes};
+use lower_arrays::array::AnyArray;
+use std::alloc::Global;
+use std::rc::Rc;
+use std::snapshot::Snapshot;
+
+// The type of the values, and the ids in it, of the first dictionary with this id: the field itself, whose type, id
+// and children's ids these are, or one below it.
+#[cycle(places)]
+#[tactic(auto, using(crate::proofs::PlaceLists::first_places))]
+fn find_first_dict_field<'a>(
+    data_type: &'a DataType,
+    own: Option<i64>,
+    ids: &'a [IpcField],
+    id: i64,
+) -> Option<(&'a DataType, &'a [IpcField])>
+    ensures { let ps = own_place (type_view data_type.now) own (all_ids_view ids.now) ++ inner_places (type_view data_type.now) (all_ids_view ids.now) in
+        MatchOption result (place_of ps id ≡ None)
+        (λ r. place_of ps id ≡ Some (record { id = Some id; type = type_view r.0.now; ids = all_ids_view r.1.now })) }
+{
+    match data_type {
+        DataType::Extension(_, inner, _) => find_first_dict_field(inner, own, ids, id),
+        DataType::Dictionary(_, values, _) => {
+            if own == Some(id) {
+                return Some((values, ids));
+            }
+            find_first_dict_field(values, None, ids, id)
+        }
+        DataType::List(field)
+        | DataType::LargeList(field)
+        | DataType::FixedSizeList(field, _)
+        | DataType::Map(field, _) => {
+            let (child_id, child_ids) = first_of(ids);
+            find_first_dict_field(&field.data_type, child_id, child_ids, id)
+        }
+        DataType::Struct(fields) | DataType::Union(fields, _, _) => {
+            first_dict_field(fields, ids, id)
+        }
+        _ => None,
+    }
+}
+
+// The type of the values, and the ids in it, of the first dictionary field with this id, in pre-order. None where no
+// field has it.
+#[cycle(places)]
+#[tactic(auto, using(crate::proofs::PlaceLists::first_places))]
+pub(crate) fn first_dict_field<'a>(
+    fields: &'a [Field],
+    ids: &'a [IpcField],
+    id: i64,
+) -> Option<(&'a DataType, &'a [IpcField])>
+    ensures { let ps = places (fields_view fields.now) (all_ids_view ids.now) in
+        MatchOption result (place_of ps id ≡ None)
+        (λ r. place_of ps id ≡ Some (record { id = Some id; type = type_view r.0.now; ids = all_ids_view r.1.now })) }
+{
+    let mut left = ids;
+    for field in fields {
+        let (own, below) = first_of(left);
+        let found = find_first_dict_field(&field.data_type, own, below, id);
+        if found.is_some() {
+            return found;
+        }
+        left = others_of(left);
+    }
+    None
+}
+
+// Refuses fewer entries than a column of this type needs.
+fn check_column(
+    node_count: usize,
+    buffer_count: usize,
+    data_type: &DataType,
+    extra: usize,
+) -> Result<(), Fault>
+    requires { extra ≤ 1 }
+    ensures own { OnIo result ⊥ }
+    ensures only { IfErr result (λ e. OwnFault e (IsListFault e)) }
+    ensures exact { let t = type_view data_type.now in Answers result ((nodes t ≤ node_count) × (buffers extra t ≤ buffer_count)) (λ _. Unit {0}) }
+{
+    match count_nodes(data_type) {
+        Some(needed) if needed <= node_count as u64 => {}
+        _ => return Err(OutOfSpecKind::MissingMessageNodes.into()),
+    }
+    match count_buffers(data_type, extra as u64) {
+        Some(needed) if needed <= buffer_count as u64 => Ok(()),
+        _ => Err(OutOfSpecKind::ExpectedBuffer.into()),
+    }
+}
+
+// The values of a dictionary: the one column of their batch, read as a whole.
+#[allow(clippy::too_many_arguments)]
+#[tactic(auto, using(crate::proofs::ValueReads::values_faults))]
+fn read_values<R: Reads + Seeks>(
+    alloc: Global,
+    batch: RecordBatchRef,
+    value_type: &DataType,
+    ids: &[IpcField],
+    is_little_endian: bool,
+    dictionaries: &Dictionaries,
+    version: MetadataVersion,
+    reader: &mut R,
+    block_offset: u64,
+    file_size: u64,
+) -> Result<AnyArray, Fault>
+    ensures only { IfErr result (λ e. OwnFault e (IsValuesFault (kind_of (type_view value_type.now) None (all_ids_view ids.now)) e)) }
+    ensures monotone { R.failures reader.old ≤ R.failures reader.new }
+    ensures failed { OnIo result (Rises (R.failures reader.old) (R.failures reader.new)) }
+    ensures given { let schema = values_schema (record { id = None; type = type_view value_type.now; ids = all_ids_view ids.now }) (order_of is_little_endian) in
+        R.given reader.new ≤ R.given reader.old + chosen_listed (lists_of batch.entry) (extra_of version) (kinds schema) (0 ∷ []) }
+    ensures memory { IsTrue R.known → let u = type_view value_type.now in
+        let schema = values_schema (record { id = None; type = u; ids = all_ids_view ids.now }) (order_of is_little_endian) in
+        GivesColumn schema (extra_of version) (known_dictionaries dictionaries.now)
+        (record { source = (R.memory reader.old).whole; base = block_offset; size = file_size }) batch.entry u result }
+    ensures whole { IsTrue R.still → (R.memory reader.new).whole ≡ (R.memory reader.old).whole }
+{
+    let (nodes, buffers) = entries_of(&batch)?;
+    check_lengths(&buffers, file_size)?;
+    let extra = count_extra(version);
+    check_column(nodes.len(), buffers.len(), value_type, extra)?;
+    let body = Body {
+        nodes,
+        buffers,
+        base: block_offset,
+        order: byte_order(is_little_endian),
+        extra,
+        dictionaries,
+        device: Snapshot::of(&*reader),
+    };
+    let first = Place { node: 0, buffer: 0 };
+    let (values, _) = read(alloc, value_type, None, ids, reader, &body, first, None)?;
+    Ok(values)
+}
+
+// The id of a dictionary batch, which is no delta, and the batch of its values.
+fn head_of<'a>(batch: &DictionaryBatchRef<'a>) -> Result<(i64, RecordBatchRef<'a>), Fault>
+    ensures own { OnIo result ⊥ }
+    ensures only { IfErr result (λ e. OwnFault e (IsHeadFault e)) }
+    ensures exact { Answers result (IsSome (dictionary_head batch.now)) (λ r. dictionary_head batch.now ≡ Some (r.0, r.1)) }
+{
+    match batch.is_delta() {
+        Ok(false) => {}
+        Ok(true) => return Err(Fault::NotYetImplemented(Nyi::Delta)),
+        Err(e) => return Err(OutOfSpecKind::InvalidFlatbufferIsDelta(e).into()),
+    }
+    let id = match batch.id() {
+        Ok(id) => id,
+        Err(e) => return Err(OutOfSpecKind::InvalidFlatbufferId(e).into()),
+    };
+    match batch.data() {
+        Ok(Some(values)) => Ok((id, values)),
+        Ok(None) => Err(OutOfSpecKind::MissingData.into()),
+        Err(e) => Err(OutOfSpecKind::InvalidFlatbufferData(e).into()),
+    }
+}
+
+/// Reads a dictionary batch whose body begins at the place `block_offset` of a device and is at most `file_size` bytes
+/// long, and puts its values under its id, in place of those that it had (Arrow columnar format, "Dictionary messages").
+/// Their type is that of the first field with this id, in pre-order, and the dictionaries in them are those that are
+/// known before. It is done exactly where the batch has a meaning, and there is memory for it; on a fault the
+/// dictionaries stay as they were. No more bytes are taken of the device than the buffers of the values list.
+///
+/// Faults: `InvalidFlatbufferIsDelta`, `InvalidFlatbufferId`, `InvalidFlatbufferData` where these slots are ill-made,
+/// `Delta` where the values are to follow others, `InvalidId` where no field has the id, `MissingData` where there are
+/// no values; of these `InvalidFlatbufferCompression`, `InvalidFlatbufferBuffers`, `InvalidFlatbufferNodes`,
+/// `MissingMessageBuffers`, `MissingMessageNodes`, `ExpectedBuffer`, `Compressed`, `NegativeFooterLength`,
+/// `InvalidBuffersLength`, and those of their column ([`read`]). `Io` and `Memory` come too, and no other. The scratch
+/// memory isn't used.
+#[allow(clippy::too_many_arguments)]
+#[tactic(auto, using(crate::proofs::DictionaryMeanings::dictionary_faults))]
+pub fn read_dictionary<R: Reads + Seeks>(
+    alloc: Global,
+    batch: DictionaryBatchRef,
+    fields: &[Field],
+    ipc_schema: &IpcSchema,
+    dictionaries: &mut Dictionaries,
+    version: MetadataVersion,
+    reader: &mut R,
+    block_offset: u64,
+    file_size: u64,
+    _scratch: &mut Vec<u8>,
+) -> Result<(), Fault>
+    ensures only { IfErr result (λ e. OwnFault e (IsDictionaryFault e)) }
+    ensures monotone { R.failures reader.old ≤ R.failures reader.new }
+    ensures failed { OnIo result (Rises (R.failures reader.old) (R.failures reader.new)) }
+    ensures given { R.given reader.new ≤ R.given reader.old + values_listed (batch_schema fields.now ipc_schema.now) (extra_of version) batch.entry }
+    ensures memory { IsTrue R.known → GivesDictionary (batch_schema fields.now ipc_schema.now) (extra_of version) (known_dictionaries dictionaries.old)
+        (record { source = (R.memory reader.old).whole; base = block_offset; size = file_size }) batch.entry result (known_dictionaries dictionaries.new) }
+    ensures put { OnOk result (PutsValues R.known (batch_schema fields.now ipc_schema.now) batch.entry (known_dictionaries dictionaries.old) (known_dictionaries dictionaries.new)) }
+    ensures kept { OnErr result (IsUnchanged dictionaries.old dictionaries.new) }
+    ensures whole { IsTrue R.still → (R.memory reader.new).whole ≡ (R.memory reader.old).whole }
+{
+    let (id, values) = head_of(&batch)?;
+    let schema_ids = ipc_schema.fields.as_slice();
+    let Some((value_type, ids)) = first_dict_field(fields, schema_ids, id) else {
+        return Err(OutOfSpecKind::InvalidId { requested_id: id }.into());
+    };
+    let order = ipc_schema.is_little_endian;
+    let known = &*dictionaries;
+    let values = read_values(
+        alloc,
+        values,
+        value_type,
+        ids,
+        order,
+        known,
+        version,
+        reader,
+        block_offset,
+        file_size,
+    )?;
+    let values = Rc::new(alloc, values)?;
+    dictionaries.insert(id, values)?;
+    Ok(())
+}
