@@ -9,6 +9,7 @@ pub mod ColumnPlaces
 pub mod Batches
 pub mod Listed
 pub mod Meanings
+pub mod KnownArrays
 pub mod ValueReads
 pub mod PlaceLists
 pub mod KnownDictionaries

@@ -1,18 +1,20 @@
 //! Reads batches.
-ghost use Rattle.std.specs.Prelude.{◌≡◌, ◌+◌, ◌≤◌, ◌<◌, ◌^◌, ◌↔◌, [], length, IfErr, IfOk, IsSome, Some, IsTrue};
+ghost use Rattle.std.specs.Prelude.{◌≡◌, ◌+◌, ◌≤◌, ◌<◌, ◌^◌, ◌↔◌, [], length, map, IfErr, IfOk, IsSome, Some, IsTrue};
 ghost use Rattle.std.specs.Option.{option_copied};
 ghost use Rattle.ipc_devices.specs.Device.{Rises};
 ghost use Rattle.ipc_devices.specs.Faults.{OnIo, OwnFault, Answers};
 ghost use Rattle.lower.specs.Counts.{nodes, fields_nodes, buffers, fields_buffers};
 ghost use Rattle.lower.specs.TypeViews.{type_view, fields_view};
+ghost use Rattle.lower_arrays.specs.AnyLayouts.{layout_of};
 ghost use Rattle.ipc_base.specs.IdTrees.{all_ids_view};
 ghost use Rattle.ipc_model.specs.Batches.{kinds, extra_of, lists_of, chosen};
 ghost use Rattle.ipc_model.specs.Kinds.{all_nodes, all_buffers};
+ghost use Rattle.ipc_model.specs.ReadChunks.{HaveMeaning};
 ghost use Rattle.ipc_model.specs.TypeKinds.{kinds_of};
 ghost use Rattle.ipc_columns.specs.Limits.{AreSmall};
 ghost use Rattle.ipc_columns.specs.Bodies.{Stands, HasRoom, entries, known, known_dictionaries};
 ghost use Rattle.ipc_columns.specs.Steps.{Step};
-ghost use Rattle.ipc_read.specs.Chunks.{GivesBatch, batch_schema, order_of};
+ghost use Rattle.ipc_read.specs.Chunks.{GivesBatch, batch_schema, chunk_seen, order_of};
 ghost use Rattle.ipc_read.specs.Columns.{ArePrepared, AreColumns, HasColumns, IsChosen, columns_listed};
 ghost use Rattle.ipc_read.specs.Refusals.{IsListFault, IsFaultOfSome, IsFaultOfBatch};
 ghost use Rattle.ipc_read.specs.Sizes.{AreSizes, total_of, chosen_listed};
@@ -216,9 +218,11 @@ pub fn read_columns<R: Reads + Seeks>(
 /// The columns of a record batch whose body begins at the place `block_offset` of a device and is at
 /// most `file_size` bytes long (Arrow columnar format, "RecordBatch message"): those of the projection,
 /// in rising order, or all where there is none, and of each at most `limit` slots. They come exactly
-/// where the batch has a meaning by these, and there is memory for them. A column that isn't chosen is
-/// gone past by its type: no byte of it is read, and it isn't judged. An empty projection gives a chunk
-/// without columns. No more bytes are taken of the device than the buffers of the chosen columns list.
+/// where the batch has a meaning by these, and there is memory for them. At each dictionary place of a
+/// column, those inside the values of others aside, stand the values that the dictionaries have under
+/// its id. A column that isn't chosen is gone past by its type: no byte of it is read, and it isn't
+/// judged. An empty projection gives a chunk without columns. No more bytes are taken of the device
+/// than the buffers of the chosen columns list.
 ///
 /// Faults: `InvalidFlatbufferCompression`, `InvalidFlatbufferBuffers`, `InvalidFlatbufferNodes` where
 /// these slots are ill-made, `MissingMessageBuffers`, `MissingMessageNodes` where they are absent or
@@ -253,6 +257,8 @@ pub fn read_record_batch<R: Reads + Seeks>(
     ensures memory { IsTrue R.known → GivesBatch (batch_schema fields.now ipc_schema.now) (extra_of version) (known_dictionaries dictionaries.now)
         (record { source = (R.memory reader.old).whole; base = block_offset; size = file_size }) batch.entry
         (option_copied projection.entry) limit result }
+    ensures values { IsTrue R.known → let js = chosen (option_copied projection.entry) (length fields.now) in
+        IfOk result (λ xs. HaveMeaning (known_dictionaries dictionaries.now) (all_ids_view ipc_schema.now.fields.items) js (chunk_seen xs) (map layout_of xs)) }
     ensures whole { IsTrue R.still → (R.memory reader.new).whole ≡ (R.memory reader.old).whole }
 {
     let (nodes, buffers) = entries_of(&batch)?;

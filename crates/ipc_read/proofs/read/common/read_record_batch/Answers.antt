@@ -8,7 +8,9 @@ use Rattle.ipc_devices.specs.Faults.{OwnFault}
 use Rattle.ipc_model.specs.Batches.{Schema, Lists, kinds, extra_of, lists_of, entries_of, chosen}
 use Rattle.ipc_model.specs.Batches as model
 use Rattle.ipc_model.specs.Entries.{Entries}
+use Rattle.ipc_model.specs.ReadArrays.{AreValues}
 use Rattle.ipc_model.specs.TypeKinds.{kinds_of}
+use Rattle.ipc_columns.proofs.KnownValues.{values_are}
 use Rattle.ipc_model.proofs.TypeKinds.{node_count_law, buffer_count_law}
 use Rattle.ipc_columns.specs.Bodies.{entries, known_dictionaries, array_under}
 use Rattle.ipc_read.specs.Chunks.{batch_schema, order_of}
@@ -16,6 +18,7 @@ use Rattle.ipc_read.specs.Columns.{ArePrepared, HasColumns, AreColumns}
 use Rattle.ipc_read.specs.Sizes.{AreSizes, total_of, chosen_listed}
 use Rattle.ipc_read.proofs.Batches.{same_entries}
 use Rattle.ipc_read.proofs.Fields.{field_count}
+use Rattle.ipc_read.proofs.KnownArrays.{have_meaning, dictionaries_are, chunk_has_meaning}
 use Rattle.ipc_read.proofs.Listed.{given_total}
 use Rattle.ipc_read.proofs.Meanings.{listed_of, refused, judged, gives_batch}
 use Rattle.ipc_read.proofs.read.common.read_record_batch.Goals as goal
@@ -187,3 +190,31 @@ returns-clause-given g c =
     subst (λ (l : List IpcField). new ≤ old + chosen_listed (lists_of c.args.batch) extra (kinds_of (fields_view fs) (all_ids_view l)) js) ids_are
     (given_total g.R.Failures.memory _ lists body order extra ds (lists_of c.args.batch) (kinds_of (fields_view fs) (all_ids_view c.as_slice-ids.result.now)) js old new same
     c.count_extra-extra.ensures.extra c.in_ok-nodes.ensures.exact.1 c.in_ok-columns.ensures.step.bounded)
+
+pub returns-clause-values : goal.returns-clause-values
+returns-clause-values g c = λ k.
+    let ds = known_dictionaries c.args.dictionaries.now in
+    let vs = array_under c.args.dictionaries.now in
+    let fs = c.args.fields.now in
+    let is = all_ids_view c.args.ipc_schema.now.fields.items in
+    let ys = c.in_ok-columns.columns.items in
+    let lists : Lists = record { nodes = c.in_ok-nodes.nodes; buffers = c.in_ok-nodes.buffers } in
+    let body : model.Body = record { source = (g.R.Failures.memory c.args.reader.now).whole; base = c.args.block_offset; size = c.args.file_size } in
+    let order = order_of c.args.ipc_schema.now.is_little_endian in
+    let extra = extra_of c.args.version in
+    let limit = c.args.limit in
+    let same : entries g.R.Failures.memory _ ≡ entries_of lists body order extra ds =
+    same_entries g.R.Failures.memory _ lists body order extra refl refl (ap (λ r. (g.R.Failures.memory r).whole) c.of.ensures) refl c.byte_order.ensures c.count_extra-extra.ensures.extra in
+    let s = entries_of lists body order extra ds in
+    let js = chosen (option_copied c.args.projection) (length fs) in
+    let ids_are : c.as_slice-ids.result.now ≡ c.args.ipc_schema.now.fields.items = search rules in
+    let read = c.in_ok-columns.ensures.memory k in
+    let has : HasColumns s (kinds_of (fields_view fs) is) limit js =
+    subst (λ (l : List IpcField). HasColumns s (kinds_of (fields_view fs) (all_ids_view l)) limit js) ids_are
+    (subst (λ (e : Entries). HasColumns e (kinds_of (fields_view fs) (all_ids_view c.as_slice-ids.result.now)) limit js) same read.0) in
+    let are : AreColumns s vs (fields_view fs) (kinds_of (fields_view fs) is) limit js ys =
+    subst (λ (l : List IpcField). AreColumns s vs (fields_view fs) (kinds_of (fields_view fs) (all_ids_view l)) limit js ys) ids_are
+    (subst (λ (e : Entries). AreColumns e vs (fields_view fs) (kinds_of (fields_view fs) (all_ids_view c.as_slice-ids.result.now)) limit js ys) same read.1) in
+    let values : AreValues s vs = subst (λ (e : Entries). AreValues e vs) same (values_are g.R.Failures.memory _) in
+    chunk_has_meaning ds is js ys c.try_new.result c.try_new.ensures.value
+    (have_meaning s vs (fields_view fs) is limit ds (dictionaries_are lists body order extra ds) values js ys has are)
