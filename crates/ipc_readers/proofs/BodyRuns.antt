@@ -1,54 +1,52 @@
 -- What reads of a body give.
-use Rattle.std.proofs.Common.{◌≡◌, ℕ, ◌≤◌, List, [], ◌++◌, length, inl, inr, Result, Err, ap, ◌∙◌, subst, arith, append-nil}
+use Rattle.std.proofs.Common.{◌≡◌, ◌⊎◌, ℕ, ◌≤◌, List, [], ◌++◌, length, Option, Result, Err, ap, ◌∙◌, subst, arith, append-nil}
 use Rattle.lower_arrays.specs.declared.array.AnyArray.{AnyArray}
 use Rattle.ipc_devices.specs.Faults.{OnIo, OwnFault}
 use Rattle.ipc_devices.specs.declared.fault.Fault.{Fault}
 use Rattle.ipc_devices.specs.declared.fault.Fault.TheVariants.{Ended}
 use Rattle.ipc_views.specs.Spot.{Spot}
-use Rattle.ipc_model.specs.Streams.{Head, Header, body_item, done, faulty, nothing_known}
-use Rattle.ipc_readers.proofs.Bodies.{both_claims, claims_through, cut_body}
-use Rattle.ipc_readers.specs.Streams.{BlamesBody, IsCarriedMessage, BodyGave, GivesBody, GivesColumns}
-use Rattle.ipc_devices.specs.Gives.{going, stop_of, Follows, FaultStop, Gives, GivesInOrder, GivesNothing, StopsBefore}
-use Rattle.ipc_devices.proofs.Stops.{fault_stop, answer_going}
+use Rattle.ipc_model.specs.Streams.{Head, Header, Known}
+use Rattle.ipc_readers.proofs.Bodies.{claims_through, cut_body, header}
+use Rattle.ipc_readers.specs.Streams.{BodyGave, GivesBody, GivesHeld, RefusesBody}
+use Rattle.ipc_devices.specs.Gives.{going, stop_of, Follows, Gives, GivesInOrder, GivesNothing, StopsBefore}
+use Rattle.ipc_devices.proofs.Stops.{fault_stop, fault_going, answer_going}
 
 -- the body was given
-pub body_read : {S : Type 0} (gives : Gives S) (h : Head) (t : Spot) (n : ℕ) (a b : S) (body : List ℕ) (r : Result (List AnyArray) Fault)
-    → length body ≡ n → gives a body going b → OnIo r ⊥ → GivesColumns h t body r → BodyGave gives h (record { tag = 3; table = t; body = n }) a r b
-body_read gives h t n a b body r size gave own columns = record {
+pub body_read : {S : Type 0} (gives : Gives S) (h : Head) (k : Known) (tag : ℕ) (t : Spot) (n : ℕ) (a b : S) (body : List ℕ) (r : Result (Option (List AnyArray)) Fault) (l : Known)
+    → length body ≡ n → gives a body going b → OnIo r ⊥ → GivesHeld h k tag t body r l → BodyGave gives h k (header tag t n) a r l b
+body_read gives h k tag t n a b body r l size gave own held = record {
   stop = going;
-  stops = answer_going (List AnyArray) r own;
+  stops = answer_going (Option (List AnyArray)) r own;
   run = record {
     bytes = body;
     gave = gave;
     within = omega (arith, size);
-    holds = λ ys _. subst (λ (k : ℕ). GivesBody h (record { tag = 3; table = t; body = k }) (body ++ ys) r ys) size (columns ys);
+    holds = λ ys _. subst (λ (n : ℕ). GivesBody h k (header tag t n) (body ++ ys) r l ys) size (held.each ys);
   };
 }
 
 -- a fault before the body was read
-pub body_stopped : {S : Type 0} (gives : Gives S) (h : Head) (m : Header) (a b : S) (e : Fault) → m.tag ≡ 3 → OwnFault e (e ≡ Ended) → StopsBefore gives a m.body e b
-    → BodyGave gives h m a (Err e) b
-body_stopped gives h m a b e tag only s = record {
+pub body_stopped : {S : Type 0} (gives : Gives S) (h : Head) (k : Known) (m : Header) (a b : S) (e : Fault) (l : Known) → (m.tag ≡ 3) ⊎ (m.tag ≡ 2) → OwnFault e (e ≡ Ended)
+    → StopsBefore gives a m.body e b → BodyGave gives h k m a (Err e) l b
+body_stopped gives h k m a b e l kind only s = record {
   stop = stop_of e;
   stops = fault_stop e;
   run = record {
     bytes = s.0;
     gave = s.2;
     within = omega (arith, s.1);
-    holds = λ ys f. both_claims e (IsCarriedMessage h.schema m → body_item h nothing_known m (s.0 ++ ys) ≡ done faulty) (BlamesBody h.schema m.tag e) (cut_body h m (s.0 ++ ys) ys e
-        (claims_through e (e ≡ Ended) (m.body ≤ length (s.0 ++ ys) → ⊥)
-        (λ own long.
-        let none : ys ≡ [] = subst (λ (x : Fault). Follows (stop_of x) ys) own f in
-        let all : s.0 ++ ys ≡ s.0 = ap (λ l. s.0 ++ l) none ∙ append-nil s.0 in
-        omega (arith, s.1, long, ap length all))
-        only))
-        (claims_through e (e ≡ Ended) (BlamesBody h.schema m.tag e)
-        (λ own. record {
-          record_batch = λ q. inr (inl own);
-          dictionary_batch = λ q. absurd (omega (arith, q, tag));
-          other = λ q r. absurd (r tag);
-        })
-        only);
+    holds = λ ys f. record {
+      each = λ x at. cut_body h x m (s.0 ++ ys) e kind
+          (claims_through e (e ≡ Ended) ((e ≡ Ended) × (m.body ≤ length (s.0 ++ ys) → ⊥))
+          (λ own. (
+            own,
+            λ long.
+                let none : ys ≡ [] = subst (λ (x : Fault). Follows (stop_of x) ys) own f in
+                let all : s.0 ++ ys ≡ s.0 = ap (λ l. s.0 ++ l) none ∙ append-nil s.0 in
+                omega (arith, s.1, long, ap length all),
+          ))
+          only);
+    };
   };
 }
 
@@ -58,10 +56,10 @@ pub stopped_behind : {S : Type 0} (gives : Gives S) → GivesInOrder gives → (
 stopped_behind gives law a b c n e none s = (s.0, s.1, law a [] b s.0 (stop_of e) c none s.2)
 
 -- a refusal before anything was read
-pub body_refused : {S : Type 0} (gives : Gives S) → GivesNothing gives → (h : Head) (m : Header) (a : S) (e : Fault) → FaultStop e going
-    → ((ys : List ℕ) → GivesBody h m ys (Err e) ys) → BodyGave gives h m a (Err e) a
-body_refused gives nothing h m a e stops refused = record {
+pub body_refused : {S : Type 0} (gives : Gives S) → GivesNothing gives → (h : Head) (k : Known) (tag : ℕ) (t : Spot) (n : ℕ) (a : S) (e : Fault) → OnIo {X = Unit} (Err e) ⊥
+    → RefusesBody h k tag t e → BodyGave gives h k (header tag t n) a (Err e) k a
+body_refused gives nothing h k tag t n a e own refused = record {
   stop = going;
-  stops = stops;
-  run = record { bytes = []; gave = nothing a; within = omega arith; holds = λ ys _. refused ys };
+  stops = fault_going Unit e own;
+  run = record { bytes = []; gave = nothing a; within = omega arith; holds = λ ys _. refused.each n ys };
 }

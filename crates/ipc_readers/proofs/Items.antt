@@ -3,15 +3,14 @@ use Rattle.std.proofs.Common.{◌≡◌, ℕ, ◌≤◌, List, [], ◌++◌, len
 use Rattle.lower_arrays.specs.declared.array.AnyArray.{AnyArray}
 use Rattle.ipc_devices.specs.Faults.{OwnFault}
 use Rattle.ipc_devices.specs.declared.fault.Fault.{Fault}
-use Rattle.ipc_carried.specs.CarriedStreams.{IsCarriedFrame, IsCarriedFront, IsCarriedMessage, IsCarriedHeader}
 use Rattle.ipc_model.specs.Frame.{Frame, message, mark, waiting, broken, frame}
-use Rattle.ipc_model.specs.Streams.{Head, Header, header_of, body_item, frame_item, message_item, item, more, done, faulty, nothing_known}
+use Rattle.ipc_model.specs.Streams.{Head, Header, Known, header_of, body_item, frame_item, message_item, item, more, done, faulty}
 use Rattle.ipc_read.specs.Chunks.{chunk_seen}
 use Rattle.ipc_readers.proofs.Bodies.{both_claims, claims_through}
 use Rattle.ipc_readers.specs.Messages.{opened}
-use Rattle.ipc_readers.specs.Streams.{BlamesBody, BlamesFront, BlamesOpened, GivesBody, GivesItem, BodyGave, ItemGave, ItemStop, IsWithinMessage}
-use Rattle.ipc_readers.specs.declared.read.stream.reader.StreamState.{StreamState}
-use Rattle.ipc_readers.specs.declared.read.stream.reader.StreamState.TheVariants as states
+use Rattle.ipc_readers.specs.Streams.{BlamesBody, BlamesFront, BlamesOpened, GivesBody, GivesItem, BodyGave, ItemGave, ItemStop, IsWithinMessage, ReadsBody, ReadsItem}
+use Rattle.ipc_readers.specs.declared.read.stream.reader.Found.{Found}
+use Rattle.ipc_readers.specs.declared.read.stream.reader.Found.TheVariants as fronts
 use Rattle.ipc_devices.specs.Gives.{Stop, going, ended, stop_of, AnswerStop, FaultStop, Gives, GivesInOrder}
 use Rattle.ipc_devices.proofs.Gave.{gave_then, gave_as}
 use Rattle.ipc_readers.specs.Frames.{FrameGave, GivesFrame, IsFrame, IsFramingFault, due}
@@ -56,109 +55,112 @@ behind_none q rest e = rw e refl
 
 -- ---- the item of a frame
 
-item_of : (h : Head) (xs : List ℕ) (f : Frame) → frame xs ≡ f → item h nothing_known xs ≡ frame_item h nothing_known f
+item_of : (h : Head) (s : Known) (xs : List ℕ) (f : Frame) → frame xs ≡ f → item h s xs ≡ frame_item h s f
 unfolding item
-item_of h xs f e = ap (frame_item h nothing_known) e
+item_of h s xs f e = ap (frame_item h s) e
 
-body_of : (h : Head) (xs m rest : List ℕ) (d : Option Header) → frame xs ≡ message m rest → header_of m ≡ d → item h nothing_known xs ≡ message_item h nothing_known d rest
-body_of h xs m rest d e f = item_of h xs (message m rest) e ∙ ap (λ o. message_item h nothing_known o rest) f
-
-carried_here : (h : Head) (xs m rest : List ℕ) (d : Header) → frame xs ≡ message m rest → header_of m ≡ Some d → IsCarriedMessage h.schema d → IsCarriedFront h xs
-unfolding IsCarriedFront
-carried_here h xs m rest d e f c =
-    subst (λ (x : Frame). IsCarriedFrame h.schema x) (sym e) (subst (λ (o : Option Header). IsCarriedHeader h.schema o) (sym f) c)
-
-carried_there : (h : Head) (xs m rest : List ℕ) (d : Header) → frame xs ≡ message m rest → header_of m ≡ Some d → IsCarriedFront h xs → IsCarriedMessage h.schema d
-unfolding IsCarriedFront
-carried_there h xs m rest d e f c =
-    subst (λ (o : Option Header). IsCarriedHeader h.schema o) f (subst (λ (x : Frame). IsCarriedFrame h.schema x) e c)
+body_of : (h : Head) (s : Known) (xs m rest : List ℕ) (d : Option Header) → frame xs ≡ message m rest → header_of m ≡ d → item h s xs ≡ message_item h s d rest
+body_of h s xs m rest d e f = item_of h s xs (message m rest) e ∙ ap (λ o. message_item h s o rest) f
 
 -- an answer of a body as one of a message
-abbrev pub as_item : Result (List AnyArray) Fault → Result (Option StreamState) Fault
-as_item (Ok chunk) = Ok (Some (states.Some chunk))
-as_item (Err e) = Err e
+abbrev pub as_found : Result (Option (List AnyArray)) Fault → Result Found Fault
+as_found (Ok (Some chunk)) = Ok (fronts.Chunk chunk)
+as_found (Ok None) = Ok fronts.Dictionary
+as_found (Err e) = Err e
 
-body_is_item : (h : Head) (xs m rest left : List ℕ) (d : Header) (q : List ℕ) (r : Result (List AnyArray) Fault) → frame xs ≡ message m rest → header_of m ≡ Some d
-    → opened m ≡ Ok d → q ≡ [] → GivesBody h d rest r left → GivesItem h xs (as_item r) q (q ++ left)
-body_is_item h xs m rest left d q (Ok chunk) e f opens none g = (
-  body_of h xs m rest (Some d) e f ∙ g.0 ∙ ap (λ ys. more (Some (chunk_seen chunk)) nothing_known ys) (sym (behind_none q left none)),
-  carried_here h xs m rest d e f g.1,
-)
-body_is_item h xs m rest left d q (Err x) e f opens none g =
-    claims_through x ((IsCarriedMessage h.schema d → body_item h nothing_known d rest ≡ done faulty) × BlamesBody h.schema d.tag x)
-    ((IsCarriedFront h xs → item h nothing_known xs ≡ done faulty) × BlamesFront h.schema (frame xs) x)
+body_is_front : (h : Head) (s : Known) (xs m rest left : List ℕ) (d : Header) (q : List ℕ) (r : Result (Option (List AnyArray)) Fault) (l : Known) → frame xs ≡ message m rest
+    → header_of m ≡ Some d → opened m ≡ Ok d → q ≡ [] → ReadsBody h s d rest r l left → ReadsItem h s xs (as_found r) l q (q ++ left)
+body_is_front h s xs m rest left d q (Ok (Some chunk)) l e f opens none g =
+    (g.0, g.1, body_of h s xs m rest (Some d) e f ∙ g.2 ∙ ap (λ ys. more (Some (chunk_seen chunk)) g.0 ys) (sym (behind_none q left none)))
+body_is_front h s xs m rest left d q (Ok None) l e f opens none g =
+    (g.0, g.1, body_of h s xs m rest (Some d) e f ∙ g.2 ∙ ap (λ ys. more None g.0 ys) (sym (behind_none q left none)))
+body_is_front h s xs m rest left d q (Err x) l e f opens none g =
+    claims_through x ((body_item h s d rest ≡ done faulty) × BlamesBody h.schema s.count d.tag x)
+    ((item h s xs ≡ done faulty) × BlamesFront h.schema s.count (frame xs) x)
     (λ k. (
-      (λ c. body_of h xs m rest (Some d) e f ∙ k.0 (carried_there h xs m rest d e f c)),
-      subst (λ (y : Frame). BlamesFront h.schema y x) (sym e) (subst (λ (o : Result Header Fault). BlamesOpened h.schema o x) (sym opens) k.1),
+      body_of h s xs m rest (Some d) e f ∙ k.0,
+      subst (λ (y : Frame). BlamesFront h.schema s.count y x) (sym e) (subst (λ (o : Result Header Fault). BlamesOpened h.schema s.count o x) (sym opens) k.1),
     )) g
 
-stop_is_item : (r : Result (List AnyArray) Fault) (s : Stop) → AnswerStop r s → ItemStop (as_item r) s
-stop_is_item (Ok chunk) s h = h
+body_is_item : (h : Head) (k : Known) (xs m rest left : List ℕ) (d : Header) (q : List ℕ) (r : Result (Option (List AnyArray)) Fault) (l : Known) → frame xs ≡ message m rest
+    → header_of m ≡ Some d → opened m ≡ Ok d → q ≡ [] → GivesBody h k d rest r l left → GivesItem h k xs (as_found r) l q (q ++ left)
+body_is_item h k xs m rest left d q r l e f opens none g = record {
+  each = λ s at. body_is_front h s xs m rest left d q r l e f opens none (g.each s at);
+}
+
+stop_is_item : (r : Result (Option (List AnyArray)) Fault) (s : Stop) → AnswerStop r s → ItemStop (as_found r) s
+stop_is_item (Ok (Some chunk)) s h = h
+stop_is_item (Ok None) s h = h
 stop_is_item (Err e) s h = h
 
 -- ---- what was given
 
 module _ {S : Type 0} (gives : Gives S) where
-  pub item_waits : (h : Head) (p q m : List ℕ) (a b : S) → FrameGave gives p a (Ok frames.Waiting) m q b → ItemGave gives h p a (Ok (Some states.Waiting)) q b
-  item_waits h p q m a b g = record {
+  pub item_waits : (h : Head) (k : Known) (p q m : List ℕ) (a b : S) → FrameGave gives p a (Ok frames.Waiting) m q b → ItemGave gives h k p a (Ok fronts.Waiting) k q b
+  item_waits h k p q m a b g = record {
     stop = ended;
     stops = refl;
     run = gave_as gives (λ xs. length (p ++ xs) ≤ due (p ++ xs)) (λ xs. IsWithinMessage (p ++ xs))
-        (λ all rest. GivesFrame (frame (p ++ all)) (Ok frames.Waiting) m q rest) (λ all rest. GivesItem h (p ++ all) (Ok (Some states.Waiting)) q (q ++ rest)) a ended b
-        (λ xs v k. record { within = inl v }) (λ all rest k. item_of h (p ++ all) (waiting q) (is_waiting (frame (p ++ all)) m q rest k)) g;
+        (λ all rest. GivesFrame (frame (p ++ all)) (Ok frames.Waiting) m q rest) (λ all rest. GivesItem h k (p ++ all) (Ok fronts.Waiting) k q (q ++ rest)) a ended b
+        (λ xs v _. record { within = inl v })
+        (λ all rest f. record { each = λ s at. (at, item_of h s (p ++ all) (waiting q) (is_waiting (frame (p ++ all)) m q rest f)) }) g;
   }
 
-  pub item_marks : (h : Head) (p q m : List ℕ) (a b : S) → FrameGave gives p a (Ok frames.Mark) m q b → ItemGave gives h p a (Ok None) q b
-  item_marks h p q m a b g = record {
+  pub item_marks : (h : Head) (k : Known) (p q m : List ℕ) (a b : S) → FrameGave gives p a (Ok frames.Mark) m q b → ItemGave gives h k p a (Ok fronts.Mark) k q b
+  item_marks h k p q m a b g = record {
     stop = going;
     stops = refl;
     run = gave_as gives (λ xs. length (p ++ xs) ≤ due (p ++ xs)) (λ xs. IsWithinMessage (p ++ xs))
-        (λ all rest. GivesFrame (frame (p ++ all)) (Ok frames.Mark) m q rest) (λ all rest. GivesItem h (p ++ all) (Ok None) q (q ++ rest)) a going b
-        (λ xs v k. record { within = inl v })
-        (λ all rest k.
-        let here = is_mark (frame (p ++ all)) m q rest k in
-        (item_of h (p ++ all) (mark rest) here, here ∙ ap mark (sym (behind_none q rest (none_marked (frame (p ++ all)) m q rest k))))) g;
+        (λ all rest. GivesFrame (frame (p ++ all)) (Ok frames.Mark) m q rest) (λ all rest. GivesItem h k (p ++ all) (Ok fronts.Mark) k q (q ++ rest)) a going b
+        (λ xs v _. record { within = inl v })
+        (λ all rest f.
+        let here = is_mark (frame (p ++ all)) m q rest f in
+        record { each = λ s at. (item_of h s (p ++ all) (mark rest) here, here ∙ ap mark (sym (behind_none q rest (none_marked (frame (p ++ all)) m q rest f)))) }) g;
   }
 
-  pub item_breaks : (h : Head) (p q m : List ℕ) (a b : S) (e : Fault) → OwnFault e (IsFramingFault e) → FrameGave gives p a (Err e) m q b → ItemGave gives h p a (Err e) q b
-  item_breaks h p q m a b e only g = record {
+  pub item_breaks : (h : Head) (k l : Known) (p q m : List ℕ) (a b : S) (e : Fault) → OwnFault e (IsFramingFault e) → FrameGave gives p a (Err e) m q b → ItemGave gives h k p a (Err e) l q b
+  item_breaks h k l p q m a b e only g = record {
     stop = stop_of e;
     stops = fault_stop e;
     run = gave_as gives (λ xs. length (p ++ xs) ≤ due (p ++ xs)) (λ xs. IsWithinMessage (p ++ xs))
-        (λ all rest. GivesFrame (frame (p ++ all)) (Err e) m q rest) (λ all rest. GivesItem h (p ++ all) (Err e) q (q ++ rest)) a (stop_of e) b
-        (λ xs v k. record { within = inl v })
-        (λ all rest k. claims_through e ((frame (p ++ all) ≡ broken) × IsFramingFault e)
-        ((IsCarriedFront h (p ++ all) → item h nothing_known (p ++ all) ≡ done faulty) × BlamesFront h.schema (frame (p ++ all)) e)
-        (λ f. ((λ c. item_of h (p ++ all) broken f.0), subst (λ (y : Frame). BlamesFront h.schema y e) (sym f.0) f.1))
-        (both_claims e (frame (p ++ all) ≡ broken) (IsFramingFault e) k only)) g;
+        (λ all rest. GivesFrame (frame (p ++ all)) (Err e) m q rest) (λ all rest. GivesItem h k (p ++ all) (Err e) l q (q ++ rest)) a (stop_of e) b
+        (λ xs v _. record { within = inl v })
+        (λ all rest f. record {
+          each = λ s at. claims_through e ((frame (p ++ all) ≡ broken) × IsFramingFault e)
+              ((item h s (p ++ all) ≡ done faulty) × BlamesFront h.schema s.count (frame (p ++ all)) e)
+              (λ c. (item_of h s (p ++ all) broken c.0, subst (λ (y : Frame). BlamesFront h.schema s.count y e) (sym c.0) c.1))
+              (both_claims e (frame (p ++ all) ≡ broken) (IsFramingFault e) f only);
+        }) g;
   }
 
   -- a message whose metadata mean none
-  pub item_unopened : (h : Head) (p q m : List ℕ) (a b : S) (e : Fault) → FaultStop e going → header_of m ≡ None → opened m ≡ Err e
-      → FrameGave gives p a (Ok frames.Message) m q b → ItemGave gives h p a (Err e) q b
-  item_unopened h p q m a b e own none opens g = record {
+  pub item_unopened : (h : Head) (k l : Known) (p q m : List ℕ) (a b : S) (e : Fault) → FaultStop e going → header_of m ≡ None → opened m ≡ Err e
+      → FrameGave gives p a (Ok frames.Message) m q b → ItemGave gives h k p a (Err e) l q b
+  item_unopened h k l p q m a b e own none opens g = record {
     stop = going;
     stops = own;
     run = gave_as gives (λ xs. length (p ++ xs) ≤ due (p ++ xs)) (λ xs. IsWithinMessage (p ++ xs))
-        (λ all rest. GivesFrame (frame (p ++ all)) (Ok frames.Message) m q rest) (λ all rest. GivesItem h (p ++ all) (Err e) q (q ++ rest)) a going b
-        (λ xs v k. record { within = inl v })
-        (λ all rest k.
-        let here = is_message (frame (p ++ all)) m q rest k in
-        claimed e ((IsCarriedFront h (p ++ all) → item h nothing_known (p ++ all) ≡ done faulty) × BlamesFront h.schema (frame (p ++ all)) e) (
-          (λ c. body_of h (p ++ all) m rest None here none),
-          subst (λ (y : Frame). BlamesFront h.schema y e) (sym here) (subst (λ (o : Result Header Fault). BlamesOpened h.schema o e) (sym opens) refl),
-        )) g;
+        (λ all rest. GivesFrame (frame (p ++ all)) (Ok frames.Message) m q rest) (λ all rest. GivesItem h k (p ++ all) (Err e) l q (q ++ rest)) a going b
+        (λ xs v _. record { within = inl v })
+        (λ all rest f.
+        let here = is_message (frame (p ++ all)) m q rest f in
+        record {
+          each = λ s at. claimed e ((item h s (p ++ all) ≡ done faulty) × BlamesFront h.schema s.count (frame (p ++ all)) e) (
+            body_of h s (p ++ all) m rest None here none,
+            subst (λ (y : Frame). BlamesFront h.schema s.count y e) (sym here) (subst (λ (o : Result Header Fault). BlamesOpened h.schema s.count o e) (sym opens) refl),
+          );
+        }) g;
   }
 
-  pub item_then : GivesInOrder gives → (h : Head) (p q m : List ℕ) (d : Header) (r : Result (List AnyArray) Fault) (a b c : S) → header_of m ≡ Some d → opened m ≡ Ok d
-      → FrameGave gives p a (Ok frames.Message) m q b → BodyGave gives h d b r c → ItemGave gives h p a (as_item r) q c
-  item_then law h p q m d r a b c there opens before behind = record {
+  pub item_then : GivesInOrder gives → (h : Head) (k l : Known) (p q m : List ℕ) (d : Header) (r : Result (Option (List AnyArray)) Fault) (a b c : S) → header_of m ≡ Some d → opened m ≡ Ok d
+      → FrameGave gives p a (Ok frames.Message) m q b → BodyGave gives h k d b r l c → ItemGave gives h k p a (as_found r) l q c
+  item_then law h k l p q m d r a b c there opens before behind = record {
     stop = behind.stop;
     stops = stop_is_item r behind.stop behind.stops;
     run = gave_then gives law (λ xs. length (p ++ xs) ≤ due (p ++ xs)) (λ xs. length xs ≤ d.body) (λ xs. IsWithinMessage (p ++ xs))
-        (λ all rest. GivesFrame (frame (p ++ all)) (Ok frames.Message) m q rest) (λ all rest. GivesBody h d all r rest)
-        (λ all rest. GivesItem h (p ++ all) (as_item r) q (q ++ rest)) a b behind.stop c
-        (λ xs ys v w k. record { within = inr (m, ys, d, is_message (frame (p ++ (xs ++ ys))) m q ys (k ys), there, w) })
-        (λ all mid rest k g. body_is_item h (p ++ all) m mid rest d q r (is_message (frame (p ++ all)) m q mid k) there opens (none_begun (frame (p ++ all)) m q mid k) g)
+        (λ all rest. GivesFrame (frame (p ++ all)) (Ok frames.Message) m q rest) (λ all rest. GivesBody h k d all r l rest)
+        (λ all rest. GivesItem h k (p ++ all) (as_found r) l q (q ++ rest)) a b behind.stop c
+        (λ xs ys v w f. record { within = inr (m, ys, d, is_message (frame (p ++ (xs ++ ys))) m q ys (f ys), there, w) })
+        (λ all mid rest f g. body_is_item h k (p ++ all) m mid rest d q r l (is_message (frame (p ++ all)) m q mid f) there opens (none_begun (frame (p ++ all)) m q mid f) g)
         before behind.run;
   }

@@ -1,13 +1,13 @@
-pub mod NoDictionaries
-pub mod CarriedKinds
+pub mod Knowing
 pub mod Openings
 pub mod Sized
 pub mod Prefixes
-pub mod Steps
 pub mod Bodies
 pub mod BodyRuns
 pub mod Items
 pub mod MetadataRuns
 pub mod OfMemory
+pub mod Steps
 pub mod Waiting
 pub mod Runs
+pub mod Loops

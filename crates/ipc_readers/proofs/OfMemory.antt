@@ -1,8 +1,8 @@
 -- Of memory: what was given stood ahead. Of any device: which calls failed.
-use Rattle.std.proofs.Common.{◌≡◌, ℕ, ◌≤◌, List, [], ◌++◌, length, Option, Some, None, Result, Ok, Err, Bool, IsTrue, true, false, refl, arith, ap, sym, subst}
+use Rattle.std.proofs.Common.{◌≡◌, ℕ, zero, suc, ◌≤◌, List, [], ◌++◌, length, Option, None, Result, Ok, Err, Bool, IsTrue, true, false, refl, arith, ap, sym, subst}
 use Rattle.ipc_devices.specs.Device.{Memory, Rises, after}
 use Rattle.ipc_devices.specs.Faults.{OnIo}
-use Rattle.ipc_devices.specs.Gives.{Stop, ended, failed, AnswerStop, Fails, Gives, GivesAhead, GivesFails}
+use Rattle.ipc_devices.specs.Gives.{Stop, going, ended, failed, AnswerStop, Fails, Gives, GivesAhead, GivesFails}
 use Rattle.ipc_devices.specs.declared.fault.Fault.{Fault}
 use Rattle.ipc_devices.specs.declared.fault.Fault.TheVariants as Faults
 use Rattle.ipc_devices.specs.declared.fault.Fault.TheVariants.{Ended, Schema as BadSchema}
@@ -10,39 +10,42 @@ use Rattle.ipc_devices.specs.declared.fault.SchemaFault.TheVariants.{NotASchema}
 use Rattle.ipc_devices.proofs.Gave.{to_memory}
 use Rattle.ipc_devices.proofs.Stops.{answer_risen, fault_risen, not_below, nothing_claimed}
 use Rattle.ipc_model.specs.Frame.{Frame, message, mark, waiting, broken, frame}
-use Rattle.ipc_model.specs.Streams.{Head, done, faulty, item, nothing_known}
+use Rattle.ipc_model.specs.Streams.{Head, Known, done, faulty, item}
 use Rattle.ipc_readers.specs.Frames.{IsFramingFault, due}
 use Rattle.ipc_readers.specs.Metadata.{GivesMetadata, MetadataGave, metadata_at}
 use Rattle.ipc_readers.specs.Runs.{Answer, FailsLaw}
-use Rattle.ipc_readers.specs.Streams.{BlamesFront, GivesItem, IsCarriedFront, ItemGave, ItemStop, IsWithinMessage, NextStep, device_of, is_over, next_result}
+use Rattle.ipc_readers.specs.Streams.{BlamesFront, GivesItem, ItemGave, ItemsGave, ItemStop, IsWithinMessage, NextStep, ReadsItem, begun_of, device_of, head_of, is_over, known_of, last_found, metadata_of, next_result}
 use Rattle.ipc_readers.specs.declared.read.stream.metadata.StreamMetadata.{StreamMetadata}
 use Rattle.ipc_readers.specs.declared.read.stream.reader.StreamReader.{StreamReader}
 use Rattle.ipc_readers.specs.declared.read.stream.reader.StreamState.{StreamState}
-use Rattle.ipc_readers.specs.declared.read.stream.reader.StreamState.TheVariants as states
+use Rattle.ipc_readers.specs.declared.read.stream.reader.Found.{Found}
+use Rattle.ipc_readers.specs.declared.read.stream.reader.Found.TheVariants as fronts
 
 -- ---- messages
 
 -- what an end leaves isn't asked of
-item_at_end : (h : Head) (xs q zs ys : List ℕ) (r : Result (Option StreamState) Fault) → ItemStop r ended → GivesItem h xs r q zs → GivesItem h xs r q ys
-item_at_end h xs q zs ys (Ok (Some (states.Some chunk))) s g = absurd (cc s)
-item_at_end h xs q zs ys (Ok (Some states.Waiting)) s g = g
-item_at_end h xs q zs ys (Ok None) s g = absurd (cc s)
-item_at_end h xs q zs ys (Err e) s g = g
+item_at_end : (h : Head) (s : Known) (xs : List ℕ) (l : Known) (q zs ys : List ℕ) (r : Result Found Fault) → ItemStop r ended → ReadsItem h s xs r l q zs → ReadsItem h s xs r l q ys
+item_at_end h s xs l q zs ys (Ok (fronts.Chunk chunk)) e g = absurd (cc e)
+item_at_end h s xs l q zs ys (Ok fronts.Dictionary) e g = absurd (cc e)
+item_at_end h s xs l q zs ys (Ok fronts.Waiting) e g = g
+item_at_end h s xs l q zs ys (Ok fronts.Mark) e g = absurd (cc e)
+item_at_end h s xs l q zs ys (Err x) e g = g
 
 -- a device's failure says nothing of the bytes
-item_at_failure : (h : Head) (xs q ys : List ℕ) (r : Result (Option StreamState) Fault) → ItemStop r failed → GivesItem h xs r q ys
-item_at_failure h xs q ys (Ok (Some (states.Some chunk))) s = absurd (cc s)
-item_at_failure h xs q ys (Ok (Some states.Waiting)) s = absurd (cc s)
-item_at_failure h xs q ys (Ok None) s = absurd (cc s)
-item_at_failure h xs q ys (Err e) s = nothing_claimed e ((IsCarriedFront h xs → item h nothing_known xs ≡ done faulty) × BlamesFront h.schema (frame xs) e) s
+item_at_failure : (h : Head) (s : Known) (xs : List ℕ) (l : Known) (q ys : List ℕ) (r : Result Found Fault) → ItemStop r failed → ReadsItem h s xs r l q ys
+item_at_failure h s xs l q ys (Ok (fronts.Chunk chunk)) e = absurd (cc e)
+item_at_failure h s xs l q ys (Ok fronts.Dictionary) e = absurd (cc e)
+item_at_failure h s xs l q ys (Ok fronts.Waiting) e = absurd (cc e)
+item_at_failure h s xs l q ys (Ok fronts.Mark) e = absurd (cc e)
+item_at_failure h s xs l q ys (Err x) e = nothing_claimed x ((item h s xs ≡ done faulty) × BlamesFront h.schema s.count (frame xs) x) e
 
 pub item_ahead : {S : Type 0} (gives : Gives S) (known : Bool) (memory : S → Memory) → GivesAhead known gives memory → IsTrue known
-    → (h : Head) (p q : List ℕ) (r : Result (Option StreamState) Fault) (a b : S) → ItemGave gives h p a r q b
-    → GivesItem h (p ++ after (memory a)) r q (q ++ after (memory b))
-item_ahead gives known memory law k h p q r a b g =
-    to_memory gives known memory law k (λ xs. IsWithinMessage (p ++ xs)) (λ all rest. GivesItem h (p ++ all) r q (q ++ rest)) (ItemStop r) a b
-    (λ xs ys s i. item_at_end h (p ++ xs) q (q ++ []) (q ++ ys) r s i)
-    (λ xs ys s. item_at_failure h (p ++ xs) q (q ++ ys) r s) g
+    → (h : Head) (k l : Known) (p q : List ℕ) (r : Result Found Fault) (a b : S) → ItemGave gives h k p a r l q b
+    → GivesItem h k (p ++ after (memory a)) r l q (q ++ after (memory b))
+item_ahead gives known memory law t h k l p q r a b g =
+    to_memory gives known memory law t (λ xs. IsWithinMessage (p ++ xs)) (λ all rest. GivesItem h k (p ++ all) r l q (q ++ rest)) (ItemStop r) a b
+    (λ xs ys e i. record { each = λ s at. item_at_end h s (p ++ xs) l q (q ++ []) (q ++ ys) r e (i.each s at) })
+    (λ xs ys e. record { each = λ s at. item_at_failure h s (p ++ xs) l q (q ++ ys) r e }) g
 
 -- ---- the schema message
 
@@ -75,9 +78,25 @@ metadata_ahead gives known memory law k r a b g =
 
 -- ---- counts of failures
 
-item_risen : (r : Result (Option StreamState) Fault) (s : Stop) (old new : ℕ) → ItemStop r s → Fails s old new → OnIo r (Rises old new)
+item_risen : (r : Result (Option StreamState) Fault) (s : Stop) (old new : ℕ) → ItemStop (last_found r) s → Fails s old new → OnIo r (Rises old new)
 item_risen (Ok x) s old new h f = tt
 item_risen (Err e) s old new h f = fault_risen (Option StreamState) e s old new h f
+
+-- what fails behind a call that didn't
+risen_behind : (r : Result (Option StreamState) Fault) (old mid new : ℕ) → mid ≡ old → OnIo r (Rises mid new) × (mid ≤ new) → OnIo r (Rises old new) × (old ≤ new)
+risen_behind r old mid new e h = subst (λ (n : ℕ). OnIo r (Rises n new) × (n ≤ new)) e h
+
+items_fail : {S : Type 0} (gives : Gives S) (failures : S → ℕ) → GivesFails gives failures → (h : Head) (n : ℕ) (k l : Known) (p q : List ℕ) (r : Result (Option StreamState) Fault) (a b : S)
+    → ItemsGave gives h n k p a r l q b → OnIo r (Rises (failures a) (failures b)) × (failures a ≤ failures b)
+items_fail gives failures fails h zero k l p q r a b g =
+    let i = g.0 in
+    let f = fails a i.run.bytes i.stop b i.run.gave in
+    (item_risen r i.stop (failures a) (failures b) i.stops f, not_below i.stop (failures a) (failures b) f)
+items_fail gives failures fails h (suc n) k l p q r a b g =
+    let c = g.2 in
+    let i = g.3 in
+    let f : Fails going (failures a) (failures c) = subst (λ (x : Stop). Fails x (failures a) (failures c)) i.stops (fails a i.run.bytes i.stop c i.run.gave) in
+    risen_behind r (failures a) (failures c) (failures b) f (items_fail gives failures fails h n g.0 l g.1 q r c b g.4)
 
 module _ {R : Type 0} (gives : Gives R) (known : Bool) (memory : R → Memory) (failures : R → ℕ) (fails : GivesFails gives failures)
     (a : StreamReader R) (r : Answer) (b : StreamReader R) (step : NextStep gives known memory a r b) where
@@ -88,8 +107,7 @@ module _ {R : Type 0} (gives : Gives R) (known : Bool) (memory : R → Memory) (
       (subst (λ (x : Answer). OnIo (next_result x) (Rises (failures (device_of a)) (failures (device_of b)))) (sym none) tt, omega (arith, same))
   by_over false e =
       let g = step.gave e in
-      let f = fails (device_of a) g.run.bytes g.stop (device_of b) g.run.gave in
-      (item_risen (next_result r) g.stop (failures (device_of a)) (failures (device_of b)) g.stops f, not_below g.stop (failures (device_of a)) (failures (device_of b)) f)
+      items_fail gives failures fails (head_of (metadata_of a)) g.passed (known_of a) (known_of b) (begun_of a) (begun_of b) (next_result r) (device_of a) (device_of b) g.items
 
 pub next_fails : {R : Type 0} (gives : Gives R) (known : Bool) (memory : R → Memory) (failures : R → ℕ) → GivesFails gives failures → (a : StreamReader R)
     → FailsLaw gives known memory failures a

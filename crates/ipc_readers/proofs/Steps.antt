@@ -1,21 +1,55 @@
--- What one message that was read says of the meaning of a stream.
-use Rattle.std.proofs.Common.{◌≡◌, List, [], ℕ, Option, None, Some, Result, Ok, Err}
+-- What the messages that were read say of the meaning of a stream.
+use Rattle.std.proofs.Common.{◌≡◌, ℕ, zero, suc, List, [], ◌++◌, Bool, IsTrue, Option, None, Some, Result, Ok, Err, ◌∙◌}
+use Rattle.ipc_devices.specs.Device.{Memory, after}
+use Rattle.ipc_devices.specs.Gives.{Gives, GivesAhead}
 use Rattle.ipc_devices.specs.declared.fault.Fault.{Fault}
 use Rattle.ipc_model.proofs.Meanings.{meaning_done, meaning_more}
-use Rattle.ipc_model.specs.Streams.{Head, done, faulty, marked, waits, nothing_known, item, meaning}
+use Rattle.ipc_model.specs.Frame.{frame}
+use Rattle.ipc_model.specs.Streams.{Head, Known, done, faulty, marked, waits, item, meaning}
 use Rattle.ipc_read.specs.Chunks.{chunk_seen}
 use Rattle.ipc_readers.proofs.Bodies.{claims_through}
-use Rattle.ipc_model.specs.Frame.{frame}
-use Rattle.ipc_readers.specs.Streams.{BlamesFront, IsCarriedFront, GivesItem, GivesNext}
+use Rattle.ipc_readers.proofs.OfMemory.{item_ahead}
+use Rattle.ipc_readers.specs.Streams.{BlamesFront, GivesNext, ItemsGave, NextGave, ReadsItem, ReadsNext, last_found}
+use Rattle.ipc_readers.specs.declared.read.stream.reader.Found.TheVariants as fronts
 use Rattle.ipc_readers.specs.declared.read.stream.reader.StreamState.{StreamState}
 use Rattle.ipc_readers.specs.declared.read.stream.reader.StreamState.TheVariants as states
 
 -- the message at the front, and so the next of the stream
-pub gives_next : (h : Head) (xs : List ℕ) (r : Result (Option StreamState) Fault) (begun ys : List ℕ)
-    → GivesItem h xs r begun ys → GivesNext h xs r begun ys
-gives_next h xs (Ok (Some (states.Some chunk))) begun ys g = (meaning_more h nothing_known xs (Some (chunk_seen chunk)) nothing_known ys g.0, g.1)
-gives_next h xs (Ok (Some states.Waiting)) begun ys g = meaning_done h nothing_known xs (waits nothing_known begun) g
-gives_next h xs (Ok None) begun ys g = meaning_done h nothing_known xs marked g.0
-gives_next h xs (Err e) begun ys g =
-    claims_through e ((IsCarriedFront h xs → item h nothing_known xs ≡ done faulty) × BlamesFront h.schema (frame xs) e) (IsCarriedFront h xs → meaning h nothing_known xs ≡ record { chunks = []; end = faulty })
-    (λ f carried. meaning_done h nothing_known xs faulty (f.0 carried)) g
+front_next : (h : Head) (s : Known) (xs : List ℕ) (r : Result (Option StreamState) Fault) (l : Known) (begun ys : List ℕ)
+    → ReadsItem h s xs (last_found r) l begun ys → ReadsNext h s xs r l begun ys
+front_next h s xs (Ok (Some (states.Some chunk))) l begun ys g = (g.0, g.1, meaning_more h s xs (Some (chunk_seen chunk)) g.0 ys g.2)
+front_next h s xs (Ok (Some states.Waiting)) l begun ys g = (s, g.0, meaning_done h s xs (waits s begun) g.1)
+front_next h s xs (Ok None) l begun ys g = meaning_done h s xs marked g.0
+front_next h s xs (Err e) l begun ys g =
+    claims_through e ((item h s xs ≡ done faulty) × BlamesFront h.schema s.count (frame xs) e) (meaning h s xs ≡ record { chunks = []; end = faulty })
+    (λ f. meaning_done h s xs faulty f.0) g
+
+-- a dictionary message at the front changes nothing of what comes
+passed_next : (h : Head) (s t : Known) (xs zs : List ℕ) (r : Result (Option StreamState) Fault) (l : Known) (begun ys : List ℕ)
+    → meaning h s xs ≡ meaning h t zs → ReadsNext h t zs r l begun ys → ReadsNext h s xs r l begun ys
+passed_next h s t xs zs (Ok (Some (states.Some chunk))) l begun ys e g = (g.0, g.1, e ∙ g.2)
+passed_next h s t xs zs (Ok (Some states.Waiting)) l begun ys e g = (g.0, g.1, e ∙ g.2)
+passed_next h s t xs zs (Ok None) l begun ys e g = e ∙ g
+passed_next h s t xs zs (Err x) l begun ys e g =
+    claims_through x (meaning h t zs ≡ record { chunks = []; end = faulty }) (meaning h s xs ≡ record { chunks = []; end = faulty }) (λ f. e ∙ f) g
+
+module _ {S : Type 0} (gives : Gives S) (known : Bool) (memory : S → Memory) (law : GivesAhead known gives memory) (k : IsTrue known) (h : Head) where
+  items_ahead : (n : ℕ) (s₀ l : Known) (p q : List ℕ) (r : Result (Option StreamState) Fault) (a b : S) → ItemsGave gives h n s₀ p a r l q b
+      → GivesNext h s₀ (p ++ after (memory a)) r l q (q ++ after (memory b))
+  items_ahead zero s₀ l p q r a b g = record {
+    each = λ s at. front_next h s (p ++ after (memory a)) r l q (q ++ after (memory b)) ((item_ahead gives known memory law k h s₀ l p q (last_found r) a b g.0).each s at);
+  }
+  items_ahead (suc n) s₀ l p q r a b g = record {
+    each = λ s at.
+        let u = g.0 in
+        let v = g.1 in
+        let c = g.2 in
+        let first = (item_ahead gives known memory law k h s₀ u p v (Ok fronts.Dictionary) a c g.3).each s at in
+        let rest = (items_ahead n u l v q r c b g.4).each first.0 first.1 in
+        passed_next h s first.0 (p ++ after (memory a)) (v ++ after (memory c)) r l q (q ++ after (memory b))
+        (meaning_more h s (p ++ after (memory a)) None first.0 (v ++ after (memory c)) first.2) rest;
+  }
+
+  pub next_ahead : (s₀ l : Known) (p q : List ℕ) (r : Result (Option StreamState) Fault) (a b : S) → NextGave gives h s₀ p a r l q b
+      → GivesNext h s₀ (p ++ after (memory a)) r l q (q ++ after (memory b))
+  next_ahead s₀ l p q r a b g = items_ahead g.passed s₀ l p q r a b g.items

@@ -1,11 +1,12 @@
 -- Which faults of the input's the reader of a stream can answer.
-use Rattle.std.specs.Prelude.{◌≡◌, ◌⊎◌, None}
+use Rattle.std.specs.Prelude.{◌≡◌, ◌⊎◌, ℕ, ◌≤◌, None}
 use Rattle.ipc_devices.specs.declared.fault.Fault.{Fault}
-use Rattle.ipc_devices.specs.declared.fault.Fault.TheVariants.{Ended, NotYetImplemented, OutOfSpec}
-use Rattle.ipc_devices.specs.declared.fault.Nyi.TheVariants.{Pending}
+use Rattle.ipc_devices.specs.declared.fault.Fault.TheVariants.{Ended, OutOfSpec, TooManyDictionaries}
 use Rattle.ipc_devices.specs.declared.fault.OutOfSpecKind.TheVariants.{InvalidFlatbufferMessage, MissingMessageHeader, InvalidFlatbufferHeader, InvalidFlatbufferBodyLength, UnexpectedNegativeInteger, UnexpectedMessageType}
 use Rattle.ipc_model.specs.Batches.{Schema, chosen, kinds}
 use Rattle.ipc_model.specs.Kinds.{count}
+use Rattle.ipc_model.specs.Streams.{most_dictionaries}
+use Rattle.ipc_read.specs.DictionaryBatches.{IsDictionaryFault}
 use Rattle.ipc_read.specs.Refusals.{IsFaultOfBatch}
 use Rattle.ipc_readers.specs.Frames.{IsFramingFault}
 
@@ -19,10 +20,15 @@ IsMessageFault (OutOfSpec UnexpectedNegativeInteger) = Unit {0}
 IsMessageFault (OutOfSpec UnexpectedMessageType) = Unit {0}
 IsMessageFault _ = ⊥
 
--- Of a record batch: those of its columns and of what it lists, a body that isn't there, a schema that isn't carried.
+-- of a record batch: those of its columns and of what it lists, and a body that isn't there
 abbrev pub IsRecordFault : Schema → Fault → Type 0
-IsRecordFault schema e = IsFaultOfBatch (kinds schema) (chosen None (count (kinds schema))) e ⊎ ((e ≡ Ended) ⊎ (e ≡ NotYetImplemented Pending))
+IsRecordFault schema e = IsFaultOfBatch (kinds schema) (chosen None (count (kinds schema))) e ⊎ (e ≡ Ended)
 
--- of a stream of this schema: of a frame, a message or a record batch
+-- Of a dictionary batch, where n came since the last record batch: those of its values, of its id and of what it lists, a body that
+-- isn't there, and that no more may come.
+abbrev pub IsDictionaryMessageFault : ℕ → Fault → Type 0
+IsDictionaryMessageFault n e = IsDictionaryFault e ⊎ ((e ≡ Ended) ⊎ ((e ≡ TooManyDictionaries) × (most_dictionaries ≤ n)))
+
+-- of a stream of this schema: of a frame, a message, a record batch or a dictionary batch
 abbrev pub IsStreamFault : Schema → Fault → Type 0
-IsStreamFault schema e = IsFramingFault e ⊎ (IsMessageFault e ⊎ IsRecordFault schema e)
+IsStreamFault schema e = IsFramingFault e ⊎ (IsMessageFault e ⊎ (IsRecordFault schema e ⊎ (IsDictionaryFault e ⊎ (e ≡ TooManyDictionaries))))

@@ -1,26 +1,31 @@
 -- What the calls of a stream's reader do.
 -- (Arrow columnar format, "IPC Streaming Format".)
-use Rattle.std.specs.Prelude.{◌≡◌, ◌≢◌, ◌⊎◌, ℕ, ◌≤◌, List, [], ◌∷◌, ◌++◌, length, Option, None, Some, Result, Ok, Err, IfErr, Bool, true, false, IsTrue}
+use Rattle.std.specs.Prelude.{◌≡◌, ◌≢◌, ◌⊎◌, ℕ, zero, suc, ◌+◌, ◌<◌, ◌≤◌, List, [], ◌∷◌, ◌++◌, length, Option, None, Some, option_map, Result, Ok, Err, IfErr, IfOk, OnErr, map, Bool, true, false, IsTrue}
 use Rattle.lower.specs.TypeViews.{fields_view, pairs_of}
+use Rattle.lower_arrays.specs.AnyLayouts.{layout_of}
 use Rattle.lower_arrays.specs.declared.array.AnyArray.{AnyArray}
 use Rattle.ipc_base.specs.IdTrees.{all_ids_view}
+use Rattle.ipc_columns.specs.Bodies.{known_dictionaries}
 use Rattle.ipc_devices.specs.Device.{Memory, after}
 use Rattle.ipc_devices.specs.Faults.{OwnFault}
 use Rattle.ipc_devices.specs.Gives.{Stop, going, ended, FaultStop, AnswerStop, Gives, GaveTo}
 use Rattle.ipc_devices.specs.declared.fault.Fault.{Fault}
-use Rattle.ipc_devices.specs.declared.fault.Fault.TheVariants.{NotYetImplemented, OutOfSpec}
-use Rattle.ipc_devices.specs.declared.fault.Nyi.TheVariants.{Pending}
+use Rattle.ipc_devices.specs.declared.fault.Fault.TheVariants.{OutOfSpec}
 use Rattle.ipc_devices.specs.declared.fault.OutOfSpecKind.TheVariants.{UnexpectedMessageType}
+use Rattle.ipc_laws.specs.Agreement.{AreAt}
 use Rattle.ipc_views.specs.Spot.{Spot}
-use Rattle.ipc_model.specs.Batches.{Schema, extra_of}
+use Rattle.ipc_model.specs.Batches.{Schema, chosen, extra_of}
+use Rattle.ipc_model.specs.ReadChunks.{HaveMeaning}
 use Rattle.ipc_model.specs.Frame.{Frame, broken, frame, message, mark}
-use Rattle.ipc_model.specs.Streams.{Head, Header, header_of, more, done, faulty, body_item, item, marked, with_chunks, meaning, nothing_known, waits}
-pub use Rattle.ipc_carried.specs.CarriedStreams.{IsCarriedMessage, IsCarriedHeader, IsCarriedFrame, IsCarriedFront}
+use Rattle.ipc_model.specs.Streams.{Head, Header, Known, header_of, more, done, faulty, body_item, item, marked, most_dictionaries, with_chunks, meaning, nothing_known, waits}
 use Rattle.ipc_read.specs.Chunks.{chunk_seen, order_of}
 use Rattle.ipc_readers.specs.Frames.{IsFramingFault, begun_bytes, due}
 use Rattle.ipc_readers.specs.Messages.{opened}
-use Rattle.ipc_readers.specs.Refusals.{IsRecordFault, IsStreamFault}
+use Rattle.ipc_readers.specs.Refusals.{IsDictionaryMessageFault, IsRecordFault, IsStreamFault}
 use Rattle.ipc_readers.specs.declared.read.stream.metadata.StreamMetadata.{StreamMetadata}
+use Rattle.ipc_readers.specs.declared.read.stream.reader.Batches.{Batches}
+use Rattle.ipc_readers.specs.declared.read.stream.reader.Found.{Found}
+use Rattle.ipc_readers.specs.declared.read.stream.reader.Found.TheVariants as fronts
 use Rattle.ipc_readers.specs.declared.read.stream.reader.StreamReader.{StreamReader}
 use Rattle.ipc_readers.specs.declared.read.stream.reader.StreamState.{StreamState}
 use Rattle.ipc_readers.specs.declared.read.stream.reader.StreamState.TheVariants as states
@@ -50,11 +55,23 @@ begun_of r = begun_bytes r.begun
 abbrev pub is_over : {R : Type 0} → StreamReader R → Bool
 is_over r = r.finished
 
+-- the dictionaries that were read, and how many dictionary messages came since the last record
+abbrev pub known_in : Batches → Known
+known_in b = record { dictionaries = known_dictionaries b.dictionaries; count = b.count }
+
+abbrev pub known_of : {R : Type 0} → StreamReader R → Known
+known_of r = known_in r.batches
+
+-- A reader knows as much as s: the same values under each id, and it has read as many dictionary messages since the last record.
+abbrev pub Knows : {R : Type 0} → StreamReader R → Known → Type 0
+Knows r s = AreAt s (known_of r)
+
 -- A new reader stands before this device, and nothing was read.
 pub record Begins {R : Type 0} (device : R) (metadata : StreamMetadata) (r : StreamReader R) : Type 0 where
   pub reader : device_of r ≡ device
   pub described : metadata_of r ≡ metadata
   pub begun : begun_of r ≡ []
+  pub knows : Knows r nothing_known
   pub unfinished : is_over r ≡ false
 
 -- ---- what the metadata stand for
@@ -70,54 +87,108 @@ head_of m = record {
   extra = extra_of m.version;
 }
 
+-- ---- the values of dictionaries
+
+-- At each dictionary place of a chunk's columns, those inside the values of others aside, stand the values that are known.
+abbrev pub HasKnownValues : Batches → List AnyArray → Type 0
+HasKnownValues b chunk =
+    HaveMeaning (known_in b).dictionaries (all_ids_view b.metadata.ipc_schema.fields.items) (chosen None (length b.metadata.schema.fields.items)) (chunk_seen chunk) (map layout_of chunk)
+
+abbrev pub BodyHasValues : Batches → Option (List AnyArray) → Type 0
+BodyHasValues b None = Unit {0}
+BodyHasValues b (Some chunk) = HasKnownValues b chunk
+
+abbrev pub FrontHasValues : Batches → Found → Type 0
+FrontHasValues b (fronts.Chunk chunk) = HasKnownValues b chunk
+FrontHasValues b _ = Unit {0}
+
+abbrev pub StateHasValues : Batches → Option StreamState → Type 0
+StateHasValues b (Some (states.Some chunk)) = HasKnownValues b chunk
+StateHasValues b _ = Unit {0}
+
 -- ---- one message
 
--- Which faults of the input's a message with a header of this tag can have in a stream of this schema, if its header is well made.
-pub record BlamesBody (schema : Schema) (tag : ℕ) (e : Fault) : Type 0 where
+-- Which faults of the input's a message with a header of this tag can have in a stream of this schema, n dictionary messages behind the
+-- last record, if its header is well made.
+pub record BlamesBody (schema : Schema) (n tag : ℕ) (e : Fault) : Type 0 where
   pub record_batch : tag ≡ 3 → IsRecordFault schema e
-  pub dictionary_batch : tag ≡ 2 → e ≡ NotYetImplemented Pending
+  pub dictionary_batch : tag ≡ 2 → IsDictionaryMessageFault n e
   pub other : tag ≢ 2 → tag ≢ 3 → e ≡ OutOfSpec UnexpectedMessageType
 
-abbrev pub BlamesOpened : Schema → Result Header Fault → Fault → Type 0
-BlamesOpened schema (Ok m) e = BlamesBody schema m.tag e
-BlamesOpened schema (Err f) e = e ≡ f
+abbrev pub BlamesOpened : Schema → ℕ → Result Header Fault → Fault → Type 0
+BlamesOpened schema n (Ok m) e = BlamesBody schema n m.tag e
+BlamesOpened schema n (Err f) e = e ≡ f
 
 -- Which fault of the input's what stands at the front has: that of the frame, that of its metadata, or one of its kind.
-abbrev pub BlamesFront : Schema → Frame → Fault → Type 0
-BlamesFront schema (message metadata behind) e = BlamesOpened schema (opened metadata) e
-BlamesFront schema broken e = IsFramingFault e
-BlamesFront schema _ e = ⊥
+abbrev pub BlamesFront : Schema → ℕ → Frame → Fault → Type 0
+BlamesFront schema n (message metadata behind) e = BlamesOpened schema n (opened metadata) e
+BlamesFront schema n broken e = IsFramingFault e
+BlamesFront schema n _ e = ⊥
 
--- The body of a message was read of xs, which leaves ys: its chunk is what the record batch means. A fault of the
--- input's says that it means none, or isn't carried, and is one of its kind.
-abbrev pub GivesBody : Head → Header → List ℕ → Result (List AnyArray) Fault → List ℕ → Type 0
-GivesBody h m xs (Ok chunk) ys = (body_item h nothing_known m xs ≡ more (Some (chunk_seen chunk)) nothing_known ys)
-    × IsCarriedMessage h.schema m
-GivesBody h m xs (Err e) ys = OwnFault e ((IsCarriedMessage h.schema m → body_item h nothing_known m xs ≡ done faulty) × BlamesBody h.schema m.tag e)
+-- a message of this tag may be read: a record, or a dictionary where fewer than the most came since the last record
+pub record IsAdmitted (n tag : ℕ) : Type 0 where
+  pub kind : (tag ≡ 3) ⊎ (tag ≡ 2)
+  pub room : tag ≡ 2 → n < most_dictionaries
 
--- Of these bytes the columns of a record batch were read, as the message gives them whose body they are, whatever is ahead
--- of it then.
-abbrev pub GivesColumns : Head → Spot → List ℕ → Result (List AnyArray) Fault → Type 0
-GivesColumns h t body r = (ys : List ℕ) → GivesBody h (record { tag = 3; table = t; body = length body }) (body ++ ys) r ys
+-- how many dictionary messages came since the last record: none behind a chunk, one more behind a dictionary
+abbrev pub Counted : Option (List AnyArray) → (old new : ℕ) → Type 0
+Counted (Some chunk) old new = new ≡ 0
+Counted None old new = new ≡ old + 1
 
--- What was read is what stands at the front of xs, for a schema h. begun is what is kept then, and ys what is ahead: behind
--- the mark all that follows it, which another can read.
-abbrev pub GivesItem : Head → List ℕ → Result (Option StreamState) Fault → (begun ys : List ℕ) → Type 0
-GivesItem h xs (Ok (Some (states.Some chunk))) begun ys =
-    (item h nothing_known xs ≡ more (Some (chunk_seen chunk)) nothing_known ys) × IsCarriedFront h xs
-GivesItem h xs (Ok (Some states.Waiting)) begun ys = item h nothing_known xs ≡ done (waits nothing_known begun)
-GivesItem h xs (Ok None) begun ys = (item h nothing_known xs ≡ done marked) × (frame xs ≡ mark ys)
-GivesItem h xs (Err e) begun ys = OwnFault e ((IsCarriedFront h xs → item h nothing_known xs ≡ done faulty) × BlamesFront h.schema (frame xs) e)
+-- the answer of a record batch, and that of a dictionary batch, as one of a message
+abbrev pub of_record : Result (List AnyArray) Fault → Result (Option (List AnyArray)) Fault
+of_record (Ok chunk) = Ok (Some chunk)
+of_record (Err e) = Err e
+
+abbrev pub of_dictionary : Result Unit Fault → Result (Option (List AnyArray)) Fault
+of_dictionary (Ok _) = Ok None
+of_dictionary (Err e) = Err e
+
+-- The body of a message was read of xs, which leaves ys: what it means to s is its chunk, if it is a record, and what is known then is
+-- what l is. A fault of the input's says that it means nothing, and is one of its kind.
+abbrev pub ReadsBody : Head → (s : Known) → Header → List ℕ → Result (Option (List AnyArray)) Fault → (l : Known) → List ℕ → Type 0
+ReadsBody h s m xs (Ok c) l ys = (t : Known) × AreAt t l × (body_item h s m xs ≡ more (option_map chunk_seen c) t ys)
+ReadsBody h s m xs (Err e) l ys = OwnFault e ((body_item h s m xs ≡ done faulty) × BlamesBody h.schema s.count m.tag e)
+
+-- the same for whoever knows as much as k
+pub record GivesBody (h : Head) (k : Known) (m : Header) (xs : List ℕ) (r : Result (Option (List AnyArray)) Fault) (l : Known) (ys : List ℕ) : Type 0 where
+  pub each : (s : Known) → AreAt s k → ReadsBody h s m xs r l ys
+
+-- This body was read, as the message gives it whose body it is, whatever is ahead of it then.
+pub record GivesHeld (h : Head) (k : Known) (tag : ℕ) (t : Spot) (body : List ℕ) (r : Result (Option (List AnyArray)) Fault) (l : Known) : Type 0 where
+  pub each : (ys : List ℕ) → GivesBody h k (record { tag = tag; table = t; body = length body }) (body ++ ys) r l ys
+
+-- A message was refused before its body was read, whatever that is.
+pub record RefusesBody (h : Head) (k : Known) (tag : ℕ) (t : Spot) (e : Fault) : Type 0 where
+  pub each : (n : ℕ) (xs : List ℕ) → GivesBody h k (record { tag = tag; table = t; body = n }) xs (Err e) k xs
+
+-- What was read is what stands at the front of xs, for a schema h and who knows s. begun is what is kept then, l what is known, and ys
+-- what is ahead: behind the mark all that follows it, which another can read.
+abbrev pub ReadsItem : Head → (s : Known) → List ℕ → Result Found Fault → (l : Known) → (begun ys : List ℕ) → Type 0
+ReadsItem h s xs (Ok (fronts.Chunk chunk)) l begun ys = (t : Known) × AreAt t l × (item h s xs ≡ more (Some (chunk_seen chunk)) t ys)
+ReadsItem h s xs (Ok fronts.Dictionary) l begun ys = (t : Known) × AreAt t l × (item h s xs ≡ more None t ys)
+ReadsItem h s xs (Ok fronts.Waiting) l begun ys = AreAt s l × (item h s xs ≡ done (waits s begun))
+ReadsItem h s xs (Ok fronts.Mark) l begun ys = (item h s xs ≡ done marked) × (frame xs ≡ mark ys)
+ReadsItem h s xs (Err e) l begun ys = OwnFault e ((item h s xs ≡ done faulty) × BlamesFront h.schema s.count (frame xs) e)
+
+-- the same for whoever knows as much as k
+pub record GivesItem (h : Head) (k : Known) (xs : List ℕ) (r : Result Found Fault) (l : Known) (begun ys : List ℕ) : Type 0 where
+  pub each : (s : Known) → AreAt s k → ReadsItem h s xs r l begun ys
+
+-- a dictionary is one more since the last record
+abbrev pub CountsOn : Found → (old new : ℕ) → Type 0
+CountsOn fronts.Dictionary old new = new ≡ old + 1
+CountsOn _ old new = Unit {0}
 
 -- ---- what a device gave
 
 -- The bytes of a body were given, or the first of them.
-abbrev pub BodyGave : {S : Type 0} → Gives S → Head → Header → S → Result (List AnyArray) Fault → S → Type 0
-BodyGave gives h m a r b = GaveTo gives (AnswerStop r) (λ xs. length xs ≤ m.body) (λ all rest. GivesBody h m all r rest) a b
+abbrev pub BodyGave : {S : Type 0} → Gives S → Head → Known → Header → S → Result (Option (List AnyArray)) Fault → Known → S → Type 0
+BodyGave gives h k m a r l b = GaveTo gives (AnswerStop r) (λ xs. length xs ≤ m.body) (λ all rest. GivesBody h k m all r l rest) a b
 
 -- It waits exactly where the device gave no more.
-abbrev pub ItemStop : Result (Option StreamState) Fault → Stop → Type 0
-ItemStop (Ok (Some states.Waiting)) s = s ≡ ended
+abbrev pub ItemStop : Result Found Fault → Stop → Type 0
+ItemStop (Ok fronts.Waiting) s = s ≡ ended
 ItemStop (Ok _) s = s ≡ going
 ItemStop (Err e) s = FaultStop e s
 
@@ -127,8 +198,27 @@ pub record IsWithinMessage (bytes : List ℕ) : Type 0 where
       ((m : List ℕ) × (rest : List ℕ) × (h : Header) × (frame bytes ≡ message m rest) × (header_of m ≡ Some h) × (length rest ≤ h.body))
 
 -- Behind the begun bytes p, no more was given than the rest of a message. It is what GivesItem says of it, whatever follows.
-abbrev pub ItemGave : {S : Type 0} → Gives S → Head → (p : List ℕ) → S → Result (Option StreamState) Fault → (q : List ℕ) → S → Type 0
-ItemGave gives h p a r q b = GaveTo gives (ItemStop r) (λ xs. IsWithinMessage (p ++ xs)) (λ all rest. GivesItem h (p ++ all) r q (q ++ rest)) a b
+abbrev pub ItemGave : {S : Type 0} → Gives S → Head → (k : Known) → (p : List ℕ) → S → Result Found Fault → (l : Known) → (q : List ℕ) → S → Type 0
+ItemGave gives h k p a r l q b = GaveTo gives (ItemStop r) (λ xs. IsWithinMessage (p ++ xs)) (λ all rest. GivesItem h k (p ++ all) r l q (q ++ rest)) a b
+
+-- what a call of `next` found last
+abbrev pub last_found : Result (Option StreamState) Fault → Result Found Fault
+last_found (Ok (Some (states.Some chunk))) = Ok (fronts.Chunk chunk)
+last_found (Ok (Some states.Waiting)) = Ok fronts.Waiting
+last_found (Ok None) = Ok fronts.Mark
+last_found (Err e) = Err e
+
+-- n dictionary messages were read one behind the other, and then what the answer says. Behind a fault what is known is what was known
+-- before the message that has it.
+abbrev pub ItemsGave : {S : Type 0} → Gives S → Head → ℕ → (k : Known) → (p : List ℕ) → S → Result (Option StreamState) Fault → (l : Known) → (q : List ℕ) → S → Type 0
+ItemsGave gives h zero k p a r l q b = ItemGave gives h k p a (last_found r) l q b × OnErr r (AreAt k l)
+ItemsGave {S} gives h (suc n) k p a r l q b = (u : Known) × (v : List ℕ) × (c : S) × ItemGave gives h k p a (Ok fronts.Dictionary) u v c × ItemsGave gives h n u v c r l q b
+
+-- Dictionary messages were read, as many as there were, and then the message behind them, or what else stands there. Nothing else was
+-- given.
+pub record NextGave {S : Type 0} (gives : Gives S) (h : Head) (k : Known) (p : List ℕ) (a : S) (r : Result (Option StreamState) Fault) (l : Known) (q : List ℕ) (b : S) : Type 0 where
+  pub passed : ℕ
+  pub items : ItemsGave gives h passed k p a r l q b
 
 -- ---- calls of `next`
 
@@ -136,18 +226,20 @@ ItemGave gives h p a r q b = GaveTo gives (ItemStop r) (λ xs. IsWithinMessage (
 abbrev pub ahead : {R : Type 0} → (R → Memory) → StreamReader R → List ℕ
 ahead memory r = begun_of r ++ after (memory (device_of r))
 
--- The next of a stream xs of a schema h, where ys is ahead then. A chunk is the first that the stream means, and what
--- it means further is what ys means. Else the stream means that it waits, with the begun bytes kept, or that it ends.
--- A fault of the input's says that it means nothing from here on, or that what stands at its front isn't carried.
-abbrev pub GivesNext : Head → List ℕ → Result (Option StreamState) Fault → (begun ys : List ℕ) → Type 0
-GivesNext h xs (Ok (Some (states.Some chunk))) begun ys =
-    (meaning h nothing_known xs ≡ with_chunks (chunk_seen chunk ∷ []) (meaning h nothing_known ys))
-    × IsCarriedFront h xs
-GivesNext h xs (Ok (Some states.Waiting)) begun ys = meaning h nothing_known xs
-    ≡ record { chunks = []; end = waits nothing_known begun }
-GivesNext h xs (Ok None) begun ys = meaning h nothing_known xs ≡ record { chunks = []; end = marked }
-GivesNext h xs (Err e) begun ys = OwnFault e (IsCarriedFront h xs
-    → meaning h nothing_known xs ≡ record { chunks = []; end = faulty })
+-- The next of a stream xs of a schema h to who knows s, where ys is ahead then, and l is known. A chunk is the first that the stream
+-- means, and what it means further is what ys means to who knows as much. Else the stream means that it waits, with the begun bytes kept,
+-- or that it ends. A fault of the input's says that it means nothing from here on.
+abbrev pub ReadsNext : Head → (s : Known) → List ℕ → Result (Option StreamState) Fault → (l : Known) → (begun ys : List ℕ) → Type 0
+ReadsNext h s xs (Ok (Some (states.Some chunk))) l begun ys =
+    (t : Known) × AreAt t l × (meaning h s xs ≡ with_chunks (chunk_seen chunk ∷ []) (meaning h t ys))
+ReadsNext h s xs (Ok (Some states.Waiting)) l begun ys =
+    (t : Known) × AreAt t l × (meaning h s xs ≡ record { chunks = []; end = waits t begun })
+ReadsNext h s xs (Ok None) l begun ys = meaning h s xs ≡ record { chunks = []; end = marked }
+ReadsNext h s xs (Err e) l begun ys = OwnFault e (meaning h s xs ≡ record { chunks = []; end = faulty })
+
+-- the same for whoever knows as much as k
+pub record GivesNext (h : Head) (k : Known) (xs : List ℕ) (r : Result (Option StreamState) Fault) (l : Known) (begun ys : List ℕ) : Type 0 where
+  pub each : (s : Known) → AreAt s k → ReadsNext h s xs r l begun ys
 
 -- `next` as a `Result`
 abbrev pub next_result : Option (Result StreamState Fault) → Result (Option StreamState) Fault
@@ -161,14 +253,13 @@ ends None = true
 ends (Some (Ok x)) = false
 ends (Some (Err e)) = true
 
--- What a call of `next` takes and answers, and what stands then. Where nothing comes any more, the device isn't asked.
+-- What a call of `next` takes and answers, and what stands then. The dictionaries of a chunk are those that the reader knows. Where nothing comes any more, the device isn't asked.
 pub record NextStep {R : Type 0} (gives : Gives R) (known : Bool) (memory : R → Memory) (a : StreamReader R) (r : Option (Result StreamState Fault)) (b : StreamReader R) : Type 0 where
   pub only : IfErr (next_result r) (λ e. OwnFault e (IsStreamFault (head_of (metadata_of a)).schema e))
   pub described : metadata_of b ≡ metadata_of a
   pub over : is_over a ≡ true → (r ≡ None) × (is_over b ≡ true) × (device_of b ≡ device_of a)
   pub finished : is_over a ≡ false → is_over b ≡ ends r
-  pub gave : is_over a ≡ false → ItemGave gives (head_of (metadata_of a)) (begun_of a) (device_of a) (next_result r) (begun_of b) (device_of b)
-  pub front : IsTrue known → is_over a ≡ false
-      → GivesItem (head_of (metadata_of a)) (ahead memory a) (next_result r) (begun_of b) (ahead memory b)
+  pub values : IfOk (next_result r) (StateHasValues b.batches)
+  pub gave : is_over a ≡ false → NextGave gives (head_of (metadata_of a)) (known_of a) (begun_of a) (device_of a) (next_result r) (known_of b) (begun_of b) (device_of b)
   pub next : IsTrue known → is_over a ≡ false
-      → GivesNext (head_of (metadata_of a)) (ahead memory a) (next_result r) (begun_of b) (ahead memory b)
+      → GivesNext (head_of (metadata_of a)) (known_of a) (ahead memory a) (next_result r) (known_of b) (begun_of b) (ahead memory b)

@@ -1,32 +1,37 @@
 //! Reads the next chunk of a stream.
-ghost use Rattle.std.specs.Prelude.{◌≡◌, ◌<◌, ◌^◌, ◌↔◌, IsTrue, IsSome, IfOk, IfErr, OnOk, None, false, vec_capacity};
+ghost use Rattle.std.specs.Prelude.{◌≡◌, ◌<◌, ◌+◌, ◌^◌, ◌↔◌, IsTrue, IsSome, IfOk, IfErr, OnOk, OnErr, None, false, vec_capacity};
 ghost use Rattle.std.specs.Iterator.{endless};
 ghost use Rattle.ipc_devices.specs.Faults.{OnIo, OwnFault};
 ghost use Rattle.ipc_devices.specs.declared.fault.Fault.TheVariants.{NotYetImplemented};
 ghost use Rattle.ipc_devices.specs.declared.fault.Nyi.TheVariants.{Pending};
 ghost use Rattle.ipc_base.specs.Fitting.{AllFit};
 ghost use Rattle.ipc_base.specs.IdTrees.{all_ids_view};
+ghost use Rattle.ipc_laws.specs.Agreement.{AreAt};
+ghost use Rattle.ipc_model.specs.Streams.{most_dictionaries};
+ghost use Rattle.ipc_views.specs.Unions.{header_parts};
 ghost use Rattle.lower.specs.TypeViews.{fields_view};
 ghost use Rattle.ipc_readers.specs.Messages.{header_seen};
 ghost use Rattle.ipc_readers.specs.Refusals.{IsStreamFault};
-ghost use Rattle.ipc_readers.specs.Streams.{NextStep, IsWaiting, HasChunk, Begins, BodyGave, GivesColumns, ItemGave, begun_of, device_of, head_of, is_over, metadata_of};
+ghost use Rattle.ipc_readers.specs.Streams.{NextStep, IsWaiting, HasChunk, Begins, BodyGave, BodyHasValues, Counted, CountsOn, FrontHasValues, GivesHeld, HasKnownValues, IsAdmitted, ItemGave, NextGave, RefusesBody, StateHasValues, begun_of, device_of, head_of, is_over, known_in, known_of, metadata_of, of_dictionary, of_record};
 
 use crate::read::begun::{Begun, Frame};
 use crate::read::frame::read_frame;
 use crate::read::message::{Message, open_message};
 use crate::read::stream::metadata::StreamMetadata;
-use crate::read::stream::reader::{Batches, StreamReader, StreamState};
+use crate::read::stream::reader::{Batches, Found, StreamReader, StreamState};
 use ipc_base::chunk::Chunk;
-use ipc_carried::types::are_carried;
 use ipc_devices::fault::{Fault, Nyi, OutOfSpecKind};
 use ipc_devices::{MemFile, Reads, read_into};
-use ipc_read::read::Dictionaries;
 use ipc_read::read::common::read_record_batch;
-use ipc_views::{MessageHeaderRef, RecordBatchRef};
+use ipc_read::read::dictionaries::read_dictionary;
+use ipc_views::{DictionaryBatchRef, MessageHeaderRef, RecordBatchRef};
 use lower::datatypes::Schema;
 use lower_arrays::array::AnyArray;
 use std::alloc::Global;
 use std::collections::HashMap;
+
+// At most so many dictionary batches stand before a record batch.
+const MOST_DICTIONARIES: usize = 65_536;
 
 impl StreamState {
     /// Whether the input ended before the next message.
@@ -52,69 +57,130 @@ impl StreamState {
 }
 
 impl Batches {
-    // The columns of a record batch of this body. No dictionary is known: none that a stream has is read yet.
+    // The columns of a record batch of this body.
     fn columns(&mut self, batch: RecordBatchRef<'_>, body: &[u8]) -> Result<Chunk<AnyArray>, Fault>
         ensures described { self.new.metadata ≡ self.old.metadata }
+        ensures counted { OnOk result (self.new.count ≡ 0) }
+        ensures kept { OnErr result (AreAt (known_in self.old) (known_in self.new)) }
         ensures only { IfErr result (λ e. OwnFault e (IsStreamFault (head_of self.old.metadata).schema e)) }
         ensures own { OnIo result ⊥ }
-        ensures memory { GivesColumns (head_of self.old.metadata) batch.entry body.now result }
+        ensures values { IfOk result (λ chunk. HasKnownValues self.new chunk) }
+        ensures memory { GivesHeld (head_of self.old.metadata) (known_in self.old) 3 batch.entry body.now
+            (of_record result) (known_in self.new) }
     {
-        if !are_carried(&self.metadata.schema.fields) {
-            return Err(Fault::NotYetImplemented(Nyi::Pending));
-        }
-        let none: Dictionaries = HashMap::new(self.alloc);
         let mut bytes = MemFile::new(body);
-        read_record_batch(
+        let chunk = read_record_batch(
             self.alloc,
             batch,
             &self.metadata.schema.fields,
             &self.metadata.ipc_schema,
             None,
             None,
-            &none,
+            &self.dictionaries,
             self.metadata.version,
             &mut bytes,
             0,
             body.len() as u64,
             &mut self.scratch,
-        )
+        )?;
+        self.count = 0;
+        Ok(chunk)
     }
 
-    // The columns of a record batch, whose body comes next. They are read of the device's own memory where it shows it.
-    fn read_record<R: Reads>(
-        &mut self,
-        batch: RecordBatchRef<'_>,
-        body_length: usize,
-        reader: &mut R,
-        body: &mut Vec<u8>,
-    ) -> Result<Chunk<AnyArray>, Fault>
-        requires { body_length < 2 ^ 63 }
+    // Puts the values of a dictionary batch of this body in place of those that its id had. There is room for one more
+    // before the next record batch.
+    fn values(&mut self, batch: DictionaryBatchRef<'_>, body: &[u8]) -> Result<(), Fault>
+        requires { self.old.count < most_dictionaries }
         ensures described { self.new.metadata ≡ self.old.metadata }
+        ensures counted { OnOk result (self.new.count ≡ self.old.count + 1) }
+        ensures kept { OnErr result (AreAt (known_in self.old) (known_in self.new)) }
         ensures only { IfErr result (λ e. OwnFault e (IsStreamFault (head_of self.old.metadata).schema e)) }
-        ensures gives { BodyGave R.gives (head_of self.old.metadata)
-            (record { tag = 3; table = batch.entry; body = body_length }) reader.old result reader.new }
-        ensures shown { R.shows reader.old body_length
-            → (body.new.items ≡ body.old.items) × (vec_capacity body.new ≡ vec_capacity body.old) }
+        ensures own { OnIo result ⊥ }
+        ensures memory { GivesHeld (head_of self.old.metadata) (known_in self.old) 2 batch.entry body.now
+            (of_dictionary result) (known_in self.new) }
     {
-        if let Some(shown) = reader.pass(body_length) {
-            return self.columns(batch, shown);
-        }
-        read_into(reader, body, body_length)?;
-        self.columns(batch, body.as_slice())
+        let mut bytes = MemFile::new(body);
+        read_dictionary(
+            self.alloc,
+            batch,
+            &self.metadata.schema.fields,
+            &self.metadata.ipc_schema,
+            &mut self.dictionaries,
+            self.metadata.version,
+            &mut bytes,
+            0,
+            body.len() as u64,
+            &mut self.scratch,
+        )?;
+        self.count += 1;
+        Ok(())
     }
 
-    // What stands behind the metadata of a message.
+    // What the batch with this header says of this body: the chunk of a record batch, or None where the values of a dictionary
+    // batch are known then.
+    fn read_batch(
+        &mut self,
+        header: MessageHeaderRef<'_>,
+        body: &[u8],
+    ) -> Result<Option<Chunk<AnyArray>>, Fault>
+        requires { IsAdmitted self.old.count (header_parts header).0 }
+        ensures described { self.new.metadata ≡ self.old.metadata }
+        ensures counted { IfOk result (λ c. Counted c self.old.count self.new.count) }
+        ensures values { IfOk result (λ c. BodyHasValues self.new c) }
+        ensures kept { OnErr result (AreAt (known_in self.old) (known_in self.new)) }
+        ensures only { IfErr result (λ e. OwnFault e (IsStreamFault (head_of self.old.metadata).schema e)) }
+        ensures own { OnIo result ⊥ }
+        ensures memory { GivesHeld (head_of self.old.metadata) (known_in self.old) (header_parts header.entry).0
+            (header_parts header.entry).1 body.now result (known_in self.new) }
+    {
+        match header {
+            MessageHeaderRef::RecordBatch(batch) => {
+                let chunk = self.columns(batch, body)?;
+                Ok(Some(chunk))
+            }
+            MessageHeaderRef::DictionaryBatch(batch) => {
+                self.values(batch, body)?;
+                Ok(None)
+            }
+            _ => Err(Fault::OutOfSpec(OutOfSpecKind::UnexpectedMessageType)),
+        }
+    }
+
+    // Refuses a message of another kind, and one dictionary batch too many.
+    fn check(&self, header: &MessageHeaderRef<'_>) -> Result<(), Fault>
+        ensures admitted { OnOk result (IsAdmitted self.now.count (header_parts header.now).0) }
+        ensures only { IfErr result (λ e. OwnFault e (IsStreamFault (head_of self.now.metadata).schema e)) }
+        ensures own { OnIo result ⊥ }
+        ensures refused { IfErr result (λ e. RefusesBody (head_of self.now.metadata) (known_in self.now)
+            (header_parts header.now).0 (header_parts header.now).1 e) }
+    {
+        match header {
+            MessageHeaderRef::RecordBatch(_) => Ok(()),
+            MessageHeaderRef::DictionaryBatch(_) => {
+                if self.count == MOST_DICTIONARIES {
+                    return Err(Fault::TooManyDictionaries);
+                }
+                Ok(())
+            }
+            _ => Err(Fault::OutOfSpec(OutOfSpecKind::UnexpectedMessageType)),
+        }
+    }
+
+    // What stands behind the metadata of a message. The body is read of the device's own memory where it shows it.
     fn read_body<R: Reads>(
         &mut self,
         message: Message<'_>,
         reader: &mut R,
         body: &mut Vec<u8>,
-    ) -> Result<Chunk<AnyArray>, Fault>
+    ) -> Result<Option<Chunk<AnyArray>>, Fault>
         requires { message.body_length < 2 ^ 63 }
         ensures described { self.new.metadata ≡ self.old.metadata }
+        ensures counted { IfOk result (λ c. Counted c self.old.count self.new.count) }
+        ensures values { IfOk result (λ c. BodyHasValues self.new c) }
+        ensures kept { OnErr result (AreAt (known_in self.old) (known_in self.new)) }
         ensures only { IfErr result (λ e. OwnFault e (IsStreamFault (head_of self.old.metadata).schema e)) }
-        ensures gives { BodyGave R.gives (head_of self.old.metadata) (header_seen message.entry)
-            reader.old result reader.new }
+        ensures gives { BodyGave R.gives (head_of self.old.metadata) (known_in self.old) (header_seen message.entry)
+            reader.old result (known_in self.new) reader.new }
         ensures shown { R.shows reader.old message.entry.body_length
             → (body.new.items ≡ body.old.items) × (vec_capacity body.new ≡ vec_capacity body.old) }
     {
@@ -122,13 +188,12 @@ impl Batches {
             header,
             body_length,
         } = message;
-        match header {
-            MessageHeaderRef::RecordBatch(batch) => {
-                self.read_record(batch, body_length, reader, body)
-            }
-            MessageHeaderRef::DictionaryBatch(_) => Err(Fault::NotYetImplemented(Nyi::Pending)),
-            _ => Err(Fault::OutOfSpec(OutOfSpecKind::UnexpectedMessageType)),
+        self.check(&header)?;
+        if let Some(shown) = reader.pass(body_length) {
+            return self.read_batch(header, shown);
         }
+        read_into(reader, body, body_length)?;
+        self.read_batch(header, body.as_slice())
     }
 }
 
@@ -156,6 +221,8 @@ impl<R: Reads + Drop> StreamReader<R> {
         let batches = Batches {
             alloc,
             metadata,
+            dictionaries: HashMap::new(alloc),
+            count: 0,
             scratch: Vec::new(alloc),
         };
         Ok(StreamReader {
@@ -197,23 +264,48 @@ impl<R: Reads + Drop> StreamReader<R> {
         self.reader
     }
 
-    // The next chunk, or None at the mark.
-    fn read_item(&mut self) -> Result<Option<StreamState>, Fault>
+    // What stands at the front.
+    fn read_item(&mut self) -> Result<Found, Fault>
         ensures only { IfErr result (λ e. OwnFault e (IsStreamFault (head_of (metadata_of self.old)).schema e)) }
         ensures finished { is_over self.new ≡ is_over self.old }
         ensures described { metadata_of self.new ≡ metadata_of self.old }
-        ensures gives { ItemGave R.gives (head_of (metadata_of self.old)) (begun_of self.old)
-            (device_of self.old) result (begun_of self.new) (device_of self.new) }
+        ensures counted { IfOk result (λ f. CountsOn f (known_of self.old).count (known_of self.new).count) }
+        ensures values { IfOk result (λ f. FrontHasValues self.new.batches f) }
+        ensures kept { OnErr result (AreAt (known_of self.old) (known_of self.new)) }
+        ensures gives { ItemGave R.gives (head_of (metadata_of self.old)) (known_of self.old) (begun_of self.old)
+            (device_of self.old) result (known_of self.new) (begun_of self.new) (device_of self.new) }
     {
         match read_frame(&mut self.reader, &mut self.begun, &mut self.message)? {
-            Frame::Waiting => Ok(Some(StreamState::Waiting)),
-            Frame::Mark => Ok(None),
+            Frame::Waiting => Ok(Found::Waiting),
+            Frame::Mark => Ok(Found::Mark),
             Frame::Message => {
                 let message = open_message(&self.message)?;
-                let chunk = self
+                let read = self
                     .batches
                     .read_body(message, &mut self.reader, &mut self.body)?;
-                Ok(Some(StreamState::Some(chunk)))
+                match read {
+                    Some(chunk) => Ok(Found::Chunk(chunk)),
+                    None => Ok(Found::Dictionary),
+                }
+            }
+        }
+    }
+
+    // The next chunk, or None at the mark. The dictionary batches before it are read.
+    fn read_next(&mut self) -> Result<Option<StreamState>, Fault>
+        ensures only { IfErr result (λ e. OwnFault e (IsStreamFault (head_of (metadata_of self.old)).schema e)) }
+        ensures finished { is_over self.new ≡ is_over self.old }
+        ensures described { metadata_of self.new ≡ metadata_of self.old }
+        ensures values { IfOk result (λ state. StateHasValues self.new.batches state) }
+        ensures gives { NextGave R.gives (head_of (metadata_of self.old)) (known_of self.old) (begun_of self.old)
+            (device_of self.old) result (known_of self.new) (begun_of self.new) (device_of self.new) }
+    {
+        loop {
+            match self.read_item()? {
+                Found::Dictionary => {}
+                Found::Chunk(chunk) => return Ok(Some(StreamState::Some(chunk))),
+                Found::Mark => return Ok(None),
+                Found::Waiting => return Ok(Some(StreamState::Waiting)),
             }
         }
     }
@@ -231,7 +323,7 @@ impl<R: Reads + Drop> Iterator for StreamReader<R> {
         if self.finished {
             return None;
         }
-        match self.read_item() {
+        match self.read_next() {
             Ok(Some(state)) => Some(Ok(state)),
             Ok(None) => {
                 self.finished = true;

@@ -1,32 +1,35 @@
 //! What a reader of a stream holds and answers.
-ghost use Rattle.std.specs.Prelude.{IsTrue};
+ghost use Rattle.std.specs.Prelude.{IsTrue, ◌≤◌};
 ghost use Rattle.ipc_base.specs.Fitting.{all_fit};
 ghost use Rattle.ipc_base.specs.IdTrees.{all_ids_view};
+ghost use Rattle.ipc_model.specs.Streams.{most_dictionaries};
 ghost use Rattle.lower.specs.TypeViews.{fields_view};
 
 use crate::read::begun::Begun;
 use crate::read::stream::metadata::StreamMetadata;
 use ipc_base::chunk::Chunk;
+use ipc_read::read::Dictionaries;
 use lower_arrays::array::AnyArray;
 use std::alloc::Global;
 
 /// Reads the chunks of a stream, one at a call of `next` (Arrow columnar format, "IPC Streaming
 /// Format").
 ///
-/// `next` answers the chunk that the record batch at the front means; [`StreamState::Waiting`] where the
+/// `next` reads the dictionary batches at the front, whose values it keeps, each in place of those that their id had, and
+/// answers the chunk that the record batch behind them means; [`StreamState::Waiting`] where the
 /// input ends before the next message, or up to three bytes into its prefix, which are kept, and then
 /// each later call goes on from there; None from the mark that ends the stream on; or a fault, once, and
-/// None from then on.
+/// None from then on. The dictionaries that a column has are those that were read before its record batch; chunks share their values.
 ///
-/// Faults of `next`: those of [`read_frame`], [`open_message`] and [`read_record_batch`]; `Ended` where
+/// Faults of `next`: those of [`read_frame`], [`open_message`], [`read_dictionary`] and [`read_record_batch`]; `Ended` where
 /// the body is shorter than stated; `OutOfSpec(UnexpectedMessageType)` where the message is neither a
-/// record batch nor a dictionary batch; `NotYetImplemented(Pending)` where it is a dictionary batch;
+/// record batch nor a dictionary batch; `TooManyDictionaries` at the 65,537th dictionary batch since the last record batch;
 /// `Io` where the device failed; `Memory`. No other comes. Over bytes in memory there is no `Io`, and a
-/// fault other than `Memory` comes only where what stands ahead means nothing, or what this version
-/// doesn't carry.
+/// fault other than `Memory` comes only where what stands ahead means nothing.
 ///
 /// [`read_frame`]: crate::read::frame::read_frame
 /// [`open_message`]: crate::read::message::open_message
+/// [`read_dictionary`]: ipc_read::read::dictionaries::read_dictionary
 /// [`read_record_batch`]: ipc_read::read::common::read_record_batch
 #[derive(Drop)]
 pub struct StreamReader<R> {
@@ -44,8 +47,13 @@ pub struct StreamReader<R> {
 pub(crate) struct Batches {
     pub(crate) alloc: Global,
     pub(crate) metadata: StreamMetadata,
+    // the values that are known, by their ids
+    pub(crate) dictionaries: Dictionaries,
+    // how many dictionary batches came since the last record batch
+    pub(crate) count: usize,
     // room for parts of a body
     pub(crate) scratch: Vec<u8>,
+    ghost few: { count ≤ most_dictionaries },
     ghost fits: { IsTrue (all_fit (fields_view metadata.schema.fields.items)
         (all_ids_view metadata.ipc_schema.fields.items)) },
 }
@@ -57,4 +65,17 @@ pub enum StreamState {
     Waiting,
     /// The next chunk.
     Some(Chunk<AnyArray>),
+}
+
+// What a reader found at the front of a stream.
+#[derive(Drop)]
+pub(crate) enum Found {
+    // A dictionary batch, whose values are known now.
+    Dictionary,
+    // The chunk of a record batch.
+    Chunk(Chunk<AnyArray>),
+    // The mark that ends the stream.
+    Mark,
+    // The end of the input, before the next message or inside its prefix.
+    Waiting,
 }

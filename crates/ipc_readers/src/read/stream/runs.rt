@@ -5,14 +5,14 @@ use crate::read::stream::reader::StreamReader;
 use ipc_devices::Reads;
 
 /// Over bytes in memory the answers of any calls of `next`, one after the other, are the chunks that the
-/// stream means, in order, and then None or that it waits, where its messages are carried and it doesn't
+/// stream means to whoever knows the same dictionaries as the reader, in order, and then None or that it waits, where it doesn't
 /// end in a fault. A call that found no memory answers so, and then nothing comes.
 pub fn reading_of_streams<R: Reads + Drop>(reader: &StreamReader<R>)
     ensures { ReadLaw R.gives R.known R.memory reader.now }
 {}
 
-/// Of any device, a call of `next` that waits loses nothing: what was given since is begun, and the next call goes on from
-/// there.
+/// Of any device, a call of `next` that waits loses nothing: what was given since is dictionary messages, whose values are known then,
+/// and behind these what is begun, and the next call goes on from there.
 pub fn waiting_loses_nothing<R: Reads + Drop>(reader: &StreamReader<R>)
     ensures { WaitsLaw R.gives R.known R.memory R.given reader.now }
 {}

@@ -1,62 +1,55 @@
-use Rattle.std.proofs.Common.{◌∙◌, refl, Ok, Err, Some, None, IsTrue}
-use Rattle.ipc_readers.proofs.OfMemory.{item_ahead}
-use Rattle.ipc_readers.proofs.Steps.{gives_next}
-use Rattle.ipc_readers.specs.Streams.{GivesItem, ItemGave, ahead, begun_of, device_of, head_of, metadata_of}
+use Rattle.std.proofs.Common.{◌∙◌, refl, Ok, Err, Some, None}
+use Rattle.ipc_readers.proofs.Steps.{next_ahead}
+use Rattle.ipc_readers.specs.Streams.{NextGave, begun_of, device_of, head_of, known_of, metadata_of}
 use Rattle.ipc_readers.proofs.read.stream.next.StreamReaderIterator.next.Goals as goal
 
 pub returns-in-Ok-Some-clause-steps : goal.returns-in-Ok-Some-clause-steps
 returns-in-Ok-Some-clause-steps g c =
     let memory = g.R.Failures.memory in
     let old = c.args.self.now in
-    let new = c.read_item.new.self in
+    let new = c.read_next.new.self in
     let h = head_of (metadata_of old) in
-    let gave : ItemGave g.R.Reads.gives h (begun_of old) (device_of old) (Ok (Some c.in-Ok-Some.state)) (begun_of new) (device_of new) = rw c.in-Ok-Some.field-0-is at c.in-Ok-Some.ensures.gives in
-    let front : IsTrue g.R.Failures.known → GivesItem h (ahead memory old) (Ok (Some c.in-Ok-Some.state)) (begun_of new) (ahead memory new) =
-    λ k. item_ahead g.R.Reads.gives g.R.Failures.known memory g.met.R.Reads.gives_ahead k h (begun_of old) (begun_of new) (Ok (Some c.in-Ok-Some.state)) (device_of old) (device_of new) gave in
+    let gave : NextGave g.R.Reads.gives h (known_of old) (begun_of old) (device_of old) (Ok (Some c.in-Ok-Some.state)) (known_of new) (begun_of new) (device_of new) = rw c.in-Ok-Some.field-0-is at c.in-Ok-Some.ensures.gives in
     record {
       only = tt;
       described = c.in-Ok-Some.ensures.described;
+      values = rw c.in-Ok-Some.field-0-is at c.in-Ok-Some.ensures.values;
       over = λ e. absurd (cc (e, c.if-self.false));
       finished = λ _. c.in-Ok-Some.ensures.finished ∙ c.if-self.false;
       gave = λ _. gave;
-      front = λ k _. front k;
-      next = λ k _. gives_next h (ahead memory old) (Ok (Some c.in-Ok-Some.state)) (begun_of new) (ahead memory new) (front k);
+      next = λ k _. next_ahead g.R.Reads.gives g.R.Failures.known memory g.met.R.Reads.gives_ahead k h (known_of old) (known_of new) (begun_of old) (begun_of new) (Ok (Some c.in-Ok-Some.state)) (device_of old) (device_of new) gave;
     }
 
 pub returns-in-Ok-None-clause-steps : goal.returns-in-Ok-None-clause-steps
 returns-in-Ok-None-clause-steps g c =
     let memory = g.R.Failures.memory in
     let old = c.args.self.now in
-    let new = c.read_item.new.self in
+    let new = c.read_next.new.self in
     let h = head_of (metadata_of old) in
-    let gave : ItemGave g.R.Reads.gives h (begun_of old) (device_of old) (Ok None) (begun_of new) (device_of new) = rw c.in-Ok-None.field-0-is at c.in-Ok-None.ensures.gives in
-    let front : IsTrue g.R.Failures.known → GivesItem h (ahead memory old) (Ok None) (begun_of new) (ahead memory new) =
-    λ k. item_ahead g.R.Reads.gives g.R.Failures.known memory g.met.R.Reads.gives_ahead k h (begun_of old) (begun_of new) (Ok None) (device_of old) (device_of new) gave in
+    let gave : NextGave g.R.Reads.gives h (known_of old) (begun_of old) (device_of old) (Ok None) (known_of new) (begun_of new) (device_of new) = rw c.in-Ok-None.field-0-is at c.in-Ok-None.ensures.gives in
     record {
       only = tt;
       described = c.in-Ok-None.ensures.described;
+      values = tt;
       over = λ e. absurd (cc (e, c.if-self.false));
       finished = λ _. refl;
       gave = λ _. gave;
-      front = λ k _. front k;
-      next = λ k _. gives_next h (ahead memory old) (Ok None) (begun_of new) (ahead memory new) (front k);
+      next = λ k _. next_ahead g.R.Reads.gives g.R.Failures.known memory g.met.R.Reads.gives_ahead k h (known_of old) (known_of new) (begun_of old) (begun_of new) (Ok None) (device_of old) (device_of new) gave;
     }
 
 pub returns-in-Err-clause-steps : goal.returns-in-Err-clause-steps
 returns-in-Err-clause-steps g c =
     let memory = g.R.Failures.memory in
     let old = c.args.self.now in
-    let new = c.read_item.new.self in
+    let new = c.read_next.new.self in
     let h = head_of (metadata_of old) in
-    let gave : ItemGave g.R.Reads.gives h (begun_of old) (device_of old) (Err c.in-Err.e) (begun_of new) (device_of new) = c.in-Err.ensures.gives in
-    let front : IsTrue g.R.Failures.known → GivesItem h (ahead memory old) (Err c.in-Err.e) (begun_of new) (ahead memory new) =
-    λ k. item_ahead g.R.Reads.gives g.R.Failures.known memory g.met.R.Reads.gives_ahead k h (begun_of old) (begun_of new) (Err c.in-Err.e) (device_of old) (device_of new) gave in
+    let gave : NextGave g.R.Reads.gives h (known_of old) (begun_of old) (device_of old) (Err c.in-Err.e) (known_of new) (begun_of new) (device_of new) = c.in-Err.ensures.gives in
     record {
       only = c.in-Err.ensures.only;
       described = c.in-Err.ensures.described;
+      values = tt;
       over = λ e. absurd (cc (e, c.if-self.false));
       finished = λ _. refl;
       gave = λ _. gave;
-      front = λ k _. front k;
-      next = λ k _. gives_next h (ahead memory old) (Err c.in-Err.e) (begun_of new) (ahead memory new) (front k);
+      next = λ k _. next_ahead g.R.Reads.gives g.R.Failures.known memory g.met.R.Reads.gives_ahead k h (known_of old) (known_of new) (begun_of old) (begun_of new) (Err c.in-Err.e) (device_of old) (device_of new) gave;
     }

@@ -1,23 +1,33 @@
-use Rattle.std.proofs.Common.{rules, ◌≡◌}
-use Rattle.ipc_devices.specs.declared.fault.Fault.TheVariants.{NotYetImplemented, OutOfSpec}
-use Rattle.ipc_devices.specs.declared.fault.Nyi.TheVariants.{Pending}
-use Rattle.ipc_devices.specs.declared.fault.OutOfSpecKind.TheVariants.{UnexpectedMessageType}
-use Rattle.ipc_views.specs.Unions.{header_parts}
-use Rattle.ipc_readers.proofs.Bodies.{dictionary_blames, other_blames, other_message}
+use Rattle.std.proofs.Common.{rules, ◌≡◌, ℕ, Err, List, [], length, subst}
+use Rattle.ipc_devices.specs.Gives.{going}
 use Rattle.ipc_readers.specs.Messages.{header_seen}
-use Rattle.ipc_readers.specs.Streams.{head_of}
-use Rattle.ipc_readers.proofs.BodyRuns.{body_refused}
+use Rattle.ipc_readers.specs.Streams.{head_of, known_in}
+use Rattle.ipc_readers.proofs.BodyRuns.{body_read, body_stopped, stopped_behind}
 use Rattle.ipc_readers.proofs.read.stream.reader.Batches.read_body.Goals as goal
 
-pub returns-in_default-clause-gives : goal.returns-in_default-clause-gives
-returns-in_default-clause-gives g c = body_refused g.R.Reads.gives g.met.R.Reads.gives_nothing (head_of c.args.self.now.metadata) (header_seen c.args.message) c.args.reader.now (OutOfSpec UnexpectedMessageType) tt
-    (λ ys. (
-      (λ carried. other_message (head_of c.args.self.now.metadata) c.args.message.header c.args.message.body_length ys c.in_default.not-DictionaryBatch c.in_default.not-RecordBatch),
-      other_blames (head_of c.args.self.now.metadata).schema c.args.message.header c.in_default.not-DictionaryBatch c.in_default.not-RecordBatch,
-    ))
+pub returns-in_err-read_into-clause-gives : goal.returns-in_err-read_into-clause-gives
+returns-in_err-read_into-clause-gives g c =
+    let fault = c.in_err-read_into.field-0.0 in
+    let old = c.args.self.now in
+    let m = header_seen c.args.message in
+    let e : c.from_residual-in_err-read_into.result ≡ Err fault = search rules in
+    let mid = c.pass.follows.lender-at-none in
+    let none : g.R.Reads.gives c.args.reader.now [] going mid = search rules in
+    rw e (body_stopped g.R.Reads.gives (head_of old.metadata) (known_in old) m c.args.reader.now c.read_into.new.reader fault (known_in old) c.in_ok-check.ensures.admitted.kind c.in_err-read_into.ensures.only
+    (stopped_behind g.R.Reads.gives g.met.R.Reads.gives_in_order c.args.reader.now mid c.read_into.new.reader m.body fault none c.in_err-read_into.ensures.gives))
 
-pub returns-in-DictionaryBatch-clause-gives : goal.returns-in-DictionaryBatch-clause-gives
-returns-in-DictionaryBatch-clause-gives g c =
-    let tag : (header_parts c.args.message.header).0 ≡ 2 = search rules in
-    body_refused g.R.Reads.gives g.met.R.Reads.gives_nothing (head_of c.args.self.now.metadata) (header_seen c.args.message) c.args.reader.now (NotYetImplemented Pending) tt
-    (λ ys. ((λ carried. absurd (carried.no_dictionary tag)), dictionary_blames (head_of c.args.self.now.metadata).schema (header_parts c.args.message.header).0 tag))
+pub returns-clause-gives : goal.returns-clause-gives
+returns-clause-gives g c =
+    let items : List ℕ = c.read_into.new.bytes.items in
+    let body : List ℕ = c.as_slice.result.now in
+    let same : items ≡ body = search rules in
+    let old = c.args.self.now in
+    let m = header_seen c.args.message in
+    let mid = c.pass.follows.lender-at-none in
+    let new = c.read_into.new.reader in
+    let none : g.R.Reads.gives c.args.reader.now [] going mid = search rules in
+    let read = c.in_ok-read_into.ensures.gives in
+    let all : g.R.Reads.gives c.args.reader.now items going new = g.met.R.Reads.gives_in_order c.args.reader.now [] mid items going new none read.1 in
+    body_read g.R.Reads.gives (head_of old.metadata) (known_in old) m.tag m.table m.body c.args.reader.now new body c.read_batch-2.result (known_in c.read_batch-2.new.self)
+    (subst (λ (l : List ℕ). length l ≡ m.body) same read.0) (subst (λ (l : List ℕ). g.R.Reads.gives c.args.reader.now l going new) same all)
+    c.read_batch-2.ensures.own c.read_batch-2.ensures.memory

@@ -1,0 +1,48 @@
+use Rattle.std.proofs.Common.{rules, ◌≡◌, ◌+◌, refl, ℕ, List, length, subst, Result, Ok, Err}
+use Rattle.lower.specs.TypeViews.{fields_view, pairs_of}
+use Rattle.lower.specs.declared.datatypes.Field.{Field}
+use Rattle.ipc_base.specs.IdTrees.{all_ids_view}
+use Rattle.ipc_columns.specs.Bodies.{known_dictionaries}
+use Rattle.ipc_devices.specs.declared.fault.Fault.{Fault}
+use Rattle.ipc_model.specs.Batches.{extra_of}
+use Rattle.ipc_read.specs.Chunks.{batch_schema, order_of}
+use Rattle.ipc_read.specs.DictionaryBatches.{GivesDictionary}
+use Rattle.ipc_readers.proofs.Bodies.{values_give}
+use Rattle.ipc_readers.specs.Streams.{known_in}
+use Rattle.ipc_readers.proofs.read.stream.reader.Batches.values.Goals as goal
+
+pub returns-clause-memory : goal.returns-clause-memory
+returns-clause-memory c =
+    let old = c.args.self.now in
+    let m = old.metadata in
+    let body : List ℕ = c.args.body.now in
+    let fs : List Field = m.schema.fields.items in
+    let bytes : List ℕ = c.new-bytes.result.inner.now in
+    let bytes_are : bytes ≡ body = search rules in
+    let fields_are : c.deref.result.now ≡ fs = search rules in
+    let r : Result Unit Fault = Ok tt in
+    let after = known_dictionaries c.read_dictionary.new.dictionaries in
+    let Read : List Field → List ℕ → Type 0 = λ ds bs. GivesDictionary (batch_schema ds m.ipc_schema) (extra_of m.version) (known_dictionaries old.dictionaries) (record { source = bs; base = 0; size = length body }) c.args.batch r after in
+    let given : Read c.deref.result.now bytes = c.in_ok-read_dictionary.ensures.memory refl in
+    values_give (fields_view fs) (pairs_of m.schema.metadata.entries) (all_ids_view m.ipc_schema.fields.items) (order_of m.ipc_schema.is_little_endian) (extra_of m.version) (known_in old)
+    c.args.batch body r (record { dictionaries = after; count = old.count + 1 }) c.requires refl tt
+    (subst (λ bs. Read fs bs) bytes_are (subst (λ ds. Read ds bytes) fields_are given))
+
+pub returns-in_err-read_dictionary-clause-memory : goal.returns-in_err-read_dictionary-clause-memory
+returns-in_err-read_dictionary-clause-memory c =
+    let old = c.args.self.now in
+    let m = old.metadata in
+    let body : List ℕ = c.args.body.now in
+    let fs : List Field = m.schema.fields.items in
+    let bytes : List ℕ = c.new-bytes.result.inner.now in
+    let bytes_are : bytes ≡ body = search rules in
+    let fields_are : c.deref.result.now ≡ fs = search rules in
+    let fault : Fault = c.in_err-read_dictionary.field-0.0 in
+    let e : c.from_residual.result ≡ Err fault = search rules in
+    let r : Result Unit Fault = Err fault in
+    let after = known_dictionaries c.read_dictionary.new.dictionaries in
+    let Read : List Field → List ℕ → Type 0 = λ ds bs. GivesDictionary (batch_schema ds m.ipc_schema) (extra_of m.version) (known_dictionaries old.dictionaries) (record { source = bs; base = 0; size = length body }) c.args.batch r after in
+    let given : Read c.deref.result.now bytes = c.in_err-read_dictionary.ensures.memory refl in
+    rw e (values_give (fields_view fs) (pairs_of m.schema.metadata.entries) (all_ids_view m.ipc_schema.fields.items) (order_of m.ipc_schema.is_little_endian) (extra_of m.version) (known_in old)
+    c.args.batch body r (record { dictionaries = after; count = old.count }) c.requires tt c.in_err-read_dictionary.ensures.only
+    (subst (λ bs. Read fs bs) bytes_are (subst (λ ds. Read ds bytes) fields_are given)))
