@@ -1,3 +1,9 @@
+pub mod BlockFrames
+pub mod BlockHeaders
+pub mod BlockMeanings
+pub mod BlockRecords
+pub mod BlockDictionaries
+pub mod KnownAlike
 pub mod Openings
 pub mod Steps
 pub mod Tails

@@ -13,7 +13,7 @@ use Rattle.ipc_files.specs.Files.{GivesTail, footer_length}
 use Rattle.ipc_files.specs.Footers.{GivesPart, file_seen}
 use Rattle.ipc_files.proofs.Tails.{metadata-is, other-head, other-tail}
 
-own-weaker : (e : Fault) (P Q : Type 0) → (P → Q) → OwnFault e P → OwnFault e Q
+pub own-weaker : (e : Fault) (P Q : Type 0) → (P → Q) → OwnFault e P → OwnFault e Q
 own-weaker faults.Memory P Q f h = tt
 own-weaker (faults.Io e) P Q f h = tt
 own-weaker _ P Q f h = f h

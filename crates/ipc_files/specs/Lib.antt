@@ -1,2 +1,5 @@
+pub mod Batches
+pub mod Blocks
+pub mod Dictionaries
 pub mod Files
 pub mod Footers

@@ -10,10 +10,11 @@ ghost use Rattle.ipc_model.specs.Files.{magic, metadata_of, or_no_blocks};
 ghost use Rattle.ipc_files.specs.Footers.{file_seen, optional_blocks, GivesPart};
 ghost use Rattle.ipc_files.specs.Files.{FileFault, HeadFault, TailFault, GivesTail, footer_length};
 
+use crate::read::file::exact::read_exact;
 use crate::read::file::footer::deserialize_footer;
 use ipc_base::ipc::IpcSchema;
 use ipc_devices::fault::{Fault, Nyi, OutOfSpecKind};
-use ipc_devices::{Reads, Seeks, fill, read_bytes};
+use ipc_devices::{Reads, Seeks, read_bytes};
 use ipc_views::Block;
 use lower::datatypes::clones::clone_metadata;
 use lower::datatypes::{Metadata, Schema};
@@ -78,24 +79,6 @@ impl FileMetadata {
             custom_metadata: clone_metadata(&self.custom_metadata)?,
         })
     }
-}
-
-// Reads until the buffer is full.
-fn read_exact<R: Reads>(reader: &mut R, buf: &mut [u8]) -> Result<(), Fault>
-    ensures only { IfErr result (λ e. OwnFault e (e ≡ Ended)) }
-    ensures monotone { R.failures reader.old ≤ R.failures reader.new }
-    ensures failed { OnIo result (Rises (R.failures reader.old) (R.failures reader.new)) }
-    ensures given { R.given reader.new ≤ R.given reader.old + length buf.old }
-    ensures memory { IsTrue R.known → Answers result
-        (length buf.old ≤ length (after (R.memory reader.old)))
-        (λ _. buf.new ≡ take (length buf.old) (after (R.memory reader.old))) }
-    ensures whole { IsTrue R.still → (R.memory reader.new).whole ≡ (R.memory reader.old).whole }
-{
-    let n = fill(reader, buf)?;
-    if n < buf.len() {
-        return Err(Fault::Ended);
-    }
-    Ok(())
 }
 
 // Reads what a file has to begin with.

@@ -1,0 +1,48 @@
+use Rattle.std.proofs.Common.{rules, ◌≡◌, ◌∙◌, Err, sym, ap}
+use Rattle.std.proofs.lemmas.Option.{slice_get_read}
+use Rattle.std.specs.Prelude.{vec_len}
+use Rattle.std.specs.Option.{option_copied}
+use Rattle.ipc_model.specs.Files.{block_header}
+use Rattle.ipc_columns.specs.Bodies.{known_dictionaries}
+use Rattle.ipc_files.proofs.BlockHeaders.{own-none}
+use Rattle.ipc_files.proofs.BlockRecords.{refused-record-place, refused-record-message, refused-record-header, refused-record-kind, read-record}
+use Rattle.ipc_files.proofs.read.file.batch.read_batch.Goals as goal
+
+pub returns-in_err-place-clause-memory : goal.returns-in_err-place-clause-memory
+returns-in_err-place-clause-memory g c = λ k.
+    let e = c.in_err-place.field-0.0 in
+    let is : c.from_residual.result ≡ Err e = search rules in
+    rw is (refused-record-place c.args.metadata.now (known_dictionaries c.args.dictionaries.now) (g.R.Failures.memory c.args.reader.now).whole (option_copied c.args.projection) c.args.limit
+    c.args.index c.index-block.result.now (slice_get_read c.args.metadata.now.blocks.items (vec_len c.args.metadata.now.blocks) c.args.index c.index-block.result.now (search rules) c.requires.index c.index-block.ensures) e c.in_err-place.ensures.place)
+
+pub returns-in_err-read_metadata-clause-memory : goal.returns-in_err-read_metadata-clause-memory
+returns-in_err-read_metadata-clause-memory g c = λ k.
+    let e = c.in_err-read_metadata.field-0.0 in
+    let is : c.from_residual-in_err-read_metadata.result ≡ Err e = search rules in
+    rw is (refused-record-message c.args.metadata.now (known_dictionaries c.args.dictionaries.now) (g.R.Failures.memory c.args.reader.now).whole (option_copied c.args.projection) c.args.limit
+    c.args.index c.index-block.result.now (slice_get_read c.args.metadata.now.blocks.items (vec_len c.args.metadata.now.blocks) c.args.index c.index-block.result.now (search rules) c.requires.index c.index-block.ensures) c.in_ok-place.place c.in_ok-place.ensures.place e (c.in_err-read_metadata.ensures.memory k))
+
+pub returns-in_err-message-clause-memory : goal.returns-in_err-message-clause-memory
+returns-in_err-message-clause-memory g c = λ k.
+    let e = c.in_err-message.field-0.0 in
+    let is : c.from_residual-in_err-message.result ≡ Err e = search rules in
+    rw is (refused-record-header c.args.metadata.now (known_dictionaries c.args.dictionaries.now) (g.R.Failures.memory c.args.reader.now).whole (option_copied c.args.projection) c.args.limit
+    c.args.index c.index-block.result.now (slice_get_read c.args.metadata.now.blocks.items (vec_len c.args.metadata.now.blocks) c.args.index c.index-block.result.now (search rules) c.requires.index c.index-block.ensures) c.in_ok-place.place c.in_ok-place.ensures.place
+    c.read_metadata.new.metadata.items (c.in_ok-read_metadata.ensures.memory k) e (rw c.deref.ensures.value at c.in_err-message.ensures.meaning))
+
+pub returns-in_err-batch-clause-memory : goal.returns-in_err-batch-clause-memory
+returns-in_err-batch-clause-memory g c = λ k.
+    let e = c.in_err-batch.field-0.0 in
+    let is : c.from_residual-in_err-batch.result ≡ Err e = search rules in
+    rw is (own-none e (refused-record-kind c.args.metadata.now (known_dictionaries c.args.dictionaries.now) (g.R.Failures.memory c.args.reader.now).whole (option_copied c.args.projection) c.args.limit
+    c.args.index c.index-block.result.now (slice_get_read c.args.metadata.now.blocks.items (vec_len c.args.metadata.now.blocks) c.args.index c.index-block.result.now (search rules) c.requires.index c.index-block.ensures) c.in_ok-place.place c.in_ok-place.ensures.place
+    c.read_metadata.new.metadata.items (c.in_ok-read_metadata.ensures.memory k) c.in_ok-message.message
+    (ap block_header (sym c.deref.ensures.value) ∙ c.in_ok-message.ensures.meaning) e c.in_err-batch.ensures))
+
+pub returns-clause-memory : goal.returns-clause-memory
+returns-clause-memory g c = λ k.
+    read-record c.args.metadata.now (known_dictionaries c.args.dictionaries.now) (g.R.Failures.memory c.args.reader.now).whole (option_copied c.args.projection) c.args.limit
+    c.args.index c.index-block.result.now (slice_get_read c.args.metadata.now.blocks.items (vec_len c.args.metadata.now.blocks) c.args.index c.index-block.result.now (search rules) c.requires.index c.index-block.ensures) c.in_ok-place.place c.in_ok-place.ensures.place
+    c.read_metadata.new.metadata.items (c.in_ok-read_metadata.ensures.memory k) c.in_ok-message.message
+    (ap block_header (sym c.deref.ensures.value) ∙ c.in_ok-message.ensures.meaning) c.in_ok-batch.batch (g.R.Failures.memory c.read_metadata.new.reader).whole
+    c.read_record.result c.in_ok-batch.ensures (c.in_ok-read_metadata.ensures.whole (g.met.R.Seeks.known_still k)) (c.read_record.ensures.memory k)

@@ -1,0 +1,25 @@
+use Rattle.std.proofs.Common.{rules, ◌≡◌, ◌∙◌, Err, sym, ap, arith}
+use Rattle.ipc_devices.specs.Device.{after}
+use Rattle.ipc_model.specs.Frame.{frame}
+use Rattle.ipc_files.proofs.BlockFrames.{gone-to, negative-sized, read-sized, refused-sized}
+use Rattle.ipc_files.proofs.read.file.block.read_metadata.Goals as goal
+
+pub returns-then-length-clause-memory : goal.returns-then-length-clause-memory
+returns-then-length-clause-memory g c = λ k.
+    let there = gone-to (g.R.Failures.memory c.args.reader.now) (g.R.Failures.memory c.seek_to.new.self) c.args.place (c.in_ok-seek_to.ensures.memory k) in
+    negative-sized _ c.in_ok-length.length (after (g.R.Failures.memory c.read_prefix.new.reader)) (ap frame (sym there) ∙ c.in_ok-length.ensures.memory k) (omega (arith, c.if-length.true))
+
+pub returns-in_err-read_into-clause-memory : goal.returns-in_err-read_into-clause-memory
+returns-in_err-read_into-clause-memory g c = λ k.
+    let e = c.in_err-read_into.field-0.0 in
+    let is : c.from_residual-in_err-read_into.result ≡ Err e = search rules in
+    let there = gone-to (g.R.Failures.memory c.args.reader.now) (g.R.Failures.memory c.seek_to.new.self) c.args.place (c.in_ok-seek_to.ensures.memory k) in
+    rw is (refused-sized _ c.in_ok-length.length (after (g.R.Failures.memory c.read_prefix.new.reader)) e (ap frame (sym there) ∙ c.in_ok-length.ensures.memory k)
+    (omega (arith, c.if-length.false)) (c.in_err-read_into.ensures.memory k))
+
+pub returns-clause-memory : goal.returns-clause-memory
+returns-clause-memory g c = λ k.
+    let there = gone-to (g.R.Failures.memory c.args.reader.now) (g.R.Failures.memory c.seek_to.new.self) c.args.place (c.in_ok-seek_to.ensures.memory k) in
+    let read = c.in_ok-read_into.ensures.memory k in
+    read-sized _ c.in_ok-length.length (after (g.R.Failures.memory c.read_prefix.new.reader)) c.read_into.new.bytes.items (ap frame (sym there) ∙ c.in_ok-length.ensures.memory k)
+    (omega (arith, c.if-length.false)) read.0 read.1

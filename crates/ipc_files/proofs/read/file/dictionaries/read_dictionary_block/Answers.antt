@@ -1,0 +1,51 @@
+use Rattle.std.proofs.Common.{rules, ◌≡◌, ◌∙◌, Ok, Err, sym, ap}
+use Rattle.ipc_model.specs.Files.{block_header}
+use Rattle.ipc_columns.specs.Bodies.{known_dictionaries}
+use Rattle.ipc_files.proofs.BlockDictionaries.{refused-dictionary-place, refused-dictionary-message, refused-dictionary-header, refused-dictionary-kind, read-dictionary}
+use Rattle.ipc_files.proofs.BlockHeaders.{own-none}
+use Rattle.ipc_files.proofs.read.file.dictionaries.read_dictionary_block.Goals as goal
+
+pub returns-in_err-place-clause-memory : goal.returns-in_err-place-clause-memory
+returns-in_err-place-clause-memory g c = λ k.
+    let e = c.in_err-place.field-0.0 in
+    let is : c.from_residual.result ≡ Err e = search rules in
+    rw is (refused-dictionary-place c.args.metadata.now (known_dictionaries c.args.dictionaries.now) (g.R.Failures.memory c.args.reader.now).whole c.args.block.now e c.in_err-place.ensures.place)
+
+pub returns-in_err-read_metadata-clause-memory : goal.returns-in_err-read_metadata-clause-memory
+returns-in_err-read_metadata-clause-memory g c = λ k.
+    let e = c.in_err-read_metadata.field-0.0 in
+    let is : c.from_residual-in_err-read_metadata.result ≡ Err e = search rules in
+    rw is (refused-dictionary-message c.args.metadata.now (known_dictionaries c.args.dictionaries.now) (g.R.Failures.memory c.args.reader.now).whole c.args.block.now
+    c.in_ok-place.place c.in_ok-place.ensures.place e (c.in_err-read_metadata.ensures.memory k))
+
+pub returns-in_err-message-clause-memory : goal.returns-in_err-message-clause-memory
+returns-in_err-message-clause-memory g c = λ k.
+    let e = c.in_err-message.field-0.0 in
+    let is : c.from_residual-in_err-message.result ≡ Err e = search rules in
+    rw is (refused-dictionary-header c.args.metadata.now (known_dictionaries c.args.dictionaries.now) (g.R.Failures.memory c.args.reader.now).whole c.args.block.now
+    c.in_ok-place.place c.in_ok-place.ensures.place c.read_metadata.new.metadata.items (c.in_ok-read_metadata.ensures.memory k) e
+    (rw c.deref.ensures.value at c.in_err-message.ensures.meaning))
+
+pub returns-in_err-batch-clause-memory : goal.returns-in_err-batch-clause-memory
+returns-in_err-batch-clause-memory g c = λ k.
+    let e = c.in_err-batch.field-0.0 in
+    let is : c.from_residual-in_err-batch.result ≡ Err e = search rules in
+    rw is (own-none e (refused-dictionary-kind c.args.metadata.now (known_dictionaries c.args.dictionaries.now) (g.R.Failures.memory c.args.reader.now).whole c.args.block.now
+    c.in_ok-place.place c.in_ok-place.ensures.place c.read_metadata.new.metadata.items (c.in_ok-read_metadata.ensures.memory k) c.in_ok-message.message
+    (ap block_header (sym c.deref.ensures.value) ∙ c.in_ok-message.ensures.meaning) e c.in_err-batch.ensures))
+
+pub returns-in_err-read_values-clause-memory : goal.returns-in_err-read_values-clause-memory
+returns-in_err-read_values-clause-memory g c = λ k.
+    let e = c.in_err-read_values.field-0.0 in
+    let is : c.from_residual-in_err-read_values.result ≡ Err e = search rules in
+    rw is (read-dictionary c.args.metadata.now (known_dictionaries c.args.dictionaries.now) (g.R.Failures.memory c.args.reader.now).whole c.args.block.now
+    c.in_ok-place.place c.in_ok-place.ensures.place c.read_metadata.new.metadata.items (c.in_ok-read_metadata.ensures.memory k) c.in_ok-message.message
+    (ap block_header (sym c.deref.ensures.value) ∙ c.in_ok-message.ensures.meaning) {X = Unit {0}} c.in_ok-batch.batch (g.R.Failures.memory c.read_metadata.new.reader).whole
+    (Err e) (known_dictionaries c.read_values.new.dictionaries) c.in_ok-batch.ensures (c.in_ok-read_metadata.ensures.whole (g.met.R.Seeks.known_still k)) (c.in_err-read_values.ensures.memory k))
+
+pub returns-clause-memory : goal.returns-clause-memory
+returns-clause-memory g c = λ k.
+    read-dictionary c.args.metadata.now (known_dictionaries c.args.dictionaries.now) (g.R.Failures.memory c.args.reader.now).whole c.args.block.now
+    c.in_ok-place.place c.in_ok-place.ensures.place c.read_metadata.new.metadata.items (c.in_ok-read_metadata.ensures.memory k) c.in_ok-message.message
+    (ap block_header (sym c.deref.ensures.value) ∙ c.in_ok-message.ensures.meaning) {X = Unit {0}} c.in_ok-batch.batch (g.R.Failures.memory c.read_metadata.new.reader).whole
+    (Ok tt) (known_dictionaries c.read_values.new.dictionaries) c.in_ok-batch.ensures (c.in_ok-read_metadata.ensures.whole (g.met.R.Seeks.known_still k)) (c.in_ok-read_values.ensures.memory k)

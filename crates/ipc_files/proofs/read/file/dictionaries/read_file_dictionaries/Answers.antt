@@ -1,0 +1,30 @@
+use Rattle.std.proofs.Common.{arith, ◌∙◌, List, [], Some, subst}
+use Rattle.ipc_laws.specs.Agreement.{AreAlike}
+use Rattle.ipc_views.specs.declared.file.Block.{Block}
+use Rattle.ipc_model.specs.Files.{all_of, dictionaries_after}
+use Rattle.ipc_files.specs.Footers.{file_seen}
+use Rattle.ipc_columns.specs.Bodies.{known_dictionaries}
+use Rattle.ipc_files.proofs.KnownAlike.{next-known, all-known}
+use Rattle.ipc_files.proofs.read.file.dictionaries.read_file_dictionaries.Goals as goal
+
+pub loop-block-preserved : goal.loop-block-preserved
+loop-block-preserved g c = record {
+  monotone = omega (arith, c.loop-block.invariant.monotone, c.in_ok-read_dictionary_block.ensures.monotone);
+  whole = λ k. c.in_ok-read_dictionary_block.ensures.whole k ∙ c.loop-block.invariant.whole k;
+  known = λ k.
+      let m = file_seen c.args.metadata.now in
+      let source = (g.R.Failures.memory c.args.reader.now).whole in
+      let bs = c.dictionary_blocks-blocks.result.now in
+      next-known m source bs c.loop-block.block-index _ (known_dictionaries c.loop-block.dictionaries) (dictionaries_after m (all_of source) [] bs) c.loop-block-test.true
+      (c.loop-block.invariant.known k) (known_dictionaries c.read_dictionary_block.new.dictionaries) (g.R.Failures.memory c.loop-block.reader).whole
+      (c.loop-block.invariant.whole (g.met.R.Seeks.known_still k)) (c.in_ok-read_dictionary_block.ensures.memory k);
+}
+
+pub returns-clause-memory : goal.returns-clause-memory
+returns-clause-memory g c = λ k.
+    let m = file_seen c.args.metadata.now in
+    let source = (g.R.Failures.memory c.args.reader.now).whole in
+    let bs = c.dictionary_blocks-blocks.result.now in
+    subst (λ (blocks : List Block). AreAlike (dictionaries_after m (all_of source) [] blocks) (Some (known_dictionaries c.loop-block.dictionaries))) c.dictionary_blocks-blocks.ensures
+    (all-known m source bs c.loop-block.block-index (known_dictionaries c.loop-block.dictionaries) (dictionaries_after m (all_of source) [] bs) (omega (arith, c.loop-block-test.false))
+    (c.loop-block.invariant.known k))

@@ -1,0 +1,19 @@
+use Rattle.std.proofs.Common.{rules, ◌≡◌, Ok, Err}
+use Rattle.ipc_model.specs.Batches.{extra_of}
+use Rattle.ipc_columns.specs.Bodies.{known_dictionaries}
+use Rattle.ipc_files.proofs.BlockDictionaries.{dictionary-given}
+use Rattle.ipc_files.proofs.read.file.dictionaries.read_values.Goals as goal
+
+pub returns-in_err-read_dictionary-clause-memory : goal.returns-in_err-read_dictionary-clause-memory
+returns-in_err-read_dictionary-clause-memory g c = λ k.
+    let e = c.in_err-read_dictionary.field-0.0 in
+    let is : c.from_residual.result ≡ Err e = search rules in
+    rw is (dictionary-given {X = Unit {0}} c.args.metadata.now (extra_of c.args.version) (known_dictionaries c.args.dictionaries.now) (known_dictionaries c.read_dictionary.new.dictionaries)
+    (record { source = (g.R.Failures.memory c.args.reader.now).whole; base = c.args.body; size = c.args.metadata.now.size }) c.args.batch
+    c.deref.result.now (Err e) c.deref.ensures.value (c.in_err-read_dictionary.ensures.memory k))
+
+pub returns-clause-memory : goal.returns-clause-memory
+returns-clause-memory g c = λ k.
+    dictionary-given {X = Unit {0}} c.args.metadata.now (extra_of c.args.version) (known_dictionaries c.args.dictionaries.now) (known_dictionaries c.read_dictionary.new.dictionaries)
+    (record { source = (g.R.Failures.memory c.args.reader.now).whole; base = c.args.body; size = c.args.metadata.now.size }) c.args.batch
+    c.deref.result.now (Ok tt) c.deref.ensures.value (c.in_ok-read_dictionary.ensures.memory k)

@@ -1,0 +1,40 @@
+-- What reading the record batch at a block answers.
+-- (Arrow columnar format, "IPC File Format" and "RecordBatch message".)
+use Rattle.std.specs.Prelude.{◌≡◌, ◌⊎◌, ℕ, ◌+◌, List, length, Option, None, Some, Result, Ok, Err}
+use Rattle.ipc_devices.specs.declared.fault.Fault.{Fault}
+use Rattle.ipc_devices.specs.declared.fault.Fault.TheVariants.{OutOfSpec}
+use Rattle.ipc_devices.specs.declared.fault.OutOfSpecKind.TheVariants.{NegativeFooterLength, UnexpectedNegativeInteger, UnexpectedMessageType}
+use Rattle.ipc_views.specs.Spot.{Spot}
+use Rattle.ipc_views.specs.declared.message.MessageHeaderRef.{MessageHeaderRef}
+use Rattle.ipc_views.specs.declared.message.MessageHeaderRef.TheVariants.{RecordBatch}
+use Rattle.ipc_model.specs.Batches.{lists_of}
+use Rattle.ipc_model.specs.Files.{BlockHeader, block_header}
+use Rattle.ipc_model.specs.Kinds.{Kinds}
+use Rattle.ipc_files.specs.Blocks.{IsFrameFault, IsHeaderFault}
+use Rattle.ipc_read.specs.Refusals.{IsFaultOfBatch}
+use Rattle.ipc_read.specs.Sizes.{chosen_listed}
+
+-- the record batch in the header of a message, which has to be one
+abbrev pub needed_record : MessageHeaderRef → Result Spot Fault
+needed_record (RecordBatch t) = Ok t
+needed_record _ = Err (OutOfSpec UnexpectedMessageType)
+
+-- ---- how many bytes are needed
+
+-- how many bytes the buffers of some columns list, as the header of their message has it
+abbrev pub header_lists : Kinds → List ℕ → Option BlockHeader → ℕ
+header_lists ts js None = 0
+header_lists ts js (Some h) = chosen_listed (lists_of h.table) h.extra ts js
+
+-- those, the message that lists them, and its prefix
+abbrev pub needed_bytes : Kinds → List ℕ → List ℕ → ℕ
+needed_bytes ts js metadata = 8 + length metadata + header_lists ts js (block_header metadata)
+
+-- ---- faults
+
+-- Of a block of a record: a number of the block below 0, a message that isn't there or of a length below 0, that is ill-made or of another kind; or
+-- of its batch.
+abbrev pub IsRecordFault : Kinds → List ℕ → Fault → Type 0
+IsRecordFault ts js e =
+    (e ≡ OutOfSpec NegativeFooterLength) ⊎ (IsFrameFault UnexpectedNegativeInteger e ⊎ (IsHeaderFault e
+    ⊎ ((e ≡ OutOfSpec UnexpectedMessageType) ⊎ IsFaultOfBatch ts js e)))

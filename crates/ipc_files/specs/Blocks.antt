@@ -1,0 +1,84 @@
+-- What reading a file's block answers: its message, and what refuses it.
+-- (Arrow columnar format, "IPC File Format" and "Encapsulated message format"; Message.fbs.)
+use Rattle.std.specs.Prelude.{◌≡◌, ◌⊎◌, ℕ, List, [], Option, Some, None, Result, Ok, Err}
+use Rattle.ipc_devices.specs.Faults.{OwnFault}
+use Rattle.ipc_devices.specs.declared.fault.Fault.{Fault}
+use Rattle.ipc_devices.specs.declared.fault.Fault.TheVariants.{Ended, OutOfSpec}
+use Rattle.ipc_devices.specs.declared.fault.OutOfSpecKind.{OutOfSpecKind}
+use Rattle.ipc_devices.specs.declared.fault.OutOfSpecKind.TheVariants.{InvalidFlatbufferMessage, MissingMessageHeader, InvalidFlatbufferHeader, InvalidFlatbufferVersion}
+use Rattle.ipc_devices.specs.declared.fault.TableFault.{TableFault}
+use Rattle.ipc_views.specs.MessageSlots.{message_header, message_version}
+use Rattle.ipc_views.specs.Spot.{Spot}
+use Rattle.ipc_views.specs.Tables.{root_at}
+use Rattle.ipc_views.specs.Unions.{header_parts}
+use Rattle.ipc_views.specs.declared.schema.MetadataVersion.{MetadataVersion}
+use Rattle.ipc_model.specs.Batches.{extra_of}
+use Rattle.ipc_model.specs.Files.{BlockHeader, Placed}
+use Rattle.ipc_model.specs.Frame.{Frame, message, mark, waiting, broken, sized}
+use Rattle.ipc_files.specs.declared.read.file.block.BlockMessage.{BlockMessage}
+use Rattle.ipc_files.specs.declared.read.file.block.BlockPlace.{BlockPlace}
+
+abbrev pub place_seen : BlockPlace → Placed
+place_seen p = record { message = p.message; body = p.body }
+
+-- ---- the metadata
+
+-- The metadata of the message at the front, of any length: at a block the length 0 is that of a message without bytes.
+abbrev pub stated_metadata : Frame → Option (List ℕ)
+stated_metadata (message m rest) = Some m
+stated_metadata (mark rest) = Some []
+stated_metadata (waiting begun) = None
+stated_metadata broken = None
+
+-- The prefix states so many bytes, which follow it; or it isn't there.
+abbrev pub GivesPrefix : Frame → Result ℕ Fault → (rest : List ℕ) → Type 0
+GivesPrefix f (Ok n) rest = f ≡ sized n rest
+GivesPrefix f (Err e) rest = OwnFault e (stated_metadata f ≡ None)
+
+-- of a frame: less bytes than stated, or a length below 0, which has the name that is handed
+abbrev pub IsFrameFault : OutOfSpecKind → Fault → Type 0
+IsFrameFault negative e = (e ≡ Ended) ⊎ (e ≡ OutOfSpec negative)
+
+-- ---- the header
+
+abbrev pub message_seen : BlockMessage → BlockHeader
+message_seen m = record { tag = (header_parts m.header).0; table = (header_parts m.header).1; extra = extra_of m.version }
+
+-- an answer, seen as something else
+abbrev pub seen : {A B : Type 0} → (A → B) → Result A Fault → Result B Fault
+seen view (Ok x) = Ok (view x)
+seen view (Err e) = Err e
+
+-- the header, which has to be there
+abbrev pub needed_header : Result (Option (ℕ × Spot)) TableFault → Result (ℕ × Spot) Fault
+needed_header (Ok (Some h)) = Ok h
+needed_header (Ok None) = Err (OutOfSpec MissingMessageHeader)
+needed_header (Err e) = Err (OutOfSpec (InvalidFlatbufferHeader e))
+
+abbrev pub stated_version : Result MetadataVersion TableFault → Result MetadataVersion Fault
+stated_version (Ok v) = Ok v
+stated_version (Err e) = Err (OutOfSpec (InvalidFlatbufferVersion e))
+
+abbrev pub with_version : ℕ × Spot → Result MetadataVersion Fault → Result BlockHeader Fault
+with_version h (Ok v) = Ok (record { tag = h.0; table = h.1; extra = extra_of v })
+with_version h (Err e) = Err e
+
+abbrev pub with_header : Result (ℕ × Spot) Fault → Result MetadataVersion Fault → Result BlockHeader Fault
+with_header (Ok h) version = with_version h version
+with_header (Err e) version = Err e
+
+abbrev pub opened_table : Result Spot TableFault → Result BlockHeader Fault
+opened_table (Ok t) = with_header (needed_header (message_header t)) (stated_version (message_version t))
+opened_table (Err e) = Err (OutOfSpec (InvalidFlatbufferMessage e))
+
+-- the message whose metadata these bytes are, or the fault in it
+unfoldable pub opened_message : List ℕ → Result BlockHeader Fault
+opened_message metadata = opened_table (root_at metadata)
+
+-- of a message: its root, its header or its version is absent or ill-made
+abbrev pub IsHeaderFault : Fault → Type 0
+IsHeaderFault (OutOfSpec (InvalidFlatbufferMessage e)) = Unit {0}
+IsHeaderFault (OutOfSpec MissingMessageHeader) = Unit {0}
+IsHeaderFault (OutOfSpec (InvalidFlatbufferHeader e)) = Unit {0}
+IsHeaderFault (OutOfSpec (InvalidFlatbufferVersion e)) = Unit {0}
+IsHeaderFault _ = ⊥

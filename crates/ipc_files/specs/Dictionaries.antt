@@ -1,0 +1,31 @@
+-- What reading the dictionaries of a file answers.
+-- (Arrow columnar format, "IPC File Format" and "Dictionary messages".)
+use Rattle.std.specs.Prelude.{◌≡◌, ◌⊎◌, Option, None, Some, Result, Ok, Err}
+use Rattle.ipc_devices.specs.Faults.{OwnFault}
+use Rattle.ipc_devices.specs.declared.fault.Fault.{Fault}
+use Rattle.ipc_devices.specs.declared.fault.Fault.TheVariants.{OutOfSpec}
+use Rattle.ipc_devices.specs.declared.fault.OutOfSpecKind.TheVariants.{NegativeFooterLength, UnexpectedNegativeInteger, UnexpectedMessageType}
+use Rattle.ipc_views.specs.Spot.{Spot}
+use Rattle.ipc_views.specs.declared.message.MessageHeaderRef.{MessageHeaderRef}
+use Rattle.ipc_views.specs.declared.message.MessageHeaderRef.TheVariants.{DictionaryBatch}
+use Rattle.ipc_model.specs.Entries.{Dictionaries}
+use Rattle.ipc_laws.specs.Agreement.{AreAlike}
+use Rattle.ipc_files.specs.Blocks.{IsFrameFault, IsHeaderFault}
+use Rattle.ipc_read.specs.DictionaryBatches.{IsDictionaryFault}
+
+-- the dictionary batch in the header of a message, which has to be one
+abbrev pub needed_dictionary : MessageHeaderRef → Result Spot Fault
+needed_dictionary (DictionaryBatch t) = Ok t
+needed_dictionary _ = Err (OutOfSpec UnexpectedMessageType)
+
+-- The answer is Ok exactly where there is a meaning, and the same values are known then under each id. Memory and the devices tell nothing.
+abbrev pub GivesKnown : {X : Type 0} → (X → Dictionaries) → Result X Fault → Option Dictionaries → Type 0
+GivesKnown view (Ok x) meaning = AreAlike meaning (Some (view x))
+GivesKnown view (Err e) meaning = OwnFault e (meaning ≡ None)
+
+-- Of a block of a dictionary: a number of the block below 0, a message that isn't there or of a length below 0, that is ill-made or of another kind;
+-- or of its batch.
+abbrev pub IsDictionaryBlockFault : Fault → Type 0
+IsDictionaryBlockFault e =
+    (e ≡ OutOfSpec UnexpectedNegativeInteger) ⊎ (IsFrameFault NegativeFooterLength e ⊎ (IsHeaderFault e
+    ⊎ ((e ≡ OutOfSpec UnexpectedMessageType) ⊎ IsDictionaryFault e)))

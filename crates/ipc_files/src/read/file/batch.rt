@@ -1,0 +1,138 @@
+//! Reads the record batch at a block of a file.
+ghost use Rattle.std.specs.Prelude.{◌≡◌, ◌+◌, ◌≤◌, ◌<◌, length, vec_len, IsTrue, IfErr, OnOk, Some};
+ghost use Rattle.std.specs.Option.{option_copied};
+ghost use Rattle.ipc_devices.specs.Device.{Rises};
+ghost use Rattle.ipc_devices.specs.Faults.{OnIo, OwnFault};
+ghost use Rattle.ipc_model.specs.Batches.{chosen, extra_of, kinds, lists_of, record_meaning};
+ghost use Rattle.ipc_model.specs.Files.{file_chunk};
+ghost use Rattle.ipc_files.specs.Batches.{IsRecordFault, needed_bytes, needed_record};
+ghost use Rattle.ipc_files.specs.Footers.{GivesPart, file_seen};
+ghost use Rattle.ipc_columns.specs.Bodies.{known_dictionaries};
+ghost use Rattle.ipc_read.specs.Chunks.{chunk_seen};
+ghost use Rattle.ipc_read.specs.Columns.{ArePrepared};
+ghost use Rattle.ipc_read.specs.Refusals.{IsFaultOfBatch};
+ghost use Rattle.ipc_read.specs.Sizes.{chosen_listed};
+
+use crate::read::file::block::{open_message, place_of, read_metadata};
+use crate::read::file::metadata::FileMetadata;
+use ipc_base::chunk::Chunk;
+use ipc_devices::fault::{Fault, OutOfSpecKind};
+use ipc_devices::{Reads, Seeks};
+use ipc_read::read::Dictionaries;
+use ipc_read::read::common::read_record_batch;
+use ipc_views::{MessageHeaderRef, MetadataVersion, RecordBatchRef};
+use lower_arrays::array::AnyArray;
+use std::alloc::Global;
+
+// The record batch in the header of a message, which has to be one.
+fn record_of(header: MessageHeaderRef<'_>) -> Result<RecordBatchRef<'_>, Fault>
+    ensures { result ≡ needed_record header.entry }
+{
+    match header {
+        MessageHeaderRef::RecordBatch(batch) => Ok(batch),
+        _ => Err(Fault::OutOfSpec(OutOfSpecKind::UnexpectedMessageType)),
+    }
+}
+
+// The columns of a record batch whose body begins at a place of a file.
+#[allow(clippy::too_many_arguments)]
+fn read_record<R: Reads + Seeks>(
+    alloc: Global,
+    reader: &mut R,
+    dictionaries: &Dictionaries,
+    metadata: &FileMetadata,
+    projection: Option<&[usize]>,
+    limit: Option<usize>,
+    batch: RecordBatchRef<'_>,
+    version: MetadataVersion,
+    body: u64,
+    scratch: &mut Vec<u8>,
+) -> Result<Chunk<AnyArray>, Fault>
+    requires prepared { ArePrepared (option_copied projection) (length metadata.now.schema.fields.items) }
+    ensures only { let js = chosen (option_copied projection.entry) (length metadata.now.schema.fields.items) in
+        IfErr result (λ e. OwnFault e (IsFaultOfBatch (kinds (file_seen metadata.now).schema) js e)) }
+    ensures monotone { R.failures reader.old ≤ R.failures reader.new }
+    ensures failed { OnIo result (Rises (R.failures reader.old) (R.failures reader.new)) }
+    ensures given { let js = chosen (option_copied projection.entry) (length metadata.now.schema.fields.items) in
+        R.given reader.new ≤ R.given reader.old + chosen_listed (lists_of batch.entry) (extra_of version) (kinds (file_seen metadata.now).schema) js }
+    ensures memory { IsTrue R.known → let m = file_seen metadata.now in
+        GivesPart chunk_seen result (record_meaning m.schema (extra_of version) (known_dictionaries dictionaries.now)
+        (record { source = (R.memory reader.old).whole; base = body; size = m.size }) batch.entry (option_copied projection.entry) limit) }
+    ensures whole { IsTrue R.still → (R.memory reader.new).whole ≡ (R.memory reader.old).whole }
+{
+    read_record_batch(
+        alloc,
+        batch,
+        &metadata.schema.fields,
+        &metadata.ipc_schema,
+        projection,
+        limit,
+        dictionaries,
+        version,
+        reader,
+        body,
+        metadata.size,
+        scratch,
+    )
+}
+
+/// Reads the record batch at one of the blocks of a file, at any and in any order (Arrow columnar format, "IPC File Format"): the
+/// columns of the projection, in rising order, or all where there is none, and of each at most `limit` slots. The index is that of
+/// a block in `metadata`, and the dictionaries are those of [`read_file_dictionaries`]. Each version is that of the block's own
+/// message, and the lengths of bodies aren't used. Of a column that isn't chosen no byte is read, and nothing is judged. Where it is
+/// Ok, no more bytes are taken of the device than the message, its prefix and what the buffers of the chosen columns list.
+///
+/// Over memory it is Ok exactly where the block has a meaning by the projection and the limit, and the chunk is then that. Faults:
+/// `OutOfSpec(NegativeFooterLength)` where a number of the block is below 0; `Ended` where its message isn't there, and
+/// `OutOfSpec(UnexpectedNegativeInteger)` where the length of that is below 0; `InvalidFlatbufferMessage`, `MissingMessageHeader`,
+/// `InvalidFlatbufferHeader`, `InvalidFlatbufferVersion` where it is ill-made, and `UnexpectedMessageType` where it is no record batch,
+/// each `OutOfSpec`; those of [`read_record_batch`]; `Io` and `Memory`. For a length that isn't there no memory is taken. The metadata
+/// of the message are left in `message_scratch`; after a fault the reader stands anywhere, and other blocks can be read.
+///
+/// [`read_file_dictionaries`]: crate::read::file::read_file_dictionaries
+#[allow(clippy::too_many_arguments)]
+pub fn read_batch<R: Reads + Seeks>(
+    alloc: Global,
+    reader: &mut R,
+    dictionaries: &Dictionaries,
+    metadata: &FileMetadata,
+    projection: Option<&[usize]>,
+    limit: Option<usize>,
+    index: usize,
+    message_scratch: &mut Vec<u8>,
+    data_scratch: &mut Vec<u8>,
+) -> Result<Chunk<AnyArray>, Fault>
+    requires index { index < vec_len metadata.now.blocks }
+    requires prepared { ArePrepared (option_copied projection) (length metadata.now.schema.fields.items) }
+    ensures only { let m = file_seen metadata.now in
+        let js = chosen (option_copied projection.entry) (length metadata.now.schema.fields.items) in
+        IfErr result (λ e. OwnFault e (IsRecordFault (kinds m.schema) js e)) }
+    ensures monotone { R.failures reader.old ≤ R.failures reader.new }
+    ensures failed { OnIo result (Rises (R.failures reader.old) (R.failures reader.new)) }
+    ensures given { let m = file_seen metadata.now in
+        let js = chosen (option_copied projection.entry) (length metadata.now.schema.fields.items) in
+        OnOk result (R.given reader.new ≤ R.given reader.old + needed_bytes (kinds m.schema) js message_scratch.new.items) }
+    ensures memory { IsTrue R.known → GivesPart chunk_seen result
+        (file_chunk (file_seen metadata.now) (known_dictionaries dictionaries.now) (R.memory reader.old).whole
+        (option_copied projection.entry) limit index) }
+    ensures whole { IsTrue R.still → (R.memory reader.new).whole ≡ (R.memory reader.old).whole }
+{
+    let block = &metadata.blocks[index];
+    let place = place_of(block, OutOfSpecKind::NegativeFooterLength)?;
+    let negative = OutOfSpecKind::UnexpectedNegativeInteger;
+    read_metadata(reader, place.message, negative, message_scratch)?;
+    let message = open_message(message_scratch)?;
+    let batch = record_of(message.header)?;
+    read_record(
+        alloc,
+        reader,
+        dictionaries,
+        metadata,
+        projection,
+        limit,
+        batch,
+        message.version,
+        place.body,
+        data_scratch,
+    )
+}

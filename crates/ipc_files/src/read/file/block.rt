@@ -1,0 +1,145 @@
+//! The messages of a file's blocks: the Arrow columnar format, "IPC File Format" and "Encapsulated message format".
+ghost use Rattle.std.specs.Prelude.{◌≡◌, ◌+◌, ◌≤◌, length, drop, IsTrue, IfOk, IfErr, OnOk};
+ghost use Rattle.ipc_devices.specs.Device.{Rises, after};
+ghost use Rattle.ipc_devices.specs.Faults.{OnIo, OwnFault, Answers};
+ghost use Rattle.ipc_devices.specs.declared.fault.Fault.TheVariants.{Ended, OutOfSpec};
+ghost use Rattle.ipc_views.specs.MessageSlots.{message_header, message_version};
+ghost use Rattle.ipc_views.specs.Unions.{header_parts};
+ghost use Rattle.ipc_model.specs.Files.{block_header, placed};
+ghost use Rattle.ipc_model.specs.Frame.{frame, word};
+ghost use Rattle.ipc_files.specs.Blocks.{GivesPrefix, IsFrameFault, IsHeaderFault, message_seen, needed_header, opened_message, place_seen, seen, stated_metadata, stated_version};
+ghost use Rattle.ipc_files.specs.Footers.{GivesPart};
+
+use crate::read::file::exact::read_exact;
+use ipc_devices::fault::{Fault, OutOfSpecKind};
+use ipc_devices::{Reads, Seeks, read_into};
+use ipc_views::{Block, MessageHeaderRef, MessageRef, MetadataVersion};
+
+// The marker in front of a length, as a number.
+const CONTINUATION: u32 = u32::MAX;
+
+// Where the message of a block stands, and where its body begins.
+#[derive(Clone, Copy, Drop)]
+pub(crate) struct BlockPlace {
+    pub(crate) message: u64,
+    pub(crate) body: u64,
+}
+
+// What a message in a file says of itself: how long its body is isn't used.
+#[derive(Drop)]
+pub(crate) struct BlockMessage<'a> {
+    pub(crate) header: MessageHeaderRef<'a>,
+    pub(crate) version: MetadataVersion,
+}
+
+// Where a block stands. It is refused as told where a number that says it is below 0.
+pub(super) fn place_of(block: &Block, negative: OutOfSpecKind) -> Result<BlockPlace, Fault>
+    ensures place { GivesPart place_seen result (placed block.now) }
+    ensures only { IfErr result (λ e. e ≡ OutOfSpec negative) }
+{
+    if block.offset < 0 || block.meta_data_length < 0 {
+        return Err(Fault::OutOfSpec(negative));
+    }
+    let message = block.offset as u64;
+    Ok(BlockPlace {
+        message,
+        body: message + block.meta_data_length as u64,
+    })
+}
+
+// The number in the next 4 bytes.
+fn read_word<R: Reads>(reader: &mut R) -> Result<u32, Fault>
+    ensures only { IfErr result (λ e. OwnFault e (e ≡ Ended)) }
+    ensures monotone { R.failures reader.old ≤ R.failures reader.new }
+    ensures failed { OnIo result (Rises (R.failures reader.old) (R.failures reader.new)) }
+    ensures given { R.given reader.new ≤ R.given reader.old + 4 }
+    ensures left { IsTrue R.known → OnOk result (after (R.memory reader.new) ≡ drop 4 (after (R.memory reader.old))) }
+    ensures memory { IsTrue R.known → Answers result (4 ≤ length (after (R.memory reader.old)))
+        (λ n. n ≡ word (after (R.memory reader.old))) }
+    ensures whole { IsTrue R.still → (R.memory reader.new).whole ≡ (R.memory reader.old).whole }
+{
+    let mut bytes = [0; 4];
+    read_exact(reader, &mut bytes)?;
+    Ok(u32::from_le_bytes(bytes))
+}
+
+// The length that a prefix states, in the newer form, behind the marker, or in the older one.
+fn read_prefix<R: Reads>(reader: &mut R) -> Result<u32, Fault>
+    ensures only { IfErr result (λ e. OwnFault e (e ≡ Ended)) }
+    ensures monotone { R.failures reader.old ≤ R.failures reader.new }
+    ensures failed { OnIo result (Rises (R.failures reader.old) (R.failures reader.new)) }
+    ensures given { R.given reader.new ≤ R.given reader.old + 8 }
+    ensures memory { IsTrue R.known → GivesPrefix (frame (after (R.memory reader.old))) result (after (R.memory reader.new)) }
+    ensures whole { IsTrue R.still → (R.memory reader.new).whole ≡ (R.memory reader.old).whole }
+{
+    let first = read_word(reader)?;
+    if first != CONTINUATION {
+        return Ok(first);
+    }
+    read_word(reader)
+}
+
+// Reads the metadata of the message that stands at a place, instead of what `metadata` holds. A length below 0 is refused as
+// told. For a length that is only stated no memory is taken.
+pub(super) fn read_metadata<R: Reads + Seeks>(
+    reader: &mut R,
+    place: u64,
+    negative: OutOfSpecKind,
+    metadata: &mut Vec<u8>,
+) -> Result<(), Fault>
+    ensures only { IfErr result (λ e. OwnFault e (IsFrameFault negative e)) }
+    ensures monotone { R.failures reader.old ≤ R.failures reader.new }
+    ensures failed { OnIo result (Rises (R.failures reader.old) (R.failures reader.new)) }
+    ensures given { OnOk result (R.given reader.new ≤ R.given reader.old + (8 + length metadata.new.items)) }
+    ensures memory { IsTrue R.known → GivesPart (λ _. metadata.new.items) result
+        (stated_metadata (frame (drop place (R.memory reader.old).whole))) }
+    ensures whole { IsTrue R.still → (R.memory reader.new).whole ≡ (R.memory reader.old).whole }
+{
+    reader.seek_to(place)?;
+    let length = read_prefix(reader)?;
+    if length > i32::MAX as u32 {
+        return Err(Fault::OutOfSpec(negative));
+    }
+    read_into(reader, metadata, length as usize)?;
+    Ok(())
+}
+
+// The header, which has to be there.
+fn header_of<'a>(message: &MessageRef<'a>) -> Result<MessageHeaderRef<'a>, Fault>
+    ensures value { seen header_parts result ≡ needed_header (message_header message.now) }
+    ensures only { IfErr result (λ e. OwnFault e (IsHeaderFault e)) }
+{
+    match message.header() {
+        Ok(Some(header)) => Ok(header),
+        Ok(None) => Err(Fault::OutOfSpec(OutOfSpecKind::MissingMessageHeader)),
+        Err(e) => Err(Fault::OutOfSpec(OutOfSpecKind::InvalidFlatbufferHeader(e))),
+    }
+}
+
+// The version, which is judged in each message of a file.
+fn version_of(message: &MessageRef<'_>) -> Result<MetadataVersion, Fault>
+    ensures value { result ≡ stated_version (message_version message.now) }
+    ensures only { IfErr result (λ e. OwnFault e (IsHeaderFault e)) }
+{
+    match message.version() {
+        Ok(version) => Ok(version),
+        Err(e) => Err(Fault::OutOfSpec(OutOfSpecKind::InvalidFlatbufferVersion(e))),
+    }
+}
+
+// Opens the metadata of a message. It takes no memory.
+#[tactic(auto, unfolding(crate::specs::Blocks::opened_message))]
+pub(super) fn open_message(metadata: &[u8]) -> Result<BlockMessage<'_>, Fault>
+    ensures exact { seen message_seen result ≡ opened_message metadata.now }
+    ensures meaning { GivesPart message_seen result (block_header metadata.now) }
+    ensures only { IfErr result (λ e. OwnFault e (IsHeaderFault e)) }
+    ensures own { OnIo result ⊥ }
+{
+    let message = match MessageRef::read_as_root(metadata) {
+        Ok(message) => message,
+        Err(e) => return Err(Fault::OutOfSpec(OutOfSpecKind::InvalidFlatbufferMessage(e))),
+    };
+    let header = header_of(&message)?;
+    let version = version_of(&message)?;
+    Ok(BlockMessage { header, version })
+}

@@ -1,0 +1,140 @@
+//! Reads the dictionaries of a file.
+ghost use Rattle.std.specs.Prelude.{◌≡◌, ◌≤◌, IsTrue, IfErr};
+ghost use Rattle.ipc_devices.specs.Device.{Rises};
+ghost use Rattle.ipc_devices.specs.Faults.{OnIo, OwnFault};
+ghost use Rattle.ipc_model.specs.Batches.{dictionary_meaning, extra_of};
+ghost use Rattle.ipc_model.specs.Files.{dictionaries_at, file_dictionaries};
+ghost use Rattle.ipc_files.specs.Dictionaries.{GivesKnown, IsDictionaryBlockFault, needed_dictionary};
+ghost use Rattle.ipc_files.specs.Footers.{file_seen};
+ghost use Rattle.ipc_columns.specs.Bodies.{known_dictionaries};
+ghost use Rattle.ipc_read.specs.DictionaryBatches.{IsDictionaryFault};
+
+use crate::read::file::block::{open_message, place_of, read_metadata};
+use crate::read::file::metadata::FileMetadata;
+use ipc_devices::fault::{Fault, OutOfSpecKind};
+use ipc_devices::{Reads, Seeks};
+use ipc_read::read::Dictionaries;
+use ipc_read::read::dictionaries::read_dictionary;
+use ipc_views::{Block, DictionaryBatchRef, MessageHeaderRef, MetadataVersion};
+use std::alloc::Global;
+use std::collections::HashMap;
+
+// The dictionary batch in the header of a message, which has to be one.
+fn dictionary_of(header: MessageHeaderRef<'_>) -> Result<DictionaryBatchRef<'_>, Fault>
+    ensures { result ≡ needed_dictionary header.entry }
+{
+    match header {
+        MessageHeaderRef::DictionaryBatch(batch) => Ok(batch),
+        _ => Err(Fault::OutOfSpec(OutOfSpecKind::UnexpectedMessageType)),
+    }
+}
+
+// Puts the values of a dictionary batch, whose body begins at a place of a file, to those that are known.
+#[allow(clippy::too_many_arguments)]
+fn read_values<R: Reads + Seeks>(
+    alloc: Global,
+    reader: &mut R,
+    metadata: &FileMetadata,
+    batch: DictionaryBatchRef<'_>,
+    version: MetadataVersion,
+    body: u64,
+    dictionaries: &mut Dictionaries,
+    scratch: &mut Vec<u8>,
+) -> Result<(), Fault>
+    ensures only { IfErr result (λ e. OwnFault e (IsDictionaryFault e)) }
+    ensures monotone { R.failures reader.old ≤ R.failures reader.new }
+    ensures failed { OnIo result (Rises (R.failures reader.old) (R.failures reader.new)) }
+    ensures memory { IsTrue R.known → let m = file_seen metadata.now in
+        GivesKnown (λ _. known_dictionaries dictionaries.new) result
+        (dictionary_meaning m.schema (extra_of version) (known_dictionaries dictionaries.old)
+        (record { source = (R.memory reader.old).whole; base = body; size = m.size }) batch.entry) }
+    ensures whole { IsTrue R.still → (R.memory reader.new).whole ≡ (R.memory reader.old).whole }
+{
+    read_dictionary(
+        alloc,
+        batch,
+        &metadata.schema.fields,
+        &metadata.ipc_schema,
+        dictionaries,
+        version,
+        reader,
+        body,
+        metadata.size,
+        scratch,
+    )?;
+    Ok(())
+}
+
+// Reads the dictionary batch at a block, and puts its values to those that are known.
+fn read_dictionary_block<R: Reads + Seeks>(
+    alloc: Global,
+    reader: &mut R,
+    metadata: &FileMetadata,
+    block: &Block,
+    dictionaries: &mut Dictionaries,
+    message_scratch: &mut Vec<u8>,
+    data_scratch: &mut Vec<u8>,
+) -> Result<(), Fault>
+    ensures only { IfErr result (λ e. OwnFault e (IsDictionaryBlockFault e)) }
+    ensures monotone { R.failures reader.old ≤ R.failures reader.new }
+    ensures failed { OnIo result (Rises (R.failures reader.old) (R.failures reader.new)) }
+    ensures memory { IsTrue R.known → GivesKnown (λ _. known_dictionaries dictionaries.new) result
+        (dictionaries_at (file_seen metadata.now) (known_dictionaries dictionaries.old) (R.memory reader.old).whole block.now) }
+    ensures whole { IsTrue R.still → (R.memory reader.new).whole ≡ (R.memory reader.old).whole }
+{
+    let place = place_of(block, OutOfSpecKind::UnexpectedNegativeInteger)?;
+    let negative = OutOfSpecKind::NegativeFooterLength;
+    read_metadata(reader, place.message, negative, message_scratch)?;
+    let message = open_message(message_scratch)?;
+    let batch = dictionary_of(message.header)?;
+    read_values(
+        alloc,
+        reader,
+        metadata,
+        batch,
+        message.version,
+        place.body,
+        dictionaries,
+        data_scratch,
+    )?;
+    Ok(())
+}
+
+/// Reads the dictionaries of a file, block by block in the order of its footer (Arrow columnar format, "IPC File Format"). Of an
+/// id that comes again the last values count. Each version is that of the block's own message, and the lengths of bodies aren't used.
+///
+/// Over memory it is Ok exactly where the dictionaries have a meaning, and the values are then those. Faults:
+/// `OutOfSpec(UnexpectedNegativeInteger)` where a number of a block is below 0; `Ended` where its message isn't there, and
+/// `OutOfSpec(NegativeFooterLength)` where the length of that is below 0; `InvalidFlatbufferMessage`, `MissingMessageHeader`,
+/// `InvalidFlatbufferHeader`, `InvalidFlatbufferVersion` where it is ill-made, and `UnexpectedMessageType` where it is no dictionary
+/// batch, each `OutOfSpec`; those of [`read_dictionary`]; `Io` and `Memory`. For a length that isn't there no memory is taken. After a
+/// fault the reader stands anywhere.
+pub fn read_file_dictionaries<R: Reads + Seeks>(
+    alloc: Global,
+    reader: &mut R,
+    metadata: &FileMetadata,
+    scratch: &mut Vec<u8>,
+) -> Result<Dictionaries, Fault>
+    ensures only { IfErr result (λ e. OwnFault e (IsDictionaryBlockFault e)) }
+    ensures monotone { R.failures reader.old ≤ R.failures reader.new }
+    ensures failed { OnIo result (Rises (R.failures reader.old) (R.failures reader.new)) }
+    ensures memory { IsTrue R.known → GivesKnown (λ known. known_dictionaries known) result
+        (file_dictionaries (file_seen metadata.now) (R.memory reader.old).whole) }
+    ensures whole { IsTrue R.still → (R.memory reader.new).whole ≡ (R.memory reader.old).whole }
+{
+    let mut dictionaries = HashMap::new(alloc);
+    let mut message = Vec::new(alloc);
+    let blocks = metadata.dictionary_blocks();
+    for block in blocks {
+        read_dictionary_block(
+            alloc,
+            reader,
+            metadata,
+            block,
+            &mut dictionaries,
+            &mut message,
+            scratch,
+        )?;
+    }
+    Ok(dictionaries)
+}
