@@ -1,11 +1,11 @@
 pub mod Acceptance
 pub mod Agreements
-pub mod NoKeys
-pub mod CarriedColumns
-pub mod CarriedHeads
-pub mod BatchMessages
 pub mod CallLists
+pub mod Dictionaries
+pub mod DictionaryLengths
+pub mod MessageLists
+pub mod MessageSends
 pub mod Messages
-pub mod RecordMeanings
+pub mod Refusals
 pub mod Sends
 pub mod WriterSteps

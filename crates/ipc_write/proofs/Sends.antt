@@ -43,3 +43,15 @@ pub or_stop : (X Y : Type 0) {W : Type 0} (known grows : Bool) (failures room : 
     → SendsOrRefuses {X = X} known grows failures room memory w (Err e) w' xs reason → SendsOrRefuses {X = Y} known grows failures room memory w (Err e) w' (xs ++ ys) reason
 or_stop X Y known grows failures room memory w (Argument TooLarge) w' xs ys reason h = h
 or_stop X Y known grows failures room memory w _ w' xs ys reason h = sends_stop {X = X} {Y = Y} known grows _ _ _ xs ys h
+
+-- the same fault or refusal, of a call that answers something else
+pub or_fail : (X Y : Type 0) {W : Type 0} (known grows : Bool) (failures room : W → ℕ) (memory : W → Memory) (w : W) (e : Fault) (w' : W) (bytes : List ℕ) (reason : Type 0)
+    → SendsOrRefuses {X = X} known grows failures room memory w (Err e) w' bytes reason → SendsOrRefuses {X = Y} known grows failures room memory w (Err e) w' bytes reason
+or_fail X Y known grows failures room memory w (Argument TooLarge) w' bytes reason h = h
+or_fail X Y known grows failures room memory w _ w' bytes reason h = failed_as {X = X} {Y = Y} known grows _ _ _ bytes h
+
+-- what can't be refused is sent
+pub or_sends : {X W : Type 0} (known grows : Bool) (failures room : W → ℕ) (memory : W → Memory) (w : W) (r : Result X Fault) (w' : W) (bytes : List ℕ) (reason : Type 0)
+    → SendsOrRefuses known grows failures room memory w r w' bytes reason → (reason → ⊥) → Sends known grows (seen_by failures room memory w) (seen_by failures room memory w') r bytes
+or_sends known grows failures room memory w (Err (Argument TooLarge)) w' bytes reason h never = absurd (never h.1)
+or_sends known grows failures room memory w _ w' bytes reason h never = h

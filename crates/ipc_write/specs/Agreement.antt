@@ -1,54 +1,63 @@
 -- What the bytes mean that a stream's writer has written.
 -- (Arrow columnar format, "IPC Streaming Format".)
 use Rattle.std.specs.Prelude.{◌≡◌, ℕ, ◌⊎◌, Bool, IsTrue, List, [], ◌∷◌, ◌++◌, Result, OnOk, OnErr}
-use Rattle.lower.specs.TypeTrees.{TypeTree}
-use Rattle.lower_types.specs.declared.Endianness.{Endianness}
 use Rattle.ipc_devices.specs.Device.{Memory, before}
 use Rattle.ipc_devices.specs.declared.fault.Fault.{Fault}
+use Rattle.ipc_laws.specs.Remembered.{nothing_remembered}
+use Rattle.ipc_laws.specs.Runs.{IsOpen as IsOpenStream}
 use Rattle.ipc_model.specs.Batches.{Chunk}
-use Rattle.ipc_carried.specs.CarriedStreams.{IsCarriedStream}
-use Rattle.ipc_model.specs.Streams.{Head, nothing_known}
+use Rattle.ipc_model.specs.Streams.{Head, Known}
 use Rattle.ipc_model.specs.Writers.{IsStarted, IsFinished}
+use Rattle.ipc_tracker.specs.Trackers.{IsSameMemory}
 use Rattle.ipc_write.specs.Meaning.{HeadHas}
 use Rattle.ipc_write.specs.Writers.{WriterSeen}
 use Rattle.ipc_write.specs.declared.stream.WriterState.{WriterState}
 use Rattle.ipc_write.specs.declared.stream.WriterState.TheVariants.{New, Started, Finished, Failed}
 
--- a stream that was started and has these chunks, whose columns have the types that the writer takes, in its order of bytes, and whose
--- messages are carried
-pub record IsOpen (order : Endianness) (types : List TypeTree) (bytes : List ℕ) (head : Head) (chunks : List Chunk) : Type 0 where
-  pub stream : IsStarted bytes head nothing_known chunks
-  pub has : HeadHas order head types
-  pub carried : IsCarriedStream bytes head
+-- a writer that wrote nothing, and so remembers nothing
+pub record IsUnwritten {W : Type 0} (w : WriterSeen W) (bytes : List ℕ) (chunks : List Chunk) : Type 0 where
+  pub none : bytes ≡ []
+  pub no_chunks : chunks ≡ []
+  pub nothing : IsSameMemory nothing_remembered w.dictionaries
+
+-- A stream that was started and has these chunks. Its reader knows the dictionaries that the writer remembers, and its schema has the types,
+-- the ids and the order of bytes of the writer.
+pub record IsOpen {W : Type 0} (w : WriterSeen W) (bytes : List ℕ) (head : Head) (chunks : List Chunk) : Type 0 where
+  pub stream : IsOpenStream bytes head w.dictionaries chunks
+  pub has : HeadHas w.order head w.types w.ids
 
 -- one that was ended
 pub record IsClosed (bytes : List ℕ) (head : Head) (chunks : List Chunk) : Type 0 where
   pub stream : IsFinished bytes head chunks
-  pub carried : IsCarriedStream bytes head
+
+-- one that was started, whatever its reader knows
+pub record WasStarted (bytes : List ℕ) (head : Head) (chunks : List Chunk) : Type 0 where
+  pub known : Known
+  pub stream : IsStarted bytes head known chunks
 
 -- A stream whose device failed: what was written before the call that failed stands at its front.
 pub record BreaksOff (bytes : List ℕ) (head : Head) (chunks : List Chunk) : Type 0 where
   pub sent : List ℕ
   pub rest : List ℕ
   pub parts : bytes ≡ sent ++ rest
-  pub stood : ((sent ≡ []) × (chunks ≡ [])) ⊎ IsStarted sent head nothing_known chunks
+  pub stood : ((sent ≡ []) × (chunks ≡ [])) ⊎ WasStarted sent head chunks
 
 -- what the bytes of a writer in this state are
-abbrev pub StreamIs : WriterState → Endianness → List TypeTree → List ℕ → Head → List Chunk → Type 0
-StreamIs New order types bytes head chunks = (bytes ≡ []) × (chunks ≡ [])
-StreamIs Started order types bytes head chunks = IsOpen order types bytes head chunks
-StreamIs Finished order types bytes head chunks = IsClosed bytes head chunks
-StreamIs Failed order types bytes head chunks = BreaksOff bytes head chunks
+abbrev pub StreamIs : {W : Type 0} → WriterState → WriterSeen W → List ℕ → Head → List Chunk → Type 0
+StreamIs New w bytes head chunks = IsUnwritten w bytes chunks
+StreamIs Started w bytes head chunks = IsOpen w bytes head chunks
+StreamIs Finished w bytes head chunks = IsClosed bytes head chunks
+StreamIs Failed w bytes head chunks = BreaksOff bytes head chunks
 
 -- what stands in a memory before its place: the bytes that were there before, and those of the stream
-pub record HoldsStream (m : Memory) (state : WriterState) (order : Endianness) (types : List TypeTree) (base : List ℕ) (head : Head) (chunks : List Chunk) : Type 0 where
+pub record HoldsStream {W : Type 0} (m : Memory) (w : WriterSeen W) (base : List ℕ) (head : Head) (chunks : List Chunk) : Type 0 where
   pub bytes : List ℕ
   pub held : before m ≡ base ++ bytes
-  pub stream : StreamIs state order types bytes head chunks
+  pub stream : StreamIs w.state w bytes head chunks
 
 -- the device of a writer holds `base`, and then a stream of this schema and these chunks
 abbrev pub Agrees : {W : Type 0} → (W → Memory) → WriterSeen W → List ℕ → Head → List Chunk → Type 0
-Agrees memory w base head chunks = HoldsStream (memory w.device) w.state w.order w.types base head chunks
+Agrees memory w base head chunks = HoldsStream (memory w.device) w base head chunks
 
 -- ---- calls
 

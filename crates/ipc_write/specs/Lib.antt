@@ -1,8 +1,8 @@
 pub mod Agreement
-pub mod Batches
 pub mod Calls
-pub mod Columns
 pub mod Framing
+pub mod Lengths
 pub mod Meaning
+pub mod Messages
 pub mod Sending
 pub mod Writers

@@ -1,10 +1,14 @@
 -- What the sending of messages to a device does.
-use Rattle.std.specs.Prelude.{◌≡◌, ℕ, ◌<◌, ◌⊎◌, Bool, IsTrue, List, Result, Ok, Err}
+use Rattle.std.specs.Prelude.{◌≡◌, ℕ, ◌<◌, ◌⊎◌, Bool, IsTrue, List, [], ◌∷◌, ◌++◌, Result, Ok, Err}
+use Rattle.lower_types.specs.declared.Endianness.{Endianness}
+use Rattle.lower_arrays.specs.Layouts.{Layout}
 use Rattle.ipc_devices.specs.Device.{Memory, Rises}
 use Rattle.ipc_devices.specs.declared.fault.Fault.{Fault}
 use Rattle.ipc_devices.specs.declared.fault.Fault.TheVariants.{Argument, Io}
 use Rattle.ipc_devices.specs.declared.fault.ArgFault.TheVariants.{TooLarge}
+use Rattle.ipc_model.specs.Offers.{FilledPlace}
 use Rattle.ipc_plan.specs.Sending.{Sends, seen_by}
+use Rattle.ipc_write.specs.Messages.{AreMessages, Message, messages_bytes}
 
 -- The device counted a failure, or it is memory that had no room for so many bytes and was refused its growth.
 abbrev pub FailsOrIsFull : (grows : Bool) → (old new room count : ℕ) → Type 0
@@ -15,8 +19,21 @@ abbrev pub SendsOrRefuses : {X W : Type 0} (known grows : Bool) (failures room :
 SendsOrRefuses known grows failures room memory w (Err (Argument TooLarge)) w' bytes reason = (w' ≡ w) × reason
 SendsOrRefuses known grows failures room memory w r w' bytes reason = Sends known grows (seen_by failures room memory w) (seen_by failures room memory w') r bytes
 
+-- A call that sends these bytes, or refuses before anything is sent.
+abbrev pub SendsOrKeeps : {W : Type 0} (known grows : Bool) (failures room : W → ℕ) (memory : W → Memory) → W → Result Unit Fault → W → List ℕ → Type 0
+SendsOrKeeps known grows failures room memory w (Ok x) w' bytes = Sends {X = Unit} known grows (seen_by failures room memory w) (seen_by failures room memory w') (Ok x) bytes
+SendsOrKeeps known grows failures room memory w (Err (Io e)) w' bytes = Sends {X = Unit} known grows (seen_by failures room memory w) (seen_by failures room memory w') (Err (Io e)) bytes
+SendsOrKeeps known grows failures room memory w (Err _) w' bytes = w' ≡ w
+
 -- what was sent, whole or in part: P holds of it
 abbrev pub OnSent : Result Unit Fault → Type 0 → Type 0
 OnSent (Ok x) P = P
 OnSent (Err (Io e)) P = P
 OnSent (Err _) P = Unit {0}
+
+-- A call that sends the messages of some columns, of which the dictionaries on this list are to be written, or refuses before anything is sent.
+pub record HandsMessages {W : Type 0} (known grows : Bool) (failures room : W → ℕ) (memory : W → Memory) (order : Endianness) (columns : List Layout) (list : List FilledPlace) (w : W) (r : Result Unit Fault) (w' : W) : Type 0 where
+  pub dictionaries : List Message
+  pub own : Message
+  pub are : OnSent r (AreMessages order columns list dictionaries own)
+  pub sends : SendsOrKeeps known grows failures room memory w r w' (messages_bytes (dictionaries ++ own ∷ []))

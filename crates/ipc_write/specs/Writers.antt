@@ -1,24 +1,29 @@
 -- What the calls of a stream's writer do.
-use Rattle.std.specs.Prelude.{◌≡◌, ℕ, ◌≤◌, Bool, if◌then◌else◌, IsTrue, List, [], ◌∷◌, Vec, length, map, All, Option, Some, None, IfSome, IsSomeAnd, Result, Ok, Err, OnOk}
-use Rattle.std.specs.List.{AllZip}
+use Rattle.std.specs.Prelude.{◌≡◌, ◌⊎◌, ℕ, ◌≤◌, Bool, false, if◌then◌else◌, IsTrue, List, [], ◌∷◌, ◌++◌, Vec, length, map, Option, Some, None, IfSome, IsSomeAnd, Result, Ok, Err, OnOk}
+use Rattle.std.specs.List.{AllByRecursion, AllZip}
 use Rattle.std.specs.Borrow.{Bor}
 use Rattle.std.specs.declared.alloc.Global.{Global}
+use Rattle.ipc_base.specs.Chunks.{row_count}
 use Rattle.ipc_base.specs.IdTrees.{IdTrees, all_ids_view}
 use Rattle.ipc_base.specs.declared.ipc.IpcField.{IpcField}
+use Rattle.ipc_chunks.specs.Chunks.{RefusesSome}
 use Rattle.ipc_devices.specs.Device.{Memory, WritesOver}
 use Rattle.ipc_devices.specs.Faults.{OnIo, OnRefused, OwnFault}
 use Rattle.ipc_devices.specs.declared.fault.Fault.{Fault}
-use Rattle.ipc_devices.specs.declared.fault.Fault.TheVariants.{Argument, Io, Memory as NoMemory, NotYetImplemented, State}
-use Rattle.ipc_devices.specs.declared.fault.ArgFault.TheVariants.{ColumnCount, ColumnType, FieldsDiffer, TooLarge, TooLong}
-use Rattle.ipc_devices.specs.declared.fault.Nyi.TheVariants.{Pending}
+use Rattle.ipc_devices.specs.declared.fault.Fault.TheVariants.{Argument, Io, Memory as NoMemory, State}
+use Rattle.ipc_devices.specs.declared.fault.ArgFault.TheVariants.{ColumnCount, ColumnType, FieldsDiffer, FieldsShape, SharedDictionary, TooLarge, TooLong}
 use Rattle.ipc_devices.specs.declared.fault.StateFault.{StateFault}
 use Rattle.ipc_devices.specs.declared.fault.StateFault.TheVariants as faults
+use Rattle.ipc_encode.specs.Encoding.{RefusesBatch, levels_of}
+use Rattle.ipc_encode.specs.declared.batches.BatchKind.TheVariants.{Record}
+use Rattle.ipc_encode.specs.declared.common.WriteOptions.{WriteOptions}
 use Rattle.lower.specs.Normal.{norm}
-use Rattle.lower.specs.TypeTrees.{FieldTrees, Pairs, TypeTree, field, more_fields, no_fields}
+use Rattle.lower.specs.TypeTrees.{FieldTrees, Pairs, TypeTree}
 use Rattle.lower.specs.TypeViews.{type_view}
+use Rattle.lower.specs.declared.datatypes.DataType.{DataType}
 use Rattle.ipc_schema_write.specs.DefaultIds.{default_all}
-use Rattle.ipc_carried.specs.Carried.{are_carried}
-use Rattle.ipc_model.specs.Offers.{IsAcceptedChunk}
+use Rattle.ipc_model.specs.Accepted.{AreShared, IsSayable, body_length, types_of}
+use Rattle.ipc_model.specs.Offers.{FilledPlace, IsAcceptedChunk, offer_of, values_of}
 use Rattle.ipc_model.specs.Schemas.{head_of}
 use Rattle.ipc_model.specs.Streams.{Head}
 use Rattle.ipc_model.specs.Writable.{IsWritable}
@@ -26,52 +31,56 @@ use Rattle.ipc_schema_write.specs.WriterAnswers.{RefusesSchema}
 use Rattle.lower_types.specs.declared.Endianness.{Endianness}
 use Rattle.lower_types.specs.declared.Endianness.TheVariants.{Big, Little}
 use Rattle.lower_arrays.specs.AnyLayouts.{layout_of}
+use Rattle.lower_arrays.specs.Layouts.{layouts, len_of, type_of}
+use Rattle.lower_arrays.specs.Slots.{AreArrays}
 use Rattle.lower_arrays.specs.declared.array.AnyArray.{AnyArray}
 use Rattle.ipc_plan.specs.Sending.{WritesSome}
-use Rattle.ipc_write.specs.Batches.{HasLongMetadata, IsChunkMessage, RefusesChunk}
-use Rattle.ipc_write.specs.Columns.{IsCarried}
+use Rattle.ipc_tracker.specs.Listings.{ListsAll, RefusesAll, remembering_all}
+use Rattle.ipc_tracker.specs.Trackers.{IsSameMemory, Remembered, remembered}
 use Rattle.ipc_write.specs.Framing.{message_bytes, message_len}
-use Rattle.ipc_write.specs.Meaning.{normal_type}
+use Rattle.ipc_write.specs.Lengths.{HaveLengths}
+use Rattle.ipc_write.specs.Meaning.{normal_types}
+use Rattle.ipc_write.specs.Messages.{AreMessages, Message, messages_bytes}
 use Rattle.ipc_write.specs.Sending.{FailsOrIsFull, OnSent}
-use Rattle.ipc_encode.specs.declared.common.WriteOptions.{WriteOptions}
-use Rattle.ipc_write.specs.declared.stream.StreamWriter.{StreamWriter}
+use Rattle.ipc_write.specs.declared.stream.writer.StreamWriter.{StreamWriter}
 use Rattle.ipc_write.specs.declared.stream.WriterState.{WriterState}
 use Rattle.ipc_write.specs.declared.stream.WriterState.TheVariants.{New, Started, Finished, Failed}
 
 -- ---- what is seen of a writer
 
 -- What a writer writes to, how far it is, the order of the bytes of its numbers, the types of the columns that it takes, in their normal
--- form, and the ids that it was started with.
+-- form, the ids that it was started with, and the dictionaries that it remembers.
 pub record WriterSeen (W : Type 0) : Type 0 where
   pub device : W
   pub state : WriterState
   pub order : Endianness
   pub types : List TypeTree
   pub ids : IdTrees
+  pub dictionaries : Remembered
 
 -- the order of the bytes of numbers that is chosen
 abbrev pub order_of : WriteOptions → Endianness
 order_of options = if options.big_endian then Big else Little
+
+-- a type in its normal form
+abbrev pub normal_view : DataType → TypeTree
+normal_view t = norm (type_view t)
 
 abbrev pub seen : {W : Type 0} → StreamWriter W → WriterSeen W
 seen w = record {
   device = w.writer;
   state = w.state;
   order = w.order;
-  types = map type_view w.types.items;
+  types = map normal_view w.types.items;
   ids = all_ids_view w.ipc_fields.items;
+  dictionaries = remembered w.dictionary_tracker;
 }
 
 -- ---- types
 
--- the types of fields, in their normal form
-abbrev pub normal_types : FieldTrees → List TypeTree
-normal_types no_fields = []
-normal_types (more_fields (field name t nullable metadata) fields) = norm t ∷ normal_types fields
-
 -- the column has this type, in its normal form
 abbrev pub HasType : AnyArray → TypeTree → Type 0
-HasType a t = normal_type a ≡ t
+HasType a t = norm (type_of (layout_of a)) ≡ t
 
 -- the columns have these types, one each
 abbrev pub HaveTypes : List AnyArray → List TypeTree → Type 0
@@ -81,7 +90,6 @@ HaveTypes columns types = AllZip HasType columns types
 abbrev pub RefusesTypes : List AnyArray → List TypeTree → Fault → Type 0
 RefusesTypes columns types (Argument ColumnCount) = ¬ (length columns ≡ length types)
 RefusesTypes columns types (Argument ColumnType) = ¬ HaveTypes columns types
-RefusesTypes columns types NoMemory = Unit {0}
 RefusesTypes columns types _ = ⊥
 
 -- ---- calls
@@ -115,6 +123,7 @@ pub record Kept {W : Type 0} (a b : WriterSeen W) : Type 0 where
   pub state : b.state ≡ a.state
   pub types : b.types ≡ a.types
   pub ids : b.ids ≡ a.ids
+  pub dictionaries : IsSameMemory a.dictionaries b.dictionaries
 
 -- What a call that sends these bytes does to its device, and what a refused one leaves.
 pub record SendStep {W : Type 0} (known grows : Bool) (failures room : W → ℕ) (memory : W → Memory) (a : WriterSeen W) (r : Result Unit Fault) (b : WriterSeen W) (bytes : List ℕ) (count : ℕ) : Type 0 where
@@ -131,12 +140,16 @@ LeavesState (Ok x) s s' = s' ≡ s
 LeavesState (Err (Io e)) s s' = s' ≡ Failed
 LeavesState (Err _) s s' = s' ≡ s
 
--- A call that sends the message of these columns: metadata and a body, which are a chunk's message where anything was sent.
+-- A call that sends the messages of these columns where anything was sent: those of the dictionaries that are new or others than the writer
+-- remembers, each behind those inside its values, and that of the columns. What was sent is remembered then.
 pub record SendsChunk {W : Type 0} (known grows : Bool) (failures room : W → ℕ) (memory : W → Memory) (a : WriterSeen W) (r : Result Unit Fault) (b : WriterSeen W) (columns : List AnyArray) : Type 0 where
-  pub metadata : List ℕ
-  pub body : List ℕ
-  pub is : OnSent r (IsChunkMessage a.order metadata body columns)
-  pub step : SendStep known grows failures room memory a r b (message_bytes metadata body) (message_len metadata body)
+  pub list : List FilledPlace
+  pub dictionaries : List Message
+  pub own : Message
+  pub lists : OnSent r (ListsAll a.dictionaries false (map layout_of columns) a.ids list)
+  pub are : OnSent r (AreMessages a.order (map layout_of columns) list dictionaries own)
+  pub remembers : OnOk r (IsSameMemory (remembering_all list a.dictionaries) b.dictionaries)
+  pub step : SendStep known grows failures room memory a r b (messages_bytes (dictionaries ++ own ∷ [])) (length (messages_bytes (dictionaries ++ own ∷ [])))
 
 -- A call that sends a schema's message: metadata without a body, which begin a stream with this head where anything was sent.
 pub record SendsSchema {W : Type 0} (known grows : Bool) (failures room : W → ℕ) (memory : W → Memory) (a : WriterSeen W) (r : Result Unit Fault) (b : WriterSeen W) (head : Head) : Type 0 where
@@ -144,18 +157,43 @@ pub record SendsSchema {W : Type 0} (known grows : Bool) (failures room : W → 
   pub is : OnSent r (head_of metadata ≡ Some head)
   pub step : SendStep known grows failures room memory a r b (message_bytes metadata []) (message_len metadata [])
 
--- why a writer refuses a chunk with these ids
+-- columns, which are arrays, have the types that a writer takes
+pub record FitTypes {W : Type 0} (w : WriterSeen W) (columns : List AnyArray) : Type 0 where
+  pub have : HaveTypes columns w.types
+  pub arrays : AreArrays (layouts (map layout_of columns))
+
+-- Why a writer refuses a chunk with these ids before it sends anything.
+abbrev pub RefusesChunk : {W : Type 0} → WriterSeen W → List AnyArray → Option IdTrees → Fault → Type 0
+RefusesChunk w columns ids (State e) = fault_unless_started w.state ≡ Some e
+RefusesChunk w columns ids (Argument FieldsDiffer) = IsSomeAnd ids (λ given. ¬ (given ≡ w.ids))
+RefusesChunk w columns ids (Argument ColumnCount) = RefusesTypes columns w.types (Argument ColumnCount)
+RefusesChunk w columns ids (Argument ColumnType) = RefusesTypes columns w.types (Argument ColumnType)
+RefusesChunk w columns ids (Argument (SharedDictionary j)) = FitTypes w columns × RefusesAll w.dictionaries false (map layout_of columns) w.ids (Argument (SharedDictionary j))
+RefusesChunk w columns ids (Argument FieldsShape) = FitTypes w columns × RefusesAll w.dictionaries false (map layout_of columns) w.ids (Argument FieldsShape)
+RefusesChunk w columns ids (Argument TooLong) =
+    FitTypes w columns
+    × (RefusesSome (values_of (layouts (map layout_of columns)) w.ids) (Argument TooLong)
+    ⊎ RefusesBatch Record (row_count len_of (map layout_of columns)) (levels_of (map layout_of columns)) (Argument TooLong))
+RefusesChunk w columns ids (Argument TooLarge) =
+    FitTypes w columns
+    × (RefusesSome (values_of (layouts (map layout_of columns)) w.ids) (Argument TooLarge)
+    ⊎ RefusesBatch Record (row_count len_of (map layout_of columns)) (levels_of (map layout_of columns)) (Argument TooLarge))
+RefusesChunk w columns ids NoMemory = Unit {0}
+RefusesChunk w columns ids _ = ⊥
+
+-- why a writer refuses it, or its device does
 abbrev pub RefusesWrite : {W : Type 0} → WriterSeen W → List AnyArray → Option IdTrees → Fault → Type 0
-RefusesWrite w columns ids (State e) = fault_unless_started w.state ≡ Some e
-RefusesWrite w columns ids (Argument FieldsDiffer) = IsSomeAnd ids (λ given. ¬ (given ≡ w.ids))
-RefusesWrite w columns ids (Argument ColumnCount) = RefusesTypes columns w.types (Argument ColumnCount)
-RefusesWrite w columns ids (Argument ColumnType) = RefusesTypes columns w.types (Argument ColumnType)
-RefusesWrite w columns ids (NotYetImplemented Pending) = HaveTypes columns w.types × ¬ All IsCarried columns
-RefusesWrite w columns ids (Argument TooLong) = RefusesChunk w.order columns (Argument TooLong)
-RefusesWrite w columns ids (Argument TooLarge) = RefusesChunk w.order columns (Argument TooLarge)
-RefusesWrite w columns ids NoMemory = Unit {0}
 RefusesWrite w columns ids (Io e) = Unit {0}
-RefusesWrite w columns ids _ = ⊥
+RefusesWrite w columns ids e = RefusesChunk w columns ids e
+
+-- A started writer may write columns but for the lengths of these: no ids are handed in, or those of the start, the types are those that it
+-- takes, and these are the dictionaries that are to be written; a message of each of all dictionaries can say its lengths.
+pub record MayList {W : Type 0} (w : WriterSeen W) (columns : List AnyArray) (ids : Option IdTrees) (list : List FilledPlace) : Type 0 where
+  pub was : w.state ≡ Started
+  pub ids_same : IfSome ids (λ given. given ≡ w.ids)
+  pub fits : FitTypes w columns
+  pub lists : ListsAll w.dictionaries false (map layout_of columns) w.ids list
+  pub lengths : HaveLengths (values_of (layouts (map layout_of columns)) w.ids)
 
 -- A chunk was taken.
 pub record TakesChunk {W : Type 0} (a b : WriterSeen W) (columns : List AnyArray) (ids : Option IdTrees) : Type 0 where
@@ -165,25 +203,35 @@ pub record TakesChunk {W : Type 0} (a b : WriterSeen W) (columns : List AnyArray
   pub ids_stay : b.ids ≡ a.ids
   pub ids_same : IfSome ids (λ given. given ≡ a.ids)
   pub fits : HaveTypes columns a.types
-  pub carried : All IsCarried columns
 
--- A writer that was started with fields like these takes the columns with these ids: no ids are handed in, or those of the start, the
--- columns are an accepted chunk, and they are carried.
+-- A writer that was started with fields like these takes the columns with these ids: no ids are handed in, or those of the start, and the
+-- columns are an accepted chunk.
 pub record MayBeWritten {W : Type 0} (w : WriterSeen W) (fields : FieldTrees) (columns : List AnyArray) (ids : Option IdTrees) : Type 0 where
   pub started : w.state ≡ Started
   pub same_ids : IfSome ids (λ given. given ≡ w.ids)
   pub accepted : IsAcceptedChunk fields w.ids (map layout_of columns)
-  pub carried : All IsCarried columns
 
--- Columns are written just where the writer takes them. Memory and devices aside, and where only their metadata would be too long.
+-- which of these conditions isn't met
+abbrev pub MissesWrite : {W : Type 0} → WriterSeen W → FieldTrees → List AnyArray → Option IdTrees → Fault → Type 0
+MissesWrite w fs columns ids (State e) = ¬ (w.state ≡ Started)
+MissesWrite w fs columns ids (Argument FieldsDiffer) = ¬ IfSome ids (λ given. given ≡ w.ids)
+MissesWrite w fs columns ids (Argument ColumnCount) = ¬ (length (offer_of (map layout_of columns) w.ids).columns ≡ length (types_of fs))
+MissesWrite w fs columns ids (Argument ColumnType) = ¬ (map (λ c. norm c.type) (offer_of (map layout_of columns) w.ids).columns ≡ map norm (types_of fs))
+MissesWrite w fs columns ids (Argument (SharedDictionary j)) = ¬ AreShared (offer_of (map layout_of columns) w.ids).dictionaries
+MissesWrite w fs columns ids (Argument TooLong) = ¬ AllByRecursion IsSayable (offer_of (map layout_of columns) w.ids).nodes
+MissesWrite w fs columns ids (Argument TooLarge) = ¬ AllByRecursion (λ lengths. IsSayable (body_length lengths)) (offer_of (map layout_of columns) w.ids).bodies
+MissesWrite w fs columns ids NoMemory = Unit {0}
+MissesWrite w fs columns ids (Io e) = Unit {0}
+MissesWrite w fs columns ids _ = ⊥
+
+-- Columns are written just where the writer takes them, memory and devices aside; a refusal names a condition, and it isn't met.
 abbrev pub AnswersWrite : {W : Type 0} → WriterSeen W → FieldTrees → List AnyArray → Option IdTrees → Result Unit Fault → Type 0
 AnswersWrite w fs columns ids (Ok x) = MayBeWritten w fs columns ids
-AnswersWrite w fs columns ids (Err (Argument TooLarge)) = MayBeWritten w fs columns ids → HasLongMetadata w.order columns
-AnswersWrite w fs columns ids (Err e) = OwnFault e (¬ MayBeWritten w fs columns ids)
+AnswersWrite w fs columns ids (Err e) = MissesWrite w fs columns ids e × OwnFault e (¬ MayBeWritten w fs columns ids)
 
--- this of all fields whose types are those that the writer takes
+-- this of all schemas that can be written with the writer's ids, and whose types are those that the writer takes
 pub record WritesExactly {W : Type 0} (w : WriterSeen W) (columns : List AnyArray) (ids : Option IdTrees) (r : Result Unit Fault) : Type 0 where
-  pub exact : (fields : FieldTrees) → normal_types fields ≡ w.types → AnswersWrite w fields columns ids r
+  pub exact : (fields : FieldTrees) (metadata : Pairs) → IsWritable fields metadata w.ids → normal_types fields ≡ w.types → AnswersWrite w fields columns ids r
 
 -- the ids that are handed in, where any are
 abbrev pub seen_ids : Option (Bor (List IpcField)) → Option IdTrees
@@ -201,23 +249,18 @@ abbrev pub chosen_ids : Option (Vec IpcField Global) → FieldTrees → IdTrees
 chosen_ids None fs = default_all 0 fs
 chosen_ids (Some given) fs = all_ids_view given.items
 
--- A schema with these ids that is taken can be written.
-pub record IsTaken (fields : FieldTrees) (metadata : Pairs) (ids : IdTrees) : Type 0 where
-  pub carried : IsTrue (are_carried fields)
-  pub writable : IsWritable fields metadata ids
-
 -- A writer was started.
 pub record StartsWith {W : Type 0} (a b : WriterSeen W) (fields : FieldTrees) (metadata : Pairs) (ids : IdTrees) : Type 0 where
   pub was : a.state ≡ New
   pub is : b.state ≡ Started
   pub types : b.types ≡ normal_types fields
   pub ids_are : b.ids ≡ ids
-  pub writable : IsTaken fields metadata ids
+  pub writable : IsWritable fields metadata ids
+  pub dictionaries : IsSameMemory a.dictionaries b.dictionaries
 
 -- why a writer refuses a schema with these ids
 abbrev pub RefusesStart : WriterState → FieldTrees → Pairs → IdTrees → Fault → Type 0
 RefusesStart s fs es is (State e) = fault_unless_new s ≡ Some e
-RefusesStart s fs es is (NotYetImplemented Pending) = IsTrue (are_carried fs) → ⊥
 RefusesStart s fs es is (Argument e) = RefusesSchema (Argument e) fs es is
 RefusesStart s fs es is NoMemory = Unit {0}
 RefusesStart s fs es is (Io e) = Unit {0}

@@ -1,30 +1,31 @@
-//! What is written.
-ghost use Rattle.std.specs.Prelude.{◌≡◌, ◌%◌, ◌^◌, ◌<◌, length, All, IfErr, IfOk, None, OnOk};
+//! What is written of a chunk: its messages (Arrow columnar format, "Dictionary Messages").
+ghost use Rattle.std.specs.Prelude.{◌≡◌, map, IfErr, IfOk, MatchResult, OnOk};
 ghost use Rattle.lower_arrays.specs.AnyLayouts.{layout_of};
-ghost use Rattle.lower_arrays.specs.Slots.{IsArray};
-ghost use Rattle.ipc_devices.specs.declared.fault.Fault.TheVariants.{NotYetImplemented};
-ghost use Rattle.ipc_devices.specs.declared.fault.Nyi.TheVariants.{Pending};
-ghost use Rattle.ipc_plan.specs.Pieces.{pieces_bytes};
-ghost use Rattle.ipc_tables.specs.Messages.{message_slots};
-ghost use Rattle.ipc_tables.specs.declared.message.MessageHeader.TheVariants.{RecordBatch as a_record_batch};
-ghost use Rattle.ipc_views.specs.declared.schema.MetadataVersion.TheVariants.{V5};
-ghost use Rattle.ipc_write.specs.Batches.{IsChunkMessage, IsPlanMessage, PlansChunk, RefusesChunk, message_of};
-ghost use Rattle.ipc_write.specs.Columns.{IsCarried};
-ghost use Rattle.ipc_write.specs.Meaning.{MeansColumns};
+ghost use Rattle.lower_arrays.specs.Layouts.{layouts, len_of};
+ghost use Rattle.ipc_base.specs.Chunks.{row_count};
+ghost use Rattle.ipc_base.specs.IdTrees.{all_ids_view};
+ghost use Rattle.ipc_chunks.specs.Chunks.{RefusesAllValues, RefusesValues};
+ghost use Rattle.ipc_encode.specs.Appending.{order_of as order_where};
+ghost use Rattle.ipc_encode.specs.Encoding.{IsEncodable, levels_of};
+ghost use Rattle.ipc_encode.specs.declared.batches.BatchKind.TheVariants.{Record};
+ghost use Rattle.ipc_model.specs.Offers.{values_of};
+ghost use Rattle.ipc_tracker.specs.Listings.{ListsAll, listed};
+ghost use Rattle.ipc_tracker.specs.Trackers.{remembered};
+ghost use Rattle.ipc_write.specs.Lengths.{HaveLengths};
+ghost use Rattle.ipc_write.specs.Messages.{AreAllValues, AreMessages, AreSendable, AreValues, RefusesMessages, RefusesPlaces, dictionaries_seen, message_seen};
 ghost use Rattle.ipc_write.specs.Writers.{order_of};
 
+use crate::lengths::check_lengths;
 use ipc_base::chunk::Chunk;
-use ipc_carried::types::is_carried_type;
-use ipc_devices::{ArgFault, Fault, Nyi};
+use ipc_base::ipc::IpcField;
+use ipc_devices::Fault;
+use ipc_encode::batches::{BatchKind, Encoded, encode_batch};
 pub use ipc_encode::common::{EncodedData, WriteOptions};
-use ipc_plan::plan::Plan;
-use ipc_plan::serialize::plan_columns;
-use ipc_tables::message::{Message, MessageHeader, RecordBatch};
-use ipc_views::{Buffer, FieldNode, MetadataVersion};
+use ipc_tracker::{DictionaryTracker, NewDictionary, list_dictionaries};
 use lower::types::Endianness;
 use lower_arrays::array::AnyArray;
 use std::alloc::Global;
-use std::mem::replace;
+use std::slice;
 
 // The order of the bytes of numbers.
 pub(crate) fn byte_order(options: WriteOptions) -> Endianness
@@ -37,109 +38,100 @@ pub(crate) fn byte_order(options: WriteOptions) -> Endianness
     }
 }
 
-// The message of a record batch.
-fn record_message(
-    length: i64,
-    nodes: Vec<FieldNode>,
-    buffers: Vec<Buffer>,
-    body_length: i64,
-) -> Message
-    ensures value { result ≡ record {
-      version = V5;
-      header = a_record_batch
-          (record { length = length; nodes = nodes; buffers = buffers; compression = None });
-      body_length = body_length;
-      custom_metadata = None;
-    } }
-    ensures slots { message_slots result ≡ message_of length nodes.items buffers.items body_length }
-{
-    Message {
-        version: MetadataVersion::V5,
-        header: MessageHeader::RecordBatch(RecordBatch {
-            length,
-            nodes,
-            buffers,
-            compression: None,
-        }),
-        body_length,
-        custom_metadata: None,
-    }
+/// The messages that are written of a chunk, in their order. Their bodies are in pieces that borrow the chunk.
+#[derive(Drop)]
+pub struct Messages<'a> {
+    /// Those of the dictionaries that are to be written.
+    pub dictionaries: Vec<Encoded<'a>>,
+    /// That of the columns, which comes last.
+    pub record_batch: Encoded<'a>,
 }
 
-// Refuses a column that isn't written yet: one that has a dictionary in it.
-fn check_column(array: &AnyArray) -> Result<(), Fault>
-    ensures ok { OnOk result (IsCarried array.now) }
-    ensures valid { IsArray (layout_of array.now) }
-    ensures only { IfErr result (λ e. (e ≡ NotYetImplemented Pending) × ¬ IsCarried array.now) }
-{
-    if !is_carried_type(array.data_type()) {
-        return Err(Fault::NotYetImplemented(Nyi::Pending));
-    }
-    Ok(())
-}
-
-// Refuses columns of which one isn't written yet.
-fn check_columns(columns: &[AnyArray]) -> Result<(), Fault>
-    ensures ok { OnOk result (All IsCarried columns.now) }
-    ensures valid { OnOk result (All (λ array. IsArray (layout_of array)) columns.now) }
-    ensures only { IfErr result (λ e. (e ≡ NotYetImplemented Pending) × ¬ All IsCarried columns.now) }
-{
-    for column in columns {
-        check_column(column)?;
-    }
-    Ok(())
-}
-
-/// Plans a chunk, with its numbers in this order of bytes. No byte of the columns is moved.
+/// Lists the dictionaries of a chunk's columns that are to be written, as [`list_dictionaries`] does, and judges the lengths of all, of
+/// those too that were written before.
 ///
-/// Faults: `NotYetImplemented(Pending)` for a column that has a dictionary in it; `Argument(TooLong)` where an array has more than `2^63 - 1`
-/// slots; `Argument(TooLarge)` where the body would end past `2^63 - 1`; `Memory`.
-pub(crate) fn plan_chunk<'a>(
+/// Faults: those of [`list_dictionaries`]; `Argument(TooLong)` where an array in some values has more than `2^63 - 1` slots that would
+/// be written; `Argument(TooLarge)` where the body of some values would have more than `2^63 - 1` bytes; `Memory`. Where several are so,
+/// any of these may come.
+pub fn list_messages(
     alloc: Global,
-    chunk: &'a Chunk<AnyArray>,
-    order: Endianness,
-) -> Result<Plan<'a>, Fault>
-    ensures carried { OnOk result (All IsCarried chunk.now) }
-    ensures order { IfOk result (λ plan. plan.order ≡ order) }
-    ensures plans { IfOk result (λ plan. PlansChunk plan.order chunk.now plan) }
-    ensures only { IfErr result (RefusesChunk order chunk.now) }
+    tracker: &DictionaryTracker,
+    columns: &[AnyArray],
+    ids: &[IpcField],
+) -> Result<Vec<NewDictionary>, Fault>
+    ensures lists { IfOk result (λ list. ListsAll (remembered tracker.now) tracker.now.cannot_replace (map layout_of columns.now) (all_ids_view ids.now) (map listed list.items)) }
+    ensures lengths { OnOk result (HaveLengths (values_of (layouts (map layout_of columns.now)) (all_ids_view ids.now))) }
+    ensures refused { IfErr result (RefusesPlaces (remembered tracker.now) tracker.now.cannot_replace (map layout_of columns.now) (all_ids_view ids.now)) }
 {
-    check_columns(chunk.arrays())?;
-    plan_columns(alloc, chunk.arrays(), order)
+    let list = list_dictionaries(alloc, tracker, columns, ids)?;
+    check_lengths(alloc, columns)?;
+    Ok(list)
 }
 
-// The message of a record batch that lists what a plan does. The plan has its pieces left.
-fn plan_to_message(alloc: Global, plan: &mut Plan<'_>, length: i64) -> Message
-    requires { plan.old.end < 2 ^ 63 }
-    ensures value { IsPlanMessage result length plan.old }
-    ensures order { plan.new.order ≡ plan.old.order }
-    ensures pieces { plan.new.pieces.items ≡ plan.old.pieces.items }
+// Encodes the values of a dictionary.
+fn encode_dictionary<'a>(
+    alloc: Global,
+    dictionary: &'a NewDictionary,
+    is_little_endian: bool,
+) -> Result<Encoded<'a>, Fault>
+    ensures encodes { IfOk result (λ encoded. AreValues (order_where is_little_endian) (listed dictionary.now) (message_seen encoded)) }
+    ensures refused { IfErr result (RefusesValues (listed dictionary.now)) }
 {
-    let nodes = replace(&mut plan.nodes, Vec::new(alloc));
-    let buffers = replace(&mut plan.buffers, Vec::new(alloc));
-    record_message(length, nodes, buffers, plan.end.cast_signed())
+    let values = &*dictionary.values;
+    let encoded = encode_batch(
+        alloc,
+        BatchKind::Dictionary(dictionary.id),
+        slice::from_ref(values),
+        values.len(),
+        is_little_endian,
+    )?;
+    Ok(encoded)
 }
 
-/// Encodes the nodes and the buffers of a chunk's plan as the metadata of a record batch, whose body is
-/// the plan's pieces. The plan has its pieces left.
+// Encodes the values of each dictionary, in order.
+fn encode_dictionaries<'a>(
+    alloc: Global,
+    dictionaries: &'a [NewDictionary],
+    is_little_endian: bool,
+) -> Result<Vec<Encoded<'a>>, Fault>
+    ensures encodes { IfOk result (λ encoded. AreAllValues (order_where is_little_endian) (map listed dictionaries.now) (map message_seen encoded.items)) }
+    ensures refused { IfErr result (RefusesAllValues (map listed dictionaries.now)) }
+{
+    let mut encoded = Vec::new(alloc);
+    for dictionary in dictionaries {
+        encoded.push(encode_dictionary(alloc, dictionary, is_little_endian)?)?;
+    }
+    Ok(encoded)
+}
+
+/// Encodes the messages that are written of a chunk: those of the dictionaries that [`list_messages`] lists, and that of the columns.
+/// Bodies have their numbers in this byte order. No byte of a column is moved.
 ///
-/// Faults: `Argument(TooLarge)` where the metadata would have more than `2^31 - 1` bytes; `Memory`.
-pub(crate) fn chunk_to_metadata(
+/// Faults: `Argument(TooLong)` where an array has more than `2^63 - 1` slots that would be written; `Argument(TooLarge)` where a body
+/// would have more than `2^63 - 1` bytes, or metadata more than `2^31 - 1`; `Memory`. Where several are so, any of these may come.
+pub fn encode_messages<'a>(
     alloc: Global,
-    chunk: &Chunk<AnyArray>,
-    plan: &mut Plan<'_>,
-) -> Result<Vec<u8>, Fault>
-    requires carried { All IsCarried chunk.now }
-    requires plans { PlansChunk plan.old.order chunk.now plan.old }
-    ensures order { plan.new.order ≡ plan.old.order }
-    ensures message { IfOk result (λ metadata. IsChunkMessage plan.new.order metadata.items (pieces_bytes plan.new.order plan.new.pieces.items) chunk.now) }
-    ensures only { IfErr result (RefusesChunk plan.old.order chunk.now) }
-    ensures means { IfOk result (λ metadata. MeansColumns plan.new.order metadata.items (pieces_bytes plan.new.order plan.new.pieces.items) chunk.now) }
-    ensures whole { IfOk result (λ metadata. length metadata.items % 8 ≡ 0) }
+    columns: &'a Chunk<AnyArray>,
+    dictionaries: &'a [NewDictionary],
+    is_little_endian: bool,
+) -> Result<Messages<'a>, Fault>
+    ensures encodes { IfOk result (λ messages. AreMessages (order_where is_little_endian) (map layout_of columns.now) (map listed dictionaries.now)
+        (dictionaries_seen messages) (message_seen messages.record_batch)) }
+    ensures sendable { IfOk result AreSendable }
+    ensures takes { MatchResult result (λ _. IsEncodable Record (row_count len_of (map layout_of columns.now)) (levels_of (map layout_of columns.now)))
+        (RefusesMessages (map listed dictionaries.now) (map layout_of columns.now)) }
 {
-    let Ok(length) = i64::try_from(chunk.len()) else {
-        return Err(Fault::Argument(ArgFault::TooLong));
-    };
-    let message = plan_to_message(alloc, plan, length);
-    Ok(message.to_bytes(alloc)?)
+    let rows = columns.len();
+    let dictionaries = encode_dictionaries(alloc, dictionaries, is_little_endian)?;
+    let record_batch = encode_batch(
+        alloc,
+        BatchKind::Record,
+        columns.arrays(),
+        rows,
+        is_little_endian,
+    )?;
+    Ok(Messages {
+        dictionaries,
+        record_batch,
+    })
 }

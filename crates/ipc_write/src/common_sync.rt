@@ -1,16 +1,15 @@
 //! Sends messages to a device.
-ghost use Rattle.std.specs.Prelude.{◌≡◌, ◌+◌, ◌-◌, ◌^◌, ◌<◌, ◌≤◌, ◌++◌, length, IfOk, OnOk};
+ghost use Rattle.std.specs.Prelude.{◌≡◌, ◌+◌, ◌-◌, ◌^◌, ◌<◌, ◌≤◌, [], All, length, map, IfOk, OnOk};
 ghost use Rattle.std.specs.Int.{next_multiple_of};
-ghost use Rattle.ipc_plan.specs.Pieces.{pieces_bytes};
 ghost use Rattle.ipc_plan.specs.Sending.{Sends, seen_by};
 ghost use Rattle.ipc_write.specs.Framing.{head_bytes, head_len, message_bytes, padded, prefix_bytes};
+ghost use Rattle.ipc_write.specs.Messages.{AreSendable, IsSendable, all_seen, message_seen, messages_bytes};
 ghost use Rattle.ipc_write.specs.Sending.{SendsOrRefuses};
 
-use crate::common::EncodedData;
+use crate::common::{EncodedData, Messages};
 use ipc_devices::{ArgFault, Fault, Writes};
-use ipc_plan::pieces::Piece;
+use ipc_encode::batches::Encoded;
 use ipc_plan::sending::{send_bytes, send_pieces, zeros};
-use lower::types::Endianness;
 
 /// Sends all of these bytes. Where that fails, those that went out are the first ones.
 pub fn write_all<W: Writes>(writer: &mut W, bytes: &[u8]) -> Result<(), Fault>
@@ -76,6 +75,17 @@ fn write_metadata<W: Writes>(writer: &mut W, metadata: &[u8]) -> Result<usize, F
     Ok(8 + padded_len)
 }
 
+// Sends a message that has no body.
+//
+// Faults as of `write_metadata`.
+pub(crate) fn write_head<W: Writes>(writer: &mut W, metadata: &[u8]) -> Result<(), Fault>
+    ensures sends { SendsOrRefuses W.known W.grows W.failures W.room W.memory writer.old result writer.new
+        (message_bytes metadata.now []) (2 ^ 31 ≤ next_multiple_of (length metadata.now) 8) }
+{
+    write_metadata(writer, metadata)?;
+    Ok(())
+}
+
 /// Sends a message: the marker, the length of the padded metadata, the metadata padded with zeros so
 /// that it ends at a multiple of 8, the body padded with zeros to a multiple of 64. It answers the
 /// length of the first three together, and that of the padded body.
@@ -100,20 +110,48 @@ pub fn write_message<W: Writes>(
     Ok((head_len, encoded.arrow_data.len().next_multiple_of(64)))
 }
 
-/// Sends a message whose body is in pieces: what [`write_message`] sends before a body, and the pieces,
-/// with numbers in this order of bytes. Of no pieces it is a message without a body.
+/// Sends a message whose body is in pieces, as [`write_message`] does. It answers the length of what stands before the body, and that of
+/// the body.
 ///
-/// Faults as of [`write_message`].
-pub(crate) fn write_pieces<W: Writes>(
+/// `Io` comes only where the device failed, or where it is memory whose growth was refused; what went out by then are the first bytes of
+/// the message. No other fault comes.
+pub fn write_encoded<W: Writes>(
     writer: &mut W,
-    metadata: &[u8],
-    pieces: &[Piece<'_>],
-    order: Endianness,
-) -> Result<(), Fault>
-    ensures sends { SendsOrRefuses W.known W.grows W.failures W.room W.memory writer.old result writer.new
-        (head_bytes metadata.now ++ pieces_bytes order pieces.now)
-        (2 ^ 31 ≤ next_multiple_of (length metadata.now) 8) }
+    encoded: &Encoded<'_>,
+) -> Result<(usize, u64), Fault>
+    requires { IsSendable encoded.now }
+    ensures lengths { IfOk result (λ lens. (lens.0 ≡ head_len encoded.now.metadata.items) × (lens.1 ≡ encoded.now.body.end)) }
+    ensures sends { Sends W.known W.grows (seen_by W.failures W.room W.memory writer.old)
+        (seen_by W.failures W.room W.memory writer.new) result
+        (message_bytes (message_seen encoded.now).metadata (message_seen encoded.now).body) }
 {
-    write_metadata(writer, metadata)?;
-    send_pieces(writer, pieces, order)
+    let head_len = write_metadata(writer, &encoded.metadata)?;
+    send_pieces(writer, &encoded.body.pieces, encoded.body.order)?;
+    Ok((head_len, encoded.body.end))
+}
+
+// Sends messages, one after the other.
+fn write_all_encoded<W: Writes>(writer: &mut W, messages: &[Encoded<'_>]) -> Result<(), Fault>
+    requires { All IsSendable messages.now }
+    ensures { Sends W.known W.grows (seen_by W.failures W.room W.memory writer.old)
+        (seen_by W.failures W.room W.memory writer.new) result (messages_bytes (map message_seen messages.now)) }
+{
+    for message in messages {
+        write_encoded(writer, message)?;
+    }
+    Ok(())
+}
+
+/// Sends the messages of a chunk, those of its dictionaries first.
+///
+/// `Io` comes only where the device failed, or where it is memory whose growth was refused; what went out by then are the first bytes of
+/// the messages. No other fault comes.
+pub fn write_messages<W: Writes>(writer: &mut W, messages: &Messages<'_>) -> Result<(), Fault>
+    requires { AreSendable messages.now }
+    ensures { Sends W.known W.grows (seen_by W.failures W.room W.memory writer.old)
+        (seen_by W.failures W.room W.memory writer.new) result (messages_bytes (all_seen messages.now)) }
+{
+    write_all_encoded(writer, &messages.dictionaries)?;
+    write_encoded(writer, &messages.record_batch)?;
+    Ok(())
 }

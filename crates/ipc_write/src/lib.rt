@@ -4,4 +4,5 @@
 pub mod calls;
 pub mod common;
 pub mod common_sync;
+pub mod lengths;
 pub mod stream;

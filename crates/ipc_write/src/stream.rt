@@ -1,35 +1,41 @@
 //! Writes streams: Arrow columnar format, "IPC Streaming Format".
-ghost use Rattle.std.specs.Prelude.{◌≡◌, ◌↔◌, ◌≤◌, ◌^◌, ◌++◌, [], pos, length, map, IfErr, IfOk, IfSome, IsSomeAnd, IsTrue, OnOk};
+ghost use Rattle.std.specs.Prelude.{◌≡◌, ◌↔◌, ◌≤◌, ◌^◌, All, [], pos, length, map, IfErr, IfOk, IfSome, IsSomeAnd, IsTrue, MatchResult, OnOk};
 ghost use Rattle.std.specs.Int.{next_multiple_of};
-ghost use Rattle.lower.specs.TypeViews.{fields_view, pairs_of, type_view};
-ghost use Rattle.ipc_devices.specs.declared.fault.Fault.TheVariants.{Argument, NotYetImplemented};
-ghost use Rattle.ipc_devices.specs.declared.fault.Nyi.TheVariants.{Pending};
+ghost use Rattle.lower.specs.TypeViews.{fields_view, pairs_of};
+ghost use Rattle.lower_arrays.specs.AnyLayouts.{layout_of};
+ghost use Rattle.lower_arrays.specs.Layouts.{len_of};
+ghost use Rattle.lower_arrays.specs.Slots.{IsArray};
+ghost use Rattle.ipc_base.specs.Chunks.{row_count};
+ghost use Rattle.ipc_devices.specs.declared.fault.Fault.TheVariants.{Argument, State};
 ghost use Rattle.ipc_devices.specs.declared.fault.ArgFault.TheVariants.{FieldsDiffer, TooLarge};
-ghost use Rattle.ipc_write.specs.Framing.{head_bytes, prefix_bytes};
-ghost use Rattle.ipc_plan.specs.Pieces.{pieces_bytes};
-ghost use Rattle.ipc_write.specs.Sending.{SendsOrRefuses};
+ghost use Rattle.ipc_encode.specs.Encoding.{IsEncodable, levels_of};
+ghost use Rattle.ipc_encode.specs.declared.batches.BatchKind.TheVariants.{Record};
+ghost use Rattle.ipc_schema_write.specs.WriterAnswers.{byte_order, written_head_as};
+ghost use Rattle.ipc_tracker.specs.Listings.{listed};
 ghost use Rattle.ipc_write.specs.declared.stream.WriterState.TheVariants.{Failed, Finished, New, Started};
 ghost use Rattle.ipc_write.specs.Agreement.{Appends, Begins, IsFresh, Remains};
-ghost use Rattle.ipc_write.specs.Meaning.{chunk_written};
-ghost use Rattle.ipc_write.specs.Writers.{HasType, HaveTypes, RefusesFinish, RefusesStart, RefusesState, RefusesTypes, RefusesWrite, LeavesState, SendStep, SendsChunk, SendsSchema, StartsWith, StateComesFirst, TakesChunk, WritesExactly, chosen_ids, fault_unless_new, fault_unless_started, normal_types, order_of, seen, seen_ids};
-ghost use Rattle.ipc_carried.specs.Carried.{are_carried};
-ghost use Rattle.ipc_schema_write.specs.WriterAnswers.{byte_order, written_head_as};
+ghost use Rattle.ipc_write.specs.Framing.{message_bytes, prefix_bytes};
+ghost use Rattle.ipc_write.specs.Meaning.{chunk_written, normal_types};
+ghost use Rattle.ipc_write.specs.Messages.{RefusesHanding};
+ghost use Rattle.ipc_write.specs.Sending.{HandsMessages, SendsOrRefuses};
+ghost use Rattle.ipc_write.specs.Writers.{HasType, HaveTypes, LeavesState, MayList, RefusesChunk, RefusesFinish, RefusesStart, RefusesState, RefusesTypes, RefusesWrite, SendStep, SendsChunk, SendsSchema, StartsWith, StateComesFirst, TakesChunk, WritesExactly, chosen_ids, fault_unless_new, fault_unless_started, normal_view, order_of, seen, seen_ids};
 
-use crate::common::{WriteOptions, byte_order, chunk_to_metadata, plan_chunk};
-use crate::common_sync::{write_continuation, write_pieces};
+mod writer;
+
+use crate::common::{WriteOptions, byte_order, encode_messages, list_messages};
+use crate::common_sync::{write_continuation, write_head, write_messages};
 use ipc_base::chunk::Chunk;
 use ipc_base::ipc::IpcField;
-use ipc_carried::types::are_carried;
-use ipc_devices::{ArgFault, Fault, Nyi, StateFault, Writes};
-use ipc_plan::pieces::Piece;
-use ipc_schema_write::defaults::default_ipc_fields;
+use ipc_devices::{ArgFault, Fault, StateFault, Writes};
+use ipc_schema_write::defaults::writable_ipc_fields;
 use ipc_schema_write::dictionaries::are_same_ids;
 use ipc_schema_write::schema::schema_to_bytes_as;
-use lower::datatypes::equal::is_same_type;
-use lower::datatypes::{DataType, Field, Schema};
+use ipc_tracker::{DictionaryTracker, NewDictionary};
+use lower::datatypes::{DataType, Field, Schema, is_same_normal_type};
 use lower::types::Endianness;
 use lower_arrays::array::AnyArray;
 use std::alloc::{AllocError, Global};
+pub use writer::StreamWriter;
 
 /// How far a writer is.
 #[derive(Clone, Copy, Debug, PartialEq, Eq)]
@@ -44,61 +50,42 @@ pub enum WriterState {
     Failed,
 }
 
-/// Writes a stream: a schema, then chunks, then the mark that ends it.
-///
-/// The order of its calls is `start`, any number of `write`, `finish`; any other call is refused, and
-/// a refused call leaves the device and the writer's state as they were. After an `Io` fault each of
-/// these three answers `State(Failed)`; `into_inner` still hands out the device.
-#[derive(Drop)]
-pub struct StreamWriter<W> {
-    pub(crate) alloc: Global,
-    pub(crate) writer: W,
-    // of the bytes of numbers
-    pub(crate) order: Endianness,
-    pub(crate) state: WriterState,
-    // the types of the columns, in their normal form
-    pub(crate) types: Vec<DataType>,
-    pub(crate) ipc_fields: Vec<IpcField>,
-}
-
-// Whether a column has this type, in its normal form.
-fn has_type(column: &AnyArray, data_type: &DataType) -> Result<bool, AllocError>
-    ensures { IfOk result (λ b. IsTrue b ↔ HasType column.now (type_view data_type.now)) }
+// Whether a column has this type, both in their normal form.
+fn has_type(column: &AnyArray, data_type: &DataType) -> bool
+    ensures same { IsTrue result ↔ HasType column.now (normal_view data_type.now) }
+    ensures array { IsArray (layout_of column.now) }
 {
-    let normal = column.data_type().normal()?;
-    Ok(is_same_type(&normal, data_type))
+    is_same_normal_type(column.data_type(), data_type)
 }
 
 // Refuses columns that have not these types, one each.
 fn check_types(columns: &[AnyArray], types: &[DataType]) -> Result<(), Fault>
-    ensures ok { OnOk result (HaveTypes columns.now (map type_view types.now)) }
-    ensures only { IfErr result (RefusesTypes columns.now (map type_view types.now)) }
+    ensures ok { OnOk result (HaveTypes columns.now (map normal_view types.now)) }
+    ensures arrays { OnOk result (All (λ array. IsArray (layout_of array)) columns.now) }
+    ensures only { IfErr result (RefusesTypes columns.now (map normal_view types.now)) }
 {
     if columns.len() != types.len() {
         return Err(Fault::Argument(ArgFault::ColumnCount));
     }
     for (i, column) in columns.iter().enumerate() {
-        if !has_type(column, &types[i])? {
+        if !has_type(column, &types[i]) {
             return Err(Fault::Argument(ArgFault::ColumnType));
         }
     }
     Ok(())
 }
 
-// Sends a message whose body is in pieces. After a failure nothing more is sent.
-fn send<W: Writes>(
+// Sends the message of a schema, which has no body. After a failure nothing more is sent.
+fn send_schema<W: Writes>(
     writer: &mut W,
     state: &mut WriterState,
     metadata: &[u8],
-    pieces: &[Piece<'_>],
-    order: Endianness,
 ) -> Result<(), Fault>
     ensures sends { SendsOrRefuses W.known W.grows W.failures W.room W.memory writer.old result writer.new
-        (head_bytes metadata.now ++ pieces_bytes order pieces.now)
-        (2 ^ 31 ≤ next_multiple_of (length metadata.now) 8) }
+        (message_bytes metadata.now []) (2 ^ 31 ≤ next_multiple_of (length metadata.now) 8) }
     ensures state { LeavesState result state.old state.new }
 {
-    match write_pieces(writer, metadata, pieces, order) {
+    match write_head(writer, metadata) {
         Ok(()) => Ok(()),
         Err(Fault::Io(error)) => {
             *state = WriterState::Failed;
@@ -108,13 +95,45 @@ fn send<W: Writes>(
     }
 }
 
-// The types of the fields, in their normal form.
+// What a device answered to a writer, which has failed where the device has.
+fn note_failure(state: &mut WriterState, sent: Result<(), Fault>) -> Result<(), Fault>
+    ensures same { result ≡ sent }
+    ensures state { MatchResult sent (λ _. state.new ≡ state.old) (λ _. state.new ≡ Failed) }
+{
+    if sent.is_err() {
+        *state = WriterState::Failed;
+    }
+    sent
+}
+
+// Encodes a chunk, of which these dictionaries are to be written, and sends its messages. All memory is taken before the first byte.
+// After a failure of the device nothing more is sent.
+fn send_chunk<W: Writes>(
+    alloc: Global,
+    writer: &mut W,
+    state: &mut WriterState,
+    columns: &Chunk<AnyArray>,
+    dictionaries: &[NewDictionary],
+    order: Endianness,
+) -> Result<(), Fault>
+    ensures sends { HandsMessages W.known W.grows W.failures W.room W.memory order (map layout_of columns.now) (map listed dictionaries.now)
+        writer.old result writer.new }
+    ensures takes { MatchResult result (λ _. IsEncodable Record (row_count len_of (map layout_of columns.now)) (levels_of (map layout_of columns.now)))
+        (RefusesHanding (map listed dictionaries.now) (map layout_of columns.now)) }
+    ensures state { LeavesState result state.old state.new }
+{
+    let messages = encode_messages(alloc, columns, dictionaries, is_little_endian(order))?;
+    let sent = write_messages(writer, &messages);
+    note_failure(state, sent)
+}
+
+// The types of the fields.
 fn types_of_fields(alloc: Global, fields: &[Field]) -> Result<Vec<DataType>, AllocError>
-    ensures { IfOk result (λ types. map type_view types.items ≡ normal_types (fields_view fields.now)) }
+    ensures { IfOk result (λ types. map normal_view types.items ≡ normal_types (fields_view fields.now)) }
 {
     let mut types = Vec::new(alloc);
     for field in fields {
-        types.push(field.data_type.normal()?)?;
+        types.push(field.data_type.clone()?)?;
     }
     Ok(types)
 }
@@ -127,18 +146,6 @@ fn is_little_endian(order: Endianness) -> bool
         Endianness::Little => true,
         Endianness::Big => false,
     }
-}
-
-// Refuses a schema whose columns this writer doesn't take.
-fn check_carried(schema: &Schema) -> Result<(), Fault>
-    ensures ok { OnOk result (IsTrue (are_carried (fields_view schema.now.fields.items))) }
-    ensures only { IfErr result (λ e. (e ≡ NotYetImplemented Pending)
-        × (IsTrue (are_carried (fields_view schema.now.fields.items)) → ⊥)) }
-{
-    if !are_carried(&schema.fields) {
-        return Err(Fault::NotYetImplemented(Nyi::Pending));
-    }
-    Ok(())
 }
 
 impl<W: Writes + Drop> StreamWriter<W> {
@@ -196,6 +203,7 @@ impl<W: Writes + Drop> StreamWriter<W> {
             state: WriterState::New,
             types: Vec::new(alloc),
             ipc_fields: Vec::new(alloc),
+            dictionary_tracker: DictionaryTracker::new(alloc, false),
         }
     }
 
@@ -217,9 +225,8 @@ impl<W: Writes + Drop> StreamWriter<W> {
     /// and on, in pre-order.
     ///
     /// Faults: `State(AlreadyStarted)`, `State(Finished)`, `State(Failed)` by the writer's state;
-    /// `NotYetImplemented(Pending)` where a field has a dictionary in it; `Argument(FieldsShape)`
-    /// where the ids don't fit the fields; `Argument(NotWritable)` where a type can't be written, or the
-    /// schema's weight is above `2^30`; `Memory`: after these nothing was sent and the writer
+    /// `Argument(FieldsShape)` where the ids don't fit the fields; `Argument(NotWritable)` where a type can't be written, or the
+    /// schema's weight is above `2^30`, as [`schema_to_bytes_as`] says; `Memory`: after these nothing was sent and the writer
     /// is as it was. `Io` where the device failed, or where it is memory whose growth was refused: then
     /// some of the first bytes may have been sent, and each later `start`, `write` and `finish` answers
     /// `State(Failed)`.
@@ -239,36 +246,52 @@ impl<W: Writes + Drop> StreamWriter<W> {
             (written_head_as (seen self.old).order fields (pairs_of schema.now.metadata.entries) (chosen_ids ipc_fields fields)) }
     {
         self.check_new()?;
-        check_carried(schema)?;
         let ipc_fields = match ipc_fields {
             Some(given) => given,
-            None => default_ipc_fields(self.alloc, &schema.fields)?,
+            None => writable_ipc_fields(self.alloc, &schema.fields)?,
         };
         let types = types_of_fields(self.alloc, &schema.fields)?;
         let is_little = is_little_endian(self.order);
         let metadata = schema_to_bytes_as(self.alloc, schema, &ipc_fields, is_little)?;
-        send(
-            &mut self.writer,
-            &mut self.state,
-            &metadata,
-            &[],
-            self.order,
-        )?;
+        send_schema(&mut self.writer, &mut self.state, &metadata)?;
         self.state = WriterState::Started;
         self.types = types;
         self.ipc_fields = ipc_fields;
         Ok(())
     }
 
-    /// Writes a chunk, whose columns have the types of the schema. Ids that are handed in are those of
-    /// the start.
+    // Judges all of a chunk but the lengths of its columns, and lists the dictionaries that are to be written.
+    fn check_write(
+        &self,
+        columns: &[AnyArray],
+        ipc_fields: Option<&[IpcField]>,
+    ) -> Result<Vec<NewDictionary>, Fault>
+        ensures first { IfSome (fault_unless_started self.now.state) (λ e. result ≡ Err (State e)) }
+        ensures ok { IfOk result (λ list. MayList (seen self.now) columns.now (seen_ids ipc_fields.entry) (map listed list.items)) }
+        ensures only { IfErr result (RefusesChunk (seen self.now) columns.now (seen_ids ipc_fields.entry)) }
+    {
+        self.check_started()?;
+        self.check_ids(ipc_fields)?;
+        check_types(columns, &self.types)?;
+        let list = list_messages(
+            self.alloc,
+            &self.dictionary_tracker,
+            columns,
+            &self.ipc_fields,
+        )?;
+        Ok(list)
+    }
+
+    /// Writes a chunk, whose columns have the types of the schema: the dictionaries that are new or others than were written before, and
+    /// then the columns. Ids that are handed in are those of the start.
     ///
     /// Faults: `State(NotStarted)`, `State(Finished)`, `State(Failed)` by the writer's state;
     /// `Argument(FieldsDiffer)` for other ids; `Argument(ColumnCount)` for another number of columns;
     /// `Argument(ColumnType)` for a column of another type, both in their normal form;
-    /// `NotYetImplemented(Pending)` for a column that has a dictionary in it;
-    /// `Argument(TooLong)` where an array has more than `2^63 - 1` slots; `Argument(TooLarge)` where the body would end past `2^63 - 1`, or the metadata would have more
-    /// than `2^31 - 1` bytes; `Memory`: after these nothing was sent and the writer is as it was. `Io`
+    /// `Argument(SharedDictionary)` with the id where dictionaries of one id have other values;
+    /// `Argument(TooLong)` where an array, also one in the values of a dictionary, has more than `2^63 - 1` slots that would be written;
+    /// `Argument(TooLarge)` where the body of a message would have more than `2^63 - 1` bytes; `Memory`: after these nothing was sent, and
+    /// the writer and the dictionaries that it remembers are as they were. `Io`
     /// where the device failed, or where it is memory whose growth was refused: then some of the first
     /// bytes may have been sent, and each later `start`, `write` and `finish` answers `State(Failed)`.
     pub fn write(
@@ -283,18 +306,19 @@ impl<W: Writes + Drop> StreamWriter<W> {
         ensures exact { WritesExactly (seen self.old) columns.now (seen_ids ipc_fields.entry) result }
         ensures means { Appends W.known W.memory (seen self.old) result (seen self.new) (chunk_written columns.now) }
     {
-        self.check_started()?;
-        self.check_ids(ipc_fields)?;
-        check_types(columns.arrays(), &self.types)?;
-        let mut plan = plan_chunk(self.alloc, columns, self.order)?;
-        let metadata = chunk_to_metadata(self.alloc, columns, &mut plan)?;
-        send(
+        let dictionaries = self.check_write(columns.arrays(), ipc_fields)?;
+        // There is room to remember all, so that nothing fails once something was sent.
+        self.dictionary_tracker.make_room(dictionaries.len())?;
+        send_chunk(
+            self.alloc,
             &mut self.writer,
             &mut self.state,
-            &metadata,
-            &plan.pieces,
-            plan.order,
-        )
+            columns,
+            &dictionaries,
+            self.order,
+        )?;
+        self.dictionary_tracker.remember_all(dictionaries);
+        Ok(())
     }
 
     /// Writes the mark that ends a stream.

@@ -1,0 +1,106 @@
+-- Messages that are sent, whole or in part.
+use Rattle.std.proofs.Common.{arith, ◌≡◌, ℕ, ◌^◌, ◌<◌, ◌≤◌, ◌%◌, Bool, true, false, List, [], ◌∷◌, ◌++◌, length, map, Result, Ok, Err, IfErr, MatchResult, refl, sym, ap, ◌∙◌, subst, append-nil, inl, inr}
+use Rattle.std.specs.Int.{next_multiple_of}
+use Rattle.lower_types.specs.declared.Endianness.{Endianness}
+use Rattle.lower_arrays.specs.Layouts.{Layout}
+use Rattle.ipc_devices.specs.Device.{Memory}
+use Rattle.ipc_devices.specs.Faults.{IsIo}
+use Rattle.ipc_devices.specs.declared.fault.ArgFault.TheVariants.{TooLarge, TooLong}
+use Rattle.ipc_devices.specs.declared.fault.Fault.{Fault}
+use Rattle.ipc_devices.specs.declared.fault.Fault.TheVariants.{Argument, Io, Memory as NoMemory}
+use Rattle.ipc_encode.specs.Appending.{order_of}
+use Rattle.ipc_model.specs.Offers.{FilledPlace}
+use Rattle.ipc_schema_write.specs.WriterAnswers.{byte_order}
+use Rattle.ipc_plan.specs.Sending.{DeviceSeen, Sends, seen_by}
+use Rattle.ipc_plan.proofs.Sends.{sends_stop}
+use Rattle.ipc_write.specs.Framing.{head_bytes, message_bytes}
+use Rattle.ipc_write.specs.Messages.{AreMessages, Message, RefusesHanding, RefusesMessages, messages_bytes}
+use Rattle.ipc_write.specs.Sending.{HandsMessages, SendsOrRefuses}
+use Rattle.ipc_write.specs.Writers.{LeavesState}
+use Rattle.ipc_write.specs.declared.stream.WriterState.{WriterState}
+use Rattle.ipc_write.specs.declared.stream.WriterState.TheVariants.{Failed}
+use Rattle.ipc_write.proofs.MessageLists.{bytes_last}
+use Rattle.ipc_write.proofs.Messages.{message_whole_body}
+use Rattle.ipc_write.proofs.Refusals.{IsOfMessage, of_messages}
+use Rattle.ipc_write.proofs.Sends.{both_sent, failed_as, or_fail, or_sends, sent_as}
+
+-- ---- one message
+
+-- what stands before a body is a message without one
+pub head_is_message : (metadata : List ℕ) → head_bytes metadata ≡ message_bytes metadata []
+head_is_message metadata = sym (append-nil (head_bytes metadata)) ∙ message_whole_body metadata [] refl
+
+too_short : (n : ℕ) → n < 2 ^ 31 → 2 ^ 31 ≤ n → ⊥
+too_short n h k = omega (arith, h, k)
+
+-- what stands before its body wasn't sent whole
+pub head_unsent : (X Y : Type 0) {W : Type 0} (known grows : Bool) (failures room : W → ℕ) (memory : W → Memory) (w : W) (e : Fault) (w' : W) (metadata body : List ℕ)
+    → next_multiple_of (length metadata) 8 < 2 ^ 31 → length body % 64 ≡ 0
+    → SendsOrRefuses {X = X} known grows failures room memory w (Err e) w' (head_bytes metadata) (2 ^ 31 ≤ next_multiple_of (length metadata) 8)
+    → Sends {X = Y} known grows (seen_by failures room memory w) (seen_by failures room memory w') (Err e) (message_bytes metadata body)
+head_unsent X Y known grows failures room memory w e w' metadata body short whole h =
+    subst (λ (bytes : List ℕ). Sends {X = Y} known grows (seen_by failures room memory w) (seen_by failures room memory w') (Err e) bytes) (message_whole_body metadata body whole)
+    (sends_stop {X = X} {Y = Y} known grows _ _ e (head_bytes metadata) body (or_sends {X = X} known grows failures room memory w (Err e) w' (head_bytes metadata) _ h (too_short _ short)))
+
+-- it was, and then the body
+pub body_after : (X Y : Type 0) {W : Type 0} (known grows : Bool) (failures room : W → ℕ) (memory : W → Memory) (w w' w'' : W) (x : X) (r : Result Y Fault) (metadata body : List ℕ)
+    → next_multiple_of (length metadata) 8 < 2 ^ 31 → length body % 64 ≡ 0
+    → SendsOrRefuses {X = X} known grows failures room memory w (Ok x) w' (head_bytes metadata) (2 ^ 31 ≤ next_multiple_of (length metadata) 8)
+    → Sends {X = Y} known grows (seen_by failures room memory w') (seen_by failures room memory w'') r body
+    → Sends {X = Y} known grows (seen_by failures room memory w) (seen_by failures room memory w'') r (message_bytes metadata body)
+body_after X Y known grows failures room memory w w' w'' x r metadata body short whole f g =
+    subst (λ (bytes : List ℕ). Sends {X = Y} known grows (seen_by failures room memory w) (seen_by failures room memory w'') r bytes) (message_whole_body metadata body whole)
+    (both_sent {X = X} {Y = Y} known grows _ _ _ x r (head_bytes metadata) body f g)
+
+-- ---- one after another
+
+pub all_unsent : (X Y : Type 0) (known grows : Bool) (d d' : DeviceSeen) (e : Fault) (xs : List Message) (m : Message) → Sends {X = X} known grows d d' (Err e) (messages_bytes xs)
+    → Sends {X = Y} known grows d d' (Err e) (messages_bytes (xs ++ m ∷ []))
+all_unsent X Y known grows d d' e xs m h =
+    subst (λ (bytes : List ℕ). Sends {X = Y} known grows d d' (Err e) bytes) (sym (bytes_last xs m)) (sends_stop {X = X} {Y = Y} known grows d d' e (messages_bytes xs) (message_bytes m.metadata m.body) h)
+
+pub last_after : (X Y : Type 0) (known grows : Bool) (d d' d'' : DeviceSeen) (x : X) (r : Result Y Fault) (xs : List Message) (m : Message) → Sends {X = X} known grows d d' (Ok x) (messages_bytes xs)
+    → Sends {X = Y} known grows d' d'' r (message_bytes m.metadata m.body) → Sends {X = Y} known grows d d'' r (messages_bytes (xs ++ m ∷ []))
+last_after X Y known grows d d' d'' x r xs m f g =
+    subst (λ (bytes : List ℕ). Sends {X = Y} known grows d d'' r bytes) (sym (bytes_last xs m)) (both_sent {X = X} {Y = Y} known grows d d' d'' x r (messages_bytes xs) (message_bytes m.metadata m.body) f g)
+
+-- ---- a chunk
+
+-- messages that aren't encoded
+pub hands_refused : {W : Type 0} (known grows : Bool) (failures room : W → ℕ) (memory : W → Memory) (order : Endianness) (columns : List Layout) (list : List FilledPlace) (w : W) (e : Fault)
+    → IsOfMessage e → HandsMessages known grows failures room memory order columns list w (Err e) w
+hands_refused known grows failures room memory order columns list w NoMemory h = record { dictionaries = []; own = record { metadata = []; body = [] }; are = tt; sends = refl }
+hands_refused known grows failures room memory order columns list w (Argument TooLong) h = record { dictionaries = []; own = record { metadata = []; body = [] }; are = tt; sends = refl }
+hands_refused known grows failures room memory order columns list w (Argument TooLarge) h = record { dictionaries = []; own = record { metadata = []; body = [] }; are = tt; sends = refl }
+hands_refused known grows failures room memory order columns list w _ h = absurd h
+
+pub handing_refused : (list : List FilledPlace) (columns : List Layout) (e : Fault) → RefusesMessages list columns e → RefusesHanding list columns e
+handing_refused list columns (Io x) h = tt
+handing_refused list columns _ h = h
+
+pub leaves_refused : (s : WriterState) (e : Fault) → IsOfMessage e → LeavesState (Err e) s s
+leaves_refused s (Io x) h = absurd h
+leaves_refused s _ h = refl
+
+-- what a device answered
+pub hands_sent : {W : Type 0} (known grows : Bool) (failures room : W → ℕ) (memory : W → Memory) (order : Endianness) (columns : List Layout) (list : List FilledPlace) (ds : List Message) (own : Message) (w w' : W) (r : Result (Unit {0}) Fault)
+    → AreMessages order columns list ds own → Sends {X = Unit {0}} known grows (seen_by failures room memory w) (seen_by failures room memory w') r (messages_bytes (ds ++ own ∷ []))
+    → HandsMessages known grows failures room memory order columns list w r w'
+hands_sent known grows failures room memory order columns list ds own w w' (Ok x) are h = record { dictionaries = ds; own = own; are = are; sends = h }
+hands_sent known grows failures room memory order columns list ds own w w' (Err (Io x)) are h = record { dictionaries = ds; own = own; are = are; sends = h }
+hands_sent known grows failures room memory order columns list ds own w w' (Err _) are h = absurd h.only
+
+pub handing_sent : (list : List FilledPlace) (columns : List Layout) (r : Result (Unit {0}) Fault) (P : Type 0) → IfErr r (λ e. IsIo e) → P → MatchResult r (λ _. P) (RefusesHanding list columns)
+handing_sent list columns (Ok x) P only p = p
+handing_sent list columns (Err (Io x)) P only p = tt
+handing_sent list columns (Err _) P only p = absurd only
+
+pub leaves_sent : (s s' : WriterState) (r : Result (Unit {0}) Fault) → IfErr r (λ e. IsIo e) → MatchResult r (λ _. s' ≡ s) (λ _. s' ≡ Failed) → LeavesState r s s'
+leaves_sent s s' (Ok x) only h = h
+leaves_sent s s' (Err (Io x)) only h = h
+leaves_sent s s' (Err _) only h = absurd only
+
+-- both orders of bytes
+pub same_order : (b : Bool) → order_of b ≡ byte_order b
+same_order true = refl
+same_order false = refl

@@ -1,0 +1,18 @@
+use Rattle.std.proofs.Common.{rules, ◌≡◌, Err, map}
+use Rattle.lower_arrays.specs.AnyLayouts.{layout_of}
+use Rattle.lower_arrays.specs.Layouts.{layouts}
+use Rattle.ipc_base.specs.IdTrees.{all_ids_view}
+use Rattle.ipc_tracker.specs.Trackers.{remembered}
+use Rattle.ipc_write.proofs.DictionaryLengths.{all_have, lengths_refused}
+use Rattle.ipc_write.proofs.common.list_messages.Goals as goal
+
+pub returns-clause-lengths : goal.returns-clause-lengths
+returns-clause-lengths c = all_have (layouts (map layout_of c.args.columns.now)) (all_ids_view c.args.ids.now) c.in_ok-check_lengths.ensures
+
+pub returns-in_err-check_lengths-clause-refused : goal.returns-in_err-check_lengths-clause-refused
+returns-in_err-check_lengths-clause-refused c =
+    let fault = c.in_err-check_lengths.field-0.0 in
+    let e : c.from_residual-in_err-check_lengths.result ≡ Err fault = search rules in
+    rw e
+    (lengths_refused (remembered c.args.tracker.now) c.args.tracker.now.cannot_replace (map layout_of c.args.columns.now) (all_ids_view c.args.ids.now) _ fault c.in_ok-list.ensures.lists
+    c.in_err-check_lengths.ensures)

@@ -1,6 +1,0 @@
-use Rattle.std.proofs.Common.{refl}
-use Rattle.ipc_write.proofs.Agreements.{fresh}
-use Rattle.ipc_write.proofs.stream.StreamWriter.new.Goals as goal
-
-pub returns-clause-means : goal.returns-clause-means
-returns-clause-means g c = fresh _ _ refl

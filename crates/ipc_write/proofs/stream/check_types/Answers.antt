@@ -1,0 +1,29 @@
+use Rattle.std.proofs.Common.{rules, arith, ◌≡◌, All, subst, length, List}
+use Rattle.std.proofs.lemmas.List.{take_all}
+use Rattle.std.proofs.lemmas.List.Elements.{All-more}
+use Rattle.lower_arrays.specs.AnyLayouts.{layout_of}
+use Rattle.lower_arrays.specs.Slots.{IsArray}
+use Rattle.lower_arrays.specs.declared.array.AnyArray.{AnyArray}
+use Rattle.ipc_write.specs.Writers.{HasType, normal_view}
+use Rattle.ipc_write.proofs.Acceptance.{types_more, types_rest}
+use Rattle.ipc_write.proofs.stream.check_types.Goals as goal
+
+pub loop-i-preserved : goal.loop-i-preserved
+loop-i-preserved c =
+    let xs = c.args.columns.now in
+    let ts = c.args.types.now in
+    let i = c.loop-i.i in
+    let x = c.index-columns-i.result in
+    let t = c.index-types-i.result in
+    let before = c.loop-i.invariant in
+    let both : length xs ≡ length ts = search rules in
+    let has : HasType x (normal_view t) = search rules in
+    record {
+      left = λ rest. before.left (types_more xs ts i x t c.loop-i-test.true both c.index-columns-i.is c.index-types-i.is has rest);
+      all = λ h. types_rest xs ts i x t c.loop-i-test.true both c.index-columns-i.is c.index-types-i.is (before.all h);
+      arrays = All-more (λ array. IsArray (layout_of array)) xs i x c.loop-i-test.true before.arrays (rw c.index-columns-i.is at c.has_type.ensures.array);
+    }
+
+pub returns-clause-arrays : goal.returns-clause-arrays
+returns-clause-arrays c =
+    subst (λ (xs : List AnyArray). All (λ array. IsArray (layout_of array)) xs) (take_all c.loop-i.i c.args.columns.now c.loop-i-test.false) c.loop-i.invariant.arrays

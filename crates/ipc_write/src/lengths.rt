@@ -1,0 +1,69 @@
+//! Judges the lengths of a chunk's dictionaries, those of dictionaries too that needn't be written.
+ghost use Rattle.std.specs.Prelude.{◌≡◌, ◌≤◌, ◌++◌, map, MatchResult};
+ghost use Rattle.lower_arrays.specs.AnyLayouts.{layout_of};
+ghost use Rattle.lower_arrays.specs.Layouts.{height, heights, layouts};
+ghost use Rattle.ipc_write.specs.Lengths.{AnswersLengths, HasLengths, RefusesLengths, dictionaries_below, dictionaries_in, own_dictionaries};
+
+use ipc_devices::Fault;
+use ipc_plan::serialize::plan_columns;
+use lower::types::Endianness;
+use lower_arrays::array::AnyArray;
+use std::alloc::Global;
+use std::slice;
+
+/// Refuses columns with a dictionary whose message couldn't say its lengths. Dictionaries inside the values of others are judged too.
+///
+/// Faults: `Argument(TooLong)` where an array in some values has more than `2^63 - 1` slots that would be written; `Argument(TooLarge)`
+/// where the body of some values would have more than `2^63 - 1` bytes; `Memory`.
+#[cycle(lengths)]
+pub fn check_lengths(alloc: Global, columns: &[AnyArray]) -> Result<(), Fault>
+    ensures { AnswersLengths result (dictionaries_in (layouts (map layout_of columns.now))) }
+{
+    for column in columns {
+        check_column(alloc, column)?;
+    }
+    Ok(())
+}
+
+// Judges the dictionaries below an array, and then its own.
+#[cycle(lengths)]
+fn check_column(alloc: Global, column: &AnyArray) -> Result<(), Fault>
+    ensures { AnswersLengths result (dictionaries_below (layout_of column.now) ++ own_dictionaries (layout_of column.now)) }
+{
+    check_lengths(alloc, below(column))?;
+    check_own(alloc, column)
+}
+
+// Judges the values of an array of keys.
+fn check_own(alloc: Global, column: &AnyArray) -> Result<(), Fault>
+    ensures { AnswersLengths result (own_dictionaries (layout_of column.now)) }
+{
+    match column {
+        AnyArray::Dictionary(array) => check_values(alloc, array.values()),
+        _ => Ok(()),
+    }
+}
+
+// Judges the lengths of values. They are planned, so that these are the lengths that a message of them would have.
+fn check_values(alloc: Global, values: &AnyArray) -> Result<(), Fault>
+    ensures { MatchResult result (λ _. HasLengths (layout_of values.now)) (RefusesLengths (layout_of values.now)) }
+{
+    let _ = plan_columns(alloc, slice::from_ref(values), Endianness::Little)?;
+    Ok(())
+}
+
+// The arrays in which dictionaries below an array are: its children, and for an array of keys the children of its values.
+fn below(array: &AnyArray) -> &[AnyArray]
+    ensures same { dictionaries_in (layouts (map layout_of result.now)) ≡ dictionaries_below (layout_of array.now) }
+    ensures small { heights (layouts (map layout_of result.now)) ≤ height (layout_of array.now) }
+{
+    match array {
+        AnyArray::Dictionary(array) => below(array.values()),
+        AnyArray::List(array) | AnyArray::LargeList(array) => slice::from_ref(array.values()),
+        AnyArray::FixedSizeList(array) => slice::from_ref(array.values()),
+        AnyArray::Map(array) => slice::from_ref(array.field()),
+        AnyArray::Struct(array) => array.values(),
+        AnyArray::Union(array) => array.fields(),
+        _ => &[],
+    }
+}
