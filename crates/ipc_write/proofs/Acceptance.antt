@@ -1,10 +1,10 @@
 -- Columns are accepted just where their types fit, one id has one list of values, and all lengths can be said.
-use Rattle.std.proofs.Common.{◌≡◌, ℕ, ◌^◌, ◌<◌, ◌≤◌, ◌⊎◌, arith, List, [], ◌∷◌, ◌++◌, ◌+◌, length, map, All, drop, get_or, zero, suc, refl, sym, ap, ◌∙◌, subst, inl, inr, append-nil}
+use Rattle.std.proofs.Common.{◌≡◌, ℕ, ◌^◌, ◌<◌, ◌≤◌, arith, List, [], ◌∷◌, ◌+◌, length, map, All, drop, get_or, zero, suc, refl, sym, ap, ◌∙◌, subst, inl, inr, append-nil}
 use Rattle.std.proofs.lemmas.List.{drop_more}
 use Rattle.std.specs.List.{AllByRecursion, flat_map}
 use Rattle.lower.specs.Normal.{norm}
 use Rattle.lower.specs.declared.datatypes.DataType.{DataType}
-use Rattle.lower.specs.TypeTrees.{TypeTree, field, FieldTrees, no_fields, more_fields}
+use Rattle.lower.specs.TypeTrees.{field, FieldTrees, no_fields, more_fields}
 use Rattle.lower_arrays.specs.AnyLayouts.{layout_of}
 use Rattle.lower_arrays.specs.Layouts.{Layout, Level, layout, layouts, len_of, type_of}
 use Rattle.lower_arrays.specs.Slots.{AreArrays, IsArray}
@@ -15,7 +15,7 @@ use Rattle.ipc_chunks.specs.Chunks.{RefusesSome}
 use Rattle.ipc_devices.specs.declared.fault.ArgFault.TheVariants.{TooLarge, TooLong}
 use Rattle.ipc_devices.specs.declared.fault.Fault.TheVariants.{Argument}
 use Rattle.ipc_encode.specs.Encoding.{IsEncodable, levels_of}
-use Rattle.ipc_encode.specs.declared.batches.BatchKind.TheVariants.{Record, Dictionary}
+use Rattle.ipc_encode.specs.declared.batches.BatchKind.TheVariants.{Record}
 use Rattle.ipc_model.specs.Accepted.{IsSayable, body_length, types_of}
 use Rattle.ipc_model.specs.Offers.{FilledPlace, IsAcceptedChunk, body_lengths, messages, offer_of, values_of, whole_levels}
 use Rattle.ipc_plan.specs.Batches.{AreLike}
@@ -23,7 +23,7 @@ use Rattle.ipc_plan.specs.Taking.{AreShort}
 use Rattle.ipc_tracker.proofs.PlaceLists.{all_behind, all_both, all_front}
 use Rattle.ipc_tracker.specs.Listings.{ListsAll}
 use Rattle.ipc_tracker.specs.Trackers.{Remembered}
-use Rattle.ipc_write.specs.Lengths.{HasLengths, HaveLengths}
+use Rattle.ipc_write.specs.Lengths.{HaveLengths}
 use Rattle.ipc_write.specs.Meaning.{normal_types}
 use Rattle.ipc_write.specs.Writers.{HasType, HaveTypes, normal_view}
 use Rattle.ipc_write.proofs.Dictionaries.{HaveShortMetadata}

@@ -1,7 +1,6 @@
 -- How each call of a stream's writer moves what its bytes mean.
-use Rattle.std.proofs.Common.{arith, ◌≡◌, ℕ, pos, ◌%◌, ◌^◌, ◌<◌, ◌⊎◌, inl, inr, Bool, IsTrue, List, [], ◌∷◌, ◌++◌, map, length, take, Some, Option, Result, Ok, Err, refl, sym, ap, ◌∙◌, subst, append_assoc, append-nil}
-use Rattle.std.specs.Prelude.{OnOk}
-use Rattle.lower.specs.TypeTrees.{FieldTrees, Pairs, TypeTree}
+use Rattle.std.proofs.Common.{arith, ◌≡◌, ℕ, pos, ◌%◌, ◌^◌, ◌<◌, ◌⊎◌, inl, inr, Bool, IsTrue, List, [], ◌∷◌, ◌++◌, map, length, take, Some, Option, Ok, Err, refl, sym, ap, ◌∙◌, subst, append_assoc, append-nil}
+use Rattle.lower.specs.TypeTrees.{FieldTrees, TypeTree}
 use Rattle.lower_types.specs.declared.Endianness.{Endianness}
 use Rattle.lower_arrays.specs.AnyLayouts.{layout_of}
 use Rattle.lower_arrays.specs.declared.array.AnyArray.{AnyArray}
@@ -16,11 +15,8 @@ use Rattle.ipc_laws.specs.Runs.{IsOpen as IsOpenStream}
 use Rattle.ipc_model.proofs.WriterSteps.{start_law}
 use Rattle.ipc_model.specs.Batches.{Chunk}
 use Rattle.ipc_model.specs.Schemas.{head_of, schema_of}
-use Rattle.ipc_model.specs.Streams.{Head, nothing_known}
+use Rattle.ipc_model.specs.Streams.{Head}
 use Rattle.ipc_model.specs.WrittenLaws.{prefix}
-use Rattle.ipc_model.specs.Writable.{IsWritable}
-use Rattle.ipc_model.specs.Writers.{IsStarted}
-use Rattle.ipc_schema_write.specs.WriterAnswers.{written_head_as}
 use Rattle.ipc_tracker.proofs.PlaceLists.{memory_is}
 use Rattle.ipc_tracker.specs.Trackers.{IsSameMemory, Remembered}
 use Rattle.ipc_views.specs.Tables.{number_at}

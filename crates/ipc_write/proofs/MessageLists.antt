@@ -1,5 +1,5 @@
 -- The messages of a chunk: how they stand in a stream, and what they mean.
-use Rattle.std.proofs.Common.{arith, ◌≡◌, ℕ, zero, suc, ◌+◌, ◌<◌, ◌%◌, ◌^◌, List, [], ◌∷◌, ◌++◌, length, map, All, take, get_or, refl, sym, ap, ap₂, ◌∙◌, subst, inl, inr, append_assoc, append-nil}
+use Rattle.std.proofs.Common.{arith, ◌≡◌, ℕ, zero, suc, ◌+◌, ◌<◌, ◌%◌, ◌^◌, List, [], ◌∷◌, ◌++◌, length, map, take, get_or, refl, sym, ap, ◌∙◌, subst, inl, inr, append_assoc, append-nil}
 use Rattle.std.specs.Int.{next_multiple_of}
 use Rattle.lower.specs.TypeTrees.{FieldTrees, Pairs}
 use Rattle.lower_types.specs.declared.Endianness.{Endianness}
@@ -21,7 +21,7 @@ use Rattle.ipc_laws.specs.Messages.{chunk_written as layouts_written, message_by
 use Rattle.ipc_laws.specs.Moves.{MeansChunk}
 use Rattle.ipc_laws.specs.Places.{head_written}
 use Rattle.ipc_laws.specs.Remembered.{Filled, filled_of, filled_place}
-use Rattle.ipc_model.specs.Offers.{FilledPlace, IsAcceptedChunk, values_of}
+use Rattle.ipc_model.specs.Offers.{FilledPlace, IsAcceptedChunk}
 use Rattle.ipc_model.specs.Writable.{IsWritable}
 use Rattle.ipc_plan.specs.Batches.{body_of_plan, lists_of_plan}
 use Rattle.ipc_plan.specs.Bodies.{PlansColumns}
@@ -33,7 +33,7 @@ use Rattle.ipc_tracker.specs.Trackers.{IsSameMemory, Remembered, dictionary_of, 
 use Rattle.ipc_tracker.specs.declared.tracker.NewDictionary.{NewDictionary}
 use Rattle.ipc_write.proofs.Messages.{body_whole, message_whole}
 use Rattle.ipc_write.specs.Framing.{message_bytes}
-use Rattle.ipc_write.specs.Messages.{AreAllValues, AreMessages, AreSendable, AreValues, IsSendable, Message, message_seen, messages_bytes}
+use Rattle.ipc_write.specs.Messages.{AreAllValues, AreMessages, AreValues, IsSendable, Message, message_seen, messages_bytes}
 
 -- ---- one message
 

@@ -1,5 +1,5 @@
 -- Messages that are sent, whole or in part.
-use Rattle.std.proofs.Common.{arith, ◌≡◌, ℕ, ◌^◌, ◌<◌, ◌≤◌, ◌%◌, Bool, true, false, List, [], ◌∷◌, ◌++◌, length, map, Result, Ok, Err, IfErr, MatchResult, refl, sym, ap, ◌∙◌, subst, append-nil, inl, inr}
+use Rattle.std.proofs.Common.{arith, ◌≡◌, ℕ, ◌^◌, ◌<◌, ◌≤◌, ◌%◌, Bool, true, false, List, [], ◌∷◌, ◌++◌, length, Result, Ok, Err, IfErr, MatchResult, refl, sym, ◌∙◌, subst, append-nil}
 use Rattle.std.specs.Int.{next_multiple_of}
 use Rattle.lower_types.specs.declared.Endianness.{Endianness}
 use Rattle.lower_arrays.specs.Layouts.{Layout}
@@ -21,8 +21,8 @@ use Rattle.ipc_write.specs.declared.stream.WriterState.{WriterState}
 use Rattle.ipc_write.specs.declared.stream.WriterState.TheVariants.{Failed}
 use Rattle.ipc_write.proofs.MessageLists.{bytes_last}
 use Rattle.ipc_write.proofs.Messages.{message_whole_body}
-use Rattle.ipc_write.proofs.Refusals.{IsOfMessage, of_messages}
-use Rattle.ipc_write.proofs.Sends.{both_sent, failed_as, or_fail, or_sends, sent_as}
+use Rattle.ipc_write.proofs.Refusals.{IsOfMessage}
+use Rattle.ipc_write.proofs.Sends.{both_sent, or_sends}
 
 -- ---- one message
 

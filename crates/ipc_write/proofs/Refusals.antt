@@ -1,13 +1,12 @@
 -- What a writer answers of a chunk, exactly.
-use Rattle.std.proofs.Common.{◌≡◌, ℕ, ◌≤◌, ◌^◌, arith, false, List, [], ◌∷◌, length, map, Option, None, Some, IfSome, IsSomeAnd, ◌⊎◌, inl, inr, Result, Ok, Err, IfErr, refl, sym, ap, ◌∙◌, subst}
-use Rattle.std.specs.List.{AllByRecursion}
+use Rattle.std.proofs.Common.{◌≡◌, ℕ, arith, false, List, [], ◌∷◌, length, map, Option, None, Some, IfSome, IsSomeAnd, ◌⊎◌, inl, inr, Result, Ok, Err, sym, ap, ◌∙◌, subst}
 use Rattle.lower.specs.TypeTrees.{FieldTrees, Pairs, TypeTree}
 use Rattle.lower_arrays.specs.AnyLayouts.{layout_of}
 use Rattle.lower_arrays.specs.Layouts.{Layout, layouts, len_of}
 use Rattle.lower_arrays.specs.declared.array.AnyArray.{AnyArray}
 use Rattle.ipc_base.specs.Chunks.{row_count}
 use Rattle.ipc_base.specs.IdTrees.{IdTrees}
-use Rattle.ipc_chunks.specs.Chunks.{RefusesAllValues, RefusesSome, RefusesValues}
+use Rattle.ipc_chunks.specs.Chunks.{RefusesSome, RefusesValues}
 use Rattle.ipc_devices.specs.Faults.{OnIo, OwnFault}
 use Rattle.ipc_devices.specs.declared.fault.ArgFault.TheVariants.{ColumnCount, ColumnType, DictionaryReplaced, FieldsDiffer, FieldsShape, SharedDictionary, TooLarge, TooLong}
 use Rattle.ipc_devices.specs.declared.fault.Fault.{Fault}
@@ -16,14 +15,14 @@ use Rattle.ipc_encode.proofs.ShortMetadata.{short_metadata_law}
 use Rattle.ipc_devices.specs.declared.fault.StateFault.{StateFault}
 use Rattle.ipc_encode.specs.Encoding.{IsEncodable, RefusesBatch, levels_of}
 use Rattle.ipc_encode.specs.declared.batches.BatchKind.TheVariants.{Record}
-use Rattle.ipc_model.specs.Offers.{FilledPlace, IsAcceptedChunk, offer_of, values_of}
+use Rattle.ipc_model.specs.Offers.{FilledPlace, values_of}
 use Rattle.ipc_model.specs.Writable.{IsWritable}
 use Rattle.ipc_tracker.proofs.Refusals.{refusal_law}
-use Rattle.ipc_tracker.specs.Listings.{Lists, ListsAll, RefusesAll, remembering_all}
+use Rattle.ipc_tracker.specs.Listings.{Lists, RefusesAll}
 use Rattle.ipc_tracker.specs.Trackers.{Remembered, dictionary_of, remembering}
 use Rattle.ipc_write.specs.Meaning.{normal_types}
 use Rattle.ipc_write.specs.Messages.{RefusesHanding, RefusesMessages, RefusesPlaces}
-use Rattle.ipc_write.specs.Writers.{AnswersWrite, FitTypes, HaveTypes, MayBeWritten, MayList, MissesWrite, RefusesChunk, RefusesState, RefusesTypes, RefusesWrite, StateComesFirst, WriterSeen, WritesExactly, fault_unless_started}
+use Rattle.ipc_write.specs.Writers.{FitTypes, HaveTypes, MayBeWritten, MayList, MissesWrite, RefusesChunk, RefusesState, RefusesTypes, RefusesWrite, StateComesFirst, WriterSeen, WritesExactly, fault_unless_started}
 use Rattle.ipc_write.specs.declared.stream.WriterState.TheVariants.{Started}
 use Rattle.ipc_write.proofs.Acceptance.{accepted, have_types, last_body, last_lens, like_fields, rows_short, same_count, some_large, some_long}
 use Rattle.ipc_write.proofs.Dictionaries.{have_ids, one_type_of, short_places}

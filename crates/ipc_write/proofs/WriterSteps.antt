@@ -1,6 +1,6 @@
 -- Calls of a writer that send, or are refused before anything is sent.
-use Rattle.std.proofs.Common.{◌≡◌, ℕ, ◌<◌, ◌≤◌, ◌⊎◌, inl, inr, Bool, IsTrue, List, [], ◌∷◌, ◌++◌, ◌%◌, ◌^◌, length, subst, sym, ◌∙◌, ap, map, Option, None, Some, Result, Ok, Err, IfErr, arith, refl, append-nil}
-use Rattle.std.specs.Prelude.{IfSome, MatchResult, OnOk, Vec}
+use Rattle.std.proofs.Common.{◌≡◌, ℕ, ◌<◌, ◌≤◌, ◌⊎◌, inl, inr, Bool, IsTrue, List, [], ◌∷◌, ◌++◌, length, map, Option, None, Result, Ok, Err, arith, refl}
+use Rattle.std.specs.Prelude.{Vec}
 use Rattle.std.specs.declared.alloc.Global.{Global}
 use Rattle.ipc_base.specs.declared.ipc.IpcField.{IpcField}
 use Rattle.ipc_schema_write.specs.DefaultIds.{default_all}
@@ -14,22 +14,17 @@ use Rattle.ipc_model.specs.Streams.{Head}
 use Rattle.lower.specs.TypeTrees.{FieldTrees, Pairs}
 use Rattle.ipc_base.specs.IdTrees.{IdTrees}
 use Rattle.ipc_schema_write.specs.WriterAnswers.{RefusesSchema}
-use Rattle.lower_types.specs.declared.Endianness.{Endianness}
 use Rattle.lower_arrays.specs.AnyLayouts.{layout_of}
-use Rattle.lower_arrays.specs.Layouts.{Layout}
 use Rattle.lower_arrays.specs.declared.array.AnyArray.{AnyArray}
 use Rattle.ipc_model.specs.Offers.{FilledPlace}
 use Rattle.ipc_plan.specs.Sending.{Sends, seen_by}
 use Rattle.ipc_tracker.specs.Listings.{remembering_all}
 use Rattle.ipc_tracker.specs.Trackers.{IsSameMemory}
-use Rattle.ipc_write.specs.Messages.{AreMessages, RefusesHanding, RefusesMessages, messages_bytes}
-use Rattle.ipc_write.specs.Sending.{FailsOrIsFull, HandsMessages, OnSent, SendsOrKeeps, SendsOrRefuses}
-use Rattle.ipc_write.specs.Writers.{Kept, LeavesState, MayList, RefusesChunk, RefusesStart, RefusesState, SendStep, SendsChunk, SendsSchema, StateComesFirst, WriterSeen, chosen_ids}
+use Rattle.ipc_write.specs.Messages.{messages_bytes}
+use Rattle.ipc_write.specs.Sending.{FailsOrIsFull, HandsMessages, OnSent, SendsOrRefuses}
+use Rattle.ipc_write.specs.Writers.{Kept, LeavesState, MayList, RefusesStart, RefusesState, SendStep, SendsChunk, SendsSchema, StateComesFirst, WriterSeen, chosen_ids}
 use Rattle.ipc_write.specs.declared.stream.WriterState.{WriterState}
 use Rattle.ipc_write.specs.declared.stream.WriterState.TheVariants.{Failed}
-use Rattle.ipc_write.specs.Framing.{head_bytes, message_bytes, message_len}
-use Rattle.ipc_write.proofs.Messages.{length_message, message_whole_body}
-use Rattle.ipc_write.proofs.Refusals.{chunk_not_io}
 use Rattle.ipc_write.proofs.Sends.{some_none}
 
 -- What refuses a schema is no device.

@@ -1,7 +1,7 @@
 use Rattle.std.proofs.Common.{rules, ◌≡◌, ◌≤◌, ◌^◌, Err, Ok, ℕ, List, length, subst}
 use Rattle.std.specs.Int.{next_multiple_of}
 use Rattle.ipc_plan.specs.Sending.{Sends, seen_by}
-use Rattle.ipc_write.specs.Framing.{head_bytes, message_bytes}
+use Rattle.ipc_write.specs.Framing.{head_bytes}
 use Rattle.ipc_write.specs.Sending.{SendsOrRefuses}
 use Rattle.ipc_write.proofs.MessageSends.{head_is_message}
 use Rattle.ipc_write.proofs.Sends.{or_fail, sent_as}

@@ -1,4 +1,4 @@
-use Rattle.std.proofs.Common.{rules, arith, ◌≡◌, All, subst, length, List}
+use Rattle.std.proofs.Common.{rules, ◌≡◌, All, subst, length, List}
 use Rattle.std.proofs.lemmas.List.{take_all}
 use Rattle.std.proofs.lemmas.List.Elements.{All-more}
 use Rattle.lower_arrays.specs.AnyLayouts.{layout_of}

@@ -1,10 +1,8 @@
-use Rattle.std.proofs.Common.{rules, ◌≡◌, Err, false, Bool, map, subst}
+use Rattle.std.proofs.Common.{rules, ◌≡◌, Err, Bool, map, subst}
 use Rattle.lower_arrays.specs.AnyLayouts.{layout_of}
-use Rattle.ipc_base.specs.IdTrees.{all_ids_view}
 use Rattle.ipc_tracker.specs.Listings.{ListsAll, listed}
-use Rattle.ipc_tracker.specs.Trackers.{remembered}
 use Rattle.ipc_write.specs.Messages.{RefusesPlaces}
-use Rattle.ipc_write.specs.Writers.{FitTypes, MayList, fault_unless_started, seen, seen_ids}
+use Rattle.ipc_write.specs.Writers.{FitTypes, fault_unless_started, seen, seen_ids}
 use Rattle.ipc_write.proofs.Acceptance.{are_arrays}
 use Rattle.ipc_write.proofs.Refusals.{refuses_ids, refuses_places, refuses_state, refuses_types, state_answered}
 use Rattle.ipc_write.proofs.stream.writer.StreamWriter.check_write.Goals as goal

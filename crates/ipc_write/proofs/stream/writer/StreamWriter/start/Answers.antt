@@ -1,11 +1,10 @@
-use Rattle.std.proofs.Common.{rules, arith, ◌≡◌, ◌<◌, ◌≤◌, ◌^◌, None, Some, map, subst, length, refl, sym, ap, ◌∙◌, [], Ok, Err}
+use Rattle.std.proofs.Common.{rules, arith, ◌≡◌, ◌<◌, ◌≤◌, ◌^◌, None, Some, map, subst, length, refl, sym, [], Err}
 use Rattle.std.specs.Int.{next_multiple_of}
 use Rattle.std.proofs.lemmas.Result.{err_from_is_err_and}
 use Rattle.lower.specs.TypeViews.{fields_view, pairs_of}
-use Rattle.ipc_base.specs.IdTrees.{IdTrees, all_ids_view}
+use Rattle.ipc_base.specs.IdTrees.{IdTrees}
 use Rattle.ipc_schema_write.specs.DefaultIds.{default_all}
 use Rattle.ipc_model.specs.Schemas.{head_of}
-use Rattle.ipc_model.specs.Writable.{IsWritable}
 use Rattle.ipc_schema_write.specs.WriterAnswers.{RefusesSchema, written_head_as}
 use Rattle.ipc_write.specs.Framing.{message_bytes, message_len}
 use Rattle.ipc_write.specs.Meaning.{normal_types}

@@ -1,14 +1,12 @@
 use Rattle.std.proofs.Common.{rules, ◌≡◌, ◌∙◌, Err, List, map, refl, subst}
-use Rattle.std.proofs.lemmas.Result.{err_from_is_err_and}
 use Rattle.lower_arrays.specs.AnyLayouts.{layout_of}
 use Rattle.lower_arrays.specs.Layouts.{len_of}
 use Rattle.lower_arrays.specs.declared.array.AnyArray.{AnyArray}
 use Rattle.ipc_base.specs.Chunks.{row_count}
 use Rattle.ipc_chunks.proofs.Messages.{remembered_with_room}
-use Rattle.ipc_tracker.specs.Listings.{listed, remembering_all}
-use Rattle.ipc_tracker.specs.Trackers.{IsSameMemory, remembered}
-use Rattle.ipc_write.specs.Sending.{HandsMessages}
-use Rattle.ipc_write.specs.Writers.{Kept, MayList, RefusesChunk, SendsChunk, fault_unless_started, seen, seen_ids}
+use Rattle.ipc_tracker.specs.Listings.{listed}
+use Rattle.ipc_tracker.specs.Trackers.{remembered}
+use Rattle.ipc_write.specs.Writers.{MayList, RefusesChunk, fault_unless_started, seen, seen_ids}
 use Rattle.ipc_write.proofs.Agreements.{chunk_appended, chunk_not_appended, chunk_refused}
 use Rattle.ipc_write.proofs.Refusals.{chunk_not_io, first_passed, first_refused, handing_exactly, may_be_written, memory_refused, refused_chunk_write, refused_exactly, refuses_handing, taken_exactly}
 use Rattle.ipc_write.proofs.WriterSteps.{chunk_sent, chunk_unsent, refused_chunk}
