@@ -1,34 +1,39 @@
 -- The next chunk of a stream goes to those that were read.
-use Rattle.std.proofs.Common.{◌≡◌, ℕ, suc, List, [], ◌∷◌, ◌++◌, Option, Some, Ok, Err, Bool, true, false, IsTrue, refl, sym, ap, ◌∙◌, subst, append_assoc}
+use Rattle.std.proofs.Common.{◌≡◌, ℕ, List, [], ◌∷◌, ◌++◌, Option, None, Some, Ok, Err, Bool, true, false, IsTrue, refl, sym, ap, subst, ◌∙◌, append-nil, append_assoc}
 use Rattle.std.proofs.lemmas.List.{map-append}
 use Rattle.lower_arrays.specs.declared.array.AnyArray.{AnyArray}
 use Rattle.ipc_devices.specs.Device.{Memory}
 use Rattle.ipc_devices.specs.Gives.{Gives, GivesFails}
+use Rattle.ipc_devices.specs.Faults.{OwnFault}
 use Rattle.ipc_devices.specs.declared.fault.Fault.{Fault}
-use Rattle.ipc_carried.specs.CarriedStreams.{Behind, IsCarriedOn, IsCarriedWithin}
-use Rattle.ipc_model.specs.Streams.{Head, Item, Meant, meaning, nothing_known, with_chunks}
+use Rattle.ipc_devices.specs.declared.fault.Fault.TheVariants as faults
+use Rattle.ipc_model.specs.Batches.{Chunk}
+use Rattle.ipc_model.specs.Streams.{Known, Meant, faulty, marked, meaning, waits, with_chunks}
 use Rattle.ipc_readers.proofs.Bodies.{claims_through}
 use Rattle.ipc_readers.proofs.OfMemory.{next_fails, other_answer}
-use Rattle.ipc_readers.specs.Streams.{NextStep, ahead, head_of, is_over, metadata_of}
+use Rattle.ipc_readers.specs.Streams.{Knows, NextStep, ahead, begun_of, head_of, is_over, metadata_of}
+use Rattle.ipc_readers.specs.declared.read.stream.metadata.StreamMetadata.{StreamMetadata}
 use Rattle.ipc_readers.specs.declared.read.stream.reader.StreamReader.{StreamReader}
 use Rattle.ipc_readers.specs.declared.read.stream.reader.StreamState.{StreamState}
 use Rattle.ipc_readers.specs.declared.read.stream.reader.StreamState.TheVariants as states
-use Rattle.ipc_round_trip.specs.Reading.{IsCarriedAhead, PushesNext, chunks_seen, meant_ahead}
-
--- what is carried behind a chunk
-carried_behind : {R : Type 0} (gives : Gives R) (known : Bool) (memory : R → Memory) (a b : StreamReader R) (chunk : List AnyArray)
-    → NextStep gives known memory a (Some (Ok (states.Some chunk))) b → IsTrue known → is_over a ≡ false → IsCarriedAhead memory a → IsCarriedAhead memory b
-carried_behind gives known memory a b chunk step k going carried =
-    let h = head_of (metadata_of a) in
-    let same : h ≡ head_of (metadata_of b) = sym (ap head_of step.described) in
-    let behind : IsCarriedOn h nothing_known (ahead memory b) = record {
-      within = λ n. subst (λ (x : Item). Behind (IsCarriedWithin h n) x) (step.front k going).0 (carried.within (suc n)).1;
-    } in
-    subst (λ (g : Head). IsCarriedOn g nothing_known (ahead memory b)) same behind
+use Rattle.ipc_round_trip.specs.Reading.{EndsAs, EndsNow, GivesAll, MeansAhead, PushesNext, RefusesAhead, chunks_seen}
 
 -- what was read and what is ahead is what it was before
 more_read : (xs : List (List AnyArray)) (chunk : List AnyArray) (m n : Meant) → m ≡ with_chunks (chunks_seen (chunk ∷ [])) n → with_chunks (chunks_seen xs) m ≡ with_chunks (chunks_seen (xs ++ chunk ∷ [])) n
 more_read xs chunk m n e = rw (e, map-append, append_assoc) refl
+
+-- a claim of a fault that is made for each who knows as much
+for_each : (At P : Known → Type 0) (e : Fault) → ((s : Known) → At s → OwnFault e (P s)) → OwnFault e ((s : Known) → At s → P s)
+for_each At P faults.Memory h = tt
+for_each At P (faults.Io x) h = tt
+for_each At P (faults.OutOfSpec x) h = h
+for_each At P faults.Ended h = h
+for_each At P (faults.NotYetImplemented x) h = h
+for_each At P (faults.Schema x) h = h
+for_each At P (faults.Argument x) h = h
+for_each At P (faults.State x) h = h
+for_each At P faults.TooManyDictionaries h = h
+for_each At P (faults.Lower x) h = h
 
 pub pushed : {R : Type 0} (gives : Gives R) (known : Bool) (memory : R → Memory) (failures : R → ℕ) → GivesFails gives failures → (a b : StreamReader R) (chunk : List AnyArray) (xs ys : List (List AnyArray))
     → NextStep gives known memory a (Some (Ok (states.Some chunk))) b → ys ≡ xs ++ chunk ∷ [] → PushesNext known failures memory a xs (Ok true) b ys
@@ -38,10 +43,19 @@ pushed gives known memory failures fails a b chunk xs ys step added = record {
   monotone = (next_fails gives known memory failures fails a (Some (Ok (states.Some chunk))) b step).1;
   push = λ k going. (
     step.finished going,
-    more_read xs chunk (meant_ahead memory a) (meant_ahead memory b)
-        ((step.next k going).0 ∙ ap (λ (g : Head). with_chunks (chunks_seen (chunk ∷ [])) (meaning g nothing_known (ahead memory b))) (sym (ap head_of step.described)))
-        ∙ ap (λ (zs : List (List AnyArray)). with_chunks (chunks_seen zs) (meant_ahead memory b)) (sym added),
-    carried_behind gives known memory a b chunk step k going,
+    λ m ahead_a.
+        let read = (step.next k going).each ahead_a.known ahead_a.knows in
+        let n = meaning (head_of (metadata_of a)) read.0 (ahead memory b) in
+        (
+          n,
+          record {
+            known = read.0;
+            knows = read.1;
+            means = ap (λ (x : StreamMetadata). meaning (head_of x) read.0 (ahead memory b)) step.described;
+          },
+          more_read xs chunk m n (sym ahead_a.means ∙ read.2)
+              ∙ ap (λ (zs : List (List AnyArray)). with_chunks (chunks_seen zs) n) (sym added),
+        ),
   );
 }
 
@@ -51,5 +65,83 @@ refused_push gives known memory failures fails a b e xs ys step = record {
   described = step.described;
   failed = other_answer (Option StreamState) Bool e _ (next_fails gives known memory failures fails a (Some (Err e)) b step).0;
   monotone = (next_fails gives known memory failures fails a (Some (Err e)) b step).1;
-  push = λ k going. claims_through e _ _ (λ refused carried. ap (λ (m : Meant). m.end) (refused (carried.within 1).0)) (step.next k going);
+  push = λ k going. claims_through e _ _ (λ refused m ahead_a. sym (ap (λ (x : Meant). x.end) ahead_a.means) ∙ ap (λ (x : Meant). x.end) (refused ahead_a.known ahead_a.knows))
+      (for_each (Knows a) (λ s. meaning (head_of (metadata_of a)) s (ahead memory a) ≡ record { chunks = []; end = faulty }) e (step.next k going).each);
 }
+
+-- a chunk for which there is no memory
+pub starved_push : {R : Type 0} (gives : Gives R) (known : Bool) (memory : R → Memory) (failures : R → ℕ) → GivesFails gives failures → (a b : StreamReader R) (chunk : List AnyArray) (xs ys : List (List AnyArray))
+    → NextStep gives known memory a (Some (Ok (states.Some chunk))) b → PushesNext known failures memory a xs (Err faults.Memory) b ys
+starved_push gives known memory failures fails a b chunk xs ys step = record {
+  described = step.described;
+  failed = tt;
+  monotone = (next_fails gives known memory failures fails a (Some (Ok (states.Some chunk))) b step).1;
+  push = λ k going. tt;
+}
+
+-- no chunk more, since the stream waits
+pub waiting_push : {R : Type 0} (gives : Gives R) (known : Bool) (memory : R → Memory) (failures : R → ℕ) → GivesFails gives failures → (a b : StreamReader R) (xs : List (List AnyArray))
+    → NextStep gives known memory a (Some (Ok states.Waiting)) b → PushesNext known failures memory a xs (Ok false) b xs
+waiting_push gives known memory failures fails a b xs step = record {
+  described = step.described;
+  failed = tt;
+  monotone = (next_fails gives known memory failures fails a (Some (Ok states.Waiting)) b step).1;
+  push = λ k going. (
+    refl,
+    λ m ahead_a.
+        let read = (step.next k going).each ahead_a.known ahead_a.knows in
+        let waits_ : m ≡ record { chunks = []; end = waits read.0 (begun_of b) } = sym ahead_a.means ∙ read.2 in
+        subst (λ (o : Bool). EndsNow o m) (sym (step.finished going)) (subst (λ (x : Meant). EndsNow false x) (sym waits_) (refl, tt)),
+  );
+}
+
+-- or since it ends
+pub finished_push : {R : Type 0} (gives : Gives R) (known : Bool) (memory : R → Memory) (failures : R → ℕ) → GivesFails gives failures → (a b : StreamReader R) (xs : List (List AnyArray))
+    → NextStep gives known memory a None b → PushesNext known failures memory a xs (Ok false) b xs
+finished_push gives known memory failures fails a b xs step = record {
+  described = step.described;
+  failed = tt;
+  monotone = (next_fails gives known memory failures fails a None b step).1;
+  push = λ k going. (
+    refl,
+    λ m ahead_a.
+        let ends_ : m ≡ record { chunks = []; end = marked } = sym ahead_a.means ∙ (step.next k going).each ahead_a.known ahead_a.knows in
+        subst (λ (o : Bool). EndsNow o m) (sym (step.finished going)) (subst (λ (x : Meant). EndsNow true x) (sym ends_) (refl, refl)),
+  );
+}
+
+-- ---- all chunks
+
+-- One chunk more was read: what was read so far, and what is ahead, is still all.
+pub goes_on : {R : Type 0} (memory : R → Memory) (first a b : StreamReader R) (xs ys : List (List AnyArray))
+    → ((m : Meant) → MeansAhead memory first m → (n : Meant) × MeansAhead memory a n × (with_chunks (chunks_seen xs) n ≡ m))
+    → ((m : Meant) → MeansAhead memory a m → (n : Meant) × MeansAhead memory b n × (with_chunks (chunks_seen xs) m ≡ with_chunks (chunks_seen ys) n))
+    → (m : Meant) → MeansAhead memory first m → (n : Meant) × MeansAhead memory b n × (with_chunks (chunks_seen ys) n ≡ m)
+goes_on memory first a b xs ys before next m ahead_first =
+    let so_far = before m ahead_first in
+    let more = next so_far.0 so_far.1 in
+    (more.0, more.1, sym more.2 ∙ so_far.2)
+
+-- No chunk more came: what was read are all.
+pub all_read : {R : Type 0} (memory : R → Memory) (first a b : StreamReader R) (xs : List (List AnyArray))
+    → ((m : Meant) → MeansAhead memory first m → (n : Meant) × MeansAhead memory a n × (with_chunks (chunks_seen xs) n ≡ m))
+    → ((n : Meant) → MeansAhead memory a n → EndsNow (is_over b) n) → GivesAll memory first xs b
+all_read memory first a b xs before over = record {
+  chunks = λ m ahead_first.
+      let so_far = before m ahead_first in
+      let now = over so_far.0 so_far.1 in
+      let nil : chunks_seen xs ++ [] ≡ chunks_seen xs = rw append-nil refl in
+      sym (ap (λ (x : Meant). x.chunks) so_far.2) ∙ ap (λ (cs : List Chunk). chunks_seen xs ++ cs) now.0 ∙ nil;
+  end = λ m ahead_first.
+      let so_far = before m ahead_first in
+      let now = over so_far.0 so_far.1 in
+      subst (λ (x : Meant). EndsAs (is_over b) x.end) so_far.2 now.1;
+}
+
+-- A fault behind the chunks that were read so far is one of all that was ahead.
+pub refused_ahead : {R : Type 0} (memory : R → Memory) (first a : StreamReader R) (xs : List (List AnyArray)) (e : Fault)
+    → ((m : Meant) → MeansAhead memory first m → (n : Meant) × MeansAhead memory a n × (with_chunks (chunks_seen xs) n ≡ m))
+    → RefusesAhead memory a e → RefusesAhead memory first e
+refused_ahead memory first a xs e before refused = claims_through e _ _ (λ faulty_ m ahead_first.
+    let so_far = before m ahead_first in
+    sym (ap (λ (x : Meant). x.end) so_far.2) ∙ faulty_ so_far.0 so_far.1) refused

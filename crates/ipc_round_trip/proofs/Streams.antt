@@ -21,7 +21,6 @@ use Rattle.ipc_views.specs.Spot.{Spot}
 use Rattle.ipc_views.specs.Tables.{root_at}
 use Rattle.ipc_views.specs.declared.schema.MetadataVersion.{MetadataVersion}
 use Rattle.ipc_model.specs.Batches.{Chunk, Schema, extra_of}
-use Rattle.ipc_carried.specs.CarriedStreams.{BehindSchema, IsCarriedOn}
 use Rattle.ipc_model.specs.Frame.{Frame, message, mark, waiting, broken, frame}
 use Rattle.ipc_model.specs.Schemas.{given, made, schema_of}
 use Rattle.ipc_model.specs.Schemas.{head_of as head_at}
@@ -31,10 +30,10 @@ use Rattle.ipc_read.specs.Chunks.{order_of}
 use Rattle.ipc_readers.specs.Metadata.{GivesMetadata, MetadataGave, MetadataSeen, metadata_at, metadata_seen, table_version, version_at, version_slot}
 use Rattle.ipc_readers.proofs.Bodies.{claims_through}
 use Rattle.ipc_readers.proofs.OfMemory.{metadata_ahead, metadata_fails, no_failure}
-use Rattle.ipc_readers.specs.Streams.{Begins, ahead, device_of, head_of, metadata_of}
+use Rattle.ipc_readers.specs.Streams.{Begins, Knows, ahead, device_of, head_of, metadata_of}
 use Rattle.ipc_readers.specs.declared.read.stream.metadata.StreamMetadata.{StreamMetadata}
 use Rattle.ipc_readers.specs.declared.read.stream.reader.StreamReader.{StreamReader}
-use Rattle.ipc_round_trip.specs.Reading.{EndsAs, IsReadable, RefusesAhead, RefusesStream, meant_ahead}
+use Rattle.ipc_round_trip.specs.Reading.{EndsAs, IsReadable, MeansAhead, RefusesAhead, RefusesStream}
 use Rattle.ipc_write.specs.Agreement.{Agrees, IsClosed, Remains, StreamIs}
 use Rattle.ipc_model.specs.WriterStates.{IsRun}
 use Rattle.ipc_write.specs.Calls.{AreMade, ended_as, state_seen, writer_in}
@@ -166,23 +165,22 @@ new_rest memory device a r h =
     ap (λ xs. xs ++ after (memory (device_of r))) h.begun
     ∙ ap (λ d. after (memory d)) h.reader
 
+-- what is ahead of a new reader is what stands behind the schema, to who knows nothing
 pub new_ahead : {R : Type 0} (memory : R → Memory) (device : R) (a b : StreamMetadata) (r : StreamReader R) → Begins device a r → head_of a ≡ head_of b
-    → meant_ahead memory r ≡ meaning (head_of b) nothing_known (after (memory device))
-new_ahead memory device a b r h e =
-    ap (λ x. meaning (head_of x) nothing_known (ahead memory r)) h.described
-    ∙ ap (λ x. meaning x nothing_known (ahead memory r)) e
-    ∙ ap (meaning (head_of b) nothing_known) (new_rest memory device a r h)
+    → MeansAhead memory r (meaning (head_of b) nothing_known (after (memory device)))
+new_ahead memory device a b r h e = record {
+  known = nothing_known;
+  knows = h.knows;
+  means =
+      ap (λ x. meaning (head_of x) nothing_known (ahead memory r)) h.described
+      ∙ ap (λ x. meaning x nothing_known (ahead memory r)) e
+      ∙ ap (meaning (head_of b) nothing_known) (new_rest memory device a r h);
+}
 
-pub ends_same : (x y : Bool) (m n : Meant) → x ≡ y → m ≡ n → EndsAs y m.end → EndsAs x n.end
-ends_same x y m n e f h = subst (λ (k : Meant). EndsAs x k.end) f (subst (λ (b : Bool). EndsAs b m.end) (sym e) h)
+pub ends_same : (x y : Bool) (e : End) → x ≡ y → EndsAs y e → EndsAs x e
+ends_same x y e f h = subst (λ (b : Bool). EndsAs b e) (sym f) h
 
 -- ---- chunks that are refused
-
-carried_rest : (P : List ℕ → Type 0) (f : Frame) (rest : List ℕ) (x : StreamMetadata) → GivesMetadata f (Ok x) rest → BehindSchema P f → P rest
-carried_rest P (message m behind) rest x h b = subst P (sym h.1) b
-carried_rest P (mark behind) rest x h b = absurd h
-carried_rest P (waiting begun) rest x h b = absurd h
-carried_rest P broken rest x h b = absurd h
 
 -- a stream whose chunks are refused can't be read
 pub refused_chunks : {R : Type 0} (memory : R → Memory) (device : R) (bytes xs : List ℕ) (a b : StreamMetadata) (r : StreamReader R) (e : Fault) → xs ≡ bytes
@@ -190,16 +188,10 @@ pub refused_chunks : {R : Type 0} (memory : R → Memory) (device : R) (bytes xs
 refused_chunks memory device bytes xs a b r e same h begins heads refused =
     claims_through e _ _ (λ ends readable.
     let rest = after (memory device) in
-    let given_ = subst (λ ys. GivesMetadata (frame ys) (Ok b) rest) same h in
+    let meant = meaning (head_of b) nothing_known rest in
+    let none : Stream = record { head = head_of b; meant = meant } in
     let there = sym (whole_stream bytes xs rest b same h) ∙ readable.stream in
-    let none : Stream = record { head = head_of b; meant = meaning (head_of b) nothing_known rest } in
-    let head_is : readable.head ≡ head_of (metadata_of r) =
-    sym (ap (λ (o : Option Stream). (stream_or o none).head) there) ∙ sym heads ∙ sym (ap head_of begins.described) in
-    let rest_is : rest ≡ ahead memory r = sym (new_rest memory device a r begins) in
-    let behind = carried_rest (IsCarriedOn readable.head nothing_known) (frame bytes) rest b given_ readable.carried.behind in
-    let carried : IsCarriedOn (head_of (metadata_of r)) nothing_known (ahead memory r) =
-    subst (λ bs. IsCarriedOn (head_of (metadata_of r)) nothing_known bs) rest_is (subst (λ (x : Head). IsCarriedOn x nothing_known rest) head_is behind) in
-    let end_is = ap (λ (m : Meant). m.end) (sym (new_ahead memory device a b r begins heads)) ∙ ends carried in
+    let end_is : meant.end ≡ faulty = ends meant (new_ahead memory device a b r begins heads) in
     readable.sound (sym (ap (λ (o : Option Stream). (stream_or o none).meant.end) there) ∙ end_is)) refused
 
 -- ---- what was written
@@ -228,16 +220,16 @@ finished_law bytes head chunks s w h =
     }
 
 pub readable_law : ReadableLaw
-readable_law bytes head chunks w = record { head = head; meant = _; stream = w.stream.stream; sound = λ e. cc; carried = w.carried }
+readable_law bytes head chunks w = record { head = head; meant = _; stream = w.stream.stream; sound = λ e. cc }
 
 pub open_law : OpenLaw
-open_law bytes head chunks s w h =
+open_law bytes head known chunks s w h =
     let same = sym h.stream ∙ w.stream in
     let x = seen_stream s h.meant in
     record {
       schema = ap (λ (o : Option Stream). (stream_or o x).head) same;
       same = sym h.chunks ∙ ap (λ (o : Option Stream). (stream_or o x).meant.chunks) same;
-      ended = ends_waiting s.is_finished h.meant.end nothing_known (ap (λ (o : Option Stream). (stream_or o x).meant.end) same) h.end;
+      ended = ends_waiting s.is_finished h.meant.end known (ap (λ (o : Option Stream). (stream_or o x).meant.end) same) h.end;
     }
 
 -- ---- the bytes of an ended writer
@@ -256,7 +248,7 @@ ends_stream a b v remains over same = record {
   where
     held : (head : Head) (chunks : List Chunk) → Agrees vector b [] head chunks → IsClosed v.items head chunks
     held head chunks h =
-        let stream : IsClosed h.bytes head chunks = subst (λ s. StreamIs s b.order b.types h.bytes head chunks) over h.stream in
+        let stream : IsClosed h.bytes head chunks = subst (λ s. StreamIs s b h.bytes head chunks) over h.stream in
         let all : v.items ≡ h.bytes = sym (vector_before v) ∙ ap (λ w. before (vector w)) same ∙ h.held in
         subst (λ xs. IsClosed xs head chunks) (sym all) stream
 

@@ -8,11 +8,10 @@ use Rattle.ipc_devices.specs.declared.fault.Fault.{Fault}
 use Rattle.ipc_devices.specs.declared.fault.Fault.TheVariants.{Io, Memory}
 use Rattle.lower_arrays.specs.declared.array.AnyArray.{AnyArray}
 use Rattle.ipc_model.specs.Batches.{Chunk}
-use Rattle.ipc_carried.specs.CarriedStreams.{IsCarriedOn, IsCarriedStream}
-use Rattle.ipc_model.specs.Streams.{Head, End, marked, waits, faulty, Meant, meaning, nothing_known, with_chunks}
+use Rattle.ipc_model.specs.Streams.{Head, Known, End, marked, waits, faulty, Meant, meaning, with_chunks}
 use Rattle.ipc_model.specs.WholeStreams.{stream_of}
 use Rattle.ipc_read.specs.Chunks.{chunk_seen}
-use Rattle.ipc_readers.specs.Streams.{ahead, device_of, head_of, is_over, metadata_of}
+use Rattle.ipc_readers.specs.Streams.{Knows, ahead, device_of, head_of, is_over, metadata_of}
 use Rattle.ipc_readers.specs.declared.read.stream.reader.StreamReader.{StreamReader}
 use Rattle.ipc_round_trip.specs.declared.read.WholeStream.{WholeStream}
 
@@ -20,34 +19,31 @@ use Rattle.ipc_round_trip.specs.declared.read.WholeStream.{WholeStream}
 abbrev pub chunks_seen : List (List AnyArray) → List Chunk
 chunks_seen xs = map chunk_seen xs
 
--- what is ahead of a reader
-abbrev pub meant_ahead : {R : Type 0} → (R → devices.Memory) → StreamReader R → Meant
-meant_ahead memory r = meaning (head_of (metadata_of r)) nothing_known (ahead memory r)
+-- what is ahead of a reader means m to someone who knows the same dictionaries
+pub record MeansAhead {R : Type 0} (memory : R → devices.Memory) (r : StreamReader R) (m : Meant) : Type 0 where
+  pub known : Known
+  pub knows : Knows r known
+  pub means : meaning (head_of (metadata_of r)) known (ahead memory r) ≡ m
 
 -- a stream ends by its mark, or it waits for more
 abbrev pub EndsAs : Bool → End → Type 0
 EndsAs true e = e ≡ marked
-EndsAs false (waits known begun) = known ≡ nothing_known
+EndsAs false (waits known begun) = Unit {0}
 EndsAs false _ = ⊥
 
 -- a stream that ends here, or waits
 abbrev pub EndsNow : Bool → Meant → Type 0
 EndsNow over m = (m.chunks ≡ []) × EndsAs over m.end
 
--- what is ahead of a reader is carried
-abbrev pub IsCarriedAhead : {R : Type 0} → (R → devices.Memory) → StreamReader R → Type 0
-IsCarriedAhead memory r = IsCarriedOn (head_of (metadata_of r)) nothing_known (ahead memory r)
-
--- a fault of the input's: what is ahead ends in a fault, or isn't carried
+-- a fault of the input's: what is ahead ends in a fault
 abbrev pub RefusesAhead : {R : Type 0} → (R → devices.Memory) → StreamReader R → Fault → Type 0
-RefusesAhead memory r e = OwnFault e (IsCarriedAhead memory r → (meant_ahead memory r).end ≡ faulty)
+RefusesAhead memory r e = OwnFault e ((m : Meant) → MeansAhead memory r m → m.end ≡ faulty)
 
 -- What was read so far, and what is ahead, is what it was before. Without a chunk more the stream ends, or waits.
 abbrev pub GivesPush : {R : Type 0} → (R → devices.Memory) → StreamReader R → List (List AnyArray) → Result Bool Fault → StreamReader R → List (List AnyArray) → Type 0
 GivesPush memory a xs (Ok true) b ys = (is_over b ≡ false)
-    × (with_chunks (chunks_seen xs) (meant_ahead memory a) ≡ with_chunks (chunks_seen ys) (meant_ahead memory b))
-    × (IsCarriedAhead memory a → IsCarriedAhead memory b)
-GivesPush memory a xs (Ok false) b ys = (ys ≡ xs) × EndsNow (is_over b) (meant_ahead memory a)
+    × ((m : Meant) → MeansAhead memory a m → (n : Meant) × MeansAhead memory b n × (with_chunks (chunks_seen xs) m ≡ with_chunks (chunks_seen ys) n))
+GivesPush memory a xs (Ok false) b ys = (ys ≡ xs) × ((m : Meant) → MeansAhead memory a m → EndsNow (is_over b) m)
 GivesPush memory a xs (Err e) b ys = RefusesAhead memory a e
 
 pub record PushesNext {R : Type 0} (known : Bool) (failures : R → ℕ) (memory : R → devices.Memory) (a : StreamReader R) (xs : List (List AnyArray)) (r : Result Bool Fault) (b : StreamReader R) (ys : List (List AnyArray)) : Type 0 where
@@ -58,8 +54,8 @@ pub record PushesNext {R : Type 0} (known : Bool) (failures : R → ℕ) (memory
 
 -- All chunks were read up to where the stream ends, or waits.
 pub record GivesAll {R : Type 0} (memory : R → devices.Memory) (a : StreamReader R) (xs : List (List AnyArray)) (b : StreamReader R) : Type 0 where
-  pub chunks : (meant_ahead memory a).chunks ≡ chunks_seen xs
-  pub end : EndsAs (is_over b) (meant_ahead memory a).end
+  pub chunks : (m : Meant) → MeansAhead memory a m → m.chunks ≡ chunks_seen xs
+  pub end : (m : Meant) → MeansAhead memory a m → EndsAs (is_over b) m.end
 
 -- ---- whole streams
 
@@ -70,13 +66,12 @@ pub record IsWhole (bytes : List ℕ) (s : WholeStream) : Type 0 where
   pub chunks : meant.chunks ≡ chunks_seen s.chunks.items
   pub end : EndsAs s.is_finished meant.end
 
--- A stream can be read: it has a meaning, it doesn't end in a fault, and its messages are carried.
+-- A stream can be read: it has a meaning, and doesn't end in a fault.
 pub record IsReadable (bytes : List ℕ) : Type 0 where
   pub head : Head
   pub meant : Meant
   pub stream : stream_of bytes ≡ Some (record { head = head; meant = meant })
   pub sound : meant.end ≢ faulty
-  pub carried : IsCarriedStream bytes head
 
 -- Memory was refused, or a fault of the input's: then P holds. A device's fault never comes.
 abbrev pub RefusesStream : Fault → Type 0 → Type 0

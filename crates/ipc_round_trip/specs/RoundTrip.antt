@@ -9,7 +9,7 @@ use Rattle.ipc_devices.specs.declared.fault.StateFault.TheVariants.{Failed, NotS
 use Rattle.lower.specs.TypeTrees.{FieldTrees, Pairs}
 use Rattle.lower_types.specs.declared.Endianness.{Endianness}
 use Rattle.ipc_model.specs.Batches.{Chunk}
-use Rattle.ipc_model.specs.Streams.{Head, nothing_known}
+use Rattle.ipc_model.specs.Streams.{Head, Known}
 use Rattle.ipc_model.specs.WriterStates.{IsRun, new_writer}
 use Rattle.ipc_model.specs.Writers.{IsFinished, IsStarted}
 use Rattle.ipc_readers.specs.Streams.{head_of}
@@ -40,9 +40,9 @@ FinishedLaw = (bytes : List ℕ) (head : Head) (chunks : List Chunk) (s : WholeS
 abbrev pub ReadableLaw : Type 0
 ReadableLaw = (bytes : List ℕ) (head : Head) (chunks : List Chunk) → IsClosed bytes head chunks → IsReadable bytes
 
--- one that was written and not ended reads back, and waits
+-- one that was written and not ended reads back, whatever is known at its end, and waits
 abbrev pub OpenLaw : Type 0
-OpenLaw = (bytes : List ℕ) (head : Head) (chunks : List Chunk) (s : WholeStream) → IsStarted bytes head nothing_known chunks → IsWhole bytes s
+OpenLaw = (bytes : List ℕ) (head : Head) (known : Known) (chunks : List Chunk) (s : WholeStream) → IsStarted bytes head known chunks → IsWhole bytes s
     → Reads s head chunks false
 
 -- bytes in memory, and the place behind the last of them

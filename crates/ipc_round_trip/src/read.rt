@@ -60,7 +60,7 @@ fn read_chunks<R: Reads + Drop>(
 /// Reads a stream to its mark, or to where it waits for more.
 ///
 /// Faults: those of [`read_stream_metadata`] and of the calls of [`StreamReader`], each of which but `Memory`
-/// says that the bytes mean no stream, or one that ends in a fault, or one that is not carried. `Io` never comes.
+/// says that the bytes mean no stream, or one that ends in a fault. `Io` never comes.
 pub fn read_stream(alloc: Global, bytes: &[u8]) -> Result<WholeStream, Fault>
     ensures { ReadsStream bytes.now result }
 {

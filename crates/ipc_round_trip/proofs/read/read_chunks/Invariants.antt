@@ -1,7 +1,7 @@
 use Rattle.std.proofs.Common.{◌≡◌, ◌≤◌, ◌-◌, ◌^◌, IsTrue, false, vec_len}
-use Rattle.ipc_model.specs.Streams.{with_chunks}
+use Rattle.ipc_model.specs.Streams.{Meant, with_chunks}
 use Rattle.ipc_readers.specs.Streams.{device_of, is_over, metadata_of}
-use Rattle.ipc_round_trip.specs.Reading.{IsCarriedAhead, chunks_seen, meant_ahead}
+use Rattle.ipc_round_trip.specs.Reading.{MeansAhead, chunks_seen}
 use Rattle.ipc_round_trip.proofs.read.read_chunks.Given as goal
 
 abbrev pub invariant-loop-chunks : goal.invariant-loop-chunks
@@ -9,7 +9,8 @@ invariant-loop-chunks g l = record {
   described : metadata_of l.reader ≡ metadata_of l.fn.reader;
   monotone : g.R.Failures.failures (device_of l.fn.reader) ≤ g.R.Failures.failures (device_of l.reader);
   same : IsTrue g.R.Failures.known → is_over l.fn.reader ≡ false
-      → (is_over l.reader ≡ false) × (IsCarriedAhead g.R.Failures.memory l.fn.reader → IsCarriedAhead g.R.Failures.memory l.reader) × (with_chunks (chunks_seen l.chunks.items) (meant_ahead g.R.Failures.memory l.reader) ≡ meant_ahead g.R.Failures.memory l.fn.reader);
+      → (is_over l.reader ≡ false)
+      × ((m : Meant) → MeansAhead g.R.Failures.memory l.fn.reader m → (n : Meant) × MeansAhead g.R.Failures.memory l.reader n × (with_chunks (chunks_seen l.chunks.items) n ≡ m));
 }
 
 abbrev pub decreases-loop-chunks : goal.decreases-loop-chunks

@@ -1,10 +1,9 @@
-use Rattle.std.proofs.Common.{◌≡◌, List, Ok, Err, refl, sym, ap, ◌∙◌}
+use Rattle.std.proofs.Common.{◌≡◌, List, Ok, Err, refl, ap}
 use Rattle.std.proofs.lemmas.Result.{err_from_is_err_and}
 use Rattle.std.specs.Prelude.{Vec}
 use Rattle.std.specs.declared.alloc.Global.{Global}
 use Rattle.lower_arrays.specs.declared.array.AnyArray.{AnyArray}
 use Rattle.ipc_devices.specs.Device.{after}
-use Rattle.ipc_model.specs.Streams.{Meant}
 use Rattle.ipc_readers.proofs.OfMemory.{no_failure}
 use Rattle.ipc_round_trip.proofs.Streams.{ends_same, head_same, new_ahead, refused_chunks, refuses_stream, slice_memory, slice_metadata, slice_metadata_own, unreadable, whole_stream}
 use Rattle.ipc_round_trip.specs.declared.read.WholeStream.{WholeStream}
@@ -23,8 +22,8 @@ returns c =
       meant = _;
       stream = whole_stream c.args.bytes.now _ _ c.in_ok-metadata.metadata front
           (slice_metadata (Ok c.in_ok-metadata.metadata) c.new-input.result c.read_stream_metadata.new.reader c.in_ok-metadata.ensures.gives);
-      chunks = sym (ap (λ (m : Meant). m.chunks) ahead) ∙ all.chunks;
-      end = ends_same _ _ _ _ c.is_finished.ensures ahead all.end;
+      chunks = all.chunks _ ahead;
+      end = ends_same _ _ _ c.is_finished.ensures (all.end _ ahead);
     }
 
 pub returns-in_err-metadata : goal.returns-in_err-metadata
