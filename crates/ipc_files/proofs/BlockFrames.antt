@@ -1,5 +1,5 @@
 -- What a prefix states, and the metadata behind it.
-use Rattle.std.proofs.Common.{◌≡◌, ◌≢◌, ℕ, ◌<◌, ◌≤◌, ◌^◌, ◌==◌, nat_lt, true, false, Bool, cond, List, length, take, drop, None, Some, Result, Ok, Err, OnOk, refl, sym, ap, ◌∙◌, arith, inl, inr}
+use Rattle.std.proofs.Common.{◌≡◌, ◌≢◌, ℕ, ◌<◌, ◌≤◌, ◌^◌, ◌==◌, nat_lt, true, false, Bool, cond, List, length, take, drop, None, Some, Result, Ok, Err, OnOk, refl, sym, ap, ◌∙◌, arith, inl, inr, eq-eqb, Option}
 use Rattle.std.proofs.lemmas.Bool.{cases_lt, eqb-true, ne_eqb, le-ltb, lt-ltb}
 use Rattle.ipc_devices.specs.Device.{Memory, GoesTo, after}
 use Rattle.ipc_devices.specs.Faults.{OwnFault, Answers}
@@ -7,7 +7,8 @@ use Rattle.ipc_devices.specs.declared.fault.Fault.{Fault}
 use Rattle.ipc_model.specs.Frame.{Frame, message, mark, broken, frame, marked, sized, word}
 use Rattle.ipc_model.proofs.Frames.{frame_newer, marked_is}
 use Rattle.ipc_files.proofs.Openings.{own-weaker}
-use Rattle.ipc_files.specs.Blocks.{GivesPrefix, stated_metadata}
+use Rattle.ipc_files.specs.Blocks.{GivesPrefix, prefix_of, stated_metadata}
+use Rattle.ipc_files.specs.Footers.{GivesPart}
 
 is-not : (m n : ℕ) → (m ≤ n → ⊥) → n < m
 is-not m n h = elim (cases_lt n m) [ inl p ↦ p | inr p ↦ absurd (h p) ]
@@ -45,6 +46,41 @@ pub second-word : (xs ys zs : List ℕ) (r : Result ℕ Fault) → ys ≡ drop 4
 second-word xs ys zs (Ok n) behind long is read left =
     newer-prefix xs n long is (rw (← behind) read.0) (read.1 ∙ ap word behind) ∙ ap (λ rest. sized n rest) (sym (left ∙ ap (λ rest. drop 4 rest) behind))
 second-word xs ys zs (Err e) behind long is read left = refused-length xs ys e behind long is read
+
+-- ---- the number in the prefix
+
+pub older-number : (xs : List ℕ) (n : ℕ) → 4 ≤ length xs → n ≡ word xs → n ≢ 0xFFFF_FFFF → prefix_of xs ≡ Some n
+unfolding prefix_of
+older-number xs n long is other = rw (le-ltb (length xs) 4 long, ne_eqb (word xs) 0xFFFF_FFFF (λ e. other (is ∙ e))) (ap Some (sym is))
+
+newer-number : (xs : List ℕ) (n : ℕ) → 4 ≤ length xs → word xs ≡ 0xFFFF_FFFF → 4 ≤ length (drop 4 xs) → n ≡ word (drop 4 xs) → prefix_of xs ≡ Some n
+unfolding prefix_of
+newer-number xs n long is far stated =
+    rw (le-ltb (length xs) 4 long, eq-eqb (word xs) 0xFFFF_FFFF is, le-ltb (length (drop 4 xs)) 4 far) (ap Some (sym stated))
+
+no-number : (xs : List ℕ) → length xs < 4 → prefix_of xs ≡ None
+unfolding prefix_of
+no-number xs short = rw (lt-ltb (length xs) 4 short) refl
+
+no-newer-number : (xs : List ℕ) → 4 ≤ length xs → word xs ≡ 0xFFFF_FFFF → length (drop 4 xs) < 4 → prefix_of xs ≡ None
+unfolding prefix_of
+no-newer-number xs long is short = rw (le-ltb (length xs) 4 long, eq-eqb (word xs) 0xFFFF_FFFF is, lt-ltb (length (drop 4 xs)) 4 short) refl
+
+pub refused-number : (xs : List ℕ) (e : Fault) → OwnFault e (4 ≤ length xs → ⊥) → OwnFault e (prefix_of xs ≡ None)
+refused-number xs e h = own-weaker e _ _ (λ short. no-number xs (is-not 4 (length xs) short)) h
+
+pub second-number : (xs ys : List ℕ) (r : Result ℕ Fault) → ys ≡ drop 4 xs → 4 ≤ length xs → word xs ≡ 0xFFFF_FFFF
+    → Answers r (4 ≤ length ys) (λ n. n ≡ word ys) → GivesPart (λ (n : ℕ). n) r (prefix_of xs)
+second-number xs ys (Ok n) behind long is read = newer-number xs n long is (rw (← behind) read.0) (read.1 ∙ ap word behind)
+second-number xs ys (Err e) behind long is read =
+    own-weaker e _ _ (λ short. no-newer-number xs long is (is-not 4 (length (drop 4 xs)) (λ far. short (rw behind far)))) read
+
+-- no number was read where one is stated
+pub unstated : (e f : Fault) (o : Option ℕ) (n : ℕ) → OwnFault e (o ≡ None) → o ≡ Some n → OwnFault e (e ≡ f)
+unstated e f o n h is = own-weaker e _ _ (λ none. let no : None ≡ Some n = sym none ∙ is in absurd cc) h
+
+pub stated-once : (o : Option ℕ) (m n : ℕ) → o ≡ Some m → o ≡ Some n → m ≡ n
+stated-once o m n e f = let both : Some m ≡ Some n = sym e ∙ f in cc
 
 -- the bytes at a place
 pub gone-to : (m m' : Memory) (n : ℕ) → GoesTo m m' n → after m' ≡ drop n m.whole

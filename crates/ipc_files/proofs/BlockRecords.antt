@@ -1,5 +1,5 @@
 -- The record batch at a block.
-use Rattle.std.proofs.Common.{◌≡◌, ℕ, List, [], drop, Option, None, Some, Result, Ok, Err, refl, sym, ap, subst, ◌∙◌}
+use Rattle.std.proofs.Common.{◌^◌, ◌≤◌, ◌≡◌, ℕ, List, [], drop, Option, None, Some, Result, Ok, Err, OnOk, refl, sym, ap, subst, ◌∙◌}
 use Rattle.std.specs.Prelude.{slice_get}
 use Rattle.std.specs.Option.{option_and_then}
 use Rattle.lower.specs.declared.datatypes.Field.{Field}
@@ -13,15 +13,17 @@ use Rattle.ipc_views.specs.declared.message.MessageHeaderRef.{MessageHeaderRef}
 use Rattle.ipc_views.specs.declared.message.MessageHeaderRef.TheVariants as headers
 use Rattle.ipc_model.specs.Batches.{Schema, Body, Chunk, record_meaning, batch, extra_of}
 use Rattle.ipc_model.specs.Entries.{Dictionaries, Limit}
-use Rattle.ipc_model.specs.Files.{Placed, BlockHeader, placed, block_header, body_at, record_with, chunk_at, file_chunk}
-use Rattle.ipc_model.specs.Frame.{frame}
+use Rattle.ipc_model.specs.Files.{Placed, BlockHeader, placed, block_header, body_at, front_metadata, metadata_at, record_with, chunk_at, file_chunk}
+use Rattle.ipc_model.specs.Frame.{Frame, message, mark, waiting, broken, frame}
 use Rattle.ipc_files.specs.declared.read.file.block.BlockMessage.{BlockMessage}
 use Rattle.ipc_files.specs.declared.read.file.block.BlockPlace.{BlockPlace}
 use Rattle.ipc_files.specs.declared.read.file.metadata.FileMetadata.{FileMetadata}
-use Rattle.ipc_files.specs.Batches.{needed_record}
-use Rattle.ipc_files.specs.Blocks.{message_seen, place_seen, stated_metadata}
+use Rattle.ipc_model.specs.Schemas.{given}
+use Rattle.ipc_files.specs.Batches.{HasNegativeLength, block_metadata, needed_record}
+use Rattle.ipc_files.specs.Blocks.{message_seen, place_seen, prefix_of, stated_metadata}
 use Rattle.ipc_files.specs.Footers.{GivesPart, file_seen}
 use Rattle.ipc_read.specs.Chunks.{GivesBatch, batch_schema, chunk_seen}
+use Rattle.ipc_files.proofs.BlockHeaders.{no-header}
 use Rattle.ipc_files.proofs.BlockMeanings.{at-block, refused-place, refused-message, refused-header, opened-is, gives-part}
 use Rattle.ipc_files.proofs.Openings.{own-weaker}
 
@@ -102,3 +104,43 @@ module _ (m : FileMetadata) (known : Dictionaries) (source : List ℕ) (projecti
               subst (λ (o : Option Chunk). GivesPart chunk_seen r o)
               (ap (λ (s : List ℕ). record_meaning (file_seen m).schema (extra_of x.version) known (record { source = s; base = p.body; size = m.size }) t projection limit) still
               ∙ sym (message-is ∙ this-record (place_seen p) x.header (extra_of x.version) t is)) h
+
+-- ---- the message at a block
+
+record-tag : (metadata : List ℕ) (f : Frame) (x : BlockMessage) → stated_metadata f ≡ Some metadata → block_header metadata ≡ Some (message_seen x) → front_metadata f ≡ Some metadata
+record-tag metadata (message m rest) x framed opened = framed
+record-tag metadata (mark rest) x framed opened =
+    let same : [] ≡ metadata = let e : Some [] ≡ Some metadata = framed in cc in
+    let none : None ≡ Some (message_seen x) = sym no-header ∙ ap block_header same ∙ opened in
+    absurd cc
+record-tag metadata (waiting begun) x framed opened = let no : None ≡ Some metadata = framed in absurd cc
+record-tag metadata broken x framed opened = let no : None ≡ Some metadata = framed in absurd cc
+
+pub on-ok : {X : Type 0} (r : Result X Fault) (P : Type 0) → P → OnOk r P
+on-ok (Ok x) P p = p
+on-ok (Err e) P p = tt
+
+module _ (blocks : List Block) (i : ℕ) (b : Block) (listed : slice_get blocks i ≡ Some b) where
+  pub message-read : (source : List ℕ) (p : BlockPlace) (metadata : List ℕ) (x : BlockMessage) → placed b ≡ Some (place_seen p)
+      → stated_metadata (frame (drop p.message source)) ≡ Some metadata → block_header metadata ≡ Some (message_seen x) → block_metadata source (slice_get blocks i) ≡ Some metadata
+  message-read source p metadata x stands framed opened =
+      ap (block_metadata source) listed
+      ∙ ap (λ (o : Option Placed). given o (metadata_at source)) stands
+      ∙ record-tag metadata (frame (drop p.message source)) x framed opened
+
+  pub has-place : {P : Type 0} (p : BlockPlace) → placed b ≡ Some (place_seen p) → option_and_then placed (slice_get blocks i) ≡ None → P
+  has-place p stands none = let no : Some (place_seen p) ≡ None = sym stands ∙ sym (ap (option_and_then placed) listed) ∙ none in absurd cc
+
+  -- a block without a place states nothing
+  pub refused-unplaced : (source : List ℕ) (e f : Fault) → OwnFault e (placed b ≡ None) → HasNegativeLength source (slice_get blocks i) → OwnFault e (e ≡ f)
+  refused-unplaced source e f h n =
+      own-weaker e _ _ (λ none.
+      let same : b ≡ n.block = let e : Some b ≡ Some n.block = sym listed ∙ n.listed in cc in
+      let no : None ≡ Some n.place = sym none ∙ ap placed same ∙ n.stands in absurd cc) h
+
+  pub states-below-0 : {P : Type 0} (source : List ℕ) (p : BlockPlace) → placed b ≡ Some (place_seen p)
+      → ((n : ℕ) → prefix_of (drop p.message source) ≡ Some n → 2 ^ 31 ≤ n → P) → HasNegativeLength source (slice_get blocks i) → P
+  states-below-0 source p stands f n =
+      let same : b ≡ n.block = let e : Some b ≡ Some n.block = sym listed ∙ n.listed in cc in
+      let place : n.place ≡ place_seen p = let e : Some n.place ≡ Some (place_seen p) = sym n.stands ∙ sym (ap placed same) ∙ stands in cc in
+      f n.number (ap (λ (q : Placed). prefix_of (drop q.message source)) (sym place) ∙ n.stated) n.below

@@ -1,16 +1,19 @@
 -- What reading the record batch at a block answers.
 -- (Arrow columnar format, "IPC File Format" and "RecordBatch message".)
-use Rattle.std.specs.Prelude.{◌≡◌, ◌⊎◌, ℕ, ◌+◌, List, length, Option, None, Some, Result, Ok, Err}
+use Rattle.std.specs.Prelude.{◌≡◌, ◌⊎◌, ℕ, ◌+◌, ◌^◌, ◌≤◌, List, length, drop, Option, None, Some, Result, Ok, Err}
+use Rattle.std.specs.Option.{option_and_then}
 use Rattle.ipc_devices.specs.declared.fault.Fault.{Fault}
 use Rattle.ipc_devices.specs.declared.fault.Fault.TheVariants.{OutOfSpec}
 use Rattle.ipc_devices.specs.declared.fault.OutOfSpecKind.TheVariants.{NegativeFooterLength, UnexpectedNegativeInteger, UnexpectedMessageType}
 use Rattle.ipc_views.specs.Spot.{Spot}
+use Rattle.ipc_views.specs.declared.file.Block.{Block}
 use Rattle.ipc_views.specs.declared.message.MessageHeaderRef.{MessageHeaderRef}
 use Rattle.ipc_views.specs.declared.message.MessageHeaderRef.TheVariants.{RecordBatch}
 use Rattle.ipc_model.specs.Batches.{lists_of}
-use Rattle.ipc_model.specs.Files.{BlockHeader, block_header}
+use Rattle.ipc_model.specs.Files.{BlockHeader, Placed, block_header, metadata_at, placed}
 use Rattle.ipc_model.specs.Kinds.{Kinds}
-use Rattle.ipc_files.specs.Blocks.{IsFrameFault, IsHeaderFault}
+use Rattle.ipc_model.specs.Schemas.{given}
+use Rattle.ipc_files.specs.Blocks.{IsFrameFault, IsHeaderFault, prefix_of}
 use Rattle.ipc_read.specs.Refusals.{IsFaultOfBatch}
 use Rattle.ipc_read.specs.Sizes.{chosen_listed}
 
@@ -18,6 +21,20 @@ use Rattle.ipc_read.specs.Sizes.{chosen_listed}
 abbrev pub needed_record : MessageHeaderRef → Result Spot Fault
 needed_record (RecordBatch t) = Ok t
 needed_record _ = Err (OutOfSpec UnexpectedMessageType)
+
+-- the metadata of the message at a block of a file
+abbrev pub block_metadata : List ℕ → Option Block → Option (List ℕ)
+block_metadata source b = option_and_then (λ x. given (placed x) (metadata_at source)) b
+
+-- The message at a block states a length below 0.
+pub record HasNegativeLength (source : List ℕ) (b : Option Block) : Type 0 where
+  pub block : Block
+  pub listed : b ≡ Some block
+  pub place : Placed
+  pub stands : placed block ≡ Some place
+  pub number : ℕ
+  pub stated : prefix_of (drop place.message source) ≡ Some number
+  pub below : 2 ^ 31 ≤ number
 
 -- ---- how many bytes are needed
 

@@ -1,6 +1,6 @@
 -- What reading a file's block answers: its message, and what refuses it.
 -- (Arrow columnar format, "IPC File Format" and "Encapsulated message format"; Message.fbs.)
-use Rattle.std.specs.Prelude.{◌≡◌, ◌⊎◌, ℕ, List, [], Option, Some, None, Result, Ok, Err}
+use Rattle.std.specs.Prelude.{◌≡◌, ◌⊎◌, ◌==◌, ℕ, nat_lt, if◌then◌else◌, List, [], length, drop, Option, Some, None, Result, Ok, Err}
 use Rattle.ipc_devices.specs.Faults.{OwnFault}
 use Rattle.ipc_devices.specs.declared.fault.Fault.{Fault}
 use Rattle.ipc_devices.specs.declared.fault.Fault.TheVariants.{Ended, OutOfSpec}
@@ -14,7 +14,7 @@ use Rattle.ipc_views.specs.Unions.{header_parts}
 use Rattle.ipc_views.specs.declared.schema.MetadataVersion.{MetadataVersion}
 use Rattle.ipc_model.specs.Batches.{extra_of}
 use Rattle.ipc_model.specs.Files.{BlockHeader, Placed}
-use Rattle.ipc_model.specs.Frame.{Frame, message, mark, waiting, broken, sized}
+use Rattle.ipc_model.specs.Frame.{Frame, message, mark, waiting, broken, sized, word}
 use Rattle.ipc_files.specs.declared.read.file.block.BlockMessage.{BlockMessage}
 use Rattle.ipc_files.specs.declared.read.file.block.BlockPlace.{BlockPlace}
 
@@ -34,6 +34,18 @@ stated_metadata broken = None
 abbrev pub GivesPrefix : Frame → Result ℕ Fault → (rest : List ℕ) → Type 0
 GivesPrefix f (Ok n) rest = f ≡ sized n rest
 GivesPrefix f (Err e) rest = OwnFault e (stated_metadata f ≡ None)
+
+-- the number that a prefix states, in the newer form or in the older one: none where there are too few bytes
+unfoldable pub prefix_of : List ℕ → Option ℕ
+prefix_of bytes =
+    if nat_lt (length bytes) 4 then None
+    else if word bytes == 0xFFFF_FFFF then (if nat_lt (length (drop 4 bytes)) 4 then None else Some (word (drop 4 bytes)))
+    else Some (word bytes)
+
+-- The answer is this fault, or memory's or a device's.
+abbrev pub IsRefused : {X : Type 0} → Fault → Result X Fault → Type 0
+IsRefused f (Ok x) = ⊥
+IsRefused f (Err e) = OwnFault e (e ≡ f)
 
 -- of a frame: less bytes than stated, or a length below 0, which has the name that is handed
 abbrev pub IsFrameFault : OutOfSpecKind → Fault → Type 0

@@ -1,11 +1,14 @@
 //! Reads the record batch at a block of a file.
-ghost use Rattle.std.specs.Prelude.{◌≡◌, ◌+◌, ◌≤◌, ◌<◌, length, vec_len, IsTrue, IfErr, OnOk, Some};
-ghost use Rattle.std.specs.Option.{option_copied};
+ghost use Rattle.std.specs.Prelude.{◌≡◌, ◌+◌, ◌≤◌, ◌<◌, length, vec_len, IsTrue, IfErr, OnOk, Some, None, Err, slice_get};
+ghost use Rattle.std.specs.Option.{option_and_then, option_copied};
 ghost use Rattle.ipc_devices.specs.Device.{Rises};
 ghost use Rattle.ipc_devices.specs.Faults.{OnIo, OwnFault};
+ghost use Rattle.ipc_devices.specs.declared.fault.Fault.TheVariants.{OutOfSpec};
+ghost use Rattle.ipc_devices.specs.declared.fault.OutOfSpecKind.TheVariants.{NegativeFooterLength, UnexpectedNegativeInteger};
 ghost use Rattle.ipc_model.specs.Batches.{chosen, extra_of, kinds, lists_of, record_meaning};
-ghost use Rattle.ipc_model.specs.Files.{file_chunk};
-ghost use Rattle.ipc_files.specs.Batches.{IsRecordFault, needed_bytes, needed_record};
+ghost use Rattle.ipc_model.specs.Files.{file_chunk, placed};
+ghost use Rattle.ipc_files.specs.Batches.{HasNegativeLength, IsRecordFault, block_metadata, needed_bytes, needed_record};
+ghost use Rattle.ipc_files.specs.Blocks.{IsRefused};
 ghost use Rattle.ipc_files.specs.Footers.{GivesPart, file_seen};
 ghost use Rattle.ipc_columns.specs.Bodies.{known_dictionaries};
 ghost use Rattle.ipc_read.specs.Chunks.{chunk_seen};
@@ -112,6 +115,9 @@ pub fn read_batch<R: Reads + Seeks>(
     ensures given { let m = file_seen metadata.now in
         let js = chosen (option_copied projection.entry) (length metadata.now.schema.fields.items) in
         OnOk result (R.given reader.new ≤ R.given reader.old + needed_bytes (kinds m.schema) js message_scratch.new.items) }
+    ensures message { IsTrue R.known → OnOk result (block_metadata (R.memory reader.old).whole (slice_get metadata.now.blocks.items index) ≡ Some message_scratch.new.items) }
+    ensures numbers { option_and_then placed (slice_get metadata.now.blocks.items index) ≡ None → result ≡ Err (OutOfSpec NegativeFooterLength) }
+    ensures below { IsTrue R.known → HasNegativeLength (R.memory reader.old).whole (slice_get metadata.now.blocks.items index) → IsRefused (OutOfSpec UnexpectedNegativeInteger) result }
     ensures memory { IsTrue R.known → GivesPart chunk_seen result
         (file_chunk (file_seen metadata.now) (known_dictionaries dictionaries.now) (R.memory reader.old).whole
         (option_copied projection.entry) limit index) }

@@ -2,10 +2,13 @@ use Rattle.std.proofs.Common.{rules, ◌≡◌, ◌∙◌, Err, sym, ap}
 use Rattle.std.proofs.lemmas.Option.{slice_get_read}
 use Rattle.std.specs.Prelude.{vec_len}
 use Rattle.std.specs.Option.{option_copied}
+use Rattle.ipc_devices.specs.Faults.{OwnFault}
+use Rattle.ipc_devices.specs.declared.fault.Fault.TheVariants.{OutOfSpec}
+use Rattle.ipc_devices.specs.declared.fault.OutOfSpecKind.TheVariants.{UnexpectedNegativeInteger}
 use Rattle.ipc_model.specs.Files.{block_header}
 use Rattle.ipc_columns.specs.Bodies.{known_dictionaries}
 use Rattle.ipc_files.proofs.BlockHeaders.{own-none}
-use Rattle.ipc_files.proofs.BlockRecords.{refused-record-place, refused-record-message, refused-record-header, refused-record-kind, read-record}
+use Rattle.ipc_files.proofs.BlockRecords.{refused-record-place, refused-record-message, refused-record-header, refused-record-kind, read-record, has-place, message-read, on-ok, refused-unplaced, states-below-0}
 use Rattle.ipc_files.proofs.read.file.batch.read_batch.Goals as goal
 
 pub returns-in_err-place-clause-memory : goal.returns-in_err-place-clause-memory
@@ -46,3 +49,61 @@ returns-clause-memory g c = λ k.
     c.read_metadata.new.metadata.items (c.in_ok-read_metadata.ensures.memory k) c.in_ok-message.message
     (ap block_header (sym c.deref.ensures.value) ∙ c.in_ok-message.ensures.meaning) c.in_ok-batch.batch (g.R.Failures.memory c.read_metadata.new.reader).whole
     c.read_record.result c.in_ok-batch.ensures (c.in_ok-read_metadata.ensures.whole (g.met.R.Seeks.known_still k)) (c.read_record.ensures.memory k)
+
+pub returns-in_err-place-clause-numbers : goal.returns-in_err-place-clause-numbers
+returns-in_err-place-clause-numbers g c = λ none.
+    let e = c.in_err-place.field-0.0 in
+    let is : c.from_residual.result ≡ Err e = search rules in
+    is ∙ ap Err c.in_err-place.ensures.only
+
+pub returns-in_err-place-clause-below : goal.returns-in_err-place-clause-below
+returns-in_err-place-clause-below g c = λ k n.
+    let e = c.in_err-place.field-0.0 in
+    let is : c.from_residual.result ≡ Err e = search rules in
+    rw is (refused-unplaced c.args.metadata.now.blocks.items c.args.index c.index-block.result.now (slice_get_read c.args.metadata.now.blocks.items (vec_len c.args.metadata.now.blocks) c.args.index c.index-block.result.now (search rules) c.requires.index c.index-block.ensures)
+    (g.R.Failures.memory c.args.reader.now).whole e (OutOfSpec UnexpectedNegativeInteger) c.in_err-place.ensures.place n)
+
+pub returns-in_err-read_metadata-clause-numbers : goal.returns-in_err-read_metadata-clause-numbers
+returns-in_err-read_metadata-clause-numbers g c = λ none.
+    has-place c.args.metadata.now.blocks.items c.args.index c.index-block.result.now (slice_get_read c.args.metadata.now.blocks.items (vec_len c.args.metadata.now.blocks) c.args.index c.index-block.result.now (search rules) c.requires.index c.index-block.ensures) c.in_ok-place.place c.in_ok-place.ensures.place none
+
+pub returns-in_err-read_metadata-clause-below : goal.returns-in_err-read_metadata-clause-below
+returns-in_err-read_metadata-clause-below g c = λ k n.
+    let e = c.in_err-read_metadata.field-0.0 in
+    let is : c.from_residual-in_err-read_metadata.result ≡ Err e = search rules in
+    rw is (states-below-0 c.args.metadata.now.blocks.items c.args.index c.index-block.result.now (slice_get_read c.args.metadata.now.blocks.items (vec_len c.args.metadata.now.blocks) c.args.index c.index-block.result.now (search rules) c.requires.index c.index-block.ensures)
+    {P = OwnFault e (e ≡ OutOfSpec UnexpectedNegativeInteger)} (g.R.Failures.memory c.args.reader.now).whole c.in_ok-place.place c.in_ok-place.ensures.place
+    (λ m stated below. c.in_err-read_metadata.ensures.below k m stated below) n)
+
+pub returns-in_err-message-clause-numbers : goal.returns-in_err-message-clause-numbers
+returns-in_err-message-clause-numbers g c = λ none.
+    has-place c.args.metadata.now.blocks.items c.args.index c.index-block.result.now (slice_get_read c.args.metadata.now.blocks.items (vec_len c.args.metadata.now.blocks) c.args.index c.index-block.result.now (search rules) c.requires.index c.index-block.ensures) c.in_ok-place.place c.in_ok-place.ensures.place none
+
+pub returns-in_err-message-clause-below : goal.returns-in_err-message-clause-below
+returns-in_err-message-clause-below g c = λ k n.
+    absurd (states-below-0 c.args.metadata.now.blocks.items c.args.index c.index-block.result.now (slice_get_read c.args.metadata.now.blocks.items (vec_len c.args.metadata.now.blocks) c.args.index c.index-block.result.now (search rules) c.requires.index c.index-block.ensures)
+    {P = ⊥} (g.R.Failures.memory c.args.reader.now).whole c.in_ok-place.place c.in_ok-place.ensures.place (λ m stated below. c.in_ok-read_metadata.ensures.below k m stated below) n)
+
+pub returns-in_err-batch-clause-numbers : goal.returns-in_err-batch-clause-numbers
+returns-in_err-batch-clause-numbers g c = λ none.
+    has-place c.args.metadata.now.blocks.items c.args.index c.index-block.result.now (slice_get_read c.args.metadata.now.blocks.items (vec_len c.args.metadata.now.blocks) c.args.index c.index-block.result.now (search rules) c.requires.index c.index-block.ensures) c.in_ok-place.place c.in_ok-place.ensures.place none
+
+pub returns-in_err-batch-clause-below : goal.returns-in_err-batch-clause-below
+returns-in_err-batch-clause-below g c = λ k n.
+    absurd (states-below-0 c.args.metadata.now.blocks.items c.args.index c.index-block.result.now (slice_get_read c.args.metadata.now.blocks.items (vec_len c.args.metadata.now.blocks) c.args.index c.index-block.result.now (search rules) c.requires.index c.index-block.ensures)
+    {P = ⊥} (g.R.Failures.memory c.args.reader.now).whole c.in_ok-place.place c.in_ok-place.ensures.place (λ m stated below. c.in_ok-read_metadata.ensures.below k m stated below) n)
+
+pub returns-clause-numbers : goal.returns-clause-numbers
+returns-clause-numbers g c = λ none.
+    has-place c.args.metadata.now.blocks.items c.args.index c.index-block.result.now (slice_get_read c.args.metadata.now.blocks.items (vec_len c.args.metadata.now.blocks) c.args.index c.index-block.result.now (search rules) c.requires.index c.index-block.ensures) c.in_ok-place.place c.in_ok-place.ensures.place none
+
+pub returns-clause-below : goal.returns-clause-below
+returns-clause-below g c = λ k n.
+    absurd (states-below-0 c.args.metadata.now.blocks.items c.args.index c.index-block.result.now (slice_get_read c.args.metadata.now.blocks.items (vec_len c.args.metadata.now.blocks) c.args.index c.index-block.result.now (search rules) c.requires.index c.index-block.ensures)
+    {P = ⊥} (g.R.Failures.memory c.args.reader.now).whole c.in_ok-place.place c.in_ok-place.ensures.place (λ m stated below. c.in_ok-read_metadata.ensures.below k m stated below) n)
+
+pub returns-clause-message : goal.returns-clause-message
+returns-clause-message g c = λ k.
+    on-ok c.read_record.result _ (message-read c.args.metadata.now.blocks.items c.args.index c.index-block.result.now (slice_get_read c.args.metadata.now.blocks.items (vec_len c.args.metadata.now.blocks) c.args.index c.index-block.result.now (search rules) c.requires.index c.index-block.ensures) (g.R.Failures.memory c.args.reader.now).whole c.in_ok-place.place
+    c.read_metadata.new.metadata.items c.in_ok-message.message c.in_ok-place.ensures.place (c.in_ok-read_metadata.ensures.memory k)
+    (ap block_header (sym c.deref.ensures.value) ∙ c.in_ok-message.ensures.meaning))
