@@ -1,12 +1,15 @@
 //! Reading.
 pub use ipc_devices::OutOfSpecKind;
-pub use ipc_files::read::file::{FileMetadata, read_file_metadata};
+pub use ipc_files::read::file::{
+    FileMetadata, read_batch, read_file_dictionaries, read_file_metadata,
+};
 pub use ipc_projections::read::prepare::prepare_projection;
 pub use ipc_projections::read::projection::{
     ProjectionIter, ProjectionResult, apply_projection, is_prepared, is_projection, is_reordering,
 };
 pub use ipc_read::read::Dictionaries;
 pub use ipc_read::read::common::read_record_batch;
+pub use ipc_read::read::dictionaries::read_dictionary;
 pub use ipc_readers::read::stream::{
     StreamMetadata, StreamReader, StreamState, read_stream_metadata,
 };
