@@ -17,6 +17,7 @@ use Rattle.ipc_views.specs.declared.schema.MetadataVersion.TheVariants.{V5}
 use Rattle.ipc_parts.specs.Encodes.{IsEncoding}
 use Rattle.ipc_tables.specs.Files.{footer_slots}
 use Rattle.ipc_tables.specs.declared.file.Footer.{Footer}
+use Rattle.ipc_model.specs.Accepted.{most_blocks}
 use Rattle.ipc_model.specs.Files.{FileMetadata, footer_at, magic, metadata_of}
 use Rattle.ipc_model.specs.Schemas.{given, made}
 use Rattle.ipc_model.specs.Writable.{IsWritable, IsWritableFile, file_weight}
@@ -51,10 +52,7 @@ pub record IsWrittenFooter (bytes : List ℕ) (pairs : Pairs) (dictionaries bloc
 
 -- ---- what writing one answers
 
--- how many blocks the footer of a file that is written names
-abbrev pub most_blocks : ℕ
-most_blocks = 2 ^ 25
-
+-- no more blocks than have a place in a footer
 abbrev pub AreFew : List Block → List Block → Type 0
 AreFew dictionaries blocks = length dictionaries + length blocks ≤ most_blocks
 
