@@ -1,0 +1,154 @@
+-- The bytes that a file's writer sends, and what they mean.
+-- (Arrow columnar format, "IPC File Format"; File.fbs.)
+use Rattle.std.specs.Prelude.{◌≡◌, ℕ, pos, ◌+◌, ◌^◌, ◌<◌, List, [], ◌∷◌, ◌++◌, length, Some}
+use Rattle.lower.specs.TypeTrees.{Pairs, FieldTrees}
+use Rattle.lower_types.specs.declared.Endianness.{Endianness}
+use Rattle.lower_arrays.specs.Layouts.{Layout, layouts}
+use Rattle.lower_arrays.specs.Slots.{AreArrays}
+use Rattle.ipc_base.specs.IdTrees.{IdTrees}
+use Rattle.ipc_views.specs.declared.file.Block.{Block}
+use Rattle.ipc_model.specs.Batches.{Chunk, Schema}
+use Rattle.ipc_model.specs.Entries.{Dictionaries}
+use Rattle.ipc_model.specs.Files.{FileMetadata, MeansFile, all_of, magic}
+use Rattle.ipc_model.specs.Offers.{FilledPlace, IsAcceptedChunk, offer_of}
+use Rattle.ipc_model.specs.Schemas.{head_of}
+use Rattle.ipc_model.specs.Streams.{Head}
+use Rattle.ipc_model.specs.Writable.{IsWritable}
+use Rattle.ipc_model.specs.Writers.{IsFinished}
+use Rattle.ipc_model.specs.WrittenLaws.{prefix}
+use Rattle.ipc_laws.specs.Blocks.{IsOfVersion}
+use Rattle.ipc_laws.specs.Bodies.{ColumnsMessage, ValuesMessage}
+use Rattle.ipc_laws.specs.Chunks.{Lists}
+use Rattle.ipc_laws.specs.FileChunks.{HasChunks}
+use Rattle.ipc_laws.specs.Kept.{OfferKeeps}
+use Rattle.ipc_laws.specs.Messages.{chunk_written, message_bytes}
+use Rattle.ipc_laws.specs.Places.{head_written}
+use Rattle.ipc_laws.specs.Remembered.{Remembered, filled_of, nothing_remembered}
+use Rattle.ipc_laws.specs.Runs.{IsOpen}
+use Rattle.ipc_footers.specs.Footers.{HasFooter, MeansFooter, file_written}
+
+-- ---- what is sent
+
+-- what a file begins with: ARROW1, and two bytes 0
+abbrev pub file_head : List ℕ
+file_head = magic ++ 0 ∷ 0 ∷ []
+
+-- a message that is sent
+pub record Sent : Type 0 where
+  pub metadata : List ℕ
+  pub body : List ℕ
+
+abbrev pub sent_bytes : Sent → List ℕ
+sent_bytes w = message_bytes w.metadata w.body
+
+-- some messages, one behind the other
+abbrev pub all_bytes : List Sent → List ℕ
+all_bytes [] = []
+all_bytes (w ∷ ws) = sent_bytes w ++ all_bytes ws
+
+-- The block of a message that is sent at a place: marker, length and metadata together, and the body.
+abbrev pub block_at : ℕ → Sent → Block
+block_at place w = record { offset = pos place; meta_data_length = pos (8 + length w.metadata); body_length = pos (length w.body) }
+
+abbrev pub blocks_at : ℕ → List Sent → List Block
+blocks_at place [] = []
+blocks_at place (w ∷ ws) = block_at place w ∷ blocks_at (place + length (sent_bytes w)) ws
+
+-- It is the message of the values at a place, of version 5.
+pub record IsValues (order : Endianness) (p : FilledPlace) (w : Sent) : Type 0 where
+  pub message : ValuesMessage order p
+  pub metadata_is : message.metadata ≡ w.metadata
+  pub body_is : message.body ≡ w.body
+  pub version : IsOfVersion message.metadata 0
+
+-- one for each place, in order
+abbrev pub AreValues : Endianness → List FilledPlace → List Sent → Type 0
+AreValues order [] [] = Unit {0}
+AreValues order [] (w ∷ ws) = ⊥
+AreValues order (p ∷ ps) [] = ⊥
+AreValues order (p ∷ ps) (w ∷ ws) = IsValues order p w × AreValues order ps ws
+
+-- the message of some columns, of version 5
+pub record IsColumns (order : Endianness) (columns : List Layout) (w : Sent) : Type 0 where
+  pub message : ColumnsMessage order columns
+  pub metadata_is : message.metadata ≡ w.metadata
+  pub body_is : message.body ≡ w.body
+  pub version : IsOfVersion message.metadata 0
+
+-- What is sent of a chunk, where these dictionaries are remembered: the messages of those that are listed, and that of the columns, which
+-- are accepted; no dictionary is replaced.
+pub record SendsChunk (order : Endianness) (fs : FieldTrees) (is : IdTrees) (before after : Remembered) (columns : List Layout) (ws : List Sent) (own : Sent) : Type 0 where
+  pub arrays : AreArrays (layouts columns)
+  pub accepted : IsAcceptedChunk fs is columns
+  pub kept : OfferKeeps before (offer_of columns is)
+  pub list : List FilledPlace
+  pub lists : Lists before (filled_of (layouts columns) is) list after
+  pub values : AreValues order list ws
+  pub own_is : IsColumns order columns own
+
+-- the bytes of it
+abbrev pub chunk_bytes : List Sent → Sent → List ℕ
+chunk_bytes ws own = all_bytes ws ++ sent_bytes own
+
+-- ---- files
+
+-- what the metadata of a file are so far
+abbrev pub file_so_far : Schema → Pairs → List Block → List Block → ℕ → FileMetadata
+file_so_far schema pairs ds bs size = record { schema = schema; pairs = pairs; dictionaries = ds; blocks = bs; size = size }
+
+-- The bytes of a file that has no footer yet: its dictionaries are those that its writer remembers, and its records mean these chunks.
+pub record HoldsFile (schema : Schema) (bytes : List ℕ) (ds bs : List Block) (r : Remembered) (cs : List Chunk) : Type 0 where
+  pub chunks : (pairs : Pairs) → HasChunks (file_so_far schema pairs ds bs (length bytes)) (all_of bytes) r cs
+
+-- whatever a file begins with, it has no chunk
+abbrev pub FileStartLaw : Type 0
+FileStartLaw = (schema : Schema) (bytes : List ℕ) → HoldsFile schema bytes [] [] nothing_remembered []
+
+-- what is sent of a chunk adds just this chunk
+abbrev pub FileWriteLaw : Type 0
+FileWriteLaw = (order : Endianness) (fs : FieldTrees) (metadata : Pairs) (is : IdTrees) (bytes : List ℕ) (ds bs : List Block) (before after : Remembered) (cs : List Chunk)
+    (columns : List Layout) (ws : List Sent) (own : Sent) → IsWritable fs metadata is
+    → HoldsFile (head_written order fs metadata is).schema bytes ds bs before cs → SendsChunk order fs is before after columns ws own
+    → HoldsFile (head_written order fs metadata is).schema (bytes ++ chunk_bytes ws own) (ds ++ blocks_at (length bytes) ws)
+    (bs ++ block_at (length bytes + length (all_bytes ws)) own ∷ []) after (cs ++ chunk_written columns ∷ [])
+
+-- a whole file: its metadata, and its chunks
+pub record IsFile (bytes : List ℕ) (m : FileMetadata) (cs : List Chunk) : Type 0 where
+  pub known : Dictionaries
+  pub means : MeansFile bytes m known cs
+
+-- its footer ends it, whatever stands between
+abbrev pub FileEndLaw : Type 0
+FileEndLaw = (order : Endianness) (fs : FieldTrees) (metadata : Pairs) (is : IdTrees) (pairs : Pairs) (bytes rest whole footer : List ℕ) (ds bs : List Block) (r : Remembered) (cs : List Chunk)
+    → HoldsFile (head_written order fs metadata is).schema bytes ds bs r cs
+    → whole ≡ bytes ++ rest → HasFooter whole footer → length footer < 2 ^ 31 → MeansFooter footer (file_written order fs metadata is pairs ds bs)
+    → IsFile whole (file_written order fs metadata is pairs ds bs (length whole)) cs
+
+-- ---- without the first eight bytes
+
+-- behind what a file begins with there is a stream of these chunks
+pub record HoldsStream (bytes : List ℕ) (h : Head) (r : Remembered) (cs : List Chunk) : Type 0 where
+  pub stream : List ℕ
+  pub bytes_are : bytes ≡ file_head ++ stream
+  pub goes_on : IsOpen stream h r cs
+
+-- one that is finished
+pub record EndsStream (bytes : List ℕ) (h : Head) (cs : List Chunk) : Type 0 where
+  pub stream : List ℕ
+  pub bytes_are : bytes ≡ file_head ++ stream
+  pub finished : IsFinished stream h cs
+
+abbrev pub StreamStartLaw : Type 0
+StreamStartLaw = (metadata : List ℕ) (h : Head) → 0 < length metadata → length metadata < 2 ^ 31 → head_of metadata ≡ Some h
+    → HoldsStream (file_head ++ message_bytes metadata []) h nothing_remembered []
+
+abbrev pub StreamWriteLaw : Type 0
+StreamWriteLaw = (order : Endianness) (fs : FieldTrees) (metadata : Pairs) (is : IdTrees) (bytes : List ℕ) (before after : Remembered) (cs : List Chunk)
+    (columns : List Layout) (ws : List Sent) (own : Sent) → IsWritable fs metadata is
+    → HoldsStream bytes (head_written order fs metadata is) before cs → SendsChunk order fs is before after columns ws own
+    → HoldsStream (bytes ++ chunk_bytes ws own) (head_written order fs metadata is) after (cs ++ chunk_written columns ∷ [])
+
+-- the mark ends it, whatever stands behind
+abbrev pub StreamEndLaw : Type 0
+StreamEndLaw = (bytes rest : List ℕ) (h : Head) (r : Remembered) (cs : List Chunk) → HoldsStream bytes h r cs
+    → EndsStream (bytes ++ (prefix 0 ++ rest)) h cs
