@@ -14,10 +14,22 @@ use Rattle.ipc_laws.specs.Messages.{message_bytes}
 use Rattle.ipc_laws.specs.Places.{head_written}
 use Rattle.ipc_laws.specs.Remembered.{filled_of}
 use Rattle.ipc_footers.proofs.FileTails.{law}
-use Rattle.ipc_file_laws.specs.FileBytes.{AreValues, FileEndLaw, FileStartLaw, FileWriteLaw, IsColumns, Sent, all_bytes, block_at, blocks_at, chunk_bytes, file_so_far, sent_bytes}
+use Rattle.ipc_file_laws.specs.FileBytes.{AreValues, FileEndLaw, FileGrowLaw, FileStartLaw, FileWriteLaw, IsColumns, Sent, all_bytes, block_at, blocks_at, chunk_bytes, file_so_far, sent_bytes}
 
 pub start_law : FileStartLaw
 start_law schema bytes = record { chunks = λ pairs. record { known = []; agrees = record { each = λ i. refl }; blocks = record { dictionaries = refl; chunks = refl } } }
+
+pub grow_law : FileGrowLaw
+grow_law schema bytes more ds bs r cs held = record {
+  chunks = λ pairs.
+      let h = held.chunks pairs in
+      let sees : SeesMore (all_of bytes) (all_of (bytes ++ more)) = record { added = λ b. more; behind = λ b. refl } in
+      record {
+        known = h.known;
+        agrees = h.agrees;
+        blocks = blocks_follow_law (file_so_far schema pairs ds bs (length bytes)) (length (bytes ++ more)) (all_of bytes) (all_of (bytes ++ more)) h.known cs sees (omega (arith, length-append bytes more)) h.blocks;
+      };
+}
 
 -- ---- blocks
 

@@ -104,6 +104,11 @@ pub record HoldsFile (schema : Schema) (bytes : List ℕ) (ds bs : List Block) (
 abbrev pub FileStartLaw : Type 0
 FileStartLaw = (schema : Schema) (bytes : List ℕ) → HoldsFile schema bytes [] [] nothing_remembered []
 
+-- nothing changes where bytes come behind
+abbrev pub FileGrowLaw : Type 0
+FileGrowLaw = (schema : Schema) (bytes more : List ℕ) (ds bs : List Block) (r : Remembered) (cs : List Chunk) → HoldsFile schema bytes ds bs r cs
+    → HoldsFile schema (bytes ++ more) ds bs r cs
+
 -- what is sent of a chunk adds just this chunk
 abbrev pub FileWriteLaw : Type 0
 FileWriteLaw = (order : Endianness) (fs : FieldTrees) (metadata : Pairs) (is : IdTrees) (bytes : List ℕ) (ds bs : List Block) (before after : Remembered) (cs : List Chunk)
