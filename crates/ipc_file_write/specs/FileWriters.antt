@@ -1,0 +1,258 @@
+-- What the calls of a file's writer do, and what its bytes mean.
+-- (Arrow columnar format, "IPC File Format".)
+use Rattle.std.specs.Prelude.{◌≡◌, ℕ, ◌<◌, ◌≤◌, ◌^◌, Bool, IsTrue, List, [], ◌++◌, length, Option, Some, None, Result, OnErr, OnOk, IfErr}
+use Rattle.lower.specs.TypeTrees.{Pairs, FieldTrees}
+use Rattle.lower.specs.TypeViews.{fields_view, pairs_of}
+use Rattle.lower_types.specs.declared.Endianness.{Endianness}
+use Rattle.ipc_base.specs.IdTrees.{IdTrees, all_ids_view}
+use Rattle.ipc_devices.specs.Device.{Memory, WritesOver, before}
+use Rattle.ipc_devices.specs.Faults.{IsIo, OnIo, OnRefused}
+use Rattle.ipc_devices.specs.declared.fault.ArgFault.TheVariants.{TooLarge}
+use Rattle.ipc_devices.specs.declared.fault.Fault.{Fault}
+use Rattle.ipc_devices.specs.declared.fault.Fault.TheVariants.{Argument, Io, Memory as NoMemory, State}
+use Rattle.ipc_devices.specs.declared.fault.StateFault.{StateFault}
+use Rattle.ipc_devices.specs.declared.fault.StateFault.TheVariants as faults
+use Rattle.ipc_views.specs.declared.file.Block.{Block}
+use Rattle.ipc_model.specs.Batches.{Chunk}
+use Rattle.ipc_model.specs.Schemas.{head_of}
+use Rattle.ipc_model.specs.Streams.{Head}
+use Rattle.ipc_model.specs.Writable.{IsWritable, file_weight}
+use Rattle.ipc_model.specs.WrittenLaws.{prefix}
+use Rattle.ipc_plan.specs.Sending.{DeviceSeen, WritesSome}
+use Rattle.ipc_laws.specs.Messages.{message_bytes}
+use Rattle.ipc_laws.specs.Remembered.{Remembered, nothing_remembered}
+use Rattle.ipc_schema_write.specs.WriterAnswers.{RefusesSchema, byte_order, max_weight, written_head_as}
+use Rattle.ipc_encode.specs.declared.common.EncodedData.{EncodedData}
+use Rattle.ipc_tracker.specs.Trackers.{remembered}
+use Rattle.ipc_write.specs.Sending.{FailsOrIsFull}
+use Rattle.ipc_write.specs.Writers.{chosen_ids, fault_unless_new, fault_unless_started}
+use Rattle.ipc_write.specs.declared.stream.WriterState.{WriterState}
+use Rattle.ipc_write.specs.declared.stream.WriterState.TheVariants.{New, Started, Finished, Failed}
+use Rattle.ipc_footers.specs.Footers.{RefusesFooter, WritesFooter, file_written, tail_of}
+use Rattle.ipc_file_laws.specs.FileBytes.{EndsStream, HoldsFile, HoldsStream, IsFile, file_head}
+use Rattle.ipc_file_write.specs.declared.file.FileWriter.{FileWriter}
+use Rattle.ipc_file_write.specs.declared.writer.Starting.{Starting}
+
+-- ---- what is seen of a writer
+
+-- What a writer writes to, how far it is, the order of the bytes of its numbers, its schema, the ids that it starts with, those that it
+-- was started with, the pairs of its footer, the dictionaries that it remembers, the blocks of what it wrote, and where the next message stands.
+pub record FileSeen (W : Type 0) : Type 0 where
+  pub device : W
+  pub state : WriterState
+  pub order : Endianness
+  pub fields : FieldTrees
+  pub metadata : Pairs
+  pub chosen : IdTrees
+  pub ids : IdTrees
+  pub pairs : Pairs
+  pub remembers : Remembered
+  pub dictionaries : List Block
+  pub blocks : List Block
+  pub place : ℕ
+
+abbrev pub seen : {W : Type 0} → FileWriter W → FileSeen W
+seen w = record {
+  device = w.writer;
+  state = w.state;
+  order = byte_order w.is_little_endian;
+  fields = fields_view w.schema.fields.items;
+  metadata = pairs_of w.schema.metadata.entries;
+  chosen = chosen_ids w.given (fields_view w.schema.fields.items);
+  ids = all_ids_view w.ipc_fields.items;
+  pairs = pairs_of w.custom_metadata.entries;
+  remembers = remembered w.dictionary_tracker;
+  dictionaries = w.dictionary_blocks.items;
+  blocks = w.record_blocks.items;
+  place = w.block_offsets;
+}
+
+-- the memory that callers may hand from one writer to another
+abbrev pub scratches_of : {W : Type 0} → FileWriter W → EncodedData
+scratches_of w = w.encoded_message
+
+-- a writer of a file of this schema, with these ids, in this order of bytes, with these pairs
+pub record IsFileOf {W : Type 0} (w : FileSeen W) (fields : FieldTrees) (metadata : Pairs) (ids : IdTrees) (order : Endianness) (pairs : Pairs) : Type 0 where
+  pub fields_are : w.fields ≡ fields
+  pub metadata_are : w.metadata ≡ metadata
+  pub chosen_are : w.chosen ≡ ids
+  pub order_is : w.order ≡ order
+  pub pairs_are : w.pairs ≡ pairs
+
+-- what its stream begins with
+abbrev pub head_of_file : {W : Type 0} → FileSeen W → Head
+head_of_file w = written_head_as w.order w.fields w.metadata w.ids
+
+-- both remember the same
+abbrev pub RemembersSame : {V W : Type 0} → FileSeen V → FileSeen W → Type 0
+RemembersSame a b = (id : _) → b.remembers id ≡ a.remembers id
+
+-- ---- what its bytes are
+
+-- nothing was written
+pub record IsFresh {W : Type 0} (w : FileSeen W) (bytes : List ℕ) (cs : List Chunk) : Type 0 where
+  pub none : bytes ≡ []
+  pub no_chunks : cs ≡ []
+  pub nothing : (id : _) → w.remembers id ≡ nothing_remembered id
+  pub no_dictionaries : w.dictionaries ≡ []
+  pub no_blocks : w.blocks ≡ []
+
+-- A file that has no footer yet, with these chunks; without its first eight bytes a stream of the same.
+pub record IsOpenFile {W : Type 0} (w : FileSeen W) (bytes : List ℕ) (cs : List Chunk) : Type 0 where
+  pub writable : IsWritable w.fields w.metadata w.ids
+  pub light : file_weight w.fields w.metadata w.pairs ≤ max_weight
+  pub file : HoldsFile (head_of_file w).schema bytes w.dictionaries w.blocks w.remembers cs
+  pub stream : HoldsStream bytes (head_of_file w) w.remembers cs
+  pub place : w.place ≡ length bytes
+
+-- A whole file of the normal form of the schema with its ids, in this order of bytes, with these pairs and these chunks; without its
+-- first eight bytes a stream of the same.
+pub record IsWholeFile {W : Type 0} (w : FileSeen W) (bytes : List ℕ) (cs : List Chunk) : Type 0 where
+  pub file : IsFile bytes (file_written w.order w.fields w.metadata w.ids w.pairs w.dictionaries w.blocks (length bytes)) cs
+  pub stream : EndsStream bytes (head_of_file w) cs
+
+-- What the bytes of a writer in this state are. Where a device failed, the chunks that were taken still stand at their blocks.
+abbrev pub FileIs : {W : Type 0} → WriterState → FileSeen W → List ℕ → List Chunk → Type 0
+FileIs New w bytes cs = IsFresh w bytes cs
+FileIs Started w bytes cs = IsOpenFile w bytes cs
+FileIs Finished w bytes cs = IsWholeFile w bytes cs
+FileIs Failed w bytes cs = HoldsFile (head_of_file w).schema bytes w.dictionaries w.blocks w.remembers cs
+
+-- what stands in a memory before its place: the bytes that were there before, and those of the file
+pub record HoldsBytes {W : Type 0} (m : Memory) (w : FileSeen W) (base : List ℕ) (cs : List Chunk) : Type 0 where
+  pub bytes : List ℕ
+  pub held : before m ≡ base ++ bytes
+  pub file : FileIs w.state w bytes cs
+
+-- the device of a writer holds `base`, and then a file of these chunks
+abbrev pub Agrees : {W : Type 0} → (W → Memory) → FileSeen W → List ℕ → List Chunk → Type 0
+Agrees memory w base cs = HoldsBytes (memory w.device) w base cs
+
+-- the file has the chunks that it had
+pub record Remains {W : Type 0} (known : Bool) (memory : W → Memory) (a b : FileSeen W) : Type 0 where
+  pub kept : IsTrue known → (base : List ℕ) (cs : List Chunk) → Agrees memory a base cs → Agrees memory b base cs
+
+-- a writer that wrote nothing, whatever stands before it
+pub record HasNothing {W : Type 0} (memory : W → Memory) (w : FileSeen W) : Type 0 where
+  pub agrees : Agrees memory w (before (memory w.device)) []
+
+-- ---- calls
+
+-- A call that sends these bytes to a device: it fails with `Io` alone, where the device counted a failure or has too little room. What went out
+-- are the first bytes, and all of them where it is Ok.
+pub record Delivers {X : Type 0} (known grows : Bool) (d d' : DeviceSeen) (r : Result X Fault) (bytes : List ℕ) : Type 0 where
+  pub monotone : d.failures ≤ d'.failures
+  pub failed : OnErr r (FailsOrIsFull grows d.failures d'.failures d.room (length bytes))
+  pub only : IfErr r (λ e. IsIo e)
+  pub memory : IsTrue known → OnOk r (WritesOver d.memory d'.memory bytes)
+  pub part : IsTrue known → WritesSome d.memory d'.memory bytes
+
+-- nothing was sent, and the writer is as it was
+pub record Kept {W : Type 0} (a b : FileSeen W) : Type 0 where
+  pub device : b.device ≡ a.device
+  pub state : b.state ≡ a.state
+  pub ids : b.ids ≡ a.ids
+  pub pairs : b.pairs ≡ a.pairs
+  pub remembers : RemembersSame a b
+  pub dictionaries : b.dictionaries ≡ a.dictionaries
+  pub blocks : b.blocks ≡ a.blocks
+  pub place : b.place ≡ a.place
+
+-- the order of bytes, the schema and the ids that were chosen stay whatever is called
+pub record IsSameFile {W : Type 0} (a b : FileSeen W) : Type 0 where
+  pub order : b.order ≡ a.order
+  pub fields : b.fields ≡ a.fields
+  pub metadata : b.metadata ≡ a.metadata
+  pub chosen : b.chosen ≡ a.chosen
+
+-- What a call that sends these bytes does to its device, and what a refused one leaves.
+pub record FileStep {W : Type 0} (known grows : Bool) (failures room : W → ℕ) (memory : W → Memory) (a : FileSeen W) (r : Result Unit Fault) (b : FileSeen W) (bytes : List ℕ) : Type 0 where
+  pub same : IsSameFile a b
+  pub monotone : failures a.device ≤ failures b.device
+  pub io : OnIo r ((b.state ≡ Failed) × FailsOrIsFull grows (failures a.device) (failures b.device) (room a.device) (length bytes))
+  pub refused : OnRefused r (Kept a b)
+  pub all_sent : IsTrue known → OnOk r (WritesOver (memory a.device) (memory b.device) bytes)
+  pub some_sent : IsTrue known → WritesSome (memory a.device) (memory b.device) bytes
+
+-- a call that sends some bytes
+pub record SendsBytes {W : Type 0} (known grows : Bool) (failures room : W → ℕ) (memory : W → Memory) (a : FileSeen W) (r : Result Unit Fault) (b : FileSeen W) : Type 0 where
+  pub bytes : List ℕ
+  pub step : FileStep known grows failures room memory a r b bytes
+
+-- why a writer refuses to start
+abbrev pub RefusesStart : {W : Type 0} → FileSeen W → Fault → Type 0
+RefusesStart w (State e) = fault_unless_new w.state ≡ Some e
+RefusesStart w (Argument TooLarge) = file_weight w.fields w.metadata w.pairs ≤ max_weight → ⊥
+RefusesStart w (Argument e) = RefusesSchema (Argument e) w.fields w.metadata w.chosen
+RefusesStart w NoMemory = Unit {0}
+RefusesStart w _ = ⊥
+
+-- the same, or its device fails
+abbrev pub OrFails : (Fault → Type 0) → Fault → Type 0
+OrFails P (Io e) = Unit {0}
+OrFails P e = P e
+
+-- A writer may start with these ids: what it sends then is what a file begins with, and the message of its schema.
+pub record MayStart {W : Type 0} (w : FileSeen W) (s : Starting) : Type 0 where
+  pub was : w.state ≡ New
+  pub ids : all_ids_view s.ipc_fields.items ≡ w.chosen
+  pub writable : IsWritable w.fields w.metadata w.chosen
+  pub light : file_weight w.fields w.metadata w.pairs ≤ max_weight
+  pub message : List ℕ
+  pub some : 0 < length message
+  pub short : length message < 2 ^ 31
+  pub headed : head_of message ≡ Some (written_head_as w.order w.fields w.metadata w.chosen)
+  pub bytes_are : s.bytes.items ≡ file_head ++ message_bytes message []
+
+-- a writer was started
+pub record StartsWith {W : Type 0} (a b : FileSeen W) : Type 0 where
+  pub was : a.state ≡ New
+  pub is : b.state ≡ Started
+  pub ids : b.ids ≡ a.chosen
+  pub writable : IsWritable a.fields a.metadata a.chosen
+  pub light : file_weight a.fields a.metadata a.pairs ≤ max_weight
+  pub pairs : b.pairs ≡ a.pairs
+
+-- a file was ended, with the blocks and the pairs that its writer had
+pub record EndsWith {W : Type 0} (a b : FileSeen W) : Type 0 where
+  pub was : a.state ≡ Started
+  pub is : b.state ≡ Finished
+  pub ids : b.ids ≡ a.ids
+  pub pairs : b.pairs ≡ a.pairs
+  pub dictionaries : b.dictionaries ≡ a.dictionaries
+  pub blocks : b.blocks ≡ a.blocks
+
+-- why a writer refuses to end the file
+abbrev pub RefusesFinish : {W : Type 0} → FileSeen W → Fault → Type 0
+RefusesFinish w (State e) = fault_unless_started w.state ≡ Some e
+RefusesFinish w (Argument e) = RefusesFooter (Argument e) w.fields w.metadata w.ids w.pairs w.dictionaries w.blocks
+RefusesFinish w NoMemory = Unit {0}
+RefusesFinish w _ = ⊥
+
+-- A writer may end its file: what it sends then is the mark that ends the stream, the footer, and what stands behind that.
+pub record MayFinish {W : Type 0} (w : FileSeen W) (bytes : List ℕ) : Type 0 where
+  pub was : w.state ≡ Started
+  pub footer : List ℕ
+  pub short : length footer < 2 ^ 31
+  pub writes : WritesFooter w.order footer w.fields w.metadata w.ids w.pairs w.dictionaries w.blocks
+  pub bytes_are : bytes ≡ prefix 0 ++ (footer ++ tail_of footer)
+
+-- the fault of a state in which a writer takes no pairs
+abbrev pub fault_if_over : WriterState → Option StateFault
+fault_if_over New = None
+fault_if_over Started = None
+fault_if_over Finished = Some faults.Finished
+fault_if_over Failed = Some faults.Failed
+
+-- why a writer refuses pairs
+abbrev pub RefusesPairs : {W : Type 0} → FileSeen W → Pairs → Fault → Type 0
+RefusesPairs w pairs (State e) = fault_if_over w.state ≡ Some e
+RefusesPairs w pairs (Argument TooLarge) = file_weight w.fields w.metadata pairs ≤ max_weight → ⊥
+RefusesPairs w pairs _ = ⊥
+
+-- the pairs took the place of those that were there
+pub record TakesPairs {W : Type 0} (a b : FileSeen W) (pairs : Pairs) : Type 0 where
+  pub open_state : fault_if_over a.state ≡ None
+  pub light : file_weight a.fields a.metadata pairs ≤ max_weight
+  pub are : b.pairs ≡ pairs
+  pub state : b.state ≡ a.state

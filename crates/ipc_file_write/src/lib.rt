@@ -1,0 +1,6 @@
+//! Writes files.
+#![tactic(auto)]
+
+pub mod file;
+pub mod sending;
+pub mod writer;

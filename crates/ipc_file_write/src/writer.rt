@@ -1,0 +1,259 @@
+//! Writes files: Arrow columnar format, "IPC File Format".
+ghost use Rattle.std.specs.Prelude.{◌≡◌, [], IfErr, IfOk, IsOkAnd, IsTrue, None, OnErr, OnOk, not};
+ghost use Rattle.lower.specs.TypeViews.{fields_view, pairs_of, schema_view};
+ghost use Rattle.ipc_devices.specs.Device.{before};
+ghost use Rattle.ipc_schema_write.specs.WriterAnswers.{byte_order};
+ghost use Rattle.ipc_write.specs.Writers.{RefusesState, chosen_ids, fault_unless_new, fault_unless_started};
+ghost use Rattle.ipc_write.specs.declared.stream.WriterState.TheVariants.{New, Started};
+ghost use Rattle.ipc_file_write.specs.FileWriters.{Agrees, EndsWith, HasNothing, IsFileOf, MayFinish, MayStart, OrFails, RefusesFinish, RefusesPairs, RefusesStart, Remains, SendsBytes, StartsWith, TakesPairs, fault_if_over, scratches_of, seen};
+
+pub use crate::file::FileWriter;
+use crate::sending::{beginning, ending, send, send_last};
+use ipc_base::ipc::{IpcField, clone_ipc_fields};
+use ipc_devices::Writes;
+use ipc_devices::fault::{ArgFault, Fault, StateFault};
+use ipc_encode::common::{EncodedData, WriteOptions};
+use ipc_footers::footer::footer_to_bytes;
+use ipc_footers::weights::is_light;
+use ipc_schema_write::defaults::writable_ipc_fields;
+use ipc_schema_write::schema::schema_to_bytes_as;
+use ipc_tracker::DictionaryTracker;
+use ipc_write::stream::WriterState;
+use lower::datatypes::{Metadata, Schema};
+use std::alloc::Global;
+use std::collections::BTreeMap;
+use std::mem::replace;
+
+// What a file is started with: its ids, and the bytes that it begins with.
+#[derive(Drop)]
+pub(crate) struct Starting {
+    pub(crate) ipc_fields: Vec<IpcField>,
+    pub(crate) bytes: Vec<u8>,
+}
+
+impl<W: Writes + Drop> FileWriter<W> {
+    // Refuses a writer that isn't started.
+    fn check_started(&self) -> Result<(), Fault>
+        ensures ok { OnOk result (self.now.state ≡ Started) }
+        ensures only { IfErr result (RefusesState (fault_unless_started self.now.state)) }
+    {
+        match self.state {
+            WriterState::New => Err(Fault::State(StateFault::NotStarted)),
+            WriterState::Started => Ok(()),
+            WriterState::Finished => Err(Fault::State(StateFault::Finished)),
+            WriterState::Failed => Err(Fault::State(StateFault::Failed)),
+        }
+    }
+
+    // Refuses a writer that was started before.
+    fn check_new(&self) -> Result<(), Fault>
+        ensures ok { OnOk result (self.now.state ≡ New) }
+        ensures only { IfErr result (RefusesState (fault_unless_new self.now.state)) }
+    {
+        match self.state {
+            WriterState::New => Ok(()),
+            WriterState::Started => Err(Fault::State(StateFault::AlreadyStarted)),
+            WriterState::Finished => Err(Fault::State(StateFault::Finished)),
+            WriterState::Failed => Err(Fault::State(StateFault::Failed)),
+        }
+    }
+
+    // Refuses a writer that takes no pairs any more.
+    fn check_open(&self) -> Result<(), Fault>
+        ensures ok { OnOk result (fault_if_over self.now.state ≡ None) }
+        ensures only { IfErr result (RefusesState (fault_if_over self.now.state)) }
+    {
+        match self.state {
+            WriterState::New | WriterState::Started => Ok(()),
+            WriterState::Finished => Err(Fault::State(StateFault::Finished)),
+            WriterState::Failed => Err(Fault::State(StateFault::Failed)),
+        }
+    }
+
+    /// A writer of a file with this schema, which writes nothing yet. It takes no memory, so it is Ok.
+    pub fn new(
+        alloc: Global,
+        writer: W,
+        schema: Schema,
+        ipc_fields: Option<Vec<IpcField>>,
+        options: WriteOptions,
+    ) -> Result<FileWriter<W>, Fault>
+        ensures device { IsOkAnd result (λ w. (seen w).device ≡ writer) }
+        ensures state { IsOkAnd result (λ w. (seen w).state ≡ New) }
+        ensures file { IsOkAnd result (λ w. IsFileOf (seen w) (fields_view schema.fields.items) (pairs_of schema.metadata.entries)
+            (chosen_ids ipc_fields (fields_view schema.fields.items)) (byte_order (not options.big_endian)) []) }
+        ensures means { IsOkAnd result (λ w. HasNothing W.memory (seen w)) }
+    {
+        Ok(FileWriter {
+            alloc,
+            writer,
+            state: WriterState::New,
+            is_little_endian: !options.big_endian,
+            schema,
+            given: ipc_fields,
+            ipc_fields: Vec::new(alloc),
+            dictionary_blocks: Vec::new(alloc),
+            record_blocks: Vec::new(alloc),
+            block_offsets: 0,
+            custom_metadata: BTreeMap::new(alloc),
+            dictionary_tracker: DictionaryTracker::new(alloc, true),
+            encoded_message: EncodedData::empty(alloc),
+        })
+    }
+
+    /// A writer of a file that is started: by [`new`](FileWriter::new) and [`start`](FileWriter::start).
+    ///
+    /// Faults: those of `start`, after which all that was handed in is dropped.
+    pub fn try_new(
+        alloc: Global,
+        writer: W,
+        schema: Schema,
+        ipc_fields: Option<Vec<IpcField>>,
+        options: WriteOptions,
+    ) -> Result<FileWriter<W>, Fault>
+        ensures state { IfOk result (λ w. (seen w).state ≡ Started) }
+        ensures means { IsTrue W.known → IfOk result (λ w. Agrees W.memory (seen w) (before (W.memory writer)) []) }
+    {
+        let mut file = FileWriter::new(alloc, writer, schema, ipc_fields, options)?;
+        file.start()?;
+        Ok(file)
+    }
+
+    /// The memory that was handed in by [`set_scratches`](FileWriter::set_scratches), for another writer. Empty vectors stay.
+    pub fn get_scratches(&mut self) -> EncodedData
+        ensures handed { result ≡ scratches_of self.old }
+        ensures message { (scratches_of self.new).ipc_message.items ≡ [] }
+        ensures data { (scratches_of self.new).arrow_data.items ≡ [] }
+        ensures same { seen self.new ≡ seen self.old }
+    {
+        replace(&mut self.encoded_message, EncodedData::empty(self.alloc))
+    }
+
+    /// Takes memory that another writer used.
+    pub fn set_scratches(&mut self, scratches: EncodedData)
+        ensures handed { scratches_of self.new ≡ scratches }
+        ensures same { seen self.new ≡ seen self.old }
+    {
+        self.encoded_message = scratches;
+    }
+
+    /// How far the writer is.
+    pub fn state(&self) -> WriterState
+        ensures { result ≡ (seen self.now).state }
+    {
+        self.state
+    }
+
+    /// The schema, as it was handed in.
+    pub fn schema(&self) -> &Schema
+        ensures { schema_view result.now ≡ ((seen self.now).fields, (seen self.now).metadata) }
+    {
+        &self.schema
+    }
+
+    /// What was written to.
+    pub fn into_inner(self) -> W
+        ensures { result ≡ (seen self).device }
+    {
+        self.writer
+    }
+
+    /// Has the footer say these pairs, in place of those that were set before. It takes no memory.
+    ///
+    /// Faults: `State(Finished)`, `State(Failed)` by the writer's state; `Argument(TooLarge)` where the weight of the schema and the pairs
+    /// is above `2^30`. After these the writer is as it was.
+    pub fn set_custom_metadata(&mut self, metadata: Metadata) -> Result<(), Fault>
+        ensures ok { OnOk result (TakesPairs (seen self.old) (seen self.new) (pairs_of metadata.entries)) }
+        ensures only { IfErr result (RefusesPairs (seen self.old) (pairs_of metadata.entries)) }
+        ensures kept { OnErr result (seen self.new ≡ seen self.old) }
+        ensures means { Remains W.known W.memory (seen self.old) (seen self.new) }
+    {
+        self.check_open()?;
+        if !is_light(&self.schema, &metadata) {
+            return Err(Fault::Argument(ArgFault::TooLarge));
+        }
+        self.custom_metadata = metadata;
+        Ok(())
+    }
+
+    // Judges whether the file may start, and makes all that is sent then.
+    fn starting(&self) -> Result<Starting, Fault>
+        ensures ok { IfOk result (MayStart (seen self.now)) }
+        ensures only { IfErr result (RefusesStart (seen self.now)) }
+    {
+        self.check_new()?;
+        if !is_light(&self.schema, &self.custom_metadata) {
+            return Err(Fault::Argument(ArgFault::TooLarge));
+        }
+        let ipc_fields = match &self.given {
+            Some(given) => clone_ipc_fields(given)?,
+            None => writable_ipc_fields(self.alloc, &self.schema.fields)?,
+        };
+        let message = schema_to_bytes_as(
+            self.alloc,
+            &self.schema,
+            &ipc_fields,
+            self.is_little_endian,
+        )?;
+        let bytes = beginning(self.alloc, &message)?;
+        Ok(Starting { ipc_fields, bytes })
+    }
+
+    /// Writes what a file begins with, and the schema in its normal form. Where no ids were handed in, the dictionaries get 0, 1, 2 and
+    /// on, in pre-order.
+    ///
+    /// Faults: `State(AlreadyStarted)`, `State(Finished)`, `State(Failed)` by the writer's state; `Argument(FieldsShape)` where the ids
+    /// don't fit the fields; `Argument(NotWritable)` where the schema can't be written; `Argument(TooLarge)` where the weight of the
+    /// schema and the pairs is above `2^30`; `Memory`: after these nothing was sent and the writer is as it was. `Io` where the device
+    /// failed, or where it is memory whose growth was refused: then some of the first bytes may have been sent, and each later `start`,
+    /// `write` and `finish` answers `State(Failed)`.
+    pub fn start(&mut self) -> Result<(), Fault>
+        ensures step { SendsBytes W.known W.grows W.failures W.room W.memory (seen self.old) result (seen self.new) }
+        ensures ok { OnOk result (StartsWith (seen self.old) (seen self.new)) }
+        ensures only { IfErr result (OrFails (RefusesStart (seen self.old))) }
+        ensures means { Remains W.known W.memory (seen self.old) (seen self.new) }
+    {
+        let Starting { ipc_fields, bytes } = self.starting()?;
+        send(&mut self.writer, &mut self.state, &bytes)?;
+        self.state = WriterState::Started;
+        self.ipc_fields = ipc_fields;
+        self.block_offsets = bytes.len() as u64;
+        Ok(())
+    }
+
+    // Judges whether the file may end, and makes all that is sent then.
+    fn finishing(&self) -> Result<Vec<u8>, Fault>
+        ensures ok { IfOk result (λ bytes. MayFinish (seen self.now) bytes.items) }
+        ensures only { IfErr result (RefusesFinish (seen self.now)) }
+    {
+        self.check_started()?;
+        let footer = footer_to_bytes(
+            self.alloc,
+            &self.schema,
+            &self.ipc_fields,
+            &self.dictionary_blocks,
+            &self.record_blocks,
+            &self.custom_metadata,
+            self.is_little_endian,
+        )?;
+        let bytes = ending(self.alloc, &footer)?;
+        Ok(bytes)
+    }
+
+    /// Writes the mark that ends the stream, and the footer, and has the device send all on its way.
+    ///
+    /// Faults: `State(NotStarted)`, `State(Finished)`, `State(Failed)` by the writer's state; `Argument(TooLarge)` where the file has
+    /// more than `2^25` blocks; `Memory`: after these nothing was sent and the writer is as it was. `Io` where the device failed, or
+    /// where it is memory whose growth was refused, after which each later `start`, `write` and `finish` answers `State(Failed)`.
+    pub fn finish(&mut self) -> Result<(), Fault>
+        ensures step { SendsBytes W.known W.grows W.failures W.room W.memory (seen self.old) result (seen self.new) }
+        ensures ok { OnOk result (EndsWith (seen self.old) (seen self.new)) }
+        ensures only { IfErr result (OrFails (RefusesFinish (seen self.old))) }
+        ensures means { Remains W.known W.memory (seen self.old) (seen self.new) }
+    {
+        let bytes = self.finishing()?;
+        send_last(&mut self.writer, &mut self.state, &bytes)?;
+        self.state = WriterState::Finished;
+        Ok(())
+    }
+}
