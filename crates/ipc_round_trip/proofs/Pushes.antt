@@ -45,8 +45,7 @@ pushed gives known memory failures fails a b chunk xs ys step added = record {
     step.finished going,
     λ m ahead_a.
         let read = (step.next k going).each ahead_a.known ahead_a.knows in
-        let n = meaning (head_of (metadata_of a)) read.0 (ahead memory b) in
-        (
+        let n = meaning (head_of (metadata_of a)) read.0 (ahead memory b) in (
           n,
           record {
             known = read.0;

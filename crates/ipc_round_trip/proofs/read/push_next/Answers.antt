@@ -20,10 +20,10 @@ returns-in_err-push-in-Some-Ok-Some-clause-memory g c =
 
 pub returns-in-Some-Ok-Waiting-clause-memory : goal.returns-in-Some-Ok-Waiting-clause-memory
 returns-in-Some-Ok-Waiting-clause-memory g c = elim c.in-Some-Ok-Waiting-1.branch [
-    | in-Some+in-Ok+in-Waiting-1 w ↦
-        let e : c.next.result ≡ Some (Ok states.Waiting) = search rules in
-        waiting_push g.R.Reads.gives g.R.Failures.known g.R.Failures.memory g.R.Failures.failures g.met.R.Reads.gives_fails c.args.reader.now c.next.new.self c.args.chunks.now.items (rw e at c.next.ensures.steps)
-    | in-None-1 w ↦
-        let e : c.next.result ≡ None = search rules in
-        finished_push g.R.Reads.gives g.R.Failures.known g.R.Failures.memory g.R.Failures.failures g.met.R.Reads.gives_fails c.args.reader.now c.next.new.self c.args.chunks.now.items (rw e at c.next.ensures.steps)
-  ]
+  | in-Some+in-Ok+in-Waiting-1 w ↦
+      let e : c.next.result ≡ Some (Ok states.Waiting) = search rules in
+      waiting_push g.R.Reads.gives g.R.Failures.known g.R.Failures.memory g.R.Failures.failures g.met.R.Reads.gives_fails c.args.reader.now c.next.new.self c.args.chunks.now.items (rw e at c.next.ensures.steps)
+  | in-None-1 w ↦
+      let e : c.next.result ≡ None = search rules in
+      finished_push g.R.Reads.gives g.R.Failures.known g.R.Failures.memory g.R.Failures.failures g.met.R.Reads.gives_fails c.args.reader.now c.next.new.self c.args.chunks.now.items (rw e at c.next.ensures.steps)
+]
