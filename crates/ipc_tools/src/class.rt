@@ -1,6 +1,7 @@
 //! The class of a fault, as the programs tell it.
 
-use arrow2_ipc::io::ipc::fault::Fault;
+use arrow2_ipc::io::ipc::fault::{Fault, Writes};
+use ipc_write::common_sync::write_all;
 
 /// The class that stands for this fault on standard error.
 pub fn class_of(fault: &Fault) -> &'static str {
@@ -16,4 +17,12 @@ pub fn class_of(fault: &Fault) -> &'static str {
         Fault::Memory => "no memory",
         Fault::Lower(_) => "bad array",
     }
+}
+
+/// Writes a line: the name of the program, and the class of the fault that ended it. `Io` where that fails.
+pub fn tell<E: Writes>(err: &mut E, program: &str, fault: &Fault) -> Result<(), Fault> {
+    write_all(err, program.as_bytes())?;
+    write_all(err, b": ")?;
+    write_all(err, class_of(fault).as_bytes())?;
+    write_all(err, b"\n")
 }

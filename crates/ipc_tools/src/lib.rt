@@ -3,3 +3,4 @@
 
 pub mod cat;
 pub mod class;
+pub mod convert;

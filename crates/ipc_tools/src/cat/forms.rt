@@ -1,20 +1,31 @@
 //! What the words of a call ask for.
 
 /// The program's forms, of which some aren't there yet.
-#[derive(Clone, Copy, Debug, PartialEq, Eq)]
-pub enum Form {
+#[derive(Clone, Copy)]
+pub enum Form<'a> {
     /// `demo`: the documented example, as a stream.
     Demo,
 
-    /// `stream`: all columns of a stream.
-    Stream,
+    /// `stream`: these columns of a stream.
+    Stream(Columns<'a>),
 
     /// Words that are right, of a form that isn't there yet.
     Pending,
 }
 
+/// Which columns are shown.
+#[derive(Clone, Copy)]
+pub enum Columns<'a> {
+    /// All, in the order of the schema.
+    All,
+
+    /// Those at these positions, in their order: decimal digits joined by commas. Whether they are in the schema is judged
+    /// when that is read.
+    At(&'a str),
+}
+
 /// The form that these words ask for, or None where no form has them.
-pub fn form_of(words: &[String]) -> Option<Form> {
+pub fn form_of(words: &[String]) -> Option<Form<'_>> {
     let (name, others) = words.split_first()?;
     match name.as_str() {
         "demo" if others.is_empty() => Some(Form::Demo),
@@ -24,33 +35,37 @@ pub fn form_of(words: &[String]) -> Option<Form> {
     }
 }
 
-fn stream_form(words: &[String]) -> Option<Form> {
+fn stream_form(words: &[String]) -> Option<Form<'_>> {
     match words {
-        [] => Some(Form::Stream),
-        [columns] if columns.as_str() == "-" => Some(Form::Stream),
-        [columns] if are_positions(columns.as_str()) => Some(Form::Pending),
+        [] => Some(Form::Stream(Columns::All)),
+        [word] => Some(Form::Stream(columns_in(word.as_str())?)),
         _ => None,
     }
 }
 
-fn file_form(words: &[String]) -> Option<Form> {
-    let are_right = match words {
-        [_path] => true,
-        [_path, columns] => are_columns(columns.as_str()),
-        [_path, columns, limit] => are_columns(columns.as_str()) && is_limit(limit.as_str()),
-        _ => false,
-    };
-    if are_right { Some(Form::Pending) } else { None }
+fn file_form(words: &[String]) -> Option<Form<'_>> {
+    match words {
+        [_path] => {}
+        [_path, columns] => {
+            columns_in(columns.as_str())?;
+        }
+        [_path, columns, limit] if is_limit(limit.as_str()) => {
+            columns_in(columns.as_str())?;
+        }
+        _ => return None,
+    }
+    Some(Form::Pending)
 }
 
-// `-`, which stands for all columns, or positions.
-fn are_columns(word: &str) -> bool {
-    word == "-" || are_positions(word)
-}
-
-// Positions of columns, joined by commas. Whether they are in the schema is judged later.
-fn are_positions(word: &str) -> bool {
-    word.split(',').all(|position| is_decimal(position))
+// `-`, which stands for all columns, or positions joined by commas.
+fn columns_in(word: &str) -> Option<Columns<'_>> {
+    if word == "-" {
+        return Some(Columns::All);
+    }
+    if word.split(',').all(|position| is_decimal(position)) {
+        return Some(Columns::At(word));
+    }
+    None
 }
 
 // A number of rows, up to 2^64 - 1.
