@@ -1,7 +1,8 @@
 //! Bytes, and bits.
 //!
 //! Bytes are hex digits, `{"text": ".."}`, `{"zeros": 56}`, `{"message": TABLE}` or `{"footer": TABLE}`, which `tables.rt`
-//! builds, or a list of such parts. A part of a list may also change what stands before it: `{"cut": 44}` leaves so many bytes,
+//! builds, `{"framed": TABLE, "body": [PART, ..], "times": 2}`, so many such messages, each behind its prefix and before its body (once where
+//! that is left out), or a list of such parts. A part of a list may also change what stands before it: `{"cut": 44}` leaves so many bytes,
 //! `{"set": [[26, 3], ..]}` puts bytes at places. `{"repeat": [PART, ..], "times": 7}` is so many turns of plain parts, in which
 //! `{"u32": 316, "step": -48}` is a number of 32 bits that another is added to at each turn.
 //!
@@ -11,6 +12,8 @@
 use crate::json::{count, items, member, text, whole};
 use crate::tables::{footer, message};
 use crate::trouble::Trouble;
+use ipc_encode::common::EncodedData;
+use ipc_write::common_sync::write_message;
 use lower::bitmap::Bitmap;
 use lower::buffer::Buffer;
 use serde_json::Value;
@@ -48,7 +51,33 @@ fn put_part(alloc: Global, out: &mut Vec<u8>, part: &Value) -> Result<(), Troubl
     if let Some(table) = part.get("footer") {
         return Ok(out.extend_from_slice(&footer(alloc, table)?)?);
     }
+    if let Some(table) = part.get("framed") {
+        return put_framed(alloc, out, table, part);
+    }
     put_plain_part(alloc, out, part, 0)
+}
+
+// Adds a message as it is sent, with its body.
+fn put_framed(
+    alloc: Global,
+    out: &mut Vec<u8>,
+    table: &Value,
+    part: &Value,
+) -> Result<(), Trouble> {
+    let mut body = Vec::new(alloc);
+    put_turn(alloc, &mut body, items(part.get("body"), "body")?, 0)?;
+    let encoded = EncodedData {
+        ipc_message: message(alloc, table)?,
+        arrow_data: body,
+    };
+    let times = match part.get("times") {
+        None => 1,
+        times => count(times, "times")?,
+    };
+    for _ in 0..times {
+        write_message(out, &encoded)?;
+    }
+    Ok(())
 }
 
 // Leaves the first bytes, as many.

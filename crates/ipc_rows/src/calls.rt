@@ -5,6 +5,7 @@ mod arrays;
 mod buffers;
 mod chunks;
 mod devices;
+mod encoded;
 mod frames;
 mod messages;
 mod numbers;
@@ -143,12 +144,15 @@ enum Call {
     MarkedBy,
     Appended,
     RecordOf,
+    EncodedBy,
+    TrackedBy,
     Ipcat,
+    Ipconvert,
     IpcatCut,
     IpcatDamaged,
 }
 
-const CALLS: [(&str, Call); 53] = [
+const CALLS: [(&str, Call); 56] = [
     ("slots_of", Call::SlotsOf),
     ("parts_of", Call::PartsOf),
     ("bits_of", Call::BitsOf),
@@ -199,7 +203,10 @@ const CALLS: [(&str, Call); 53] = [
     ("marked_by", Call::MarkedBy),
     ("appended", Call::Appended),
     ("record_of", Call::RecordOf),
+    ("encoded_by", Call::EncodedBy),
+    ("tracked_by", Call::TrackedBy),
     ("ipcat", Call::Ipcat),
+    ("ipconvert", Call::Ipconvert),
     ("ipcat_cut", Call::IpcatCut),
     ("ipcat_damaged", Call::IpcatDamaged),
 ];
@@ -256,7 +263,10 @@ fn put_called(alloc: Global, out: &mut Text, call: Call, parts: &Value) -> Resul
         Call::MarkedBy => projections::marked_by(alloc, out, parts),
         Call::Appended => appended::appended(alloc, out, parts),
         Call::RecordOf => appended::record_of(alloc, out, parts),
+        Call::EncodedBy => encoded::encoded_by(alloc, out, parts),
+        Call::TrackedBy => encoded::tracked_by(alloc, out, parts),
         Call::Ipcat => tools::ipcat(alloc, out, parts),
+        Call::Ipconvert => tools::ipconvert(alloc, out, parts),
         Call::IpcatCut => tools::ipcat_cut(alloc, out, parts),
         Call::IpcatDamaged => tools::ipcat_damaged(alloc, out, parts),
     }

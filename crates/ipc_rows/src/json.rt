@@ -50,6 +50,11 @@ pub fn truth(value: Option<&Value>, name: &'static str) -> Result<bool, Trouble>
     }
 }
 
+/// Whether the part of this name, which may be left out, is there and true.
+pub fn is_set(value: &Value, name: &str) -> bool {
+    matches!(value.get(name), Some(Value::Bool(true)))
+}
+
 /// A whole number, which is the part of this name. One that 64 bits don't hold is a text of digits.
 pub fn whole(value: Option<&Value>, name: &'static str) -> Result<i128, Trouble> {
     let number = match value {

@@ -15,6 +15,7 @@ mod numbers;
 mod parts;
 mod plain;
 mod plain_streams;
+mod programs;
 mod projections;
 mod records;
 mod row;

@@ -1,13 +1,15 @@
 //! Record messages: `{"fields": [FIELD, ..], "nodes": [[2, 0], ..], "buffers": [[0, 8], ..], "body": BYTES}`. Each node is a
 //! length and a count of nulls, each buffer a place and a length. `"order": "big"` has the highest byte of numbers first, `"version": "V4"` is
 //! that of the metadata, `"ids": [ID, ..]` are the fields' as in `schemas.rt`, `"chosen": [2, 0]` reads these columns and gives them in this
-//! order, `"limit": 2` reads so many slots at most. `"message": BYTES` may stand in place of nodes and buffers.
+//! order, `"limit": 2` reads so many slots at most, `"dictionaries": [[ID, ARRAY], ..]` are the values that are known. `"message": BYTES` may
+//! stand in place of nodes and buffers.
 ghost use Rattle.std.specs.Prelude.{length};
 ghost use Rattle.std.specs.Option.{option_copied};
 ghost use Rattle.ipc_read.specs.Columns.{ArePrepared};
 
+use crate::arrays::array;
 use crate::bytes::bytes;
-use crate::json::{self, count, items, member};
+use crate::json::{self, both, count, items, member};
 use crate::plain::{PlainForm, all_columns, kinds_of};
 use crate::projections::{in_order, prepared};
 use crate::schemas::{ids_of, is_little_endian};
@@ -28,6 +30,7 @@ use lower_types::Endianness;
 use serde_json::Value;
 use std::alloc::Global;
 use std::collections::HashMap;
+use std::rc::Rc;
 
 /// A record message, its body, and what a schema and a caller say of it.
 #[derive(Drop)]
@@ -45,6 +48,7 @@ pub struct RecordForm {
     version: MetadataVersion,
     chosen: Option<Vec<usize>>,
     limit: Option<usize>,
+    dictionaries: Dictionaries,
 }
 
 /// The record of a row.
@@ -78,7 +82,22 @@ fn form(alloc: Global, value: &Value) -> Result<RecordForm, Trouble> {
         version: version(value)?,
         chosen: chosen(alloc, value)?,
         limit,
+        dictionaries: dictionaries(alloc, value)?,
     })
+}
+
+// The values that are known.
+fn dictionaries(alloc: Global, value: &Value) -> Result<Dictionaries, Trouble> {
+    let mut out = HashMap::new(alloc);
+    let Some(known) = value.get("dictionaries") else {
+        return Ok(out);
+    };
+    for known in items(Some(known), "dictionaries")? {
+        let (id, values) = both(known, "dictionaries")?;
+        let id = json::number(Some(id), "dictionaries")?;
+        out.insert(id, Rc::new(alloc, array(alloc, values, LEVELS)?)?)?;
+    }
+    Ok(out)
 }
 
 fn chosen(alloc: Global, value: &Value) -> Result<Option<Vec<usize>>, Trouble> {
@@ -132,7 +151,6 @@ impl RecordForm {
     ) -> Result<Chunk<AnyArray>, Trouble>
         requires { ArePrepared (option_copied chosen) (length self.now.fields.items) }
     {
-        let dictionaries: Dictionaries = HashMap::new(alloc);
         Ok(read_record_batch(
             alloc,
             batch,
@@ -140,7 +158,7 @@ impl RecordForm {
             &self.ids,
             chosen,
             self.limit,
-            &dictionaries,
+            &self.dictionaries,
             self.version,
             &mut MemFile::new(body),
             0,

@@ -1,7 +1,8 @@
 //! The tables of messages and files, from which bytes are built. They say what no schema of ours does, as integers of 24 bits.
 //!
 //! A message is `{"header": HEADER, "version": "V4", "body_length": 128}`: version V5 and no body where these are left out. A
-//! header is `{"schema": SCHEMA}`, `{"record_batch": BATCH}` or `{"dictionary_batch": {"id": 7, "data": BATCH, "is_delta": false}}`.
+//! header is `{"schema": SCHEMA}`, `{"record_batch": BATCH}` or `{"dictionary_batch": {"id": 7, "data": BATCH, "is_delta": false}}`,
+//! in which the data may be left out.
 //! A schema is `{"fields": [FIELD, ..], "endianness": "Big", "metadata": PAIRS}`, of which all but the fields may be left out. A
 //! batch is `{"length": 3, "nodes": [[3, 1], ..], "buffers": [[64, 12], ..]}`: of a node the length and how many are null, of a buffer its
 //! place and length. A footer is `{"schema": SCHEMA, "dictionaries": [BLOCK, ..], "record_batches": [BLOCK, ..], "metadata": PAIRS}`,
@@ -76,10 +77,14 @@ fn header(alloc: Global, value: &Value) -> Result<MessageHeader, Trouble> {
         return Ok(MessageHeader::RecordBatch(record_batch(alloc, table)?));
     }
     let table = member(value, "dictionary_batch")?;
+    let data_ = match table.get("data") {
+        None => None,
+        Some(data) => Some(record_batch(alloc, data)?),
+    };
     Ok(MessageHeader::DictionaryBatch(DictionaryBatch {
         id: number(table.get("id"), "id")?,
         is_delta: truth(table.get("is_delta"), "is_delta")?,
-        data_: Some(record_batch(alloc, member(table, "data")?)?),
+        data_,
     }))
 }
 

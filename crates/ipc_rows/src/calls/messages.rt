@@ -96,10 +96,15 @@ fn put_record(
         Ok(length) if length >= 0 => read_bytes(alloc, input, length as usize)?,
         _ => return Err(Trouble::Row("a body")),
     };
-    out.put("{\"body\":");
-    put_words(out, &body);
-    out.put(",\"message\":");
-    put_message(out, &message);
-    out.put("}");
+    put_parts(out, &body, &message);
     Ok(())
+}
+
+/// Appends a body, and what the views say of its message.
+pub fn put_parts(out: &mut Text, body: &[u8], message: &MessageRef<'_>) {
+    out.put("{\"body\":");
+    put_words(out, body);
+    out.put(",\"message\":");
+    put_message(out, message);
+    out.put("}");
 }

@@ -1,6 +1,9 @@
 //! The programs. `"ipcat": {"words": [WORD, ..], "input": BYTES}` runs ipcat over memory and gives its status and what it
 //! prints; `{"demo": true}` is an input too, the stream that `ipcat demo` writes, and so is what a writer wrote (`written.rt`). What isn't text is given by its length.
 //!
+//! `"ipconvert"` of the same parts runs ipconvert, and gives its status, what it tells, and what `ipcat stream` prints of what it wrote, or null
+//! where it wrote nothing.
+//!
 //! `"ipcat_cut"` of the same parts runs it on each beginning of the input, and gives how many there are, the lengths of those
 //! that wait, how many end too soon, and the lengths of those that answer anything else.
 //!
@@ -8,44 +11,13 @@
 //! by one of the `"classes"`, and the places where the answer is another one.
 
 use crate::bytes::bytes;
-use crate::json::{items, member, text};
+use crate::json::{items, member};
+use crate::programs::{Program, Run, run_of, words_of};
 use crate::text::Text;
 use crate::trouble::Trouble;
 use crate::written::stream;
-use ipc_devices::MemFile;
-use ipc_tools::cat::run;
 use serde_json::Value;
 use std::alloc::Global;
-
-// What a run answered.
-#[derive(Drop)]
-struct Run {
-    status: u8,
-    out: Vec<u8>,
-    err: Vec<u8>,
-}
-
-fn run_of(alloc: Global, words: &[String], input: &[u8]) -> Run {
-    let mut out = Vec::new(alloc);
-    let mut err = Vec::new(alloc);
-    let status = run(
-        alloc,
-        words,
-        &mut MemFile::new(input),
-        None::<MemFile<&[u8]>>,
-        &mut out,
-        &mut err,
-    );
-    Run { status, out, err }
-}
-
-fn words_of(alloc: Global, value: &Value) -> Result<Vec<String>, Trouble> {
-    let mut words = Vec::new(alloc);
-    for word in items(value.get("words"), "words")? {
-        words.push(text(Some(word), "words")?.to_string(alloc)?)?;
-    }
-    Ok(words)
-}
 
 // What stands at the input: nothing where a row doesn't say.
 fn input_of(alloc: Global, value: &Value) -> Result<Vec<u8>, Trouble> {
@@ -57,24 +29,50 @@ fn input_of(alloc: Global, value: &Value) -> Result<Vec<u8>, Trouble> {
 }
 
 fn demo(alloc: Global) -> Result<Vec<u8>, Trouble> {
+    let words = word(alloc, "demo")?;
+    Ok(run_of(alloc, Program::Ipcat, &words, &[]).out)
+}
+
+// A word alone.
+fn word(alloc: Global, word: &str) -> Result<Vec<String>, Trouble> {
     let mut words = Vec::new(alloc);
-    words.push("demo".to_string(alloc)?)?;
-    Ok(run_of(alloc, &words, &[]).out)
+    words.push(word.to_string(alloc)?)?;
+    Ok(words)
 }
 
 /// What a run of ipcat answers.
 pub fn ipcat(alloc: Global, out: &mut Text, value: &Value) -> Result<(), Trouble> {
     let words = words_of(alloc, value)?;
     let input = input_of(alloc, value)?;
-    let run = run_of(alloc, &words, &input);
-    out.put("{\"err\":");
-    put_printed(out, &run.err);
-    out.put(",\"out\":");
+    let run = run_of(alloc, Program::Ipcat, &words, &input);
+    out.put("{\"out\":");
     put_printed(out, &run.out);
+    put_ending(out, &run);
+    Ok(())
+}
+
+/// What a run of ipconvert answers, and what ipcat prints of what it wrote.
+pub fn ipconvert(alloc: Global, out: &mut Text, value: &Value) -> Result<(), Trouble> {
+    let words = words_of(alloc, value)?;
+    let input = input_of(alloc, value)?;
+    let run = run_of(alloc, Program::Ipconvert, &words, &input);
+    out.put("{\"out\":");
+    if run.out.is_empty() {
+        out.put("null");
+    } else {
+        let stream = word(alloc, "stream")?;
+        put_printed(out, &run_of(alloc, Program::Ipcat, &stream, &run.out).out);
+    }
+    put_ending(out, &run);
+    Ok(())
+}
+
+fn put_ending(out: &mut Text, run: &Run) {
+    out.put(",\"err\":");
+    put_printed(out, &run.err);
     out.put(",\"status\":");
     out.show(&run.status);
     out.put("}");
-    Ok(())
 }
 
 // A text, or how many bytes there are where they are none.
@@ -154,10 +152,10 @@ pub fn ipcat_cut(alloc: Global, out: &mut Text, value: &Value) -> Result<(), Tro
 }
 
 fn endings_of_cuts(alloc: Global, words: &[String], input: &[u8]) -> Endings {
-    let whole = run_of(alloc, words, input);
+    let whole = run_of(alloc, Program::Ipcat, words, input);
     let mut endings = Endings::new(alloc);
     for cut in 0..input.len() {
-        let run = run_of(alloc, words, &input[..cut]);
+        let run = run_of(alloc, Program::Ipcat, words, &input[..cut]);
         endings.add(cut, ending_of_cut(&run, &whole));
     }
     endings
@@ -203,7 +201,7 @@ fn endings_of_damages(
     let mut endings = Endings::new(alloc);
     for place in 0..input.len() {
         let damaged = with_byte(alloc, input, place, byte)?;
-        let run = run_of(alloc, words, &damaged);
+        let run = run_of(alloc, Program::Ipcat, words, &damaged);
         endings.add(place, ending_of_damage(&run, classes));
     }
     Ok(endings)
