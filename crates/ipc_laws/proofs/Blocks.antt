@@ -13,7 +13,7 @@ use Rattle.ipc_model.proofs.Followed.{record_follow_law}
 use Rattle.ipc_model.proofs.Given.{some-same, then-some}
 use Rattle.ipc_model.proofs.Written.{written_frame}
 use Rattle.ipc_model.specs.BatchLaws.{own_buffers, Agree}
-use Rattle.ipc_model.specs.Batches.{Schema, kinds, Body, Lists, lists_of, entries_of, chosen, batch, record_meaning, Place, places, place_of, values_schema, with_values, values_meaning, batch_meaning, dictionary_meaning}
+use Rattle.ipc_model.specs.Batches.{Schema, kinds, Body, Lists, lists_of, entries_of, chosen, batch, record_meaning, Place, places, place_of, values_schema, with_values, values_meaning, batch_meaning, dictionary_meaning, extra_of}
 use Rattle.ipc_model.specs.Entries.{bytes_from, part_at, Dictionaries, Limit}
 use Rattle.ipc_model.specs.Files.{FileMetadata, front_metadata, Placed, placed_at, placed, metadata_at, BlockHeader, block_header, body_at, chunk_at, dictionaries_at}
 use Rattle.ipc_model.specs.Frame.{frame}
@@ -162,23 +162,23 @@ pub block_record_law : BlockRecordLaw
 unfolding chunk_at
 block_record_law m h s source b metadata body c same at w v =
     let p = place_in at.before metadata in
-    let head : BlockHeader = record { tag = w.header.tag; table = w.header.table; extra = h.extra } in
+    let head : BlockHeader = record { tag = w.header.tag; table = w.header.table; extra = extra_of h.version } in
     given_is (placed b) _ p c (block_placed m source b metadata body at)
     (given_is (metadata_at source p) _ metadata c (block_metadata m source b metadata body at w.some w.short)
-    (given_is (block_header metadata) _ head c (header_same metadata w.header h.extra w.headed v)
+    (given_is (block_header metadata) _ head c (header_same metadata w.header (extra_of h.version) w.headed v)
     (chosen_is (nat_eq w.header.tag 3) _ None (Some c) (eq-eqb w.header.tag 3 w.tag)
-    (placed_record_law m.schema h.extra s.dictionaries (body_at m source p) body w.header.table None None c (block_body m source b metadata body at)
-    (ap (λ (x : Schema). record_meaning x h.extra s.dictionaries (whole body) w.header.table None None) same ∙ w.means)))))
+    (placed_record_law m.schema (extra_of h.version) s.dictionaries (body_at m source p) body w.header.table None None c (block_body m source b metadata body at)
+    (ap (λ (x : Schema). record_meaning x (extra_of h.version) s.dictionaries (whole body) w.header.table None None) same ∙ w.means)))))
 
 pub block_dictionary_law : BlockDictionaryLaw
 unfolding dictionaries_at
 block_dictionary_law m h s source b metadata body id d same at w v =
     let p = place_in at.before metadata in
-    let head : BlockHeader = record { tag = w.header.tag; table = w.header.table; extra = h.extra } in
+    let head : BlockHeader = record { tag = w.header.tag; table = w.header.table; extra = extra_of h.version } in
     let after : Dictionaries = (id, d) ∷ s.dictionaries in
     given_is (placed b) _ p after (block_placed m source b metadata body at)
     (given_is (metadata_at source p) _ metadata after (block_metadata m source b metadata body at w.some w.short)
-    (given_is (block_header metadata) _ head after (header_same metadata w.header h.extra w.headed v)
+    (given_is (block_header metadata) _ head after (header_same metadata w.header (extra_of h.version) w.headed v)
     (chosen_is (nat_eq w.header.tag 2) _ None (Some after) (eq-eqb w.header.tag 2 w.tag)
-    (placed_dictionary_law m.schema h.extra s.dictionaries after (body_at m source p) body w.header.table (block_body m source b metadata body at)
-    (ap (λ (x : Schema). dictionary_meaning x h.extra s.dictionaries (whole body) w.header.table) same ∙ w.means)))))
+    (placed_dictionary_law m.schema (extra_of h.version) s.dictionaries after (body_at m source p) body w.header.table (block_body m source b metadata body at)
+    (ap (λ (x : Schema). dictionary_meaning x (extra_of h.version) s.dictionaries (whole body) w.header.table) same ∙ w.means)))))

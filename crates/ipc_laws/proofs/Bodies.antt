@@ -8,7 +8,7 @@ use Rattle.lower_arrays.specs.Slots.{slots, AreArrays}
 use Rattle.ipc_views.specs.MessageSlots.{dictionary_batch_id, dictionary_batch_is_delta, dictionary_batch_data}
 use Rattle.ipc_views.specs.Spot.{Spot}
 use Rattle.ipc_base.specs.IdTrees.{IdTrees}
-use Rattle.ipc_model.specs.Batches.{Schema, Body, Lists, lists_of, entries_of, batch, Chunk, record_meaning, Place, places, place_of, values_schema, with_values, values_meaning, batch_meaning, dictionary_meaning}
+use Rattle.ipc_model.specs.Batches.{Schema, Body, Lists, lists_of, entries_of, batch, Chunk, record_meaning, Place, places, place_of, values_schema, with_values, values_meaning, batch_meaning, dictionary_meaning, extra_of}
 use Rattle.ipc_model.specs.Entries.{Dictionary, Dictionaries, dictionary_at}
 use Rattle.ipc_model.specs.Streams.{Head, Known, whole}
 use Rattle.ipc_plan.specs.Meaning.{Knows, KnowsAll}
@@ -81,9 +81,9 @@ values_known ls bs g ds p ids found =
     (finds_both (λ i. dictionary_at ds i) (filled_below p.values p.ids) (own_filled p.values None p.ids) found (no_own (λ i. dictionary_at ds i) p.values p.ids))
 
 -- the batch means the values, in the schema of their place
-values_are : (h : Head) (p : Filled) (metadata body : List ℕ) (lists : Lists) (s : Known) → h.extra ≡ 0 → (v : HasPlace h.schema p) → (m : IsDictionaryMessage metadata p.id lists body)
+values_are : (h : Head) (p : Filled) (metadata body : List ℕ) (lists : Lists) (s : Known) → extra_of h.version ≡ 0 → (v : HasPlace h.schema p) → (m : IsDictionaryMessage metadata p.id lists body)
     → HoldColumns h.schema.order lists body (p.values ∷ []) → Finds (λ i. dictionary_at s.dictionaries i) (filled_below p.values p.ids)
-    → record_meaning (values_schema v.place h.schema.order) h.extra s.dictionaries (whole body) m.values None None ≡ Some (record { type = v.place.type; slots = slots p.values } ∷ [])
+    → record_meaning (values_schema v.place h.schema.order) (extra_of h.version) s.dictionaries (whole body) m.values None None ≡ Some (record { type = v.place.type; slots = slots p.values } ∷ [])
 values_are h p metadata body lists s extra v m holds found =
     let schema = values_schema v.place h.schema.order in
     let known = values_known lists body h s.dictionaries p v.inner found in
@@ -104,11 +104,11 @@ sets schema extra known body i b d id values f c o e1 e2 e3 place means then =
     ∙ then
 
 meaning_is : (g : Head) (q : Filled) (ms bs : List ℕ) (ls : Lists) (s : Known) (w : HasPlace g.schema q) (n : IsDictionaryMessage ms q.id ls bs)
-    → record_meaning (values_schema w.place g.schema.order) g.extra s.dictionaries (whole bs) n.values None None ≡ Some (record { type = w.place.type; slots = slots q.values } ∷ [])
-    → dictionary_meaning g.schema g.extra s.dictionaries (whole bs) n.header.table ≡ Some ((q.id, dictionary_of q.values) ∷ s.dictionaries)
+    → record_meaning (values_schema w.place g.schema.order) (extra_of g.version) s.dictionaries (whole bs) n.values None None ≡ Some (record { type = w.place.type; slots = slots q.values } ∷ [])
+    → dictionary_meaning g.schema (extra_of g.version) s.dictionaries (whole bs) n.header.table ≡ Some ((q.id, dictionary_of q.values) ∷ s.dictionaries)
 unfolding dictionary_meaning
 meaning_is g q ms bs ls s w n e =
-    sets g.schema g.extra s.dictionaries (whole bs) (dictionary_batch_id n.header.table) (dictionary_batch_is_delta n.header.table) (dictionary_batch_data n.header.table) q.id n.values w.place _ _
+    sets g.schema (extra_of g.version) s.dictionaries (whole bs) (dictionary_batch_id n.header.table) (dictionary_batch_is_delta n.header.table) (dictionary_batch_data n.header.table) q.id n.values w.place _ _
     n.id_is n.whole_values n.values_are w.first e (ap (λ (t : TypeTree). Some ((q.id, record { type = t; slots = slots q.values }) ∷ s.dictionaries)) w.is.type)
 
 pub values_law : ValuesLaw

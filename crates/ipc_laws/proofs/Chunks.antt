@@ -2,7 +2,7 @@
 use Rattle.std.proofs.Common.{◌≡◌, ℕ, List, [], ◌∷◌, map, refl, subst, inl, inr}
 use Rattle.lower_arrays.specs.Layouts.{layouts}
 use Rattle.ipc_model.specs.Accepted.{fields_of}
-use Rattle.ipc_model.specs.Batches.{Column}
+use Rattle.ipc_model.specs.Batches.{Column, extra_of}
 use Rattle.ipc_model.specs.Offers.{FilledPlace, offer_of}
 use Rattle.ipc_model.specs.Streams.{Head}
 use Rattle.ipc_laws.specs.Chunks.{Encodes, SendsBodies, ListedLaw, WrittenChunkLaw, EncodedChunkLaw}
@@ -24,7 +24,7 @@ listed_law order m (p ∷ ps) ws after bytes (inr s) e =
 
 -- ---- chunks
 
-sends_bodies : (h : Head) (m : Remembered) (ps : List Filled) (bytes : List ℕ) (after : Remembered) → h.extra ≡ 0 → HavePlaces h.schema ps → SendsBodies h.schema.order m ps bytes after → Sends h m ps bytes after
+sends_bodies : (h : Head) (m : Remembered) (ps : List Filled) (bytes : List ℕ) (after : Remembered) → extra_of h.version ≡ 0 → HavePlaces h.schema ps → SendsBodies h.schema.order m ps bytes after → Sends h m ps bytes after
 sends_bodies h m [] bytes after extra placed s = s
 sends_bodies h m (p ∷ ps) bytes after extra placed (inl s) = inl (s.0, sends_bodies h m ps bytes after extra placed.1 s.1)
 sends_bodies h m (p ∷ ps) bytes after extra placed (inr s) = inr (

@@ -4,7 +4,7 @@ use Rattle.std.specs.Ordering.{int_eq}
 use Rattle.lower_types.specs.declared.Endianness.{Endianness}
 use Rattle.lower_arrays.specs.Layouts.{layouts}
 use Rattle.ipc_views.specs.declared.file.Block.{Block}
-use Rattle.ipc_model.specs.Batches.{Chunk}
+use Rattle.ipc_model.specs.Batches.{Chunk, extra_of}
 use Rattle.ipc_model.specs.Entries.{Dictionary, Dictionaries}
 use Rattle.ipc_model.specs.Files.{FileMetadata, chunk_at, dictionaries_at, dictionaries_after, chunks_at}
 use Rattle.ipc_model.specs.Offers.{FilledPlace}
@@ -67,10 +67,10 @@ record Sets (m : FileMetadata) (seen : Block → List ℕ) (known : Dictionaries
 sets_at : (m : FileMetadata) (seen : Block → List ℕ) (known : Dictionaries) (bs cs : List Block) (after : Remembered) → bs ≡ cs → Sets m seen known cs after → Sets m seen known bs after
 sets_at m seen known bs cs after e x = subst (λ (ds : List Block). Sets m seen known ds after) (sym e) x
 
-version_same : (h : Head) (metadata : List ℕ) → h.extra ≡ 0 → IsOfVersion metadata 0 → IsOfVersion metadata h.extra
+version_same : (h : Head) (metadata : List ℕ) → extra_of h.version ≡ 0 → IsOfVersion metadata 0 → IsOfVersion metadata (extra_of h.version)
 version_same h metadata e v = subst (λ (n : ℕ). IsOfVersion metadata n) (sym e) v
 
-sets_each : (h : Head) (m : FileMetadata) (seen : Block → List ℕ) (r after : Remembered) (known : Dictionaries) (ps : List Filled) (bs : List Block) → m.schema ≡ h.schema → h.extra ≡ 0
+sets_each : (h : Head) (m : FileMetadata) (seen : Block → List ℕ) (r after : Remembered) (known : Dictionaries) (ps : List Filled) (bs : List Block) → m.schema ≡ h.schema → extra_of h.version ≡ 0
     → HavePlaces h.schema ps → InOrder r ps after → StandEach m seen h.schema.order ps bs → Agrees r known → Sets m seen known bs after
 unfolding StandEach
 sets_each h m seen r after known [] bs same extra have o s a =

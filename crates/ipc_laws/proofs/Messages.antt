@@ -3,7 +3,7 @@ use Rattle.std.proofs.Common.{◌≡◌, ℕ, ◌≤◌, ◌==◌, nat_lt, true,
 use Rattle.std.proofs.lemmas.Bool.{le-ltb, lt-ltb, eq-eqb}
 use Rattle.std.proofs.lemmas.List.{take_at, drop_at}
 use Rattle.ipc_model.proofs.Written.{written_frame}
-use Rattle.ipc_model.specs.Batches.{dictionary_meaning}
+use Rattle.ipc_model.specs.Batches.{dictionary_meaning, extra_of}
 use Rattle.ipc_model.specs.Entries.{Dictionaries}
 use Rattle.ipc_model.specs.Streams.{Header, whole, with_dictionaries, most_dictionaries, body_item, message_item, frame_item, item}
 use Rattle.ipc_laws.specs.Messages.{WrittenDictionaryLaw}
@@ -23,7 +23,7 @@ written_dictionary h s metadata body rest id d room w =
     ap (frame_item h s) (written_frame metadata (body ++ rest) w.some w.short)
     ∙ ap (λ (o : Option Header). message_item h s o (body ++ rest)) w.headed
     ∙ rw (there, no_record, tagged, counted) (
-    ap (λ bs. with_dictionaries (dictionary_meaning h.schema h.extra s.dictionaries (whole bs) w.header.table) s (drop n (body ++ rest))) own
-    ∙ ap (λ r. with_dictionaries (dictionary_meaning h.schema h.extra s.dictionaries (whole body) w.header.table) s r) left
+    ap (λ bs. with_dictionaries (dictionary_meaning h.schema (extra_of h.version) s.dictionaries (whole bs) w.header.table) s (drop n (body ++ rest))) own
+    ∙ ap (λ r. with_dictionaries (dictionary_meaning h.schema (extra_of h.version) s.dictionaries (whole body) w.header.table) s r) left
     ∙ ap (λ (o : Option Dictionaries). with_dictionaries o s rest) w.means
     )

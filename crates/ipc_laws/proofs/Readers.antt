@@ -8,7 +8,7 @@ use Rattle.ipc_devices.specs.declared.fault.TableFault.{TableFault}
 use Rattle.ipc_views.specs.MessageSlots.{dictionary_batch_id, dictionary_batch_is_delta, dictionary_batch_data}
 use Rattle.ipc_views.specs.Spot.{Spot}
 use Rattle.ipc_model.specs.Kinds.{count}
-use Rattle.ipc_model.specs.Batches.{Schema, kinds, Body, chosen, Chunk, record_meaning, Place, places, place_of, values_schema, with_values, values_meaning, batch_meaning, dictionary_meaning}
+use Rattle.ipc_model.specs.Batches.{Schema, kinds, Body, chosen, Chunk, record_meaning, Place, places, place_of, values_schema, with_values, values_meaning, batch_meaning, dictionary_meaning, extra_of}
 use Rattle.ipc_model.specs.Entries.{Dictionary, Dictionaries, dictionary_at}
 use Rattle.ipc_model.specs.Frame.{Frame, message, mark, waiting, broken, frame}
 use Rattle.ipc_model.specs.Streams.{Header, header_of, Head, Known, faulty, Item, more, done, whole, with_chunk, with_dictionaries, record_item, most_dictionaries, dictionary_item, body_item, message_item, frame_item, item, Meant, with_chunks, from_item, meant_within, meaning}
@@ -72,20 +72,20 @@ known_alike (Some ds) (Some es) s t rest a e = (refl, record { alike = e; count 
 record_front : (h : Head) (s t : Known) (m : Header) (rest : List ℕ) → AreAt s t → ItemAlike (record_item h s m rest) (record_item h t m rest)
 record_front h s t m rest a =
     let body = whole (take m.body rest) in
-    let same = alike_record_law h.schema h.extra s.dictionaries t.dictionaries body m.table None None (agree_chosen (kinds h.schema) (chosen None (count (kinds h.schema))) s.dictionaries t.dictionaries a.alike) in
-    subst (λ (o : Option Chunk). ItemAlike (with_chunk (record_meaning h.schema h.extra s.dictionaries body m.table None None) s (drop m.body rest)) (with_chunk o t (drop m.body rest))) same
-    (record_alike (record_meaning h.schema h.extra s.dictionaries body m.table None None) s t (drop m.body rest) a)
+    let same = alike_record_law h.schema (extra_of h.version) s.dictionaries t.dictionaries body m.table None None (agree_chosen (kinds h.schema) (chosen None (count (kinds h.schema))) s.dictionaries t.dictionaries a.alike) in
+    subst (λ (o : Option Chunk). ItemAlike (with_chunk (record_meaning h.schema (extra_of h.version) s.dictionaries body m.table None None) s (drop m.body rest)) (with_chunk o t (drop m.body rest))) same
+    (record_alike (record_meaning h.schema (extra_of h.version) s.dictionaries body m.table None None) s t (drop m.body rest) a)
 
 dictionary_front : (h : Head) (s t : Known) (m : Header) (rest : List ℕ) → AreAt s t → ItemAlike (dictionary_item h s m rest) (dictionary_item h t m rest)
 dictionary_front h s t m rest a =
     let body = whole (take m.body rest) in
-    let o = dictionary_meaning h.schema h.extra s.dictionaries body m.table in
-    let p = dictionary_meaning h.schema h.extra t.dictionaries body m.table in
+    let o = dictionary_meaning h.schema (extra_of h.version) s.dictionaries body m.table in
+    let p = dictionary_meaning h.schema (extra_of h.version) t.dictionaries body m.table in
     let x = with_dictionaries o s (drop m.body rest) in
     let y = with_dictionaries p t (drop m.body rest) in
     subst (λ (n : ℕ). ItemAlike (cond (nat_lt s.count most_dictionaries) x (done faulty)) (cond (nat_lt n most_dictionaries) y (done faulty))) a.count
     (item_where (nat_lt s.count most_dictionaries) x y (done faulty) (done faulty)
-    (known_alike o p s t (drop m.body rest) a (alike_dictionary_law h.schema h.extra s.dictionaries t.dictionaries body m.table a.alike)) tt)
+    (known_alike o p s t (drop m.body rest) a (alike_dictionary_law h.schema (extra_of h.version) s.dictionaries t.dictionaries body m.table a.alike)) tt)
 
 body_front : (h : Head) (s t : Known) (m : Header) (rest : List ℕ) → AreAt s t → ItemAlike (body_item h s m rest) (body_item h t m rest)
 unfolding body_item

@@ -56,11 +56,11 @@ pub record IsOfVersion (metadata : List ℕ) (extra : ℕ) : Type 0 where
 -- A record that was written has its chunk at its block.
 abbrev pub BlockRecordLaw : Type 0
 BlockRecordLaw = (m : FileMetadata) (h : Head) (s : Known) (source : List ℕ) (b : Block) (metadata body : List ℕ) (c : Chunk) → m.schema ≡ h.schema
-    → StandsAt m source b metadata body → IsWritten h s metadata body c → IsOfVersion metadata h.extra
+    → StandsAt m source b metadata body → IsWritten h s metadata body c → IsOfVersion metadata (extra_of h.version)
     → chunk_at m s.dictionaries source b None None ≡ Some c
 
 -- A dictionary that was written sets the values of its id there.
 abbrev pub BlockDictionaryLaw : Type 0
 BlockDictionaryLaw = (m : FileMetadata) (h : Head) (s : Known) (source : List ℕ) (b : Block) (metadata body : List ℕ) (id : ℤ) (d : Dictionary) → m.schema ≡ h.schema
-    → StandsAt m source b metadata body → IsWrittenDictionary h s metadata body id d → IsOfVersion metadata h.extra
+    → StandsAt m source b metadata body → IsWrittenDictionary h s metadata body id d → IsOfVersion metadata (extra_of h.version)
     → dictionaries_at m s.dictionaries source b ≡ Some ((id, d) ∷ s.dictionaries)

@@ -6,7 +6,7 @@ use Rattle.lower_arrays.specs.Layouts.{Layout, layouts}
 use Rattle.lower_arrays.specs.Slots.{AreArrays}
 use Rattle.ipc_views.specs.MessageSlots.{dictionary_batch_id, dictionary_batch_is_delta, dictionary_batch_data}
 use Rattle.ipc_views.specs.Spot.{Spot}
-use Rattle.ipc_model.specs.Batches.{Schema, Lists, lists_of, entries_of, batch}
+use Rattle.ipc_model.specs.Batches.{Schema, Lists, lists_of, entries_of, batch, extra_of}
 use Rattle.ipc_model.specs.Entries.{Dictionaries}
 use Rattle.ipc_model.specs.Offers.{FilledPlace}
 use Rattle.ipc_model.specs.Streams.{Head, Header, header_of, whole}
@@ -79,11 +79,11 @@ pub record ColumnsMessage (order : Endianness) (columns : List Layout) : Type 0 
 
 -- A dictionary message of the values at a place of the schema means them.
 abbrev pub ValuesLaw : Type 0
-ValuesLaw = (h : Head) (p : Filled) → h.extra ≡ 0 → HasPlace h.schema p → (w : ValuesMessage h.schema.order (filled_place p))
+ValuesLaw = (h : Head) (p : Filled) → extra_of h.version ≡ 0 → HasPlace h.schema p → (w : ValuesMessage h.schema.order (filled_place p))
     → MeansValues h p w.metadata w.body
 
 -- A record of some columns of the schema's types, whose keys have ids, means them.
 abbrev pub ColumnsLaw : Type 0
-ColumnsLaw = (h : Head) (columns : List Layout) → h.extra ≡ 0 → AllHaveIds (layouts columns) h.schema.ids
+ColumnsLaw = (h : Head) (columns : List Layout) → extra_of h.version ≡ 0 → AllHaveIds (layouts columns) h.schema.ids
     → AreLike h.schema.fields (layouts columns) → chunk_named h.schema.fields columns ≡ chunk_written columns
     → (w : ColumnsMessage h.schema.order columns) → MeansColumns h columns w.metadata w.body

@@ -4,7 +4,7 @@ use Rattle.std.specs.Prelude.{◌≡◌, ℕ, ℤ, ◌+◌, ◌^◌, ◌<◌, Li
 use Rattle.lower.specs.Normal.{norm}
 use Rattle.lower_arrays.specs.Layouts.{Layout, layouts, type_of}
 use Rattle.lower_arrays.specs.Slots.{slots}
-use Rattle.ipc_model.specs.Batches.{Column, Chunk, dictionary_meaning}
+use Rattle.ipc_model.specs.Batches.{Column, Chunk, dictionary_meaning, extra_of}
 use Rattle.ipc_model.specs.Entries.{Dictionary, dictionary_at}
 use Rattle.ipc_model.specs.Streams.{Head, Known, Header, header_of, whole, most_dictionaries, more, item}
 use Rattle.ipc_model.specs.WrittenLaws.{prefix, IsWritten}
@@ -23,7 +23,7 @@ pub record IsWrittenDictionary (h : Head) (s : Known) (metadata body : List ℕ)
   pub headed : header_of metadata ≡ Some header
   pub tag : header.tag ≡ 2
   pub long : header.body ≡ length body
-  pub means : dictionary_meaning h.schema h.extra s.dictionaries (whole body) header.table ≡ Some ((id, d) ∷ s.dictionaries)
+  pub means : dictionary_meaning h.schema (extra_of h.version) s.dictionaries (whole body) header.table ≡ Some ((id, d) ∷ s.dictionaries)
 
 -- what a reader knows after it
 abbrev pub after_dictionary : Known → ℤ → Dictionary → Known

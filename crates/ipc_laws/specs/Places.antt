@@ -19,6 +19,7 @@ use Rattle.ipc_laws.specs.Moves.{SendsChunk, MeansChunk}
 use Rattle.ipc_laws.specs.Order.{AreConsistent}
 use Rattle.ipc_laws.specs.Messages.{chunk_written}
 use Rattle.ipc_laws.specs.Remembered.{Remembered, Filled, filled_place, filled_of, Finds}
+use Rattle.ipc_views.specs.declared.schema.MetadataVersion.TheVariants.{V5}
 
 -- ---- ids
 
@@ -80,7 +81,7 @@ FilledLaw = (cs : Layouts) (is : IdTrees) → map filled_place (filled_of cs is)
 
 -- what a stream of this schema begins with: its fields in the normal form, version 5
 abbrev pub head_written : Endianness → FieldTrees → Pairs → IdTrees → Head
-head_written order fs metadata is = record { schema = record { fields = norm_fields fs; metadata = metadata; ids = is; order = order }; extra = 0 }
+head_written order fs metadata is = record { schema = record { fields = norm_fields fs; metadata = metadata; ids = is; order = order }; version = V5 }
 
 -- What an accepted chunk's places are: each is one of the schema's, there are no more than a reader counts, and places of one id
 -- have the same values.

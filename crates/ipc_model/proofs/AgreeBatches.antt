@@ -9,7 +9,7 @@ use Rattle.ipc_views.specs.MessageSlots.{dictionary_batch_id, dictionary_batch_d
 use Rattle.ipc_model.proofs.AgreeColumns.{test_same, column_same}
 use Rattle.ipc_model.proofs.AgreePlaces.{chosen_agree, fields_agree, AgreeInside, fields_inside, values_agree, of_place, more_agree}
 use Rattle.ipc_model.specs.AgreeLaws.{AgreeForChosen, AgreeIn, by_dictionaries, BatchAgreeLaw, RecordAgreeLaw, GainSame, DictionaryAgreeLaw, KnowSame, ItemSame, ItemAgreeLaw, MeanSame, StreamAgreeLaw, BlockAgreeLaw, DictionaryBlockAgreeLaw}
-use Rattle.ipc_model.specs.Batches.{Schema, kinds, Body, lists_of, entries_of, kind_at, type_at, own, rows_at, slots_of_column, chosen, first_rows, Chunk, chunk_of, all_read, are_bounded, is_projection, is_batch, batch, record_meaning, Place, places, place_of, values_schema, with_values, values_meaning, batch_meaning, dictionary_meaning}
+use Rattle.ipc_model.specs.Batches.{Schema, kinds, Body, lists_of, entries_of, kind_at, type_at, own, rows_at, slots_of_column, chosen, first_rows, Chunk, chunk_of, all_read, are_bounded, is_projection, is_batch, batch, record_meaning, Place, places, place_of, values_schema, with_values, values_meaning, batch_meaning, dictionary_meaning, extra_of}
 use Rattle.ipc_model.specs.Entries.{Entries, Dictionary, Dictionaries, Limit}
 use Rattle.ipc_model.specs.Files.{placed, metadata_at, block_header, body_at, chunk_at, dictionaries_at}
 use Rattle.ipc_model.specs.Frame.{Frame, message, mark, waiting, broken, frame}
@@ -129,16 +129,16 @@ dictionaries_item schema s t o o' rest k g =
 record_same : (h : Head) (s t : Known) (m : Header) (rest : List ℕ) → KnowSame h.schema s t → ItemSame h.schema (record_item h s m rest) (record_item h t m rest)
 record_same h s t m rest k =
     let fields = fields_agree s.dictionaries t.dictionaries h.schema.fields h.schema.ids k.dictionaries in
-    let same = record_agree_law h.schema h.extra s.dictionaries t.dictionaries (whole (take m.body rest)) m.table None None
+    let same = record_agree_law h.schema (extra_of h.version) s.dictionaries t.dictionaries (whole (take m.body rest)) m.table None None
     (chosen_agree s.dictionaries t.dictionaries (kinds h.schema) (chosen None (count (kinds h.schema))) fields) in
     subst (λ (o : Option Chunk). ItemSame h.schema (record_item h s m rest) (with_chunk o t (drop m.body rest))) same
-    (chunk_item h.schema s t (record_meaning h.schema h.extra s.dictionaries (whole (take m.body rest)) m.table None None) (drop m.body rest) k)
+    (chunk_item h.schema s t (record_meaning h.schema (extra_of h.version) s.dictionaries (whole (take m.body rest)) m.table None None) (drop m.body rest) k)
 
 dictionary_same : (h : Head) (s t : Known) (m : Header) (rest : List ℕ) → KnowSame h.schema s t → ItemSame h.schema (dictionary_item h s m rest) (dictionary_item h t m rest)
 dictionary_same h s t m rest k =
-    let next = dictionaries_item h.schema s t _ _ (drop m.body rest) k (dictionary_agree_law h.schema h.extra s.dictionaries t.dictionaries (whole (take m.body rest)) m.table k.dictionaries) in
+    let next = dictionaries_item h.schema s t _ _ (drop m.body rest) k (dictionary_agree_law h.schema (extra_of h.version) s.dictionaries t.dictionaries (whole (take m.body rest)) m.table k.dictionaries) in
     subst (λ (n : ℕ). ItemSame h.schema (dictionary_item h s m rest)
-    (cond (nat_lt n most_dictionaries) (with_dictionaries (dictionary_meaning h.schema h.extra t.dictionaries (whole (take m.body rest)) m.table) t (drop m.body rest)) (done faulty))) k.count
+    (cond (nat_lt n most_dictionaries) (with_dictionaries (dictionary_meaning h.schema (extra_of h.version) t.dictionaries (whole (take m.body rest)) m.table) t (drop m.body rest)) (done faulty))) k.count
     (either_item h.schema (nat_lt s.count most_dictionaries) _ _ _ _ next tt)
 
 body_same : (h : Head) (s t : Known) (m : Header) (rest : List ℕ) → KnowSame h.schema s t → ItemSame h.schema (body_item h s m rest) (body_item h t m rest)

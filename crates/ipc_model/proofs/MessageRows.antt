@@ -59,6 +59,7 @@ version_rows = record {
   fourth = refl;
   fifth = refl;
   sixth = refl;
+  in_order = refl;
 }
 
 pub count_rows : CountRows

@@ -5,7 +5,7 @@ use Rattle.std.proofs.lemmas.Bool.{le-ltb, eq-eqb}
 use Rattle.std.proofs.lemmas.List.{take_at, drop_at}
 use Rattle.std.proofs.lemmas.Nat.{from_le_bytes-to_le_bytes_4}
 use Rattle.ipc_model.proofs.Frames.{frame_newer, marked_is, message_same, sized_is}
-use Rattle.ipc_model.specs.Batches.{Chunk, record_meaning}
+use Rattle.ipc_model.specs.Batches.{Chunk, record_meaning, extra_of}
 use Rattle.ipc_model.specs.Frame.{frame, sized, word}
 use Rattle.ipc_model.specs.Streams.{Header, whole, with_chunk, body_item, message_item, frame_item, item}
 use Rattle.ipc_model.specs.WrittenLaws.{prefix, WrittenFrameLaw, WrittenMarkLaw, WrittenRecordLaw}
@@ -52,7 +52,7 @@ written_record h s metadata body rest c w =
     ap (frame_item h s) (written_frame metadata (body ++ rest) w.some w.short)
     ∙ ap (λ (o : Option Header). message_item h s o (body ++ rest)) w.headed
     ∙ rw (there, tagged) (
-    ap (λ bs. with_chunk (record_meaning h.schema h.extra s.dictionaries (whole bs) w.header.table None None) s (drop n (body ++ rest))) own
-    ∙ ap (λ r. with_chunk (record_meaning h.schema h.extra s.dictionaries (whole body) w.header.table None None) s r) left
+    ap (λ bs. with_chunk (record_meaning h.schema (extra_of h.version) s.dictionaries (whole bs) w.header.table None None) s (drop n (body ++ rest))) own
+    ∙ ap (λ r. with_chunk (record_meaning h.schema (extra_of h.version) s.dictionaries (whole body) w.header.table None None) s r) left
     ∙ ap (λ (o : Option Chunk). with_chunk o s rest) w.means
     )

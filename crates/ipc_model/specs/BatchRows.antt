@@ -18,15 +18,17 @@ use Rattle.ipc_model.specs.Files.{FileMetadata, file_dictionaries, file_chunk}
 use Rattle.ipc_model.specs.StreamRows.{three_fields, minus_one, demo_chunk}
 use Rattle.ipc_model.specs.Streams.{Head, nothing_known, waits, Meant, meaning}
 use Rattle.ipc_model.specs.WeightRows.{named, alone}
+use Rattle.ipc_views.specs.declared.schema.MetadataVersion.TheVariants.{V4, V5}
+use Rattle.ipc_views.specs.declared.schema.MetadataVersion.{MetadataVersion}
 
 abbrev pub integer : TypeTree
 integer = plain int32
 
--- what a schema message of one field says, where so many buffers stand in front of a union's own
-abbrev pub head_with : ℕ → Endianness → TypeTree → IdTree → Head
-head_with extra order t i = record {
+-- what a schema message of one field says, of this version
+abbrev pub head_with : MetadataVersion → Endianness → TypeTree → IdTree → Head
+head_with version order t i = record {
   schema = record { fields = alone (named t (codes "f")); metadata = []; ids = more_ids i no_ids; order = order };
-  extra = extra;
+  version = version;
 }
 
 abbrev pub no_id : IdTree
@@ -83,25 +85,25 @@ abbrev pub file_of : Schema → List Block → List Block → List ℕ → FileM
 file_of schema ds bs message = record { schema = schema; pairs = []; dictionaries = ds; blocks = bs; size = length message }
 
 abbrev pub record_in_file : List ℕ → Option Chunk
-record_in_file message = file_chunk (file_of (head_with 0 Little variants variant_ids).schema [] (block_of 0 message 128 ∷ []) message) [] message None None 0
+record_in_file message = file_chunk (file_of (head_with V5 Little variants variant_ids).schema [] (block_of 0 message 128 ∷ []) message) [] message None None 0
 
 abbrev pub values_in_file : List ℕ → Option Dictionaries
-values_in_file message = file_dictionaries (file_of (head_with 0 Little keyed_variants keyed_ids).schema (block_of 0 message 128 ∷ []) [] message) message
+values_in_file message = file_dictionaries (file_of (head_with V5 Little keyed_variants keyed_ids).schema (block_of 0 message 128 ∷ []) [] message) message
 
 -- In a stream the version of the schema message counts for each batch, and for the values of dictionaries, whatever the message of the batch says. In a file that of the batch's own message does.
 pub record VersionBatchRows : Type 0 where
-  pub newer_stream : meaning (head_with 0 Little variants variant_ids) nothing_known (one_seven newer_buffers) ≡ one_chunk variants seven
-  pub older_stream : meaning (head_with 1 Little variants variant_ids) nothing_known (one_seven older_buffers) ≡ one_chunk variants seven
-  pub older_batch : meaning (head_with 0 Little variants variant_ids) nothing_known (in_fourth (one_seven newer_buffers)) ≡ one_chunk variants seven
-  pub older_buffers_alone : meaning (head_with 0 Little variants variant_ids) nothing_known (in_fourth (one_seven older_buffers)) ≡ faulty_after []
-  pub older_values : meaning (head_with 1 Little keyed_variants keyed_ids) nothing_known (seven_as_values older_buffers) ≡ one_known variants seven
-  pub newer_values : meaning (head_with 0 Little keyed_variants keyed_ids) nothing_known (in_fourth (seven_as_values newer_buffers)) ≡ one_known variants seven
+  pub newer_stream : meaning (head_with V5 Little variants variant_ids) nothing_known (one_seven newer_buffers) ≡ one_chunk variants seven
+  pub older_stream : meaning (head_with V4 Little variants variant_ids) nothing_known (one_seven older_buffers) ≡ one_chunk variants seven
+  pub older_batch : meaning (head_with V5 Little variants variant_ids) nothing_known (in_fourth (one_seven newer_buffers)) ≡ one_chunk variants seven
+  pub older_buffers_alone : meaning (head_with V5 Little variants variant_ids) nothing_known (in_fourth (one_seven older_buffers)) ≡ faulty_after []
+  pub older_values : meaning (head_with V4 Little keyed_variants keyed_ids) nothing_known (seven_as_values older_buffers) ≡ one_known variants seven
+  pub newer_values : meaning (head_with V5 Little keyed_variants keyed_ids) nothing_known (in_fourth (seven_as_values newer_buffers)) ≡ one_known variants seven
   pub newer_block : record_in_file (one_seven newer_buffers) ≡ Some (chunk_is variants seven)
   pub older_block : record_in_file (in_fourth (one_seven older_buffers)) ≡ Some (chunk_is variants seven)
   pub newer_buffers_of_older : record_in_file (in_fourth (one_seven newer_buffers)) ≡ None
   pub older_block_of_values : values_in_file (in_fourth (seven_as_values older_buffers)) ≡ Some (known_values variants seven)
   pub newer_block_of_values : values_in_file (seven_as_values older_buffers) ≡ None
-  pub no_such_version : meaning (head_with 0 Little variants variant_ids) nothing_known (slice_set (one_seven newer_buffers) 44 9) ≡ one_chunk variants seven
+  pub no_such_version : meaning (head_with V5 Little variants variant_ids) nothing_known (slice_set (one_seven newer_buffers) 44 9) ≡ one_chunk variants seven
 
 -- ---- byte orders
 
@@ -116,10 +118,10 @@ five_last = padded (0 ∷ 0 ∷ 0 ∷ 5 ∷ [])
 
 -- The numbers of a batch, and of a dictionary's values, are in the order that the schema says.
 pub record OrderBatchRows : Type 0 where
-  pub highest_first : meaning (head_with 0 Big integer no_id) nothing_known (record_message ((1, 0) ∷ []) ((0, 0) ∷ (0, 4) ∷ []) five_last) ≡ one_chunk integer (number 5 ∷ [])
-  pub lowest_first : meaning (head_with 0 Little integer no_id) nothing_known (record_message ((1, 0) ∷ []) ((0, 0) ∷ (0, 4) ∷ []) five_last) ≡ one_chunk integer (number 83886080 ∷ [])
-  pub values_highest_first : meaning (head_with 0 Big keyed_integers id_0) nothing_known (dictionary_message 0 ((1, 0) ∷ []) ((0, 0) ∷ (0, 4) ∷ []) five_last) ≡ one_known integer (number 5 ∷ [])
-  pub values_lowest_first : meaning (head_with 0 Little keyed_integers id_0) nothing_known (dictionary_message 0 ((1, 0) ∷ []) ((0, 0) ∷ (0, 4) ∷ []) five_last)
+  pub highest_first : meaning (head_with V5 Big integer no_id) nothing_known (record_message ((1, 0) ∷ []) ((0, 0) ∷ (0, 4) ∷ []) five_last) ≡ one_chunk integer (number 5 ∷ [])
+  pub lowest_first : meaning (head_with V5 Little integer no_id) nothing_known (record_message ((1, 0) ∷ []) ((0, 0) ∷ (0, 4) ∷ []) five_last) ≡ one_chunk integer (number 83886080 ∷ [])
+  pub values_highest_first : meaning (head_with V5 Big keyed_integers id_0) nothing_known (dictionary_message 0 ((1, 0) ∷ []) ((0, 0) ∷ (0, 4) ∷ []) five_last) ≡ one_known integer (number 5 ∷ [])
+  pub values_lowest_first : meaning (head_with V5 Little keyed_integers id_0) nothing_known (dictionary_message 0 ((1, 0) ∷ []) ((0, 0) ∷ (0, 4) ∷ []) five_last)
       ≡ one_known integer (number 83886080 ∷ [])
 
 -- ---- columns behind others

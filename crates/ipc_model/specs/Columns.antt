@@ -146,51 +146,55 @@ IsList s w a b k Child =
     × WithRows (Child (Some (last_offset s (b + 1) w k))) (rows s (a + 1) (Some (last_offset s (b + 1) w k)))
     (last_offset s (b + 1) w k)
 
+-- The column at node a has k slots under a limit, and P holds of as many.
+abbrev pub HasRows : Entries → ℕ → Limit → ℕ → (ℕ → Type 0) → Type 0
+HasRows s a limit k P = WithRows (P (rows s a limit)) (rows s a limit) k
+
 abbrev mutual
-  -- the column at node a and buffer b is well formed, as far as its first slots are read
-  pub IsWell : Entries → Kind → ℕ → ℕ → Limit → Type 0
-  IsWell s null_kind a b limit = IsSize (node s a).length
-  IsWell s boolean_kind a b limit = Begins s a b (rows s a limit) × Need s (b + 1) (bytes_for (rows s a limit))
-  IsWell s (number_kind f) a b limit = Begins s a b (rows s a limit) × Need s (b + 1) (width_of f * rows s a limit)
-  IsWell s float_kind a b limit = ⊥
-  IsWell s (fixed_binary_kind n) a b limit =
-      (0 < n) × Begins s a b (rows s a limit) × Need s (b + 1) (n * rows s a limit)
-  IsWell s (binary_kind w) a b limit = Begins s a b (rows s a limit)
-      × HasBytes s (b + 1) (offset_width w) (rows s a limit)
-  IsWell s (utf8_kind w) a b limit =
-      Begins s a b (rows s a limit) × HasBytes s (b + 1) (offset_width w) (rows s a limit)
-      × AreTexts s (b + 1) (offset_width w) (rows s a limit)
-  IsWell s (list_kind w t) a b limit = IsList s (offset_width w) a b (rows s a limit)
-      (λ l. IsWell s t (a + 1) (b + 2) l)
-  IsWell s (map_kind t) a b limit = IsPair t
-      × IsList s (offset_width offsets_32) a b (rows s a limit) (λ l. IsWell s t (a + 1) (b + 2) l)
-  IsWell s (fixed_list_kind n t) a b limit =
-      (0 < n) × Begins s a b (rows s a limit)
-      × WithRows (IsWell s t (a + 1) (b + 1) (times limit n)) (rows s (a + 1) (times limit n)) (rows s a limit * n)
-  IsWell s (struct_kind ts) a b limit =
-      IsSome ts × Begins s a b (rows s a limit) × AllHaveRows s ts (a + 1) (b + 1) limit (rows s a limit)
-  IsWell s (union_kind Sparse ids ts) a b limit =
-      IsSize (node s a).length × IsUnion ids (count ts) × HasTypes s ids (count ts) (b + s.extra) (rows s a limit)
-      × AllHaveRows s ts (a + 1) (b + s.extra + 1) limit (rows s a limit)
-  IsWell s (union_kind Dense ids ts) a b limit =
-      IsSize (node s a).length × IsUnion ids (count ts) × HasTypes s ids (count ts) (b + s.extra) (rows s a limit)
-      × Reaches s ids ts (a + 1) (b + s.extra) (rows s a limit) × AllWell s ts (a + 1) (b + s.extra + 2)
-  IsWell s (dictionary_kind f id t) a b limit =
-      Begins s a b (rows s a limit) × Need s (b + 1) (width_of f * rows s a limit)
-      × HasValues s f id t a b (rows s a limit)
-  IsWell s (extension_kind t) a b limit = IsWell s t a b limit
+  -- the first k slots of the column at node a and buffer b are well formed, where as many are read under a limit
+  pub AreWell : Entries → Kind → ℕ → ℕ → Limit → ℕ → Type 0
+  AreWell s null_kind a b limit k = IsSize (node s a).length
+  AreWell s boolean_kind a b limit k = Begins s a b k × Need s (b + 1) (bytes_for k)
+  AreWell s (number_kind f) a b limit k = Begins s a b k × Need s (b + 1) (width_of f * k)
+  AreWell s float_kind a b limit k = ⊥
+  AreWell s (fixed_binary_kind n) a b limit k = (0 < n) × Begins s a b k × Need s (b + 1) (n * k)
+  AreWell s (binary_kind w) a b limit k = Begins s a b k × HasBytes s (b + 1) (offset_width w) k
+  AreWell s (utf8_kind w) a b limit k =
+      Begins s a b k × HasBytes s (b + 1) (offset_width w) k × AreTexts s (b + 1) (offset_width w) k
+  AreWell s (list_kind w t) a b limit k = IsList s (offset_width w) a b k
+      (λ l. AreWell s t (a + 1) (b + 2) l (rows s (a + 1) l))
+  AreWell s (map_kind t) a b limit k = IsPair t
+      × IsList s (offset_width offsets_32) a b k (λ l. AreWell s t (a + 1) (b + 2) l (rows s (a + 1) l))
+  AreWell s (fixed_list_kind n t) a b limit k =
+      (0 < n) × Begins s a b k
+      × HasRows s (a + 1) (times limit n) (k * n) (λ m. AreWell s t (a + 1) (b + 1) (times limit n) m)
+  AreWell s (struct_kind ts) a b limit k = IsSome ts × Begins s a b k × AllHaveRows s ts (a + 1) (b + 1) limit k
+  AreWell s (union_kind Sparse ids ts) a b limit k =
+      IsSize (node s a).length × IsUnion ids (count ts) × HasTypes s ids (count ts) (b + s.extra) k
+      × AllHaveRows s ts (a + 1) (b + s.extra + 1) limit k
+  AreWell s (union_kind Dense ids ts) a b limit k =
+      IsSize (node s a).length × IsUnion ids (count ts) × HasTypes s ids (count ts) (b + s.extra) k
+      × Reaches s ids ts (a + 1) (b + s.extra) k × AllWell s ts (a + 1) (b + s.extra + 2)
+  AreWell s (dictionary_kind f id t) a b limit k =
+      Begins s a b k × Need s (b + 1) (width_of f * k) × HasValues s f id t a b k
+  AreWell s (extension_kind t) a b limit k = AreWell s t a b limit k
 
   -- each of some columns, one behind the other, is well formed as far as it is read, and has k slots
   pub AllHaveRows : Entries → Kinds → ℕ → ℕ → Limit → ℕ → Type 0
   AllHaveRows s no_kinds a b limit k = Unit {0}
   AllHaveRows s (more_kinds t ts) a b limit k =
-      WithRows (IsWell s t a b limit) (rows s a limit) k
+      HasRows s a limit k (λ n. AreWell s t a b limit n)
       × AllHaveRows s ts (a + nodes t) (b + buffers s.extra t) limit k
 
   -- each of some columns is well formed as a whole
   pub AllWell : Entries → Kinds → ℕ → ℕ → Type 0
   AllWell s no_kinds a b = Unit {0}
-  AllWell s (more_kinds t ts) a b = IsWell s t a b None × AllWell s ts (a + nodes t) (b + buffers s.extra t)
+  AllWell s (more_kinds t ts) a b = AreWell s t a b None (rows s a None)
+      × AllWell s ts (a + nodes t) (b + buffers s.extra t)
+
+-- the column at node a and buffer b is well formed, as far as its first slots are read
+abbrev pub IsWell : Entries → Kind → ℕ → ℕ → Limit → Type 0
+IsWell s t a b limit = AreWell s t a b limit (rows s a limit)
 
 -- the slots of a child from one place up to another
 abbrev pub slots_between : (ℕ → Slot) → ℕ → ℕ → Slots

@@ -11,6 +11,7 @@ use Rattle.ipc_model.specs.ColumnRows.{padded, word}
 use Rattle.ipc_model.specs.Entries.{Dictionary}
 use Rattle.ipc_model.specs.StreamRows.{marker, mark}
 use Rattle.ipc_model.specs.Streams.{Head, Known, nothing_known, marked, waits, faulty, Meant, meaning}
+use Rattle.ipc_views.specs.declared.schema.MetadataVersion.TheVariants.{V5}
 
 -- ---- messages as bytes
 
@@ -65,7 +66,7 @@ head_of_field t i = record {
     ids = more_ids i no_ids;
     order = Little;
   };
-  extra = 0;
+  version = V5;
 }
 
 -- keys of 32 bits, texts, and the id 0
@@ -153,7 +154,7 @@ shared_head = record {
     ids = more_ids (ids (Some (pos 0)) no_ids) (more_ids (ids (Some (pos 0)) no_ids) no_ids);
     order = Little;
   };
-  extra = 0;
+  version = V5;
 }
 
 -- One dictionary serves all columns of its id, and so has no values for one of them alone.

@@ -1,6 +1,6 @@
 -- Messages of a stream that are written out slot by slot, and what they mean. Beside most stands one that has no meaning.
 -- (Arrow columnar format, "RecordBatch message", "Dictionary messages" and "IPC Streaming Format"; Message.fbs.)
-use Rattle.std.specs.Prelude.{◌≡◌, ℕ, ℤ, pos, ◌+◌, ◌-◌, ◌*◌, ◌^◌, true, false, List, [], ◌∷◌, ◌++◌, length, codes, slice_set, flat_map, Option, Some, None, option_map}
+use Rattle.std.specs.Prelude.{◌≡◌, ℕ, ℤ, pos, ◌+◌, ◌-◌, ◌*◌, ◌^◌, true, false, List, [], ◌∷◌, ◌++◌, length, codes, slice_set, flat_map, map, Option, Some, None, option_map}
 use Rattle.std.specs.Int.{w64, to_le_bytes}
 use Rattle.lower.specs.Normal.{data_key}
 use Rattle.lower.specs.TypeTrees.{Pairs, TypeTree, int32, boolean, utf8, binary, list, structure, plain, single, group, dictionary, extension, FieldTree, field, more_fields}
@@ -8,7 +8,7 @@ use Rattle.lower.specs.declared.datatypes.IntegerType.TheVariants.{Int32}
 use Rattle.lower_types.specs.declared.Endianness.TheVariants.{Little}
 use Rattle.lower_arrays.specs.Slots.{Slot}
 use Rattle.ipc_base.specs.IdTrees.{IdTree, ids, no_ids, more_ids}
-use Rattle.ipc_model.specs.Batches.{Chunk, Place, places}
+use Rattle.ipc_model.specs.Batches.{Chunk, Place, places, extra_of}
 use Rattle.ipc_model.specs.ColumnRows.{number, numbers_of, padded, word}
 use Rattle.ipc_model.specs.DictionaryRows.{message_bytes, framed, dictionary_message, record_message, text_head, head_of_field, a, b, a_and_b, chunk_is, values_are, known_texts, faulty_after}
 use Rattle.ipc_model.specs.Entries.{Dictionary}
@@ -18,6 +18,8 @@ use Rattle.ipc_model.specs.SchemaBytes.{four, table_bytes}
 use Rattle.ipc_model.specs.StreamRows.{smallest}
 use Rattle.ipc_model.specs.Streams.{Head, Known, nothing_known, waits, Meant, meaning}
 use Rattle.ipc_model.specs.WeightRows.{named, alone}
+use Rattle.ipc_views.specs.declared.schema.MetadataVersion.{MetadataVersion}
+use Rattle.ipc_views.specs.declared.schema.MetadataVersion.TheVariants.{V1, V2, V3, V4, V5}
 
 -- ---- frames
 
@@ -100,9 +102,12 @@ pub record RecordRows : Type 0 where
   pub no_header : in_message 0 64 (batch_with usual ((1, 0) ∷ []) ((0, 0) ∷ (0, 4) ∷ [])) (padded (word 5)) ≡ nothing_read
   pub ill_made_compression : meaning integer_head nothing_known (slice_set (framed (message_bytes 3 64 (batch_with (record { nodes = 12; buffers = 16; compression = 20 }) ((1, 0) ∷ []) ((0, 0) ∷ (0, 4) ∷ []))) (padded (word 5))) 81 0xFF) ≡ nothing_read
 
--- a schema message of the version with this number
+-- the version of a schema message of the version with this number, and the buffers in front in it
+abbrev pub version_in : ℕ → Option MetadataVersion
+version_in version = option_map (λ (h : Head). h.version) (head_of (slice_set smallest 24 version))
+
 abbrev pub extra_in : ℕ → Option ℕ
-extra_in version = option_map (λ (h : Head). h.extra) (head_of (slice_set smallest 24 version))
+extra_in version = option_map (λ (h : Head). extra_of h.version) (head_of (slice_set smallest 24 version))
 
 -- One buffer stands in front of a union's own in each version before the fifth. There are five.
 pub record VersionRows : Type 0 where
@@ -112,6 +117,7 @@ pub record VersionRows : Type 0 where
   pub fourth : extra_in 3 ≡ Some 1
   pub fifth : extra_in 4 ≡ Some 0
   pub sixth : extra_in 5 ≡ None
+  pub in_order : map version_in (0 ∷ 1 ∷ 2 ∷ 3 ∷ 4 ∷ []) ≡ map Some (V1 ∷ V2 ∷ V3 ∷ V4 ∷ V5 ∷ [])
 
 -- ---- dictionaries
 
@@ -148,7 +154,7 @@ columns_of t i u j = record {
     ids = more_ids i (more_ids j no_ids);
     order = Little;
   };
-  extra = 0;
+  version = V5;
 }
 
 -- a list of integers, whose field has metadata

@@ -36,7 +36,7 @@ use Rattle.ipc_views.specs.declared.types.IntervalUnit.{IntervalUnit as Interval
 use Rattle.ipc_views.specs.declared.types.IntervalUnit.TheVariants.{YearMonth, DayTime, MonthDayNano}
 use Rattle.ipc_views.specs.declared.types.UnionMode.{UnionMode as Mode}
 use Rattle.ipc_views.specs.declared.types.UnionMode.TheVariants.{Sparse, Dense}
-use Rattle.ipc_model.specs.Batches.{Schema, extra_of}
+use Rattle.ipc_model.specs.Batches.{Schema}
 use Rattle.ipc_model.specs.Streams.{Head}
 
 -- ---- steps that may fail
@@ -363,4 +363,4 @@ schema_of metadata = given (made (root_at metadata)) (λ t. given (present (mess
 unfoldable pub head_of : List ℕ → Option Head
 head_of metadata =
     given (schema_of metadata) (λ schema. given (made (root_at metadata)) (λ t. given (made (message_version t))
-    (λ version. Some (record { schema = schema; extra = extra_of version }))))
+    (λ version. Some (record { schema = schema; version = version }))))

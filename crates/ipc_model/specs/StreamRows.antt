@@ -12,6 +12,7 @@ use Rattle.ipc_model.specs.ColumnRows.{number, padded, word, entries, node_is, b
 use Rattle.ipc_model.specs.Streams.{Head, nothing_known, marked, waits, faulty, Meant, meaning}
 use Rattle.ipc_model.specs.WholeStreams.{stream_of}
 use Rattle.ipc_model.specs.Schemas.{schema_of, head_of, with_read, Read, field_with}
+use Rattle.ipc_views.specs.declared.schema.MetadataVersion.TheVariants.{V4, V5}
 
 -- ---- the smallest schema message
 
@@ -32,8 +33,8 @@ no_schema_fields = record { fields = no_fields; metadata = []; ids = no_ids; ord
 -- fields it has no meaning
 pub record SmallestRows : Type 0 where
   pub smallest_schema : schema_of smallest ≡ Some no_schema_fields
-  pub its_version : head_of smallest ≡ Some (record { schema = no_schema_fields; extra = 0 })
-  pub older_version : head_of (slice_set smallest 24 3) ≡ Some (record { schema = no_schema_fields; extra = 1 })
+  pub its_version : head_of smallest ≡ Some (record { schema = no_schema_fields; version = V5 })
+  pub older_version : head_of (slice_set smallest 24 3) ≡ Some (record { schema = no_schema_fields; version = V4 })
   pub unknown_version : head_of (slice_set smallest 24 5) ≡ None
   pub cut_off : schema_of (take 44 smallest) ≡ None
   pub no_header : schema_of (slice_set smallest 26 0) ≡ None
@@ -147,7 +148,7 @@ demo_schema = record {
 }
 
 abbrev pub demo_head : Head
-demo_head = record { schema = demo_schema; extra = 0 }
+demo_head = record { schema = demo_schema; version = V5 }
 
 abbrev pub minus_one : Slot
 minus_one = number_slot (whole_number (negsuc 0))
@@ -202,7 +203,7 @@ pub record DemoRows : Type 0 where
 -- ---- a stream of the smallest schema
 
 abbrev pub smallest_head : Head
-smallest_head = record { schema = no_schema_fields; extra = 0 }
+smallest_head = record { schema = no_schema_fields; version = V5 }
 
 -- Behind either prefix it waits. Behind one that says a byte more, or with none, it is no stream.
 pub record AloneRows : Type 0 where

@@ -5,9 +5,10 @@ use Rattle.ipc_devices.specs.declared.fault.TableFault.{TableFault}
 use Rattle.ipc_views.specs.MessageSlots.{message_header, message_body_length}
 use Rattle.ipc_views.specs.Spot.{Spot}
 use Rattle.ipc_views.specs.Tables.{root_at}
-use Rattle.ipc_model.specs.Batches.{Schema, Body, Chunk, record_meaning, dictionary_meaning}
+use Rattle.ipc_model.specs.Batches.{Schema, Body, Chunk, record_meaning, dictionary_meaning, extra_of}
 use Rattle.ipc_model.specs.Entries.{Dictionaries}
 use Rattle.ipc_model.specs.Frame.{Frame, message, mark, waiting, broken, frame}
+use Rattle.ipc_views.specs.declared.schema.MetadataVersion.{MetadataVersion}
 
 -- ---- messages
 
@@ -31,11 +32,10 @@ header_of metadata = header_at (root_at metadata)
 
 -- ---- one message of a stream
 
--- what the schema message says: the schema, and how many buffers stand in front of a union's own in its
--- version
+-- what the schema message says: the schema, and the version of the metadata
 pub record Head : Type 0 where
   pub schema : Schema
-  pub extra : ℕ
+  pub version : MetadataVersion
 
 -- the dictionaries so far, and how many dictionary messages came since the last record
 pub record Known : Type 0 where
@@ -71,7 +71,7 @@ with_dictionaries (Some ds) s rest = more None (record { dictionaries = ds; coun
 
 abbrev pub record_item : Head → Known → Header → List ℕ → Item
 record_item h s m rest =
-    with_chunk (record_meaning h.schema h.extra s.dictionaries (whole (take m.body rest)) m.table None None) s
+    with_chunk (record_meaning h.schema (extra_of h.version) s.dictionaries (whole (take m.body rest)) m.table None None) s
     (drop m.body rest)
 
 -- at most so many dictionary messages stand before a record
@@ -81,7 +81,7 @@ most_dictionaries = 65536
 abbrev pub dictionary_item : Head → Known → Header → List ℕ → Item
 dictionary_item h s m rest =
     if nat_lt s.count most_dictionaries
-    then with_dictionaries (dictionary_meaning h.schema h.extra s.dictionaries (whole (take m.body rest)) m.table) s
+    then with_dictionaries (dictionary_meaning h.schema (extra_of h.version) s.dictionaries (whole (take m.body rest)) m.table) s
     (drop m.body rest)
     else done faulty
 

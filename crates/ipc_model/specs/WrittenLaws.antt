@@ -2,7 +2,7 @@
 -- (Arrow columnar format, "Encapsulated message format".)
 use Rattle.std.specs.Prelude.{◌≡◌, ℕ, ◌^◌, ◌<◌, List, ◌∷◌, ◌++◌, length, None, Some}
 use Rattle.std.specs.Int.{w32, to_le_bytes}
-use Rattle.ipc_model.specs.Batches.{Chunk, record_meaning}
+use Rattle.ipc_model.specs.Batches.{Chunk, record_meaning, extra_of}
 use Rattle.ipc_model.specs.Frame.{message, mark, frame}
 use Rattle.ipc_model.specs.Streams.{Head, Known, Header, header_of, whole, more, item}
 
@@ -28,7 +28,7 @@ pub record IsWritten (h : Head) (s : Known) (metadata body : List ℕ) (c : Chun
   pub headed : header_of metadata ≡ Some header
   pub tag : header.tag ≡ 3
   pub long : header.body ≡ length body
-  pub means : record_meaning h.schema h.extra s.dictionaries (whole body) header.table None None ≡ Some c
+  pub means : record_meaning h.schema (extra_of h.version) s.dictionaries (whole body) header.table None None ≡ Some c
 
 abbrev pub WrittenRecordLaw : Type 0
 WrittenRecordLaw = (h : Head) (s : Known) (metadata body rest : List ℕ) (c : Chunk) → IsWritten h s metadata body c
