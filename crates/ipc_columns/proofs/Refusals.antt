@@ -3,7 +3,7 @@ use Rattle.std.proofs.Common.{◌≡◌, sym, subst}
 use Rattle.ipc_devices.specs.Faults.{OwnFault}
 use Rattle.ipc_devices.specs.declared.fault.Fault.{Fault}
 use Rattle.ipc_devices.specs.declared.fault.Fault.TheVariants.{Ended, OutOfSpec, NotYetImplemented, Schema, Argument, State, TooManyDictionaries, Io, Memory, Lower}
-use Rattle.ipc_devices.specs.declared.fault.OutOfSpecKind.TheVariants.{NegativeFooterLength, InvalidBuffer}
+use Rattle.ipc_devices.specs.declared.fault.OutOfSpecKind.TheVariants.{NegativeFooterLength, InvalidBuffer, InvalidBitmap}
 use Rattle.ipc_model.specs.Kinds.{Kind, null_kind, boolean_kind, number_kind, float_kind, fixed_binary_kind, binary_kind, utf8_kind, list_kind, map_kind, fixed_list_kind, struct_kind, union_kind, dictionary_kind, extension_kind}
 use Rattle.ipc_columns.specs.Refusals.{IsBufferFault, IsColumnFault, IsFaultOf}
 
@@ -32,6 +32,7 @@ negative_column e q = subst (λ (x : Fault). OwnFault x (IsColumnFault x)) (sym 
 buffer_in_column : (e : Fault) → IsBufferFault e → IsColumnFault e
 buffer_in_column (OutOfSpec NegativeFooterLength) h = tt
 buffer_in_column (OutOfSpec (InvalidBuffer a b c d)) h = tt
+buffer_in_column (OutOfSpec (InvalidBitmap a b)) h = tt
 buffer_in_column (OutOfSpec _) h = absurd h
 buffer_in_column Ended h = tt
 buffer_in_column (NotYetImplemented n) h = absurd h

@@ -2,7 +2,7 @@
 use Rattle.ipc_devices.specs.declared.fault.Fault.{Fault}
 use Rattle.ipc_devices.specs.declared.fault.Fault.TheVariants.{Ended, OutOfSpec, NotYetImplemented, Lower}
 use Rattle.ipc_devices.specs.declared.fault.Nyi.TheVariants.{Float}
-use Rattle.ipc_devices.specs.declared.fault.OutOfSpecKind.TheVariants.{NegativeFooterLength, InvalidBuffer, InvalidDataType, InvalidId, InvalidIdDataType}
+use Rattle.ipc_devices.specs.declared.fault.OutOfSpecKind.TheVariants.{NegativeFooterLength, InvalidBuffer, InvalidBitmap, InvalidDataType, InvalidId, InvalidIdDataType}
 use Rattle.ipc_model.specs.Kinds.{Kind, number_kind, extension_kind}
 
 -- of buffers and nodes: a length or an offset below 0, bytes that are needed and aren't listed or aren't there
@@ -10,6 +10,7 @@ abbrev pub IsBufferFault : Fault → Type 0
 IsBufferFault Ended = Unit {0}
 IsBufferFault (OutOfSpec NegativeFooterLength) = Unit {0}
 IsBufferFault (OutOfSpec (InvalidBuffer _ _ _ _)) = Unit {0}
+IsBufferFault (OutOfSpec (InvalidBitmap _ _)) = Unit {0}
 IsBufferFault _ = ⊥
 
 -- of a column: those, a fixed size of 0, a dictionary that isn't known or has values of another type, a form that isn't carried, parts that break a rule of
@@ -18,6 +19,7 @@ abbrev pub IsColumnFault : Fault → Type 0
 IsColumnFault Ended = Unit {0}
 IsColumnFault (OutOfSpec NegativeFooterLength) = Unit {0}
 IsColumnFault (OutOfSpec (InvalidBuffer _ _ _ _)) = Unit {0}
+IsColumnFault (OutOfSpec (InvalidBitmap _ _)) = Unit {0}
 IsColumnFault (OutOfSpec InvalidDataType) = Unit {0}
 IsColumnFault (OutOfSpec (InvalidId _)) = Unit {0}
 IsColumnFault (OutOfSpec (InvalidIdDataType _)) = Unit {0}

@@ -564,9 +564,10 @@ fn read_whole_fields<R: Reads + Seeks>(
 ///
 /// `Float` for floats; `InvalidId` where no dictionary is known under the id of a column of keys, `InvalidIdDataType` where
 /// its values have another type; `NegativeFooterLength` where a length, or the offset of a buffer that is used, is below 0,
-/// `InvalidBuffer` where such a buffer is too short, `Ended` where the device is, `InvalidDataType` for bytes or lists of the
-/// fixed size 0; where parts break a rule of their array `FallingOffset`, `Utf8`, `NoChild`, `ChildLength`, `UnionType`,
-/// `DictionaryKey`, and the others of [`lower::error::Rule`]. `Io` and `Memory` come too, and no other.
+/// `InvalidBuffer` where such a buffer is too short, `InvalidBitmap` where one of bits is, `Ended` where the device is,
+/// `InvalidDataType` for bytes or lists of the fixed size 0; where parts break a rule of their array `FallingOffset`,
+/// `Utf8`, `NoChild`, `ChildLength`, `UnionType`, `DictionaryKey`, and the others of [`lower::error::Rule`]. `Io` and
+/// `Memory` come too, and no other.
 #[tactic(auto, using(crate::proofs::ColumnLevels::same_stored))]
 pub fn read<R: Reads + Seeks>(
     alloc: Global,

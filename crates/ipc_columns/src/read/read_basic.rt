@@ -395,8 +395,32 @@ pub fn read_node<R: Failures>(
     })
 }
 
+// Refuses a buffer that hasn't `count` bits by what is listed of it.
+#[tactic(auto, using(crate::proofs::Refusals::negative_buffer), unfolding(crate::specs::Bodies::entries))]
+fn check_bits<R: Failures>(body: &Body<R>, index: usize, count: usize) -> Result<(), Fault>
+    requires inside { index < length body.now.buffers }
+    requires small { count < 2 ^ 63 }
+    ensures own { OnIo result ⊥ }
+    ensures only { IfErr result (λ e. OwnFault e (IsBufferFault e)) }
+    ensures refused { IfErr result (λ e. OwnFault e (Need (entries R.memory body.now) index (bytes_for count) → ⊥)) }
+{
+    let entry = body.buffers.get(index);
+    natural(entry.offset)?;
+    let listed = size_of(entry.length);
+    if count.div_ceil(8) > listed {
+        return Err(Fault::OutOfSpec(OutOfSpecKind::InvalidBitmap {
+            length: count,
+            number_of_bits: listed * 8,
+        }));
+    }
+    Ok(())
+}
+
 /// The first `count` bits of the buffer at `index`, the lowest of each byte first (Arrow columnar format,
-/// "Validity bitmaps"). The faults are those of [`fetch_numbers`].
+/// "Validity bitmaps").
+///
+/// `NegativeFooterLength` where the buffer's offset is below 0, `InvalidBitmap` where it is too short,
+/// `Ended` where the device is.
 #[tactic(auto, using(crate::proofs::Heads::bit_lists))]
 pub fn read_bits<R: Reads + Seeks>(
     alloc: Global,
@@ -414,6 +438,7 @@ pub fn read_bits<R: Reads + Seeks>(
     ensures memory { IsTrue R.known → let s = entries R.memory body.now in
         Answers result (Need s index (bytes_for count)) (λ bits. bits ≡ bits_of s index count) }
 {
+    check_bits(body, index, count)?;
     let bytes = fetch_bytes(alloc, reader, body, index, count.div_ceil(8))?;
     let bits = Buffer::new(bytes)?;
     Ok(Bitmap::try_new(bits, count)?)
@@ -423,7 +448,7 @@ pub fn read_bits<R: Reads + Seeks>(
 /// read where the node tells of nulls and nowhere else (Arrow columnar format, "Validity bitmaps").
 ///
 /// `NegativeFooterLength` where the length is below 0, or the offset of a validity that is read; else the
-/// faults are those of [`fetch_numbers`].
+/// faults are those of [`read_bits`].
 #[tactic(auto, using(crate::proofs::Heads::heads))]
 pub fn read_head<R: Reads + Seeks>(
     alloc: Global,

@@ -25,7 +25,7 @@ use std::alloc::Global;
 /// a validity and a bit for each slot. Its data type is one that lies in memory as such bits do.
 ///
 /// `NegativeFooterLength` where its length, or the offset of a buffer that is used, is below 0,
-/// `InvalidBuffer` where such a buffer is too short, `Ended` where the device is. `Io` and `Memory` come too,
+/// `InvalidBitmap` where such a buffer is too short, `Ended` where the device is. `Io` and `Memory` come too,
 /// and no other.
 #[tactic(auto, using(crate::proofs::Refusals::buffer_column))]
 pub fn read_boolean<R: Reads + Seeks>(

@@ -38,8 +38,8 @@ pub fn get_size(data_type: &DataType) -> usize
 /// do, and names this size.
 ///
 /// `InvalidDataType` where the size is 0, `NegativeFooterLength` where its length, or the offset of a buffer
-/// that is used, is below 0, `InvalidBuffer` where such a buffer is too short, `Ended` where the device is.
-/// `Io` and `Memory` come too, and no other.
+/// that is used, is below 0, `InvalidBuffer` where such a buffer is too short, `InvalidBitmap` where the validity
+/// is, `Ended` where the device is. `Io` and `Memory` come too, and no other.
 #[tactic(auto, using(crate::proofs::Refusals::buffer_column))]
 pub fn read_fixed_size_binary<R: Reads + Seeks>(
     alloc: Global,

@@ -44,8 +44,9 @@ pub struct ListHead {
 /// Layout"): a node, a validity, and offsets of 64 bits where `is_large`, else of 32.
 ///
 /// `NegativeFooterLength` where its length, or the offset of a buffer that is used, is below 0,
-/// `InvalidBuffer` where such a buffer is too short, `Ended` where the device is, `FallingOffset` where an
-/// offset is below 0 or less than the one before it. `Io` and `Memory` come too, and no other.
+/// `InvalidBuffer` where such a buffer is too short, `InvalidBitmap` where the validity is, `Ended` where the
+/// device is, `FallingOffset` where an offset is below 0 or less than the one before it. `Io` and `Memory` come
+/// too, and no other.
 #[tactic(auto, using(crate::proofs::Refusals::buffer_column))]
 pub fn read_list_head<R: Reads + Seeks>(
     alloc: Global,

@@ -42,8 +42,9 @@ pub struct MapHead {
 /// validity, and offsets of 32 bits.
 ///
 /// `NegativeFooterLength` where its length, or the offset of a buffer that is used, is below 0,
-/// `InvalidBuffer` where such a buffer is too short, `Ended` where the device is, `FallingOffset` where an
-/// offset is below 0 or less than the one before it. `Io` and `Memory` come too, and no other.
+/// `InvalidBuffer` where such a buffer is too short, `InvalidBitmap` where the validity is, `Ended` where the
+/// device is, `FallingOffset` where an offset is below 0 or less than the one before it. `Io` and `Memory` come
+/// too, and no other.
 #[tactic(auto, using(crate::proofs::Refusals::buffer_column))]
 pub fn read_map_head<R: Reads + Seeks>(
     alloc: Global,

@@ -30,8 +30,8 @@ use std::alloc::Global;
 /// these numbers do.
 ///
 /// `NegativeFooterLength` where its length, or the offset of a buffer that is used, is below 0,
-/// `InvalidBuffer` where such a buffer is too short, `Ended` where the device is. `Io` and `Memory` come too,
-/// and no other.
+/// `InvalidBuffer` where such a buffer is too short, `InvalidBitmap` where the validity is, `Ended` where the
+/// device is. `Io` and `Memory` come too, and no other.
 pub fn read_primitive<T: NativeType, R: Reads + Seeks>(
     alloc: Global,
     data_type: &DataType,

@@ -27,9 +27,9 @@ use std::alloc::Global;
 /// read, and judged once. Its data type is one that lies in memory as such texts do.
 ///
 /// `NegativeFooterLength` where its length, or the offset of a buffer that is used, is below 0,
-/// `InvalidBuffer` where such a buffer is too short, `Ended` where the device is, `FallingOffset` where an
-/// offset is below 0 or less than the one before it, `Utf8` where a slot isn't UTF-8, null or not. `Io` and
-/// `Memory` come too, and no other.
+/// `InvalidBuffer` where such a buffer is too short, `InvalidBitmap` where the validity is, `Ended` where the
+/// device is, `FallingOffset` where an offset is below 0 or less than the one before it, `Utf8` where a slot
+/// isn't UTF-8, null or not. `Io` and `Memory` come too, and no other.
 #[tactic(auto, using(crate::proofs::Refusals::buffer_column))]
 pub fn read_utf8<O: StoredOffset, R: Reads + Seeks>(
     alloc: Global,
