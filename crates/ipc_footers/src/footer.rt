@@ -1,5 +1,5 @@
 //! The footer of a file: Arrow columnar format, "IPC File Format", and `File.fbs`.
-ghost use Rattle.std.specs.Prelude.{◌≡◌, ◌+◌, ◌≤◌, ◌++◌, ◌∷◌, ◌↔◌, [], All, IfOk, IsTrue, OnOk, length, option_map};
+ghost use Rattle.std.specs.Prelude.{◌≡◌, ◌+◌, ◌≤◌, ◌↔◌, All, IfOk, IsTrue, length, option_map};
 ghost use Rattle.lower.specs.TypeViews.{fields_view, pairs_of};
 ghost use Rattle.ipc_base.specs.IdTrees.{all_ids_view};
 ghost use Rattle.ipc_tables.proofs.Kept.{BlockFits};
@@ -10,6 +10,7 @@ ghost use Rattle.ipc_footers.specs.Footers.{AnswersFooter, AreFew, some_pairs};
 use crate::weights::is_light;
 use ipc_base::ipc::IpcField;
 use ipc_devices::fault::{ArgFault, Fault};
+use ipc_schema_write::metadata::serialize_pairs;
 use ipc_schema_write::schema::serialize_schema;
 use ipc_tables::file::Footer;
 use ipc_tables::schema::KeyValue;
@@ -48,28 +49,7 @@ fn copied_blocks(alloc: Global, blocks: &[Block]) -> Result<Vec<Block>, AllocErr
     Ok(copy)
 }
 
-fn push(alloc: Global, pairs: &mut Vec<KeyValue>, key: &str, value: &str) -> Result<(), AllocError>
-    ensures { OnOk result (pairs_in pairs.new.items ≡ pairs_in pairs.old.items ++ (key.now, value.now) ∷ []) }
-{
-    let key = String::from_str(alloc, key)?;
-    let value = String::from_str(alloc, value)?;
-    pairs.push(KeyValue { key, value })?;
-    Ok(())
-}
-
-// The pairs as tables, in the order of their keys.
-fn serialize_pairs(alloc: Global, metadata: &Metadata) -> Result<Vec<KeyValue>, AllocError>
-    ensures all { IfOk result (λ pairs. pairs_in pairs.items ≡ pairs_of metadata.now.entries) }
-    ensures ordered { IfOk result (λ _. Ascend (pairs_of metadata.now.entries)) }
-{
-    let mut pairs = Vec::new(alloc);
-    for (key, value) in metadata {
-        push(alloc, &mut pairs, key.as_str(), value.as_str())?;
-    }
-    Ok(pairs)
-}
-
-// The same, or none where there is no pair.
+// The pairs as tables, in the order of their keys, or none where there is no pair.
 fn serialize_some(alloc: Global, metadata: &Metadata) -> Result<Option<Vec<KeyValue>>, AllocError>
     ensures all { IfOk result (λ pairs.
         option_map (λ v. pairs_in v.items) pairs ≡ some_pairs (pairs_of metadata.now.entries)) }

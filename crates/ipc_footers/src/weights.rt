@@ -1,20 +1,15 @@
 //! What bounds the footer of a file, told by its schema and its pairs. Nothing here takes memory.
-ghost use Rattle.std.specs.Prelude.{◌≡◌, ◌+◌, ◌^◌, ◌≤◌, ◌↔◌, IsTrue, MatchOption, Some, length, option_map, string_bytes};
-ghost use Rattle.lower.specs.Normal.{extension_of, extension_of_values, is_extension_key, kept_pairs, norm, norm_field, norm_fields, norm_pairs};
+ghost use Rattle.std.specs.Prelude.{◌≡◌, ◌+◌, ◌^◌, ◌≤◌, ◌↔◌, IsTrue, MatchOption, Some, length, string_bytes};
+ghost use Rattle.lower.specs.Normal.{kept_pairs, norm, norm_field, norm_fields, norm_pairs};
 ghost use Rattle.lower.specs.TypeTrees.{choice};
 ghost use Rattle.lower.specs.TypeViews.{field_view, fields_view, ids_of, pairs_of, text_of, type_view};
 ghost use Rattle.ipc_model.specs.Writable.{field_weight, fields_weight, file_weight, group_weight, pairs_weight, text_weight, type_weight, weight};
 ghost use Rattle.ipc_schema_write.specs.Meanings.{extension_pairs};
 ghost use Rattle.ipc_schema_write.specs.WriterAnswers.{max_weight};
 
+use ipc_schema_write::metadata::{DATA_KEY, NAME_KEY, extension_of, is_extension_key};
 use ipc_schema_write::weights::MAX_WEIGHT;
 use lower::datatypes::{DataType, Field, Metadata, Schema, UnionMode};
-
-/// The key under which a field names its extension type.
-const NAME_KEY: &str = "ARROW:extension:name";
-
-/// The key of what the extension type says of itself.
-const DATA_KEY: &str = "ARROW:extension:metadata";
 
 // Each of these is None where a `u64` is too small for it.
 fn weigh_pair(key: &str, value: &str) -> Option<u64>
@@ -38,13 +33,6 @@ fn weigh_pairs(pairs: &Metadata) -> Option<u64>
     Some(sum)
 }
 
-// Whether it is one of the two keys of extensions.
-fn is_extension_key(key: &str) -> bool
-    ensures { result ≡ is_extension_key key.now }
-{
-    NAME_KEY.cmp(key).is_eq() || DATA_KEY.cmp(key).is_eq()
-}
-
 // The pairs that say no extension.
 fn weigh_kept(pairs: &Metadata) -> Option<u64>
     ensures { MatchOption result
@@ -58,27 +46,6 @@ fn weigh_kept(pairs: &Metadata) -> Option<u64>
         }
     }
     Some(sum)
-}
-
-fn extension_of_values(data_type: &DataType) -> Option<(&String, &Option<String>)>
-    ensures { option_map (λ e. (string_bytes e.0.now, text_of e.1.now)) result
-        ≡ extension_of_values (type_view data_type.now) }
-{
-    match data_type {
-        DataType::Extension(name, _, text) => Some((name, text)),
-        _ => None,
-    }
-}
-
-// The name and the text of a type's extension, or of its dictionary values' extension.
-fn extension_of(data_type: &DataType) -> Option<(&String, &Option<String>)>
-    ensures { option_map (λ e. (string_bytes e.0.now, text_of e.1.now)) result
-        ≡ extension_of (type_view data_type.now) }
-{
-    match data_type {
-        DataType::Dictionary(_, values, _) => extension_of_values(values),
-        _ => extension_of_values(data_type),
-    }
 }
 
 // The pairs that say an extension of this name and text.

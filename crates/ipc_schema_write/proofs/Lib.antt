@@ -1,3 +1,4 @@
+pub mod DefaultOrder
 pub mod DefaultRows
 pub mod DefaultsFit
 pub mod FieldTables

@@ -8,7 +8,7 @@ use Rattle.std.specs.List.{AllByRecursion}
 use Rattle.std.specs.List.Sorted.{IsStrictlySortedBy}
 use Rattle.std.specs.Map.{keys_of}
 use Rattle.std.specs.String.{string_cmp}
-use Rattle.lower.specs.Normal.{name_key, data_key, without, with_pair, put_extension}
+use Rattle.lower.specs.Normal.{name_key, data_key, is_extension_key, without, with_pair, put_extension}
 use Rattle.lower.specs.TypeTrees.{Pairs}
 use Rattle.lower.specs.TypeViews.{pairs_of}
 use Rattle.lower.proofs.Laws.{Lacks, Lacks-without, Lacks-other, Lacks-with}
@@ -16,7 +16,7 @@ use Rattle.ipc_model.specs.Schemas.{value_under}
 use Rattle.ipc_model.specs.Writable.{pairs_weight}
 use Rattle.ipc_tables.specs.declared.schema.KeyValue.{KeyValue}
 use Rattle.ipc_tables.specs.Weights.{pairs_weight as tables_weight}
-use Rattle.ipc_schema_write.specs.Meanings.{Above, ArePairsOf, Ascend, extension_pairs, is_extension_key, pairs_in, put_pairs}
+use Rattle.ipc_schema_write.specs.Meanings.{Above, ArePairsOf, Ascend, extension_pairs, pairs_in, put_pairs}
 
 -- ---- the order of keys
 
@@ -100,7 +100,7 @@ put-extension None es = refl
 put-extension (Some (name, None)) es = refl
 put-extension (Some (name, Some text)) es = refl
 
-extension-weight : (x : Option (List ℕ × Option (List ℕ))) (es : Pairs) → Lacks name_key es → Lacks data_key es
+pub extension-weight : (x : Option (List ℕ × Option (List ℕ))) (es : Pairs) → Lacks name_key es → Lacks data_key es
     → pairs_weight es + pairs_weight (extension_pairs x) ≡ pairs_weight (put_extension x es)
 extension-weight None es n d = omega arith
 extension-weight (Some (name, None)) es n d = omega (arith, weight-with name_key name es n)

@@ -14,7 +14,7 @@ use Rattle.ipc_schema_write.specs.Refusals.{RefusesCount}
 use Rattle.ipc_schema_write.specs.WriterAnswers.{RefusesSchema}
 use Rattle.ipc_schema_write.proofs.DefaultsFit.{count-fields}
 
-own-count : (t : TypeTree) (id : Option ℤ) (is : IdTrees) → length (own_place t id is) ≡ cond (is_dictionary t) 1 0
+pub own-count : (t : TypeTree) (id : Option ℤ) (is : IdTrees) → length (own_place t id is) ≡ cond (is_dictionary t) 1 0
 own-count (plain p) id is = refl
 own-count (single s f) id is = refl
 own-count (group g fs) id is = refl
@@ -26,7 +26,7 @@ mutual
   places-count no_fields is = refl
   places-count (more_fields f fs) is = length-append (field_places f (first_ids is)) (places fs (other_ids is)) ∙ rw (field-count f (first_ids is), places-count fs (other_ids is))
 
-  field-count : (f : FieldTree) (i : IdTree) → length (field_places f i) ≡ count_field f
+  pub field-count : (f : FieldTree) (i : IdTree) → length (field_places f i) ≡ count_field f
   field-count (field name t nullable metadata) (ids id is) = length-append (own_place t id is) (inner_places t is) ∙ rw (own-count t id is, below-count t is)
 
   below-count : (t : TypeTree) (is : IdTrees) → length (inner_places t is) ≡ count_below t

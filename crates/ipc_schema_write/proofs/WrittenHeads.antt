@@ -41,7 +41,7 @@ message-eighth slots = omega (arith, size-eighth (table slots))
 
 -- a schema message of version 5 begins a stream
 pub head-written : (m : List ℕ) (slots : Slots) (long : ℕ) (schema : Schema) → schema_of m ≡ Some schema
-    → HoldsRoot m (number 2 4 (number 1 1 (offset (table slots) (number 8 long (absent no_slots))))) → head_of m ≡ Some (record { schema = schema; extra = 0 })
+    → HoldsRoot m (number 2 4 (number 1 1 (offset (table slots) (number 8 long (absent no_slots))))) → head_of m ≡ Some (record { schema = schema; version = V5 })
 unfolding head_of
 head-written m slots long schema means (p, root, (v, size, opened, sized, ((q0, e0, f0, g0), rest))) =
     let at_root : root_at m ≡ Ok (spot m p) =

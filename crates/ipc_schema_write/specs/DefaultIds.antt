@@ -1,8 +1,9 @@
 -- The ids that a schema gets where none are given: 0, 1, 2 and on, in pre-order of the dictionary fields.
-use Rattle.std.specs.Prelude.{ℕ, ◌+◌, pos, Some, None, if◌then◌else◌}
+use Rattle.std.specs.Prelude.{◌≡◌, ℕ, ◌+◌, pos, List, [], ◌∷◌, Some, None, if◌then◌else◌}
 use Rattle.lower.specs.TypeTrees.{TypeTree, plain, single, group, dictionary, extension, FieldTree, field, FieldTrees, no_fields, more_fields}
 use Rattle.lower.specs.Counts.{is_dictionary}
 use Rattle.ipc_base.specs.IdTrees.{IdTree, ids, IdTrees, no_ids, more_ids}
+use Rattle.ipc_model.specs.Batches.{Place, places}
 
 -- how many dictionary fields there are
 abbrev mutual
@@ -41,3 +42,12 @@ abbrev mutual
 abbrev pub append_ids : IdTrees → IdTrees → IdTrees
 append_ids no_ids js = js
 append_ids (more_ids i is) js = more_ids i (append_ids is js)
+
+-- the ids of some dictionary places are n and on, in their order
+abbrev pub CountFrom : ℕ → List Place → Type 0
+CountFrom n [] = Unit {0}
+CountFrom n (p ∷ ps) = (p.id ≡ Some (pos n)) × CountFrom (n + 1) ps
+
+-- the places of a schema have the ids 0, 1, 2 and on, where none are given
+abbrev pub DefaultLaw : Type 0
+DefaultLaw = (fs : FieldTrees) → CountFrom 0 (places fs (default_all 0 fs))

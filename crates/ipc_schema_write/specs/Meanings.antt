@@ -1,8 +1,8 @@
 -- What the tables of a schema mean that are to be written, wherever they stand in a message.
 -- (Arrow columnar format, "Schema message" and "Extension Types"; Schema.fbs.)
-use Rattle.std.specs.Prelude.{◌≡◌, ℕ, ℤ, ◌≤◌, ◌||◌, All, Bool, true, false, List, [], ◌∷◌, map, Option, Some, None, string_bytes}
+use Rattle.std.specs.Prelude.{◌≡◌, ℕ, ℤ, ◌≤◌, All, true, false, List, [], ◌∷◌, map, Option, Some, None, string_bytes}
 use Rattle.std.specs.Cmp.Lexicographic.{slice_cmp}
-use Rattle.std.specs.Ordering.{nat_cmp, is_eq}
+use Rattle.std.specs.Ordering.{nat_cmp}
 use Rattle.std.specs.declared.cmp.Ordering.TheVariants.{Less}
 use Rattle.lower.specs.Counts.{field_levels}
 use Rattle.lower.specs.Normal.{data_key, name_key, norm_field, with_pair}
@@ -30,10 +30,6 @@ use Rattle.ipc_model.specs.Writable.{field_weight, group_weight, pairs_weight, p
 -- the pairs that some tables hold
 abbrev pub pairs_in : List KeyValue → Pairs
 pairs_in ps = map (λ p. (string_bytes p.key, string_bytes p.value)) ps
-
--- the key is one of those that say an extension
-abbrev pub is_extension_key : List ℕ → Bool
-is_extension_key k = is_eq (slice_cmp nat_cmp name_key k) || is_eq (slice_cmp nat_cmp data_key k)
 
 -- each key is above
 abbrev pub Above : List ℕ → Pairs → Type 0

@@ -22,6 +22,7 @@ use Rattle.ipc_model.specs.Batches.{Schema, places}
 use Rattle.ipc_model.specs.Schemas.{head_of, schema_at, schema_of}
 use Rattle.ipc_model.specs.Streams.{Head}
 use Rattle.ipc_model.specs.Writable.{AreWritable, IsWritable, SameUnderId, most_places, weight}
+use Rattle.ipc_views.specs.declared.schema.MetadataVersion.TheVariants.{V5}
 
 -- the greatest weight of a schema that is written
 abbrev pub max_weight : ℕ
@@ -73,7 +74,7 @@ WritesTable order (Err e) fs es is = RefusesSchema e fs es is
 
 -- what a stream begins with whose first message this is: version 5 has no buffer in front of a union's own
 abbrev pub written_head_as : Endianness → FieldTrees → Pairs → IdTrees → Head
-written_head_as order fs es is = record { schema = written_as order fs es is; extra = 0 }
+written_head_as order fs es is = record { schema = written_as order fs es is; version = V5 }
 
 abbrev pub written_head : FieldTrees → Pairs → IdTrees → Head
 written_head fs es is = written_head_as Little fs es is

@@ -4,7 +4,7 @@ ghost use Rattle.lower.specs.Counts.{fields_places};
 ghost use Rattle.lower.specs.TypeViews.{type_view, field_view, fields_view};
 ghost use Rattle.ipc_base.specs.IdTrees.{ids_view, all_ids_view};
 ghost use Rattle.ipc_base.specs.Fitting.{AllFit};
-ghost use Rattle.ipc_schema_write.specs.DefaultIds.{count_below, count_field, count_all, default_children, default_ids, default_all};
+ghost use Rattle.ipc_schema_write.specs.DefaultIds.{count_below, count_field, count_all, default_children, default_ids, default_all, DefaultLaw};
 ghost use Rattle.ipc_schema_write.specs.DefaultRows.{DefaultRows};
 ghost use Rattle.lower.specs.TypeTrees.{Pairs};
 ghost use Rattle.ipc_model.specs.Writable.{most_places};
@@ -169,6 +169,13 @@ fn ids_below(alloc: Global, data_type: &DataType, next: &mut u64) -> Result<Vec<
         _ => Ok(Vec::new(alloc)),
     }
 }
+
+/// The dictionary fields of a schema get the ids 0, 1, 2 and on, in pre-order: the first has 0, and each
+/// other one has the next id.
+#[tactic(auto, using(crate::proofs::DefaultOrder::default_law))]
+pub fn ids_in_order()
+    ensures { DefaultLaw }
+{}
 
 /// The ids of two fields that are written out, and of a dictionary in a dictionary.
 #[tactic(auto, using(crate::proofs::DefaultRows::default_rows))]

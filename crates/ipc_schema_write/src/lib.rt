@@ -4,7 +4,7 @@
 pub mod defaults;
 pub mod dictionaries;
 mod fields;
-mod metadata;
+pub mod metadata;
 pub mod schema;
 mod types;
 pub mod weights;

@@ -2,19 +2,19 @@
 //!
 //! Arrow columnar format, "Extension Types"; `custom_metadata` of `Schema.fbs`.
 ghost use Rattle.std.specs.Prelude.{◌≡◌, ◌++◌, ◌∷◌, [], IfOk, OnOk, Some, option_map, string_bytes};
-ghost use Rattle.lower.specs.Normal.{data_key, extension_of, extension_of_values, name_key, norm_pairs, without};
+ghost use Rattle.lower.specs.Normal.{data_key, extension_of, extension_of_values, is_extension_key, name_key, norm_pairs, without};
 ghost use Rattle.lower.specs.TypeViews.{pairs_of, text_of, type_view};
-ghost use Rattle.ipc_schema_write.specs.Meanings.{ArePairsOf, Ascend, extension_pairs, is_extension_key, pairs_in};
+ghost use Rattle.ipc_schema_write.specs.Meanings.{ArePairsOf, Ascend, extension_pairs, pairs_in};
 
 use ipc_tables::schema::KeyValue;
 use lower::datatypes::{DataType, Metadata};
 use std::alloc::{AllocError, Global};
 
 /// The key under which a field names its extension type.
-const NAME_KEY: &str = "ARROW:extension:name";
+pub const NAME_KEY: &str = "ARROW:extension:name";
 
 /// The key of what the extension type says of itself.
-const DATA_KEY: &str = "ARROW:extension:metadata";
+pub const DATA_KEY: &str = "ARROW:extension:metadata";
 
 fn push(alloc: Global, pairs: &mut Vec<KeyValue>, key: &str, value: &str) -> Result<(), AllocError>
     ensures { OnOk result (pairs_in pairs.new.items ≡ pairs_in pairs.old.items ++ (key.now, value.now) ∷ []) }
@@ -25,12 +25,12 @@ fn push(alloc: Global, pairs: &mut Vec<KeyValue>, key: &str, value: &str) -> Res
     Ok(())
 }
 
-/// The tables of some pairs, in their order.
-pub(crate) fn serialize_pairs(
-    alloc: Global,
-    metadata: &Metadata,
-) -> Result<Vec<KeyValue>, AllocError>
-    ensures { IfOk result (λ pairs. ArePairsOf pairs.items (pairs_of metadata.now.entries)) }
+/// The pairs as tables, in the order of their keys: those of a schema, and those of a file's footer. `AllocError` comes where memory was
+/// refused.
+pub fn serialize_pairs(alloc: Global, metadata: &Metadata) -> Result<Vec<KeyValue>, AllocError>
+    ensures all { IfOk result (λ pairs. pairs_in pairs.items ≡ pairs_of metadata.now.entries) }
+    ensures ordered { IfOk result (λ _. Ascend (pairs_of metadata.now.entries)) }
+    ensures means { IfOk result (λ pairs. ArePairsOf pairs.items (pairs_of metadata.now.entries)) }
 {
     let mut pairs = Vec::new(alloc);
     for (key, value) in metadata {
@@ -39,8 +39,8 @@ pub(crate) fn serialize_pairs(
     Ok(pairs)
 }
 
-// Whether the key is one of those that say an extension.
-fn is_extension_key(key: &str) -> bool
+/// Whether the key is one of the two that say an extension: [`NAME_KEY`] or [`DATA_KEY`].
+pub fn is_extension_key(key: &str) -> bool
     ensures { result ≡ is_extension_key key.now }
 {
     NAME_KEY.cmp(key).is_eq() || DATA_KEY.cmp(key).is_eq()
@@ -71,8 +71,8 @@ fn extension_of_values(data_type: &DataType) -> Option<(&String, &Option<String>
     }
 }
 
-// The name and the text of a type's extension, or of its dictionary values' extension.
-fn extension_of(data_type: &DataType) -> Option<(&String, &Option<String>)>
+/// The name of a type's extension and what it says of itself, or those of its dictionary values' extension; None where there is none.
+pub fn extension_of(data_type: &DataType) -> Option<(&String, &Option<String>)>
     ensures { option_map (λ e. (string_bytes e.0.now, text_of e.1.now)) result
         ≡ extension_of (type_view data_type.now) }
 {

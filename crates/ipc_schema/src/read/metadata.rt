@@ -2,15 +2,15 @@
 //!
 //! Arrow columnar format, "Extension Types"; `custom_metadata` of `Schema.fbs`.
 ghost use Rattle.std.specs.Prelude.{◌≡◌, [], IfOk, option_map, string_bytes};
-ghost use Rattle.lower.specs.Normal.{with_pair};
 ghost use Rattle.lower.specs.TypeViews.{type_view, pairs_of};
-ghost use Rattle.ipc_model.specs.Schemas.{made, given, with_key_value, pairs_from, pairs_at, value_under, with_extension};
+ghost use Rattle.ipc_model.specs.Schemas.{made, given, pairs_from, pairs_at, value_under, with_extension};
 ghost use Rattle.ipc_views.specs.SchemaSlots.{field_custom_metadata, schema_custom_metadata};
 ghost use Rattle.ipc_schema.specs.Reading.{Gives};
 
+use crate::read::pairs::{PairsFault, read_pairs};
 use crate::read::types::in_schema;
-use ipc_base::fault::Fault;
-use ipc_views::{FieldRef, KeyValueRef, KeyValueTable, SchemaRef, Tables};
+use ipc_base::fault::{Fault, SchemaFault};
+use ipc_views::{FieldRef, KeyValueTable, SchemaRef, Tables};
 use lower::datatypes::{DataType, Metadata};
 use std::alloc::{AllocError, Global};
 use std::collections::BTreeMap;
@@ -21,42 +21,16 @@ const NAME_KEY: &str = "ARROW:extension:name";
 /// The key of what the extension type says of itself.
 const DATA_KEY: &str = "ARROW:extension:metadata";
 
-fn put(alloc: Global, pairs: &mut Metadata, key: &str, value: &str) -> Result<(), AllocError>
-    ensures { IfOk result (λ _. pairs_of pairs.new.entries
-        ≡ with_pair key.now value.now (pairs_of pairs.old.entries)) }
-{
-    let key = String::from_str(alloc, key)?;
-    let value = String::from_str(alloc, value)?;
-    drop(pairs.insert(key, value)?);
-    Ok(())
-}
-
-// Puts the pair of a table to the others. One without a key or a value is passed over, and a later
-// one takes the place of an earlier one with its key.
-fn read_pair(alloc: Global, pair: &KeyValueRef<'_>, pairs: &mut Metadata) -> Result<(), Fault>
-    ensures { Gives (λ _. pairs_of pairs.new.entries) result
-        (with_key_value pair.now (pairs_of pairs.old.entries)) }
-{
-    let key = in_schema(pair.key())?;
-    let value = in_schema(pair.value())?;
-    if let Some(key) = key {
-        if let Some(value) = value {
-            put(alloc, pairs, key, value)?;
-        }
-    }
-    Ok(())
-}
-
-fn read_pairs(alloc: Global, tables: &Tables<'_, KeyValueTable>) -> Result<Metadata, Fault>
+// The pairs of a vector of tables. An ill-made one is a fault of the schema.
+fn pairs_in_schema(alloc: Global, tables: &Tables<'_, KeyValueTable>) -> Result<Metadata, Fault>
     ensures { Gives (λ pairs. pairs_of pairs.entries) result
         (pairs_from tables.now 0 tables.now.count []) }
 {
-    let mut pairs = BTreeMap::new(alloc);
-    for i in 0..tables.len() {
-        let pair = in_schema(tables.get(i))?;
-        read_pair(alloc, &pair, &mut pairs)?;
+    match read_pairs(alloc, tables) {
+        Ok(pairs) => Ok(pairs),
+        Err(PairsFault::Table(fault)) => Err(Fault::Schema(SchemaFault::Table(fault))),
+        Err(PairsFault::Memory) => Err(Fault::Memory),
     }
-    Ok(pairs)
 }
 
 /// The pairs of a field, none where there is no vector of them.
@@ -66,7 +40,7 @@ pub(crate) fn read_metadata(alloc: Global, field: &FieldRef<'_>) -> Result<Metad
         (given (made (field_custom_metadata field.now)) pairs_at) }
 {
     match in_schema(field.custom_metadata())? {
-        Some(tables) => read_pairs(alloc, &tables),
+        Some(tables) => pairs_in_schema(alloc, &tables),
         None => Ok(BTreeMap::new(alloc)),
     }
 }
@@ -78,7 +52,7 @@ pub(crate) fn read_schema_metadata(alloc: Global, schema: &SchemaRef<'_>) -> Res
         (given (made (schema_custom_metadata schema.now)) pairs_at) }
 {
     match in_schema(schema.custom_metadata())? {
-        Some(tables) => read_pairs(alloc, &tables),
+        Some(tables) => pairs_in_schema(alloc, &tables),
         None => Ok(BTreeMap::new(alloc)),
     }
 }

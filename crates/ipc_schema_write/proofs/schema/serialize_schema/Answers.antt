@@ -19,7 +19,7 @@ returns-then-not-is_light c = λ w.
     let deep : fields_levels (fields_view s.fields.items) ≤ 64 = w.levels in
     let fields = rw c.deref-2.ensures.value at c.in_ok-fields.ensures in
     let t : SchemaTable = record { endianness = c.endianness.result; fields = c.in_ok-fields.fields; custom_metadata = c.in_ok-custom_metadata.custom_metadata; features = None } in
-    let table = table-written t (fields_view s.fields.items) (pairs_of s.metadata.entries) (all_ids_view c.args.ipc_fields.now) _ c.endianness.ensures refl fields c.in_ok-custom_metadata.ensures deep in
+    let table = table-written t (fields_view s.fields.items) (pairs_of s.metadata.entries) (all_ids_view c.args.ipc_fields.now) _ c.endianness.ensures refl fields c.in_ok-custom_metadata.ensures.means deep in
     let weighs = table.weighs in
     let light = w.light in
     true≢false (sym (c.is_light.ensures.1 (omega (arith, weighs, light))) ∙ c.if-not-is_light.true)
@@ -32,7 +32,7 @@ returns c =
     let deep : fields_levels fs ≤ 64 = ok.levels in
     let fields = rw c.deref-2.ensures.value at c.in_ok-fields.ensures in
     let t : SchemaTable = record { endianness = c.endianness.result; fields = c.in_ok-fields.fields; custom_metadata = c.in_ok-custom_metadata.custom_metadata; features = None } in
-    let table = table-written t fs (pairs_of s.metadata.entries) (all_ids_view c.args.ipc_fields.now) _ c.endianness.ensures refl fields c.in_ok-custom_metadata.ensures deep in
+    let table = table-written t fs (pairs_of s.metadata.entries) (all_ids_view c.args.ipc_fields.now) _ c.endianness.ensures refl fields c.in_ok-custom_metadata.ensures.means deep in
     let weighs = table.weighs in
     let light = c.is_light.ensures.0 c.if-not-is_light.false in
     (writable fs (pairs_of s.metadata.entries) (all_ids_view c.args.ipc_fields.now) ok (omega (arith, weighs, light)), table)

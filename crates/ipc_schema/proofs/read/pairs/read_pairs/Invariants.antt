@@ -1,7 +1,7 @@
 use Rattle.std.proofs.Common.{◌≡◌, ◌-◌, []}
 use Rattle.lower.specs.TypeViews.{pairs_of}
 use Rattle.ipc_model.specs.Schemas.{pairs_from}
-use Rattle.ipc_schema.proofs.read.metadata.read_pairs.Given as goal
+use Rattle.ipc_schema.proofs.read.pairs.read_pairs.Given as goal
 
 abbrev pub invariant-loop-i : goal.invariant-loop-i
 invariant-loop-i l =

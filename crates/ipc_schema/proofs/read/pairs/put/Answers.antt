@@ -3,7 +3,7 @@ use Rattle.std.specs.Prelude.{string_bytes}
 use Rattle.lower.specs.Normal.{with_pair}
 use Rattle.lower.specs.TypeViews.{pairs_of}
 use Rattle.lower.proofs.Maps.{inserted}
-use Rattle.ipc_schema.proofs.read.metadata.put.Goals as goal
+use Rattle.ipc_schema.proofs.read.pairs.put.Goals as goal
 
 pub returns : goal.returns
 returns c =
