@@ -1,9 +1,13 @@
 pub mod Taken
-pub mod Dictionaries
+pub mod DictionaryLengths
 pub mod Fields
-pub mod Messages
+pub mod SameMessages
+pub mod MessageLists
 pub mod Counts
 pub mod Rows
+pub mod Dictionaries
 pub mod Types
+pub mod MessageLengths
+pub mod Acceptance
 pub mod Refusals
 pub mod Meanings

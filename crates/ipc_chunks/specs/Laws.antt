@@ -1,12 +1,13 @@
 -- What the messages of a chunk do to a reader.
 -- (Arrow columnar format, "IPC Streaming Format".)
-use Rattle.std.specs.Prelude.{◌≢◌, ◌⊎◌, Bool, ℕ, IsTrue, List, [], ◌∷◌, ◌++◌, length}
+use Rattle.std.specs.Prelude.{◌≢◌, Bool, ℕ, IsTrue, List, [], ◌∷◌, ◌++◌, length}
 use Rattle.std.specs.List.{AllByRecursion}
 use Rattle.lower_types.specs.declared.Endianness.{Endianness}
 use Rattle.lower_arrays.specs.Layouts.{Layout, layouts}
 use Rattle.lower_arrays.specs.Slots.{AreArrays}
 use Rattle.ipc_base.specs.Fitting.{AllFit}
 use Rattle.ipc_base.specs.IdTrees.{IdTrees}
+use Rattle.ipc_devices.specs.Faults.{OwnFault}
 use Rattle.ipc_devices.specs.declared.fault.ArgFault.TheVariants.{ColumnCount, DictionaryReplaced, FieldsShape, NotWritable, SharedDictionary, TooLarge, TooLong}
 use Rattle.ipc_devices.specs.declared.fault.Fault.{Fault}
 use Rattle.ipc_devices.specs.declared.fault.Fault.TheVariants.{Argument, Memory}
@@ -17,7 +18,6 @@ use Rattle.ipc_laws.specs.Moves.{MeansChunk}
 use Rattle.ipc_model.specs.Accepted.{AreKept, AreShared, IsEncoded, IsSayable, body_length}
 use Rattle.ipc_model.specs.Offers.{offer_of}
 use Rattle.ipc_model.specs.Writable.{IsWritable}
-use Rattle.ipc_tracker.specs.Places.{HaveIds, keyed_of}
 use Rattle.ipc_tracker.specs.Trackers.{Remembered}
 use Rattle.ipc_chunks.specs.Chunks.{EncodesChunk, RefusesChunk, encoded_fields, id_number}
 
@@ -30,12 +30,24 @@ encoded_bytes (encoded ∷ rest) = message_bytes encoded.ipc_message.items encod
 abbrev pub chunk_bytes : List EncodedData → EncodedData → List ℕ
 chunk_bytes dictionaries encoded = encoded_bytes dictionaries ++ message_bytes encoded.ipc_message.items encoded.arrow_data.items
 
--- What is encoded of columns that are accepted means just these columns, in a stream of their types, whatever follows; and a reader that
--- knew what was remembered before knows what is remembered then.
+-- What is encoded of columns means just these columns, in a stream of their types, whatever follows; and a reader that knew what was
+-- remembered before knows what is remembered then.
 abbrev pub MeaningLaw : Type 0
 MeaningLaw = (order : Endianness) (m after : Remembered) (fixed : Bool) (columns : List Layout) (is : IdTrees) (dictionaries : List EncodedData) (encoded : EncodedData)
-    → EncodesChunk order m fixed columns is dictionaries encoded after → IsEncoded is (offer_of columns is)
-    → MeansChunk (head_encoded order is columns) (chunk_bytes dictionaries encoded) m after (chunk_written columns)
+    → EncodesChunk order m fixed columns is dictionaries encoded after → MeansChunk (head_encoded order is columns) (chunk_bytes dictionaries encoded) m after (chunk_written columns)
+
+-- ---- which columns are encoded
+
+-- Columns are taken with these ids: they are accepted, with their types as a schema that can be written; and where nothing may be replaced,
+-- what is remembered stays.
+pub record IsTaken (m : Remembered) (fixed : Bool) (columns : List Layout) (is : IdTrees) : Type 0 where
+  pub accepted : IsEncoded is (offer_of columns is)
+  pub kept : IsTrue fixed → AllByRecursion (λ p. AreKept (m p.id) p.values) (offer_of columns is).dictionaries
+
+-- What is encoded is taken.
+abbrev pub TakenLaw : Type 0
+TakenLaw = (order : Endianness) (m after : Remembered) (fixed : Bool) (columns : List Layout) (is : IdTrees) (dictionaries : List EncodedData) (encoded : EncodedData)
+    → EncodesChunk order m fixed columns is dictionaries encoded after → IsTaken m fixed columns is
 
 -- ---- refusals
 
@@ -43,7 +55,7 @@ MeaningLaw = (order : Endianness) (m after : Remembered) (fixed : Bool) (columns
 abbrev pub Misses : Remembered → Bool → List Layout → IdTrees → Fault → Type 0
 Misses m fixed columns is Memory = Unit {0}
 Misses m fixed columns is (Argument ColumnCount) = length columns ≢ id_number is
-Misses m fixed columns is (Argument FieldsShape) = (AllFit (encoded_fields columns) is → ⊥) ⊎ (HaveIds (keyed_of (layouts columns) is) → ⊥)
+Misses m fixed columns is (Argument FieldsShape) = AllFit (encoded_fields columns) is → ⊥
 Misses m fixed columns is (Argument NotWritable) = IsWritable (encoded_fields columns) [] is → ⊥
 Misses m fixed columns is (Argument (SharedDictionary j)) = AreShared (offer_of columns is).dictionaries → ⊥
 Misses m fixed columns is (Argument (DictionaryReplaced j)) =
@@ -52,7 +64,8 @@ Misses m fixed columns is (Argument TooLong) = AllByRecursion IsSayable (offer_o
 Misses m fixed columns is (Argument TooLarge) = AllByRecursion (λ lengths. IsSayable (body_length lengths)) (offer_of columns is).bodies → ⊥
 Misses m fixed columns is _ = ⊥
 
--- Of columns, which are arrays, each refusal but that of memory names a condition of the columns that are encoded, and it isn't met.
+-- Of columns, which are arrays, each refusal but that of memory names a condition of the columns that are encoded, and it isn't met: so they
+-- aren't taken.
 abbrev pub MissesLaw : Type 0
 MissesLaw = (m : Remembered) (fixed : Bool) (columns : List Layout) (is : IdTrees) (e : Fault) → AreArrays (layouts columns) → RefusesChunk m fixed columns is e
-    → Misses m fixed columns is e
+    → Misses m fixed columns is e × OwnFault e (IsTaken m fixed columns is → ⊥)

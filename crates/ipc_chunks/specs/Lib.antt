@@ -1,2 +1,4 @@
 pub mod Chunks
 pub mod Laws
+pub mod Lengths
+pub mod Messages

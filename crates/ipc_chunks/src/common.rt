@@ -1,94 +1,64 @@
 //! Encodes chunks as messages, the dictionaries that are new or others in front (Arrow columnar format, "Dictionary Messages").
-ghost use Rattle.std.specs.Prelude.{◌≡◌, map, length, not, IfErr, IfOk, OnErr, OnOk};
+ghost use Rattle.std.specs.Prelude.{◌≡◌, map, not, IfErr, IfOk, OnErr, OnOk};
 ghost use Rattle.lower_arrays.specs.AnyLayouts.{layout_of};
 ghost use Rattle.ipc_base.specs.IdTrees.{all_ids_view};
 ghost use Rattle.ipc_devices.specs.declared.fault.Fault.TheVariants.{Memory};
 ghost use Rattle.ipc_encode.specs.Appending.{order_of};
-ghost use Rattle.ipc_encode.specs.Encoding.{AnswersBatch, IsEncoded, levels_of};
 ghost use Rattle.ipc_plan.specs.Pieces.{pieces_bytes};
-ghost use Rattle.ipc_tracker.specs.Listings.{listed};
 ghost use Rattle.ipc_tracker.specs.Trackers.{IsSameMemory, remembered};
-ghost use Rattle.ipc_chunks.specs.Chunks.{AreAllValues, AreValues, EncodesChunk, RefusesAllValues, RefusesChunk, RefusesValues};
+ghost use Rattle.ipc_chunks.specs.Chunks.{EncodesChunk, RefusesChunk};
+ghost use Rattle.ipc_chunks.specs.Messages.{data_seen, message_seen};
 
+use crate::messages::{Messages, encode_messages, list_messages};
 use crate::writable::check_columns;
 use ipc_base::chunk::Chunk;
 use ipc_base::ipc::IpcField;
 use ipc_devices::Fault;
-use ipc_encode::batches::{BatchKind, Encoded, encode_batch};
+use ipc_encode::batches::Encoded;
 use ipc_encode::common::{EncodedData, WriteOptions};
 use ipc_plan::plan::Plan;
 use ipc_plan::sending::send_pieces;
-use ipc_tracker::{DictionaryTracker, NewDictionary, list_dictionaries};
+use ipc_tracker::DictionaryTracker;
 use lower_arrays::array::AnyArray;
 use std::alloc::Global;
-use std::slice;
 
 // The body of a plan, in place of what these bytes were.
 fn write_body(body: &Plan<'_>, arrow_data: &mut Vec<u8>) -> Result<(), Fault>
-    requires { body.now.end ≡ length (pieces_bytes body.now.order body.now.pieces.items) }
     ensures bytes { OnOk result (arrow_data.new.items ≡ pieces_bytes body.now.order body.now.pieces.items) }
     ensures only { IfErr result (λ fault. fault ≡ Memory) }
 {
     arrow_data.clear();
     arrow_data.reserve(body.end as usize)?;
-    send_pieces(arrow_data, &body.pieces, body.order)?;
-    Ok(())
+    match send_pieces(arrow_data, &body.pieces, body.order) {
+        Ok(()) => Ok(()),
+        // Bytes in memory fail where these can't grow, and nowhere else.
+        Err(_) => Err(Fault::Memory),
+    }
 }
 
-// Encodes columns of so many rows as the message of a batch, in place of what was encoded before.
-fn encode_columns(
-    alloc: Global,
-    kind: BatchKind,
-    columns: &[AnyArray],
-    rows: usize,
-    is_little_endian: bool,
-    encoded: &mut EncodedData,
-) -> Result<(), Fault>
-    ensures encodes { OnOk result (IsEncoded kind (order_of is_little_endian) (map layout_of columns.now) rows encoded.new.ipc_message.items encoded.new.arrow_data.items) }
-    ensures takes { AnswersBatch result kind rows (levels_of (map layout_of columns.now)) }
+// A message with its body in one piece, in place of what was encoded before.
+fn join_pieces(message: Encoded<'_>, encoded: &mut EncodedData) -> Result<(), Fault>
+    ensures same { OnOk result (data_seen encoded.new ≡ message_seen message.entry) }
+    ensures only { IfErr result (λ fault. fault ≡ Memory) }
 {
-    let Encoded { metadata, body } = encode_batch(alloc, kind, columns, rows, is_little_endian)?;
+    let Encoded { metadata, body } = message;
     write_body(&body, &mut encoded.arrow_data)?;
     encoded.ipc_message = metadata;
     Ok(())
 }
 
-// Encodes the values of a dictionary.
-fn encode_dictionary(
-    alloc: Global,
-    dictionary: &NewDictionary,
-    is_little_endian: bool,
-) -> Result<EncodedData, Fault>
-    ensures encodes { IfOk result (λ encoded. AreValues (order_of is_little_endian) (listed dictionary.now) encoded) }
-    ensures refused { IfErr result (RefusesValues (listed dictionary.now)) }
+// The same of each of some messages, in order.
+fn join_all(alloc: Global, messages: Vec<Encoded<'_>>) -> Result<Vec<EncodedData>, Fault>
+    ensures same { IfOk result (λ encoded. map data_seen encoded.items ≡ map message_seen messages.entry.items) }
+    ensures only { IfErr result (λ fault. fault ≡ Memory) }
 {
-    let mut encoded = EncodedData::empty(alloc);
-    let values = &*dictionary.values;
-    encode_columns(
-        alloc,
-        BatchKind::Dictionary(dictionary.id),
-        slice::from_ref(values),
-        values.len(),
-        is_little_endian,
-        &mut encoded,
-    )?;
-    Ok(encoded)
-}
-
-// Encodes the values of each dictionary, in order.
-fn encode_dictionaries(
-    alloc: Global,
-    dictionaries: &[NewDictionary],
-    is_little_endian: bool,
-) -> Result<Vec<EncodedData>, Fault>
-    ensures encodes { IfOk result (λ encoded. AreAllValues (order_of is_little_endian) (map listed dictionaries.now) encoded.items) }
-    ensures refused { IfErr result (RefusesAllValues (map listed dictionaries.now)) }
-{
-    let mut encoded = Vec::new(alloc);
-    for dictionary in dictionaries {
-        encoded.push(encode_dictionary(alloc, dictionary, is_little_endian)?)?;
+    let mut all = Vec::new(alloc);
+    for message in messages {
+        let mut encoded = EncodedData::empty(alloc);
+        join_pieces(message, &mut encoded)?;
+        all.push(encoded)?;
     }
-    Ok(encoded)
+    Ok(all)
 }
 
 /// Encodes a chunk as the messages that a writer sends of it: those of the dictionaries that are new or others than the tracker
@@ -102,8 +72,8 @@ fn encode_dictionaries(
 /// `Argument(NotWritable)` where such a schema can't be written, as [`ipc_schema_write::schema::schema_to_bytes`] says;
 /// `Argument(SharedDictionary)` with the id where two of one id have other values; `Argument(DictionaryReplaced)` with the id where the
 /// values are others than those that the tracker remembers, which have to stay; `Argument(TooLong)` where an array has more than
-/// `2^63 - 1` slots that would be written; `Argument(TooLarge)` where a body would have more than `2^63 - 1` bytes; `Memory`. Where
-/// several are so, any of these may come. After a fault the tracker is as it was.
+/// `2^63 - 1` slots that would be written; `Argument(TooLarge)` where a body would have more than `2^63 - 1` bytes: both also of a
+/// dictionary that needn't be written; `Memory`. Where several are so, any of these may come. After a fault the tracker is as it was.
 pub fn encode_chunk(
     alloc: Global,
     columns: &Chunk<AnyArray>,
@@ -150,17 +120,13 @@ pub fn encode_chunk_amortized(
     let arrays = columns.arrays();
     let is_little_endian = !options.big_endian;
     check_columns(alloc, arrays, fields)?;
-    let dictionaries = list_dictionaries(alloc, dictionary_tracker, arrays, fields)?;
-    let encoded_dictionaries = encode_dictionaries(alloc, &dictionaries, is_little_endian)?;
-    let rows = columns.len();
-    encode_columns(
-        alloc,
-        BatchKind::Record,
-        arrays,
-        rows,
-        is_little_endian,
-        encoded_message,
-    )?;
+    let dictionaries = list_messages(alloc, dictionary_tracker, arrays, fields)?;
+    let Messages {
+        dictionaries: values,
+        record_batch,
+    } = encode_messages(alloc, columns, &dictionaries, is_little_endian)?;
+    let encoded_dictionaries = join_all(alloc, values)?;
+    join_pieces(record_batch, encoded_message)?;
     // There is room for all now, so that nothing fails any more.
     dictionary_tracker.make_room(dictionaries.len())?;
     dictionary_tracker.remember_all(dictionaries);

@@ -3,4 +3,6 @@
 
 pub mod common;
 pub mod laws;
+pub mod lengths;
+pub mod messages;
 mod writable;

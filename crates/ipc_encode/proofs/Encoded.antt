@@ -18,6 +18,7 @@ use Rattle.ipc_views.specs.declared.schema.MetadataVersion.TheVariants.{V5}
 use Rattle.ipc_tables.proofs.Kept.{BufferFits, NodeFits}
 use Rattle.ipc_views.specs.declared.message.FieldNode.{FieldNode}
 use Rattle.ipc_views.specs.declared.schema.Buffer.{Buffer}
+use Rattle.ipc_model.specs.Accepted.{body_length}
 use Rattle.ipc_model.specs.Offers.{body_lengths}
 use Rattle.ipc_plan.specs.Batches.{body_of_plan, lists_of_plan}
 use Rattle.ipc_plan.specs.Bodies.{PlansColumns}
@@ -38,9 +39,9 @@ pub planned_end : (order : Endianness) (ls : List Layout) (p : Plan) (h : PlansC
 planned_end order ls p h = h.end_is ∙ ap length (sym h.body_is)
 
 pub encoded : (kind : BatchKind) (order : Endianness) (ls : List Layout) (rows : ℕ) (p q : Plan) (m : Message) (given : ℤ) (metadata : List ℕ)
-    → AreArrays (layouts ls) → PlansColumns order ls p → AreShort (levels_of ls) → p.end < 2 ^ 63 → IsMessageOfPlan m kind given p → IdFits kind → given ≡ pos rows → rows < 2 ^ 63
+    → AreArrays (layouts ls) → PlansColumns order ls p → AreShort (levels_of ls) → p.end ≡ body_length (body_lengths (levels_of ls)) → p.end < 2 ^ 63 → IsMessageOfPlan m kind given p → IdFits kind → given ≡ pos rows → rows < 2 ^ 63
     → IsEncoding metadata (message_slots m) → HaveRoot metadata (IsMessage 0) m → q.pieces.items ≡ p.pieces.items → IsEncoded kind order ls rows metadata (pieces_bytes order q.pieces.items)
-encoded kind order ls rows p q m given metadata arrays plans short small is id_fits same few encodes root left =
+encoded kind order ls rows p q m given metadata arrays plans short room small is id_fits same few encodes root left =
     let bs = joined plans.buffers in
     let sent = pieces_bytes order q.pieces.items in
     let bytes : sent ≡ body_of_plan p = ap (λ ps. pieces_bytes order ps) left ∙ sym (planned order ls p plans) in
@@ -57,6 +58,7 @@ encoded kind order ls rows p q m given metadata arrays plans short small is id_f
           (subst (λ (n : Message). HaveRoot metadata (IsMessage 0) n) is.value root) (subst (λ (n : Message). IsEncoding metadata (message_slots n)) is.value encodes)
           is.uncompressed (is.rows_are ∙ same) few is.nodes_are is.buffers_are (is.end_is ∙ ap (λ n. pos n) long) (omega (arith, long, small)) fit_nodes fit_buffers;
       body_is = bytes;
+      long = sym long ∙ room;
     }
 
 -- a batch that lists what a plan does

@@ -9,7 +9,7 @@ use Rattle.ipc_base.specs.IdTrees.{IdTrees}
 use Rattle.ipc_devices.specs.declared.fault.TableFault.{TableFault}
 use Rattle.ipc_views.specs.MessageSlots.{dictionary_batch_data, dictionary_batch_id, dictionary_batch_is_delta}
 use Rattle.ipc_views.specs.Spot.{Spot}
-use Rattle.ipc_model.specs.Batches.{Place, Schema, batch, batch_meaning, dictionary_meaning, entries_of, place_of, places, record_meaning, values_meaning, values_schema, with_values}
+use Rattle.ipc_model.specs.Batches.{Place, Schema, batch, batch_meaning, dictionary_meaning, entries_of, place_of, places, record_meaning, values_meaning, values_schema, with_values, extra_of}
 use Rattle.ipc_model.specs.Columns.{slots_in}
 use Rattle.ipc_model.specs.Entries.{Dictionaries, Entries, dictionary_at}
 use Rattle.ipc_model.specs.Offers.{inner_ids, own_id}
@@ -77,7 +77,7 @@ encoded_record_law head s ls rows metadata sent e none like have knows =
       tag = m.says.0;
       long = m.body_is;
       means =
-          table_means head.schema head.extra s.dictionaries m.header.table e.plan ls rows rows sent none m.says.1 e.plans e.arrays e.body_is like have knows;
+          table_means head.schema (extra_of head.version) s.dictionaries m.header.table e.plan ls rows rows sent none m.says.1 e.plans e.arrays e.body_is like have knows;
     }
 
 -- the values are put in front

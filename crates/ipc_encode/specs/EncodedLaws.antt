@@ -5,7 +5,7 @@ use Rattle.lower.specs.Normal.{norm}
 use Rattle.lower_types.specs.declared.Endianness.{Endianness}
 use Rattle.lower_arrays.specs.Layouts.{Layout, layouts, type_of}
 use Rattle.lower_arrays.specs.Slots.{slots}
-use Rattle.ipc_model.specs.Batches.{Place, Schema, dictionary_meaning, place_of, places}
+use Rattle.ipc_model.specs.Batches.{Place, Schema, dictionary_meaning, place_of, places, extra_of}
 use Rattle.ipc_model.specs.Entries.{Dictionaries, Entries}
 use Rattle.ipc_model.specs.Streams.{Head, Header, Known, header_of, whole}
 use Rattle.ipc_model.specs.WrittenLaws.{IsWritten}
@@ -21,7 +21,7 @@ knowing known order = record { nodes = []; parts = []; order = order; extra = 0;
 -- A record batch that was encoded means its columns, in each stream whose fields have their types, and where the values of their dictionaries are known.
 abbrev pub EncodedRecordLaw : Type 0
 EncodedRecordLaw = (head : Head) (s : Known) (columns : List Layout) (rows : ℕ) (metadata sent : List ℕ)
-    → IsEncoded Record head.schema.order columns rows metadata sent → head.extra ≡ 0
+    → IsEncoded Record head.schema.order columns rows metadata sent → extra_of head.version ≡ 0
     → AreLike head.schema.fields (layouts columns) → HaveRows rows columns
     → KnowsAll (knowing s.dictionaries head.schema.order) (layouts columns) head.schema.ids
     → IsWritten head s metadata sent (chunk_named head.schema.fields columns)

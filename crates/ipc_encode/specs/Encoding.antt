@@ -70,18 +70,19 @@ pub record IsBatchMetadata (kind : BatchKind) (rows : ℕ) (listed : Lists) (siz
 
 -- ---- the message
 
+-- the levels of columns, one column behind the other
+abbrev pub levels_of : List Layout → List Level
+levels_of columns = flat_map whole_levels columns
+
 -- A message is that of some columns, which are arrays: there is a plan of the columns such that the metadata list its nodes and its buffers, and the body are
--- its pieces. So the body are the buffers of the columns' levels, one behind the other, each padded.
+-- its pieces. So the body are the buffers of the columns' levels, one behind the other, each padded, and is as long as these.
 pub record IsEncoded (kind : BatchKind) (order : Endianness) (columns : List Layout) (rows : ℕ) (metadata sent : List ℕ) : Type 0 where
   pub plan : Plan
   pub arrays : AreArrays (layouts columns)
   pub plans : PlansColumns order columns plan
   pub metadata_are : IsBatchMetadata kind rows (lists_of_plan plan) (length sent) metadata
   pub body_is : sent ≡ body_of_plan plan
-
--- the levels of columns, one column behind the other
-abbrev pub levels_of : List Layout → List Level
-levels_of columns = flat_map whole_levels columns
+  pub long : length sent ≡ body_length (body_lengths (levels_of columns))
 
 -- what numbers of 64 and 32 bits, signed, have to say of a batch of these levels
 pub record IsEncodable (kind : BatchKind) (rows : ℕ) (hs : List Level) : Type 0 where

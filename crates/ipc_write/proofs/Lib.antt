@@ -1,8 +1,6 @@
 pub mod Acceptance
 pub mod Agreements
 pub mod CallLists
-pub mod Dictionaries
-pub mod DictionaryLengths
 pub mod MessageLists
 pub mod MessageSends
 pub mod Messages

@@ -3,6 +3,7 @@ use Rattle.std.proofs.Common.{arith, ◌≡◌, ℕ, ◌^◌, ◌<◌, ◌≤◌
 use Rattle.std.specs.Int.{next_multiple_of}
 use Rattle.lower_types.specs.declared.Endianness.{Endianness}
 use Rattle.lower_arrays.specs.Layouts.{Layout}
+use Rattle.ipc_chunks.proofs.Refusals.{IsOfMessage}
 use Rattle.ipc_devices.specs.Device.{Memory}
 use Rattle.ipc_devices.specs.Faults.{IsIo}
 use Rattle.ipc_devices.specs.declared.fault.ArgFault.TheVariants.{TooLarge, TooLong}
@@ -14,14 +15,14 @@ use Rattle.ipc_schema_write.specs.WriterAnswers.{byte_order}
 use Rattle.ipc_plan.specs.Sending.{DeviceSeen, Sends, seen_by}
 use Rattle.ipc_plan.proofs.Sends.{sends_stop}
 use Rattle.ipc_write.specs.Framing.{head_bytes, message_bytes}
-use Rattle.ipc_write.specs.Messages.{AreMessages, Message, RefusesHanding, RefusesMessages, messages_bytes}
+use Rattle.ipc_write.specs.Messages.{RefusesHanding, messages_bytes}
+use Rattle.ipc_chunks.specs.Messages.{AreMessages, Message, RefusesMessages}
 use Rattle.ipc_write.specs.Sending.{HandsMessages, SendsOrRefuses}
 use Rattle.ipc_write.specs.Writers.{LeavesState}
 use Rattle.ipc_write.specs.declared.stream.WriterState.{WriterState}
 use Rattle.ipc_write.specs.declared.stream.WriterState.TheVariants.{Failed}
 use Rattle.ipc_write.proofs.MessageLists.{bytes_last}
 use Rattle.ipc_write.proofs.Messages.{message_whole_body}
-use Rattle.ipc_write.proofs.Refusals.{IsOfMessage}
 use Rattle.ipc_write.proofs.Sends.{both_sent, or_sends}
 
 -- ---- one message

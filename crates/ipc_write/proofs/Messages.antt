@@ -1,5 +1,5 @@
 -- The parts of a message: how long they are, and how they are sent one after another.
-use Rattle.std.proofs.Common.{arith, ◌≡◌, ℕ, ℤ, Bool, Result, Ok, Err, subst, pos, ◌+◌, ◌-◌, ◌%◌, List, [], ◌∷◌, ◌++◌, length, replicate, refl, sym, ap, ◌∙◌, append-nil, append_assoc, length-append}
+use Rattle.std.proofs.Common.{arith, ◌≡◌, ℕ, ℤ, Bool, Result, Ok, Err, subst, pos, ◌+◌, ◌-◌, ◌%◌, List, ◌++◌, length, replicate, refl, sym, ap, ◌∙◌, append-nil, append_assoc, length-append}
 use Rattle.std.proofs.lemmas.List.{length-replicate}
 use Rattle.std.specs.Int.{next_multiple_of}
 use Rattle.ipc_model.specs.WrittenBatches as written
@@ -12,12 +12,6 @@ use Rattle.ipc_write.specs.Framing.{head_bytes, head_len, message_bytes, message
 use Rattle.ipc_write.proofs.Sends.{both_sent}
 
 -- ---- padding
-
-pub length_padded : (xs : List ℕ) → length (written.padded xs) ≡ next_multiple_of (length xs) 64
-length_padded xs =
-    let zero_byte : ℕ = 0 in
-    let n = next_multiple_of (length xs) 64 - length xs in
-    omega (arith, length-append xs (replicate n zero_byte), length-replicate n zero_byte)
 
 length_padded_to : (xs : List ℕ) (m n : ℕ) → next_multiple_of (length xs) m ≡ length xs + n → length (padded xs m) ≡ next_multiple_of (length xs) m
 unfolding padded
@@ -32,13 +26,6 @@ unfolding padded
 padded_whole xs m same =
     let none : next_multiple_of (length xs) m - length xs ≡ 0 = omega (arith, same) in
     ap (λ n. xs ++ replicate n 0) none ∙ append-nil xs
-
--- the buffers of a body, each padded, end at a multiple of 64
-pub body_whole : (bs : List (List ℕ)) → length (body bs) % 64 ≡ 0
-body_whole [] = refl
-body_whole (x ∷ bs) =
-    let rest = body_whole bs in
-    omega (arith, length-append (written.padded x) (body bs), length_padded x, rest)
 
 -- ---- messages
 

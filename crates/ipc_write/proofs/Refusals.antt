@@ -1,12 +1,14 @@
 -- What a writer answers of a chunk, exactly.
-use Rattle.std.proofs.Common.{◌≡◌, ℕ, arith, false, List, [], ◌∷◌, length, map, Option, None, Some, IfSome, IsSomeAnd, ◌⊎◌, inl, inr, Result, Ok, Err, sym, ap, ◌∙◌, subst}
+use Rattle.std.proofs.Common.{◌≡◌, ℕ, arith, false, List, length, map, Option, None, Some, IfSome, IsSomeAnd, ◌⊎◌, inl, inr, Result, Ok, Err, sym, ap, ◌∙◌, subst}
 use Rattle.lower.specs.TypeTrees.{FieldTrees, Pairs, TypeTree}
 use Rattle.lower_arrays.specs.AnyLayouts.{layout_of}
 use Rattle.lower_arrays.specs.Layouts.{Layout, layouts, len_of}
 use Rattle.lower_arrays.specs.declared.array.AnyArray.{AnyArray}
 use Rattle.ipc_base.specs.Chunks.{row_count}
 use Rattle.ipc_base.specs.IdTrees.{IdTrees}
-use Rattle.ipc_chunks.specs.Chunks.{RefusesSome, RefusesValues}
+use Rattle.ipc_chunks.proofs.MessageLengths.{last_body, last_lens, rows_short, some_large, some_long}
+use Rattle.ipc_chunks.proofs.Refusals.{IsOfMessage, of_some, some_listed}
+use Rattle.ipc_chunks.specs.Messages.{RefusesMessages, RefusesPlaces, RefusesSome}
 use Rattle.ipc_devices.specs.Faults.{OnIo, OwnFault}
 use Rattle.ipc_devices.specs.declared.fault.ArgFault.TheVariants.{ColumnCount, ColumnType, DictionaryReplaced, FieldsDiffer, FieldsShape, SharedDictionary, TooLarge, TooLong}
 use Rattle.ipc_devices.specs.declared.fault.Fault.{Fault}
@@ -18,14 +20,13 @@ use Rattle.ipc_encode.specs.declared.batches.BatchKind.TheVariants.{Record}
 use Rattle.ipc_model.specs.Offers.{FilledPlace, values_of}
 use Rattle.ipc_model.specs.Writable.{IsWritable}
 use Rattle.ipc_tracker.proofs.Refusals.{refusal_law}
-use Rattle.ipc_tracker.specs.Listings.{Lists, RefusesAll}
-use Rattle.ipc_tracker.specs.Trackers.{Remembered, dictionary_of, remembering}
+use Rattle.ipc_tracker.specs.Listings.{RefusesAll}
 use Rattle.ipc_write.specs.Meaning.{normal_types}
-use Rattle.ipc_write.specs.Messages.{RefusesHanding, RefusesMessages, RefusesPlaces}
+use Rattle.ipc_write.specs.Messages.{RefusesHanding}
 use Rattle.ipc_write.specs.Writers.{FitTypes, HaveTypes, MayBeWritten, MayList, MissesWrite, RefusesChunk, RefusesState, RefusesTypes, RefusesWrite, StateComesFirst, WriterSeen, WritesExactly, fault_unless_started}
 use Rattle.ipc_write.specs.declared.stream.WriterState.TheVariants.{Started}
-use Rattle.ipc_write.proofs.Acceptance.{accepted, have_types, last_body, last_lens, like_fields, rows_short, same_count, some_large, some_long}
-use Rattle.ipc_write.proofs.Dictionaries.{have_ids, one_type_of, short_places}
+use Rattle.ipc_write.proofs.Acceptance.{accepted, have_types, like_fields, same_count}
+use Rattle.ipc_chunks.proofs.Dictionaries.{have_ids, one_type_of, short_places}
 
 -- ---- which condition isn't met
 
@@ -83,7 +84,7 @@ module _ {W : Type 0} (w : WriterSeen W) (columns : List AnyArray) (ids : Option
   missed _ h = absurd h
 
   -- so it isn't taken
-  not_taken : (e : Fault) → MissesWrite w fs columns ids e → OwnFault e (¬ MayBeWritten w fs columns ids)
+  pub not_taken : (e : Fault) → MissesWrite w fs columns ids e → OwnFault e (¬ MayBeWritten w fs columns ids)
   not_taken (State x) h = λ t. h t.started
   not_taken (Argument FieldsDiffer) h = λ t. h t.same_ids
   not_taken (Argument ColumnCount) h = λ t. h t.accepted.count
@@ -138,23 +139,6 @@ refuses_types w columns ids (Argument ColumnType) h = h
 refuses_types w columns ids _ h = absurd h
 
 -- faults of messages
-abbrev pub IsOfMessage : Fault → Type 0
-IsOfMessage Memory = Unit {0}
-IsOfMessage (Argument TooLong) = Unit {0}
-IsOfMessage (Argument TooLarge) = Unit {0}
-IsOfMessage _ = ⊥
-
-of_values : (p : FilledPlace) (e : Fault) → RefusesValues p e → IsOfMessage e
-of_values p Memory h = tt
-of_values p (Argument TooLong) h = tt
-of_values p (Argument TooLarge) h = tt
-of_values p _ h = absurd h
-
-of_some : (ps : List FilledPlace) (e : Fault) → RefusesSome ps e → IsOfMessage e
-of_some [] e h = absurd h
-of_some (p ∷ ps) e (inl h) = of_values p e h
-of_some (p ∷ ps) e (inr h) = of_some ps e h
-
 of_batch : (columns : List Layout) (e : Fault) → RefusesBatch Record (row_count len_of columns) (levels_of columns) e → IsOfMessage e
 of_batch columns Memory h = tt
 of_batch columns (Argument TooLong) h = tt
@@ -166,7 +150,7 @@ of_messages list columns e (inl (inl h)) = of_some list e h
 of_messages list columns e (inl (inr h)) = subst (λ (f : Fault). IsOfMessage f) (sym h) tt
 of_messages list columns e (inr h) = of_batch columns e h
 
-some_refuse : {W : Type 0} (w : WriterSeen W) (columns : List AnyArray) (ids : Option IdTrees) (e : Fault) → FitTypes w columns → RefusesSome (values_of (layouts (map layout_of columns)) w.ids) e → IsOfMessage e
+pub some_refuse : {W : Type 0} (w : WriterSeen W) (columns : List AnyArray) (ids : Option IdTrees) (e : Fault) → FitTypes w columns → RefusesSome (values_of (layouts (map layout_of columns)) w.ids) e → IsOfMessage e
     → RefusesChunk w columns ids e
 some_refuse w columns ids Memory f h k = tt
 some_refuse w columns ids (Argument TooLong) f h k = (f, inl h)
@@ -174,7 +158,7 @@ some_refuse w columns ids (Argument TooLarge) f h k = (f, inl h)
 some_refuse w columns ids _ f h k = absurd k
 
 -- dictionaries that are refused
-all_refuse : {W : Type 0} (w : WriterSeen W) (columns : List AnyArray) (ids : Option IdTrees) (e : Fault) → FitTypes w columns → RefusesAll w.dictionaries false (map layout_of columns) w.ids e → RefusesChunk w columns ids e
+pub all_refuse : {W : Type 0} (w : WriterSeen W) (columns : List AnyArray) (ids : Option IdTrees) (e : Fault) → FitTypes w columns → RefusesAll w.dictionaries false (map layout_of columns) w.ids e → RefusesChunk w columns ids e
 all_refuse w columns ids Memory f h = tt
 all_refuse w columns ids (Argument (SharedDictionary j)) f h = (f, h)
 all_refuse w columns ids (Argument (DictionaryReplaced j)) f h = let free = h.0 in absurd cc
@@ -186,17 +170,7 @@ pub refuses_places : {W : Type 0} (w : WriterSeen W) (columns : List AnyArray) (
 refuses_places w columns ids fixed e free f (inl h) = all_refuse w columns ids e f (subst (λ (b : _). RefusesAll w.dictionaries b (map layout_of columns) w.ids e) free h)
 refuses_places w columns ids fixed e free f (inr h) = some_refuse w columns ids e f h (of_some (values_of (layouts (map layout_of columns)) w.ids) e h)
 
--- what is listed is among the places
-some_listed : (m : Remembered) (ps ws : List FilledPlace) (e : Fault) → Lists m ps ws → RefusesSome ws e → RefusesSome ps e
-some_listed m [] ws e l h = subst (λ (vs : List FilledPlace). RefusesSome vs e) l h
-some_listed m (p ∷ ps) ws e (inl l) h = inr (some_listed m ps ws e l.1 h)
-some_listed m (p ∷ ps) ws e (inr l) h =
-    elim (subst (λ (vs : List FilledPlace). RefusesSome vs e) l.2 h) [
-      | inl here ↦ inl here
-      | inr rest ↦ inr (some_listed (remembering p.id (dictionary_of p.values) m) ps l.1 e l.3 rest)
-    ]
-
-record_refuse : {W : Type 0} (w : WriterSeen W) (columns : List AnyArray) (ids : Option IdTrees) (e : Fault) → FitTypes w columns
+pub record_refuse : {W : Type 0} (w : WriterSeen W) (columns : List AnyArray) (ids : Option IdTrees) (e : Fault) → FitTypes w columns
     → RefusesBatch Record (row_count len_of (map layout_of columns)) (levels_of (map layout_of columns)) e → RefusesChunk w columns ids e
 record_refuse w columns ids Memory f h = tt
 record_refuse w columns ids (Argument TooLong) f h = (f, inr h)

@@ -97,6 +97,7 @@ pub refused_schema : {W : Type 0} (known grows : Bool) (failures room : W â†’ â„
 refused_schema known grows failures room memory a b e head kept order not_io = record {
   metadata = [];
   is = none_sent e _ not_io;
+  written = none_sent e _ not_io;
   step = refused_step known grows failures room memory a b _ _ e kept order not_io;
 }
 

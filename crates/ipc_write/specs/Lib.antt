@@ -1,7 +1,6 @@
 pub mod Agreement
 pub mod Calls
 pub mod Framing
-pub mod Lengths
 pub mod Meaning
 pub mod Messages
 pub mod Sending

@@ -1,85 +1,24 @@
--- The messages that are written of a chunk.
--- (Arrow columnar format, "Encapsulated message format", "RecordBatch message" and "Dictionary messages".)
-use Rattle.std.specs.Prelude.{◌≡◌, ◌⊎◌, ℕ, ◌%◌, ◌^◌, ◌<◌, Bool, List, [], ◌∷◌, ◌++◌, length, map, All}
-use Rattle.std.specs.Int.{next_multiple_of}
-use Rattle.lower_types.specs.declared.Endianness.{Endianness}
-use Rattle.lower_arrays.specs.Layouts.{Layout, layouts, len_of}
-use Rattle.ipc_base.specs.Chunks.{row_count}
-use Rattle.ipc_base.specs.IdTrees.{IdTrees}
-use Rattle.ipc_chunks.specs.Chunks.{RefusesAllValues, RefusesSome}
+-- The messages of a chunk, as they stand in a stream.
+-- (Arrow columnar format, "Encapsulated message format".)
+use Rattle.std.specs.Prelude.{ℕ, List, [], ◌∷◌, ◌++◌}
+use Rattle.lower_arrays.specs.Layouts.{Layout}
+use Rattle.ipc_chunks.specs.Messages.{Message, RefusesMessages, dictionaries_seen, message_seen}
+use Rattle.ipc_chunks.specs.declared.messages.Messages.{Messages}
 use Rattle.ipc_devices.specs.declared.fault.Fault.{Fault}
 use Rattle.ipc_devices.specs.declared.fault.Fault.TheVariants.{Io}
-use Rattle.ipc_encode.specs.Encoding.{IsEncoded, RefusesBatch, levels_of}
-use Rattle.ipc_encode.specs.declared.batches.BatchKind.TheVariants.{Record, Dictionary}
-use Rattle.ipc_encode.specs.declared.batches.Encoded.{Encoded}
-use Rattle.ipc_model.specs.Offers.{FilledPlace, values_of}
-use Rattle.ipc_plan.specs.Batches.{HaveRows}
-use Rattle.ipc_plan.specs.Pieces.{pieces_bytes}
-use Rattle.ipc_tracker.specs.Listings.{RefusesAll}
-use Rattle.ipc_tracker.specs.Trackers.{Remembered}
+use Rattle.ipc_model.specs.Offers.{FilledPlace}
 use Rattle.ipc_write.specs.Framing.{message_bytes}
-use Rattle.ipc_write.specs.declared.common.Messages.{Messages}
 
--- ---- messages
-
--- its metadata, and its body
-pub record Message : Type 0 where
-  pub metadata : List ℕ
-  pub body : List ℕ
-
--- one whose body is in pieces
-abbrev pub message_seen : Encoded → Message
-message_seen e = record { metadata = e.metadata.items; body = pieces_bytes e.body.order e.body.pieces.items }
-
-abbrev pub dictionaries_seen : Messages → List Message
-dictionaries_seen ms = map message_seen ms.dictionaries.items
-
+-- the messages of a chunk, in their order
 abbrev pub all_seen : Messages → List Message
 all_seen ms = dictionaries_seen ms ++ message_seen ms.record_batch ∷ []
-
--- The length of its metadata can be said, and its body ends at a multiple of 64.
-pub record IsSendable (e : Encoded) : Type 0 where
-  pub short : next_multiple_of (length e.metadata.items) 8 < 2 ^ 31
-  pub whole : length (pieces_bytes e.body.order e.body.pieces.items) % 64 ≡ 0
-
-pub record AreSendable (ms : Messages) : Type 0 where
-  pub dictionaries : All IsSendable ms.dictionaries.items
-  pub record_batch : IsSendable ms.record_batch
 
 -- messages as they stand in a stream, one behind the other
 abbrev pub messages_bytes : List Message → List ℕ
 messages_bytes [] = []
 messages_bytes (m ∷ ms) = message_bytes m.metadata m.body ++ messages_bytes ms
 
--- ---- a chunk
-
--- the message of the values of a dictionary
-abbrev pub AreValues : Endianness → FilledPlace → Message → Type 0
-AreValues order p m = IsEncoded (Dictionary p.id) order (p.values ∷ []) (len_of p.values) m.metadata m.body
-
--- a message for each of some dictionaries, in order
-abbrev pub AreAllValues : Endianness → List FilledPlace → List Message → Type 0
-AreAllValues order [] [] = Unit {0}
-AreAllValues order (p ∷ ps) (m ∷ ms) = AreValues order p m × AreAllValues order ps ms
-AreAllValues order _ _ = ⊥
-
--- The messages of some columns: of the dictionaries on this list, in its order, and of the columns, which are equally long.
-pub record AreMessages (order : Endianness) (columns : List Layout) (list : List FilledPlace) (dictionaries : List Message) (own : Message) : Type 0 where
-  pub values : AreAllValues order list dictionaries
-  pub rows : HaveRows (row_count len_of columns) columns
-  pub record_is : IsEncoded Record order columns (row_count len_of columns) own.metadata own.body
-
--- ---- refusals
-
--- why they aren't encoded
-abbrev pub RefusesMessages : List FilledPlace → List Layout → Fault → Type 0
-RefusesMessages list columns e = RefusesAllValues list e ⊎ RefusesBatch Record (row_count len_of columns) (levels_of columns) e
-
 -- why they aren't handed to a device, or it fails
 abbrev pub RefusesHanding : List FilledPlace → List Layout → Fault → Type 0
 RefusesHanding list columns (Io e) = Unit {0}
 RefusesHanding list columns e = RefusesMessages list columns e
-
--- why the dictionaries of some columns are refused, where this is remembered: those of a tracker, or a message of some values can't say its lengths
-abbrev pub RefusesPlaces : Remembered → Bool → List Layout → IdTrees → Fault → Type 0
-RefusesPlaces m fixed columns is e = RefusesAll m fixed columns is e ⊎ RefusesSome (values_of (layouts columns) is) e

@@ -8,7 +8,8 @@ use Rattle.ipc_devices.specs.declared.fault.Fault.TheVariants.{Argument, Io}
 use Rattle.ipc_devices.specs.declared.fault.ArgFault.TheVariants.{TooLarge}
 use Rattle.ipc_model.specs.Offers.{FilledPlace}
 use Rattle.ipc_plan.specs.Sending.{Sends, seen_by}
-use Rattle.ipc_write.specs.Messages.{AreMessages, Message, messages_bytes}
+use Rattle.ipc_write.specs.Messages.{messages_bytes}
+use Rattle.ipc_chunks.specs.Messages.{AreMessages, Message}
 
 -- The device counted a failure, or it is memory that had no room for so many bytes and was refused its growth.
 abbrev pub FailsOrIsFull : (grows : Bool) → (old new room count : ℕ) → Type 0

@@ -6,7 +6,7 @@ use Rattle.std.specs.declared.alloc.Global.{Global}
 use Rattle.ipc_base.specs.Chunks.{row_count}
 use Rattle.ipc_base.specs.IdTrees.{IdTrees, all_ids_view}
 use Rattle.ipc_base.specs.declared.ipc.IpcField.{IpcField}
-use Rattle.ipc_chunks.specs.Chunks.{RefusesSome}
+use Rattle.ipc_chunks.specs.Messages.{AreMessages, Message, RefusesSome}
 use Rattle.ipc_devices.specs.Device.{Memory, WritesOver}
 use Rattle.ipc_devices.specs.Faults.{OnIo, OnRefused, OwnFault}
 use Rattle.ipc_devices.specs.declared.fault.Fault.{Fault}
@@ -35,12 +35,13 @@ use Rattle.lower_arrays.specs.Layouts.{layouts, len_of, type_of}
 use Rattle.lower_arrays.specs.Slots.{AreArrays}
 use Rattle.lower_arrays.specs.declared.array.AnyArray.{AnyArray}
 use Rattle.ipc_plan.specs.Sending.{WritesSome}
+use Rattle.ipc_tables.specs.Written.{IsWritten}
 use Rattle.ipc_tracker.specs.Listings.{ListsAll, RefusesAll, remembering_all}
 use Rattle.ipc_tracker.specs.Trackers.{IsSameMemory, Remembered, remembered}
 use Rattle.ipc_write.specs.Framing.{message_bytes, message_len}
-use Rattle.ipc_write.specs.Lengths.{HaveLengths}
+use Rattle.ipc_chunks.specs.Lengths.{HaveLengths}
 use Rattle.ipc_write.specs.Meaning.{normal_types}
-use Rattle.ipc_write.specs.Messages.{AreMessages, Message, messages_bytes}
+use Rattle.ipc_write.specs.Messages.{messages_bytes}
 use Rattle.ipc_write.specs.Sending.{FailsOrIsFull, OnSent}
 use Rattle.ipc_write.specs.declared.stream.writer.StreamWriter.{StreamWriter}
 use Rattle.ipc_write.specs.declared.stream.WriterState.{WriterState}
@@ -151,10 +152,12 @@ pub record SendsChunk {W : Type 0} (known grows : Bool) (failures room : W → �
   pub remembers : OnOk r (IsSameMemory (remembering_all list a.dictionaries) b.dictionaries)
   pub step : SendStep known grows failures room memory a r b (messages_bytes (dictionaries ++ own ∷ [])) (length (messages_bytes (dictionaries ++ own ∷ [])))
 
--- A call that sends a schema's message: metadata without a body, which begin a stream with this head where anything was sent.
+-- A call that sends a schema's message: metadata without a body, which begin a stream with this head where anything was sent, and are laid out
+-- as messages are written.
 pub record SendsSchema {W : Type 0} (known grows : Bool) (failures room : W → ℕ) (memory : W → Memory) (a : WriterSeen W) (r : Result Unit Fault) (b : WriterSeen W) (head : Head) : Type 0 where
   pub metadata : List ℕ
   pub is : OnSent r (head_of metadata ≡ Some head)
+  pub written : OnSent r (IsWritten metadata)
   pub step : SendStep known grows failures room memory a r b (message_bytes metadata []) (message_len metadata [])
 
 -- columns, which are arrays, have the types that a writer takes

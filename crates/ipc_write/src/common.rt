@@ -1,31 +1,9 @@
-//! What is written of a chunk: its messages (Arrow columnar format, "Dictionary Messages").
-ghost use Rattle.std.specs.Prelude.{◌≡◌, map, IfErr, IfOk, MatchResult, OnOk};
-ghost use Rattle.lower_arrays.specs.AnyLayouts.{layout_of};
-ghost use Rattle.lower_arrays.specs.Layouts.{layouts, len_of};
-ghost use Rattle.ipc_base.specs.Chunks.{row_count};
-ghost use Rattle.ipc_base.specs.IdTrees.{all_ids_view};
-ghost use Rattle.ipc_chunks.specs.Chunks.{RefusesAllValues, RefusesValues};
-ghost use Rattle.ipc_encode.specs.Appending.{order_of as order_where};
-ghost use Rattle.ipc_encode.specs.Encoding.{IsEncodable, levels_of};
-ghost use Rattle.ipc_encode.specs.declared.batches.BatchKind.TheVariants.{Record};
-ghost use Rattle.ipc_model.specs.Offers.{values_of};
-ghost use Rattle.ipc_tracker.specs.Listings.{ListsAll, listed};
-ghost use Rattle.ipc_tracker.specs.Trackers.{remembered};
-ghost use Rattle.ipc_write.specs.Lengths.{HaveLengths};
-ghost use Rattle.ipc_write.specs.Messages.{AreAllValues, AreMessages, AreSendable, AreValues, RefusesMessages, RefusesPlaces, dictionaries_seen, message_seen};
+//! What the writers of streams take beside the arrays.
+ghost use Rattle.std.specs.Prelude.{◌≡◌};
 ghost use Rattle.ipc_write.specs.Writers.{order_of};
 
-use crate::lengths::check_lengths;
-use ipc_base::chunk::Chunk;
-use ipc_base::ipc::IpcField;
-use ipc_devices::Fault;
-use ipc_encode::batches::{BatchKind, Encoded, encode_batch};
 pub use ipc_encode::common::{EncodedData, WriteOptions};
-use ipc_tracker::{DictionaryTracker, NewDictionary, list_dictionaries};
 use lower::types::Endianness;
-use lower_arrays::array::AnyArray;
-use std::alloc::Global;
-use std::slice;
 
 // The order of the bytes of numbers.
 pub(crate) fn byte_order(options: WriteOptions) -> Endianness
@@ -36,102 +14,4 @@ pub(crate) fn byte_order(options: WriteOptions) -> Endianness
     } else {
         Endianness::Little
     }
-}
-
-/// The messages that are written of a chunk, in their order. Their bodies are in pieces that borrow the chunk.
-#[derive(Drop)]
-pub struct Messages<'a> {
-    /// Those of the dictionaries that are to be written.
-    pub dictionaries: Vec<Encoded<'a>>,
-    /// That of the columns, which comes last.
-    pub record_batch: Encoded<'a>,
-}
-
-/// Lists the dictionaries of a chunk's columns that are to be written, as [`list_dictionaries`] does, and judges the lengths of all, of
-/// those too that were written before.
-///
-/// Faults: those of [`list_dictionaries`]; `Argument(TooLong)` where an array in some values has more than `2^63 - 1` slots that would
-/// be written; `Argument(TooLarge)` where the body of some values would have more than `2^63 - 1` bytes; `Memory`. Where several are so,
-/// any of these may come.
-pub fn list_messages(
-    alloc: Global,
-    tracker: &DictionaryTracker,
-    columns: &[AnyArray],
-    ids: &[IpcField],
-) -> Result<Vec<NewDictionary>, Fault>
-    ensures lists { IfOk result (λ list. ListsAll (remembered tracker.now) tracker.now.cannot_replace (map layout_of columns.now) (all_ids_view ids.now) (map listed list.items)) }
-    ensures lengths { OnOk result (HaveLengths (values_of (layouts (map layout_of columns.now)) (all_ids_view ids.now))) }
-    ensures refused { IfErr result (RefusesPlaces (remembered tracker.now) tracker.now.cannot_replace (map layout_of columns.now) (all_ids_view ids.now)) }
-{
-    let list = list_dictionaries(alloc, tracker, columns, ids)?;
-    check_lengths(alloc, columns)?;
-    Ok(list)
-}
-
-// Encodes the values of a dictionary.
-fn encode_dictionary<'a>(
-    alloc: Global,
-    dictionary: &'a NewDictionary,
-    is_little_endian: bool,
-) -> Result<Encoded<'a>, Fault>
-    ensures encodes { IfOk result (λ encoded. AreValues (order_where is_little_endian) (listed dictionary.now) (message_seen encoded)) }
-    ensures refused { IfErr result (RefusesValues (listed dictionary.now)) }
-{
-    let values = &*dictionary.values;
-    let encoded = encode_batch(
-        alloc,
-        BatchKind::Dictionary(dictionary.id),
-        slice::from_ref(values),
-        values.len(),
-        is_little_endian,
-    )?;
-    Ok(encoded)
-}
-
-// Encodes the values of each dictionary, in order.
-fn encode_dictionaries<'a>(
-    alloc: Global,
-    dictionaries: &'a [NewDictionary],
-    is_little_endian: bool,
-) -> Result<Vec<Encoded<'a>>, Fault>
-    ensures encodes { IfOk result (λ encoded. AreAllValues (order_where is_little_endian) (map listed dictionaries.now) (map message_seen encoded.items)) }
-    ensures refused { IfErr result (RefusesAllValues (map listed dictionaries.now)) }
-{
-    let mut encoded = Vec::new(alloc);
-    for dictionary in dictionaries {
-        encoded.push(encode_dictionary(alloc, dictionary, is_little_endian)?)?;
-    }
-    Ok(encoded)
-}
-
-/// Encodes the messages that are written of a chunk: those of the dictionaries that [`list_messages`] lists, and that of the columns.
-/// Bodies have their numbers in this byte order. No byte of a column is moved.
-///
-/// Faults: `Argument(TooLong)` where an array has more than `2^63 - 1` slots that would be written; `Argument(TooLarge)` where a body
-/// would have more than `2^63 - 1` bytes, or metadata more than `2^31 - 1`; `Memory`. Where several are so, any of these may come.
-pub fn encode_messages<'a>(
-    alloc: Global,
-    columns: &'a Chunk<AnyArray>,
-    dictionaries: &'a [NewDictionary],
-    is_little_endian: bool,
-) -> Result<Messages<'a>, Fault>
-    ensures encodes { IfOk result (λ messages. AreMessages (order_where is_little_endian) (map layout_of columns.now) (map listed dictionaries.now)
-        (dictionaries_seen messages) (message_seen messages.record_batch)) }
-    ensures sendable { IfOk result AreSendable }
-    ensures takes { MatchResult result (λ _. IsEncodable Record (row_count len_of (map layout_of columns.now)) (levels_of (map layout_of columns.now)))
-        (RefusesMessages (map listed dictionaries.now) (map layout_of columns.now)) }
-{
-    let rows = columns.len();
-    let dictionaries = encode_dictionaries(alloc, dictionaries, is_little_endian)?;
-    let record_batch = encode_batch(
-        alloc,
-        BatchKind::Record,
-        columns.arrays(),
-        rows,
-        is_little_endian,
-    )?;
-    Ok(Messages {
-        dictionaries,
-        record_batch,
-    })
 }

@@ -3,10 +3,12 @@ ghost use Rattle.std.specs.Prelude.{◌≡◌, ◌+◌, ◌-◌, ◌^◌, ◌<�
 ghost use Rattle.std.specs.Int.{next_multiple_of};
 ghost use Rattle.ipc_plan.specs.Sending.{Sends, seen_by};
 ghost use Rattle.ipc_write.specs.Framing.{head_bytes, head_len, message_bytes, padded, prefix_bytes};
-ghost use Rattle.ipc_write.specs.Messages.{AreSendable, IsSendable, all_seen, message_seen, messages_bytes};
+ghost use Rattle.ipc_write.specs.Messages.{all_seen, messages_bytes};
+ghost use Rattle.ipc_chunks.specs.Messages.{AreSendable, IsSendable, message_seen};
 ghost use Rattle.ipc_write.specs.Sending.{SendsOrRefuses};
 
-use crate::common::{EncodedData, Messages};
+use crate::common::EncodedData;
+use ipc_chunks::messages::Messages;
 use ipc_devices::{ArgFault, Fault, Writes};
 use ipc_encode::batches::Encoded;
 use ipc_plan::sending::{send_bytes, send_pieces, zeros};

@@ -4,5 +4,4 @@
 pub mod calls;
 pub mod common;
 pub mod common_sync;
-pub mod lengths;
 pub mod stream;

@@ -22,10 +22,11 @@ ghost use Rattle.ipc_write.specs.Writers.{HasType, HaveTypes, LeavesState, MayLi
 
 mod writer;
 
-use crate::common::{WriteOptions, byte_order, encode_messages, list_messages};
+use crate::common::{WriteOptions, byte_order};
 use crate::common_sync::{write_continuation, write_head, write_messages};
 use ipc_base::chunk::Chunk;
 use ipc_base::ipc::IpcField;
+use ipc_chunks::messages::{encode_messages, list_messages};
 use ipc_devices::{ArgFault, Fault, StateFault, Writes};
 use ipc_schema_write::defaults::writable_ipc_fields;
 use ipc_schema_write::dictionaries::are_same_ids;

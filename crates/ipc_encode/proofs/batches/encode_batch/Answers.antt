@@ -25,7 +25,7 @@ returns-clause-encodes c =
     let made = c.plan_to_message-message in
     let plans : PlansColumns order ls p = subst (λ (o : Endianness). PlansColumns o ls p) c.byte_order.ensures c.in_ok-plan.ensures.plans in
     let takes = c.in_ok-plan.ensures.takes in
-    encoded c.args.kind order ls c.args.rows p made.new.plan made.result _ c.in_ok-metadata.metadata.items c.in_ok-plan.ensures.arrays plans takes.0 takes.2 made.ensures.value made.ensures.fits
+    encoded c.args.kind order ls c.args.rows p made.new.plan made.result _ c.in_ok-metadata.metadata.items c.in_ok-plan.ensures.arrays plans takes.0 takes.1 takes.2 made.ensures.value made.ensures.fits
     (search rules) (search rules) c.in_ok-metadata.ensures.encodes (c.in_ok-metadata.ensures.reads 0) made.ensures.pieces
 
 pub returns-clause-takes : goal.returns-clause-takes

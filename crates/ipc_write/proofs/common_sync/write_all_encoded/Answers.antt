@@ -3,7 +3,8 @@ use Rattle.std.proofs.lemmas.List.{drop_more}
 use Rattle.ipc_encode.specs.declared.batches.Encoded.{Encoded}
 use Rattle.ipc_plan.proofs.Sends.{before_more, before_stop}
 use Rattle.ipc_write.specs.Framing.{message_bytes}
-use Rattle.ipc_write.specs.Messages.{message_seen, messages_bytes}
+use Rattle.ipc_write.specs.Messages.{messages_bytes}
+use Rattle.ipc_chunks.specs.Messages.{message_seen}
 use Rattle.ipc_write.proofs.common_sync.write_all_encoded.Goals as goal
 
 pub loop-message-preserved : goal.loop-message-preserved

@@ -1,7 +1,8 @@
 use Rattle.std.proofs.Common.{drop, map}
 use Rattle.ipc_plan.proofs.Sends.{SentBefore}
 use Rattle.ipc_plan.specs.Sending.{seen_by}
-use Rattle.ipc_write.specs.Messages.{message_seen, messages_bytes}
+use Rattle.ipc_write.specs.Messages.{messages_bytes}
+use Rattle.ipc_chunks.specs.Messages.{message_seen}
 use Rattle.ipc_write.proofs.common_sync.write_all_encoded.Given as goal
 
 -- What was sent, and the messages that are left, are all messages.

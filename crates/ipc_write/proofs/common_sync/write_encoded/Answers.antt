@@ -1,5 +1,5 @@
 use Rattle.std.proofs.Common.{rules, ◌≡◌, Err, ℕ}
-use Rattle.ipc_write.specs.Messages.{message_seen}
+use Rattle.ipc_chunks.specs.Messages.{message_seen}
 use Rattle.ipc_write.proofs.MessageSends.{body_after, head_unsent}
 use Rattle.ipc_write.proofs.Sends.{failed_as, sent_as}
 use Rattle.ipc_write.proofs.common_sync.write_encoded.Goals as goal

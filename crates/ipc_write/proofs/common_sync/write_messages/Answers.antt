@@ -1,5 +1,5 @@
 use Rattle.std.proofs.Common.{rules, ◌≡◌, Err, ℕ}
-use Rattle.ipc_write.specs.Messages.{dictionaries_seen, message_seen}
+use Rattle.ipc_chunks.specs.Messages.{dictionaries_seen, message_seen}
 use Rattle.ipc_write.proofs.MessageSends.{all_unsent, last_after}
 use Rattle.ipc_write.proofs.Sends.{failed_as, sent_as}
 use Rattle.ipc_write.proofs.common_sync.write_messages.Goals as goal

@@ -19,8 +19,8 @@ loop-i-preserved c =
     let both : length xs ≡ length ts = search rules in
     let has : HasType x (normal_view t) = search rules in
     record {
-      left = λ rest. before.left (types_more xs ts i x t c.loop-i-test.true both c.index-columns-i.is c.index-types-i.is has rest);
-      all = λ h. types_rest xs ts i x t c.loop-i-test.true both c.index-columns-i.is c.index-types-i.is (before.all h);
+      left = λ rest. before.left (types_more normal_view xs ts i x t c.loop-i-test.true both c.index-columns-i.is c.index-types-i.is has rest);
+      all = λ h. types_rest normal_view xs ts i x t c.loop-i-test.true both c.index-columns-i.is c.index-types-i.is (before.all h);
       arrays = All-more (λ array. IsArray (layout_of array)) xs i x c.loop-i-test.true before.arrays (rw c.index-columns-i.is at c.has_type.ensures.array);
     }
 

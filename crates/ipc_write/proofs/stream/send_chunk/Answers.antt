@@ -2,7 +2,7 @@ use Rattle.std.proofs.Common.{rules, ◌≡◌, ◌∙◌, Err, map, subst}
 use Rattle.lower_types.specs.declared.Endianness.{Endianness}
 use Rattle.lower_arrays.specs.AnyLayouts.{layout_of}
 use Rattle.ipc_tracker.specs.Listings.{listed}
-use Rattle.ipc_write.specs.Messages.{AreMessages, dictionaries_seen, message_seen}
+use Rattle.ipc_chunks.specs.Messages.{AreMessages, dictionaries_seen, message_seen}
 use Rattle.ipc_write.proofs.MessageSends.{handing_refused, handing_sent, hands_refused, hands_sent, leaves_refused, leaves_sent, same_order}
 use Rattle.ipc_write.proofs.Refusals.{of_messages}
 use Rattle.ipc_write.proofs.stream.send_chunk.Goals as goal

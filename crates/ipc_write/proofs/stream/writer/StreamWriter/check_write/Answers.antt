@@ -1,7 +1,7 @@
 use Rattle.std.proofs.Common.{rules, ◌≡◌, Err, Bool, map, subst}
 use Rattle.lower_arrays.specs.AnyLayouts.{layout_of}
 use Rattle.ipc_tracker.specs.Listings.{ListsAll, listed}
-use Rattle.ipc_write.specs.Messages.{RefusesPlaces}
+use Rattle.ipc_chunks.specs.Messages.{RefusesPlaces}
 use Rattle.ipc_write.specs.Writers.{FitTypes, fault_unless_started, seen, seen_ids}
 use Rattle.ipc_write.proofs.Acceptance.{are_arrays}
 use Rattle.ipc_write.proofs.Refusals.{refuses_ids, refuses_places, refuses_state, refuses_types, state_answered}

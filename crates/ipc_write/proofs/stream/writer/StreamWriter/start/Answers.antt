@@ -73,6 +73,7 @@ returns-clause-step g c =
     record {
       metadata = metadata;
       is = headed;
+      written = c.in_ok-metadata.ensures.5;
       step = ok_step {X = Unit {0}} _ _ _ _ _ _ _ tt _ (message_bytes metadata []) (message_len metadata []) (rw c.deref-4.ensures.value at c.in_ok-send_schema.ensures.sends) refl;
     }
 
@@ -102,6 +103,7 @@ returns-in_err-send_schema-clause-step g c =
     rw e (record {
       metadata = metadata;
       is = on_sent (Err fault) _ headed;
+      written = on_sent (Err fault) _ c.in_ok-metadata.ensures.5;
       step = unsent_step (Unit {0}) g.W.Failures.known g.W.Writes.grows g.W.Failures.failures g.W.Writes.room g.W.Failures.memory (seen c.args.self.now) _ fault (message_bytes metadata []) (message_len metadata [])
           (2 ^ 31 ≤ next_multiple_of (length metadata) 8) (omega (arith, length_message metadata [])) (rw c.deref-4.ensures.value at sent.sends) sent.state refl refl refl (λ id. refl);
     })

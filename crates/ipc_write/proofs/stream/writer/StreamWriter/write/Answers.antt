@@ -3,7 +3,7 @@ use Rattle.lower_arrays.specs.AnyLayouts.{layout_of}
 use Rattle.lower_arrays.specs.Layouts.{len_of}
 use Rattle.lower_arrays.specs.declared.array.AnyArray.{AnyArray}
 use Rattle.ipc_base.specs.Chunks.{row_count}
-use Rattle.ipc_chunks.proofs.Messages.{remembered_with_room}
+use Rattle.ipc_chunks.proofs.SameMessages.{remembered_with_room}
 use Rattle.ipc_tracker.specs.Listings.{listed}
 use Rattle.ipc_tracker.specs.Trackers.{remembered}
 use Rattle.ipc_write.specs.Writers.{MayList, RefusesChunk, fault_unless_started, seen, seen_ids}

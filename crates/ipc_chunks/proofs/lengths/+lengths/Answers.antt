@@ -1,9 +1,9 @@
 use Rattle.std.proofs.Common.{arith, rules, ◌≡◌, Err}
 use Rattle.lower_arrays.specs.AnyLayouts.{layout_of}
 use Rattle.lower_arrays.proofs.Children.{height_at}
-use Rattle.ipc_write.specs.Lengths.{dictionaries_below, own_dictionaries}
-use Rattle.ipc_write.proofs.DictionaryLengths.{below_refused, lengths_more, lengths_then, none_left, refused_here, refused_later}
-use Rattle.ipc_write.proofs.lengths.+lengths.Goals as goal
+use Rattle.ipc_chunks.specs.Lengths.{dictionaries_below, own_dictionaries}
+use Rattle.ipc_chunks.proofs.DictionaryLengths.{below_refused, lengths_more, lengths_then, none_left, refused_here, refused_later}
+use Rattle.ipc_chunks.proofs.lengths.+lengths.Goals as goal
 
 pub check_lengths-check_column-requires : goal.check_lengths-check_column-requires
 check_lengths-check_column-requires t c =

@@ -6,8 +6,8 @@ use Rattle.ipc_chunks.proofs.Rows.{have_rows, rows_same}
 use Rattle.ipc_encode.specs.Appending.{order_of}
 use Rattle.ipc_encode.specs.Encoding.{IsEncodable, RefusesBatch, levels_of}
 use Rattle.ipc_encode.specs.declared.batches.BatchKind.TheVariants.{Record}
-use Rattle.ipc_write.proofs.MessageLists.{all_sendable, seen_encoded, sendable}
-use Rattle.ipc_write.proofs.common.encode_messages.Goals as goal
+use Rattle.ipc_chunks.proofs.MessageLists.{all_sendable, seen_encoded, sendable, whole_encoded}
+use Rattle.ipc_chunks.proofs.messages.encode_messages.Goals as goal
 
 pub returns-clause-encodes : goal.returns-clause-encodes
 returns-clause-encodes c =
@@ -27,6 +27,12 @@ returns-clause-sendable c =
       dictionaries = all_sendable (order_of c.args.is_little_endian) _ c.in_ok-dictionaries.dictionaries.items made.values;
       record_batch = sendable Record (order_of c.args.is_little_endian) _ _ c.in_ok-record_batch.record_batch made.record_is;
     }
+
+pub returns-clause-whole : goal.returns-clause-whole
+returns-clause-whole c = record {
+  dictionaries = c.in_ok-dictionaries.ensures.whole;
+  record_batch = whole_encoded (order_of c.args.is_little_endian) c.in_ok-record_batch.record_batch c.in_ok-record_batch.ensures.end c.in_ok-record_batch.ensures.order;
+}
 
 pub returns-clause-takes : goal.returns-clause-takes
 returns-clause-takes c =

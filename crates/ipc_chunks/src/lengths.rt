@@ -2,7 +2,7 @@
 ghost use Rattle.std.specs.Prelude.{◌≡◌, ◌≤◌, ◌++◌, map, MatchResult};
 ghost use Rattle.lower_arrays.specs.AnyLayouts.{layout_of};
 ghost use Rattle.lower_arrays.specs.Layouts.{height, heights, layouts};
-ghost use Rattle.ipc_write.specs.Lengths.{AnswersLengths, HasLengths, RefusesLengths, dictionaries_below, dictionaries_in, own_dictionaries};
+ghost use Rattle.ipc_chunks.specs.Lengths.{AnswersLengths, HasLengths, RefusesLengths, dictionaries_below, dictionaries_in, own_dictionaries};
 
 use ipc_devices::Fault;
 use ipc_plan::serialize::plan_columns;

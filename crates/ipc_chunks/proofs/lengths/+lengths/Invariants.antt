@@ -3,9 +3,9 @@ use Rattle.std.specs.List.{AllByRecursion}
 use Rattle.lower_arrays.specs.AnyLayouts.{layout_of}
 use Rattle.lower_arrays.specs.Layouts.{height, heights, layouts}
 use Rattle.ipc_devices.specs.declared.fault.Fault.{Fault}
-use Rattle.ipc_write.proofs.DictionaryLengths.{left_from}
-use Rattle.ipc_write.specs.Lengths.{HasLengths, RefusesAnyLengths, dictionaries_in}
-use Rattle.ipc_write.proofs.lengths.+lengths.Given as goal
+use Rattle.ipc_chunks.proofs.DictionaryLengths.{left_from}
+use Rattle.ipc_chunks.specs.Lengths.{HasLengths, RefusesAnyLengths, dictionaries_in}
+use Rattle.ipc_chunks.proofs.lengths.+lengths.Given as goal
 
 abbrev pub decreases-check_lengths : goal.decreases-check_lengths
 decreases-check_lengths l = 2 * heights (layouts (map layout_of l.columns.now))

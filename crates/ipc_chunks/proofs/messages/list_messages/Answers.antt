@@ -3,8 +3,8 @@ use Rattle.lower_arrays.specs.AnyLayouts.{layout_of}
 use Rattle.lower_arrays.specs.Layouts.{layouts}
 use Rattle.ipc_base.specs.IdTrees.{all_ids_view}
 use Rattle.ipc_tracker.specs.Trackers.{remembered}
-use Rattle.ipc_write.proofs.DictionaryLengths.{all_have, lengths_refused}
-use Rattle.ipc_write.proofs.common.list_messages.Goals as goal
+use Rattle.ipc_chunks.proofs.DictionaryLengths.{all_have, lengths_refused}
+use Rattle.ipc_chunks.proofs.messages.list_messages.Goals as goal
 
 pub returns-clause-lengths : goal.returns-clause-lengths
 returns-clause-lengths c = all_have (layouts (map layout_of c.args.columns.now)) (all_ids_view c.args.ids.now) c.in_ok-check_lengths.ensures

@@ -6,7 +6,6 @@ use Rattle.lower_arrays.specs.AnyLayouts.{layout_of}
 use Rattle.lower_arrays.specs.Layouts.{Layout, layout, Layouts, no_layouts, more_layouts, layouts}
 use Rattle.lower_arrays.specs.declared.array.AnyArray.{AnyArray}
 use Rattle.ipc_base.specs.IdTrees.{IdTrees}
-use Rattle.ipc_chunks.specs.Chunks.{RefusesSome, RefusesValues}
 use Rattle.ipc_devices.specs.declared.fault.ArgFault.TheVariants.{TooLarge, TooLong}
 use Rattle.ipc_devices.specs.declared.fault.Fault.{Fault}
 use Rattle.ipc_devices.specs.declared.fault.Fault.TheVariants.{Argument, Memory}
@@ -16,8 +15,8 @@ use Rattle.ipc_tracker.proofs.PlaceLists.{all_behind, all_both, all_front}
 use Rattle.ipc_tracker.specs.Listings.{ListsAll}
 use Rattle.ipc_tracker.specs.Places.{HaveIds, Keyed, keyed_below, keyed_inside, keyed_of, own_keyed}
 use Rattle.ipc_tracker.specs.Trackers.{Remembered}
-use Rattle.ipc_write.specs.Lengths.{AnswersLengths, HasLengths, HaveLengths, RefusesAnyLengths, RefusesLengths, dictionaries_below, dictionaries_in, dictionaries_inside, own_dictionaries}
-use Rattle.ipc_write.specs.Messages.{RefusesPlaces}
+use Rattle.ipc_chunks.specs.Lengths.{AnswersLengths, HasLengths, HaveLengths, RefusesAnyLengths, RefusesLengths, dictionaries_below, dictionaries_in, dictionaries_inside, own_dictionaries}
+use Rattle.ipc_chunks.specs.Messages.{RefusesPlaces, RefusesSome, RefusesValues}
 
 -- ---- one after another
 

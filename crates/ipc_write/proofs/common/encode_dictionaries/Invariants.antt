@@ -1,8 +1,0 @@
-use Rattle.std.proofs.Common.{map, take}
-use Rattle.ipc_encode.specs.Appending.{order_of}
-use Rattle.ipc_tracker.specs.Listings.{listed}
-use Rattle.ipc_write.specs.Messages.{AreAllValues, message_seen}
-use Rattle.ipc_write.proofs.common.encode_dictionaries.Given as goal
-
-abbrev pub invariant-loop-dictionary : goal.invariant-loop-dictionary
-invariant-loop-dictionary l = AreAllValues (order_of l.is_little_endian) (map listed (take l.dictionary-index l.dictionaries)) (map message_seen l.encoded.items)
