@@ -1,3 +1,4 @@
+pub mod AskedOrder
 pub mod Items
 pub mod Moves
 pub mod Prepared

@@ -51,6 +51,22 @@ each_of n (x ∷ xs) h = at (each_of n xs h.1)
 pub eqb_flips : (x y : ℕ) → (x == y) ≡ (y == x)
 eqb_flips x y = grind arith
 
+not_twice : (xs : List ℕ) → IsDistinct (λ i j. i == j) xs → (i j c : ℕ) → i < j → slice_get xs i ≡ Some c → slice_get xs j ≡ Some c → ⊥
+not_twice xs distinct i j c l e f =
+    let inside : j < length xs = slice_get_within xs j c f in
+    eqb-false (get_or xs i 0) (get_or xs j 0) (apart_from_distinct (λ i j. i == j) xs i j 0 distinct l inside)
+    (get_or_from_slice_get xs i c 0 e ∙ sym (get_or_from_slice_get xs j c 0 f))
+
+-- what stands once has one place
+pub same_place : (xs : List ℕ) → IsDistinct (λ i j. i == j) xs → (i j c : ℕ) → slice_get xs i ≡ Some c → slice_get xs j ≡ Some c → i ≡ j
+same_place xs distinct i j c e f = elim (cases_lt i j) [
+  | inl l ↦ absurd (not_twice xs distinct i j c l e f)
+  | inr g ↦ elim (cases_lt j i) [
+    | inl l ↦ absurd (not_twice xs distinct j i c l f e)
+    | inr k ↦ omega (arith, g, k)
+  ]
+]
+
 module _ {S : Type 0} (asked : List ℕ) (n : ℕ) (ps : List Pair) (sorted : List ℕ) (m : HashMap ℕ ℕ S) (is : IsProjection (Some asked) n)
     (same : IsPermutation (enumerate_from 0 asked) ps) (up : IsNonDecreasingBy column ps) (columns : sorted ≡ map column ps)
     (places : (i : ℕ) → get nat_eq m i ≡ option_map place (slice_get ps i)) where
@@ -97,21 +113,6 @@ module _ {S : Type 0} (asked : List ℕ) (n : ℕ) (ps : List Pair) (sorted : Li
   goes : (i : ℕ) (q : Pair) → slice_get ps i ≡ Some q → get nat_eq m i ≡ Some q.0
   goes i q e = places i ∙ ap (option_map place) e
 
-  not_twice : (i j c : ℕ) → i < j → slice_get sorted i ≡ Some c → slice_get sorted j ≡ Some c → ⊥
-  not_twice i j c l e f =
-      let inside : j < length sorted = slice_get_within sorted j c f in
-      eqb-false (get_or sorted i 0) (get_or sorted j 0) (apart_from_distinct (λ i j. i == j) sorted i j 0 distinct l inside)
-      (get_or_from_slice_get sorted i c 0 e ∙ sym (get_or_from_slice_get sorted j c 0 f))
-
-  once_at : (i j c : ℕ) → slice_get sorted i ≡ Some c → slice_get sorted j ≡ Some c → i ≡ j
-  once_at i j c e f = elim (cases_lt i j) [
-    | inl l ↦ absurd (not_twice i j c l e f)
-    | inr g ↦ elim (cases_lt j i) [
-      | inl l ↦ absurd (not_twice j i c l f e)
-      | inr k ↦ omega (arith, g, k)
-    ]
-  ]
-
   reordering : IsReordering m (length asked)
   reordering = record {
     keys = λ i. (key_below i, below_key i);
@@ -120,7 +121,7 @@ module _ {S : Type 0} (asked : List ℕ) (n : ℕ) (ps : List Pair) (sorted : Li
         let q = pair_at i p e in
         let r = pair_at j p f in
         let one : r.0 ≡ q.0 = some_same (sym (asked_at j p r.0 r.1) ∙ asked_at i p q.0 q.1) in
-        once_at i j q.0 (column_at i p q.0 q.1) (column_at j p r.0 r.1 ∙ ap Some one);
+        same_place sorted distinct i j q.0 (column_at i p q.0 q.1) (column_at j p r.0 r.1 ∙ ap Some one);
   }
     where
       key_below : (i : ℕ) → IsSome (get nat_eq m i) → i < length asked

@@ -7,19 +7,18 @@ use Rattle.std.proofs.lemmas.List.{length-map}
 use Rattle.std.proofs.lemmas.List.Sorted.{All-permutation, IsPermutation-sym}
 use Rattle.std.proofs.lemmas.Option.{slice_get-map}
 use Rattle.std.proofs.lemmas.Map.Keys.{IsDistinct-IsPermutation}
-use Rattle.ipc_model.proofs.Pruned.{batch_some, projected_is, projection_decides, read_first}
+use Rattle.ipc_model.proofs.Pruned.{batch_projection, batch_some, projected_is, projection_decides, read_first}
 use Rattle.ipc_model.specs.Kinds.{Kinds, count}
 use Rattle.ipc_model.specs.Entries.{Entries, Limit}
 use Rattle.ipc_model.specs.Columns.{WithRows}
-use Rattle.ipc_model.specs.Batches.{kinds, IsWellAt, rows_at, slots_of_column, type_at, IsProjection, first_rows, AllRead, IsBatch, Column, Chunk}
-use Rattle.ipc_projections.proofs.Prepared.{prepared_projection}
+use Rattle.ipc_model.specs.Batches.{Schema, kinds, IsWellAt, rows_at, slots_of_column, type_at, IsProjection, first_rows, AllRead, IsBatch, Column, Chunk, chunk_of, batch}
 use Rattle.ipc_projections.proofs.Preparing.{all_of, each_of, eqb_flips}
 use Rattle.ipc_projections.proofs.Reorderings.{some_same}
 use Rattle.ipc_projections.specs.Projections.{IsReordering, Moved}
 use Rattle.ipc_projections.specs.Preparing.{ReorderLaw}
 
 -- what stands at the places of two lists tells them apart
-same_places : {X : Type 0} (xs ys : List X) → length xs ≡ length ys → ((p : ℕ) → p < length ys → slice_get xs p ≡ slice_get ys p) → xs ≡ ys
+pub same_places : {X : Type 0} (xs ys : List X) → length xs ≡ length ys → ((p : ℕ) → p < length ys → slice_get xs p ≡ slice_get ys p) → xs ≡ ys
 same_places [] [] long same = refl
 same_places [] (y ∷ ys) long same = absurd (omega (arith, long))
 same_places (x ∷ xs) [] long same = absurd (omega (arith, long))
@@ -60,30 +59,35 @@ module _ (s : Entries) (ts : Kinds) (limit : Limit) (k : ℕ) where
   all_read [] h = tt
   all_read (j ∷ js) h = (h 0 0 (omega arith), all_read js (λ i d l. h (suc i) d (omega (arith, l))))
 
-pub reorder_law : {S : Type 0} (places : HashMap ℕ ℕ S) → ReorderLaw places
-reorder_law places asked sorted s most schema limit read given h e moved =
+-- columns that are the same but for their order have each the same meaning
+pub shuffled_batch : (s : Entries) (most : ℕ) (schema : Schema) (limit : Limit) (xs ys : List ℕ) (c : Chunk) → IsPermutation xs ys
+    → batch s most schema (Some xs) limit ≡ Some c
+    → (chunk_of s schema.fields (kinds schema) xs limit ≡ c) × (batch s most schema (Some ys) limit ≡ Some (chunk_of s schema.fields (kinds schema) ys limit))
+shuffled_batch s most schema limit xs ys c shuffled e =
     let ts = kinds schema in
     let n = count ts in
-    let back : IsPermutation sorted asked = IsPermutation-sym asked sorted h.same in
-    let projected = prepared_projection sorted n h.rising in
-    let is : IsProjection (Some asked) n = (
-      all_of n asked (All-permutation (λ j. j < n) sorted asked back (each_of n sorted projected.0)),
-      IsDistinct-IsPermutation (λ i j. i == j) eqb_flips sorted asked back projected.1,
+    let found = batch_some s most schema (Some xs) limit c e in
+    let projected = (projection_decides (Some xs) n).0 (batch_projection s most schema (Some xs) limit c e) in
+    let is : IsProjection (Some ys) n = (
+      all_of n ys (All-permutation (λ j. j < n) xs ys shuffled (each_of n xs projected.0)),
+      IsDistinct-IsPermutation (λ i j. i == j) eqb_flips xs ys shuffled projected.1,
     ) in
-    let found = batch_some s most schema (Some sorted) limit read e in
-    let k = first_rows s ts limit sorted in
-    let each : All (IsReadAt s ts limit k) asked =
-    All-permutation (IsReadAt s ts limit k) sorted asked back (each_read s ts limit k sorted found.0.columns) in
-    let whole : IsBatch s most ts asked limit = record {
+    let k = first_rows s ts limit xs in
+    let each : All (IsReadAt s ts limit k) ys = All-permutation (IsReadAt s ts limit k) xs ys shuffled (each_read s ts limit k xs found.0.columns) in
+    let whole : IsBatch s most ts ys limit = record {
       bounded = found.0.bounded;
       nodes_listed = found.0.nodes_listed;
       buffers_listed = found.0.buffers_listed;
-      columns = read_first s ts limit k asked (all_read s ts limit k asked each);
+      columns = read_first s ts limit k ys (all_read s ts limit k ys each);
     } in
-    let column : ℕ → Column = λ j. record { type = type_at schema.fields j; slots = slots_of_column s ts limit j } in
-    let long : length asked ≡ length read = h.moved.count ∙ sym (length-map sorted column) ∙ ap length found.1 in
+    (found.1, projected_is s most schema (Some ys) limit whole ((projection_decides (Some ys) n).1 is))
+
+pub reorder_law : {S : Type 0} (places : HashMap ℕ ℕ S) → ReorderLaw places
+reorder_law places asked sorted s most schema limit read given h e moved =
+    let found = shuffled_batch s most schema limit sorted asked read (IsPermutation-sym asked sorted h.same) e in
+    let column : ℕ → Column = λ j. record { type = type_at schema.fields j; slots = slots_of_column s (kinds schema) limit j } in
+    let long : length asked ≡ length read = h.moved.count ∙ sym (length-map sorted column) ∙ ap length found.0 in
     let there : Moved places read (map column asked) =
-    subst (λ (c : Chunk). Moved places c (map column asked)) found.1 (moved_images places column sorted asked h.moved) in
+    subst (λ (c : Chunk). Moved places c (map column asked)) found.0 (moved_images places column sorted asked h.moved) in
     let reordering : IsReordering places (length read) = subst (λ (m : ℕ). IsReordering places m) long h.reordering in
-    projected_is s most schema (Some asked) limit whole ((projection_decides (Some asked) n).1 is)
-    ∙ ap Some (moved_once places read (map column asked) given reordering there moved)
+    found.1 ∙ ap Some (moved_once places read (map column asked) given reordering there moved)

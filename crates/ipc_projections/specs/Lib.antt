@@ -1,3 +1,4 @@
+pub mod AskedOrder
 pub mod Marks
 pub mod Placing
 pub mod Preparing

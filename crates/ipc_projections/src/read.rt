@@ -1,3 +1,4 @@
 //! Reading.
+pub mod asked;
 pub mod prepare;
 pub mod projection;

@@ -179,6 +179,7 @@ pub fn read_columns<R: Reads + Seeks>(
     requires room { let ts = kinds_of (fields_view fields.now) (all_ids_view ids.now) in
         HasRoom body.now (record { node = 0; buffer = 0 }) (all_nodes ts) (all_buffers body.now.extra ts) }
     requires stands { Stands R.still R.memory reader.old body.now }
+    ensures many { IfOk result (λ v. length v.items ≡ length (chosen (option_copied projection.entry) (length fields.now))) }
     ensures only { let js = chosen (option_copied projection.entry) (length fields.now) in
         IfErr result (λ e. OwnFault e (IsFaultOfSome (kinds_of (fields_view fields.now) (all_ids_view ids.now)) js e)) }
     ensures step { let js = chosen (option_copied projection.entry) (length fields.now) in
@@ -247,6 +248,7 @@ pub fn read_record_batch<R: Reads + Seeks>(
     _scratch: &mut Vec<u8>,
 ) -> Result<Chunk<AnyArray>, Fault>
     requires prepared { ArePrepared (option_copied projection) (length fields.now) }
+    ensures many { IfOk result (λ xs. length xs ≡ length (chosen (option_copied projection.entry) (length fields.now))) }
     ensures only { let js = chosen (option_copied projection.entry) (length fields.now) in
         IfErr result (λ e. OwnFault e (IsFaultOfBatch (kinds (batch_schema fields.now ipc_schema.now)) js e)) }
     ensures monotone { R.failures reader.old ≤ R.failures reader.new }

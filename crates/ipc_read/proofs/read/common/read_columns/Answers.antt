@@ -41,6 +41,7 @@ loop-index-init g c =
       at = first_place c.args.body.now.extra ts (all_ids_view c.args.ids.now);
       rest = subst (λ (m : ℕ). AreLeft p n m 0) (sym empty) (left_start p n c.requires.prepared);
       among = all_among ts js _ left;
+      many = omega (arith, empty, ap length left);
       monotone = omega arith;
       stands = c.requires.stands;
       given = omega (arith, e);
@@ -118,6 +119,7 @@ loop-index-preserved-then-not-is_chosen g c =
           (skipped extra (type_view f.data_type) id ids place c.skip-place.result c.skip-place.ensures.nodes c.skip-place.ensures.buffers);
       rest = left_passed p n m i other c.loop-index.invariant.rest;
       among = among_same ts (chosen p n) _ _ stays c.loop-index.invariant.among;
+      many = omega (arith, ap length stays, c.loop-index.invariant.many);
       monotone = c.loop-index.invariant.monotone;
       stands = c.loop-index.invariant.stands;
       given = omega (arith, e, c.loop-index.invariant.given);
@@ -292,6 +294,7 @@ loop-index-preserved g c =
       at = next_place extra ts is left i place t at listed same (all_ids_view c.others_of-left.result.now) c.in_ok-column.next c.others_of-left.ensures c.in_ok-column.ensures.next;
       rest = subst (λ (k : ℕ). AreLeft p n k (i + 1)) grown (left_chosen p n m i inside here c.loop-index.invariant.rest);
       among = subst (λ (k : ℕ). Among ts (chosen p n) (left_of p n k (i + 1))) grown (among_more ts (chosen p n) _ (left_of p n (m + 1) (i + 1)) i more c.loop-index.invariant.among);
+      many = omega (arith, grown, ap length more, ap (λ (k : ℕ). length (left_of p n k (i + 1))) grown, c.loop-index.invariant.many);
       monotone = omega (arith, c.loop-index.invariant.monotone, c.in_ok-column.ensures.step.monotone);
       stands = c.in_ok-column.ensures.step.stands;
       given = omega (arith, e1, e2, e3, c.loop-index.invariant.given, c.in_ok-column.ensures.step.bounded);
@@ -312,3 +315,10 @@ returns-clause-memory g c = λ k.
     let past : n ≤ c.loop-index.index = search rules in
     so_end (entries g.R.Failures.memory c.args.body.now) (known c.args.body.now) (fields_view fs) (kinds_of (fields_view fs) (all_ids_view c.args.ids.now)) c.args.limit (chosen p n) _ c.loop-index.columns.items
     (left_none p n (length c.loop-index.columns.items) c.loop-index.index past c.loop-index.invariant.rest) (c.loop-index.invariant.content k)
+
+pub returns-clause-many : goal.returns-clause-many
+returns-clause-many g c =
+    let p : Option (List ℕ) = option_copied c.args.projection in
+    let n = length c.args.fields.now in
+    let past : n ≤ c.loop-index.index = search rules in
+    omega (arith, ap length (left_none p n (length c.loop-index.columns.items) c.loop-index.index past c.loop-index.invariant.rest), c.loop-index.invariant.many)

@@ -1,4 +1,4 @@
-use Rattle.std.proofs.Common.{◌+◌, ◌≤◌, length, IsTrue}
+use Rattle.std.proofs.Common.{◌≡◌, ◌+◌, ◌≤◌, length, IsTrue}
 use Rattle.std.specs.Option.{option_copied}
 use Rattle.lower.specs.TypeViews.{fields_view}
 use Rattle.ipc_base.specs.IdTrees.{all_ids_view}
@@ -17,6 +17,8 @@ invariant-loop-index g l = record {
   rest : AreLeft (option_copied l.projection) (length l.fields) (length l.columns.items) l.index;
   among : Among (kinds_of (fields_view l.fields) (all_ids_view l.ids)) (chosen (option_copied l.projection) (length l.fields))
       (left_of (option_copied l.projection) (length l.fields) (length l.columns.items) l.index);
+  many : length l.columns.items + length (left_of (option_copied l.projection) (length l.fields) (length l.columns.items) l.index)
+      ≡ length (chosen (option_copied l.projection) (length l.fields));
   monotone : g.R.Failures.failures l.fn.reader ≤ g.R.Failures.failures l.reader;
   stands : Stands g.R.Failures.still g.R.Failures.memory l.reader l.body;
   given : g.R.Failures.given l.reader
