@@ -15,17 +15,19 @@ use Rattle.ipc_views.specs.Spot.{Spot}
 use Rattle.ipc_views.specs.Unions.{header_parts}
 use Rattle.ipc_views.specs.declared.message.MessageHeaderRef.{MessageHeaderRef}
 use Rattle.ipc_views.specs.declared.message.MessageHeaderRef.TheVariants as headers
-use Rattle.ipc_model.specs.Batches.{Schema, Body, Chunk, chosen, batch, record_meaning, dictionary_meaning}
+use Rattle.ipc_model.specs.Batches.{Schema, Body, Chunk, chosen, batch, record_meaning, dictionary_meaning, extra_of}
 use Rattle.ipc_model.specs.Entries.{Dictionaries}
 use Rattle.ipc_model.specs.Kinds.{count}
 use Rattle.ipc_model.specs.TypeKinds.{kinds_of}
-use Rattle.ipc_model.specs.Streams.{Head, Header, Known, done, faulty, whole, with_chunk, with_dictionaries, body_item, most_dictionaries}
+use Rattle.ipc_model.specs.Streams.{Header, Known, done, faulty, whole, with_chunk, with_dictionaries, most_dictionaries}
 use Rattle.ipc_read.specs.DictionaryBatches.{GivesDictionary, IsDictionaryFault}
 use Rattle.ipc_read.specs.Refusals.{IsFaultOfBatch}
 use Rattle.ipc_read.specs.Chunks.{chunk_seen, GivesBatch}
+use Rattle.ipc_readers.specs.ChosenStreams.{Request, chosen_body}
 use Rattle.ipc_readers.proofs.Knowing.{AlsoGives, alike_then, dictionary_alike, no_dictionary_alike, record_alike, same_values}
 use Rattle.ipc_readers.specs.Refusals.{IsStreamFault}
 use Rattle.ipc_readers.specs.Streams.{BlamesBody, GivesBody, GivesHeld, ReadsBody, RefusesBody, of_dictionary, of_record}
+use Rattle.ipc_views.specs.declared.schema.MetadataVersion.{MetadataVersion}
 
 -- a claim of a fault by which another one holds
 pub claims_through : (e : Fault) (P Q : Type 0) → (P → Q) → OwnFault e P → OwnFault e Q
@@ -59,9 +61,9 @@ both_claims (Faults.Lower e) P Q p q = (p, q)
 abbrev pub bare : FieldTrees → IdTrees → Endianness → Schema
 bare fs is o = record { fields = fs; metadata = []; ids = is; order = o }
 
--- what a stream of a schema says
-abbrev pub headed : FieldTrees → Pairs → IdTrees → Endianness → ℕ → Head
-headed fs ms is o extra = record { schema = record { fields = fs; metadata = ms; ids = is; order = o }; extra = extra }
+-- what is asked of a stream of a schema
+abbrev pub asks : FieldTrees → Pairs → IdTrees → Endianness → MetadataVersion → Option (List ℕ) → Request
+asks fs ms is o version p = record { head = record { schema = record { fields = fs; metadata = ms; ids = is; order = o }; version = version }; projection = p }
 
 -- a message with this header
 abbrev pub header : ℕ → Spot → ℕ → Header
@@ -71,32 +73,32 @@ header tag t n = record { tag = tag; table = t; body = n }
 abbrev pub first : List ℕ → ℕ → Body
 first bytes n = record { source = bytes; base = 0; size = n }
 
-same_record : (fs : FieldTrees) (ms : Pairs) (is : IdTrees) (o : Endianness) (extra : ℕ) (ds : Dictionaries) (b : Body) (t : Spot)
-    → record_meaning (headed fs ms is o extra).schema extra ds b t None None ≡ record_meaning (bare fs is o) extra ds b t None None
+same_record : (fs : FieldTrees) (ms : Pairs) (is : IdTrees) (o : Endianness) (version : MetadataVersion) (p : Option (List ℕ)) (ds : Dictionaries) (b : Body) (t : Spot)
+    → record_meaning (asks fs ms is o version p).head.schema (extra_of version) ds b t p None ≡ record_meaning (bare fs is o) (extra_of version) ds b t p None
 unfolding record_meaning batch
-same_record fs ms is o extra ds b t = refl
+same_record fs ms is o version p ds b t = refl
 
-same_dictionary : (fs : FieldTrees) (ms : Pairs) (is : IdTrees) (o : Endianness) (extra : ℕ) (ds : Dictionaries) (b : Body) (t : Spot)
-    → dictionary_meaning (headed fs ms is o extra).schema extra ds b t ≡ dictionary_meaning (bare fs is o) extra ds b t
+same_dictionary : (fs : FieldTrees) (ms : Pairs) (is : IdTrees) (o : Endianness) (version : MetadataVersion) (p : Option (List ℕ)) (ds : Dictionaries) (b : Body) (t : Spot)
+    → dictionary_meaning (asks fs ms is o version p).head.schema (extra_of version) ds b t ≡ dictionary_meaning (bare fs is o) (extra_of version) ds b t
 unfolding dictionary_meaning
-same_dictionary fs ms is o extra ds b t = refl
+same_dictionary fs ms is o version p ds b t = refl
 
 -- ---- batches
 
 -- the body is there, and the batch has this meaning
 record_body :
-    (h : Head) (s : Known) (t : Spot) (n : ℕ) (xs : List ℕ) (o : Option Chunk) → n ≤ length xs
-    → record_meaning h.schema h.extra s.dictionaries (whole (take n xs)) t None None ≡ o
-    → body_item h s (header 3 t n) xs ≡ with_chunk o s (drop n xs)
-unfolding body_item
+    (h : Request) (s : Known) (t : Spot) (n : ℕ) (xs : List ℕ) (o : Option Chunk) → n ≤ length xs
+    → record_meaning h.head.schema (extra_of h.head.version) s.dictionaries (whole (take n xs)) t h.projection None ≡ o
+    → chosen_body h s (header 3 t n) xs ≡ with_chunk o s (drop n xs)
+unfolding chosen_body
 record_body h s t n xs o long e =
     rw (le-ltb (length xs) n long) (ap (λ (c : Option Chunk). with_chunk c s (drop n xs)) e)
 
 dictionary_body :
-    (h : Head) (s : Known) (t : Spot) (n : ℕ) (xs : List ℕ) (o : Option Dictionaries) → n ≤ length xs → s.count < most_dictionaries
-    → dictionary_meaning h.schema h.extra s.dictionaries (whole (take n xs)) t ≡ o
-    → body_item h s (header 2 t n) xs ≡ with_dictionaries o s (drop n xs)
-unfolding body_item
+    (h : Request) (s : Known) (t : Spot) (n : ℕ) (xs : List ℕ) (o : Option Dictionaries) → n ≤ length xs → s.count < most_dictionaries
+    → dictionary_meaning h.head.schema (extra_of h.head.version) s.dictionaries (whole (take n xs)) t ≡ o
+    → chosen_body h s (header 2 t n) xs ≡ with_dictionaries o s (drop n xs)
+unfolding chosen_body
 dictionary_body h s t n xs o long few e =
     rw (le-ltb (length xs) n long, lt-ltb s.count most_dictionaries few) (ap (λ (ds : Option Dictionaries). with_dictionaries ds s (drop n xs)) e)
 
@@ -117,103 +119,103 @@ some_there (Some ds) fs s h = record { known = ds; some = refl; alike = h }
 
 -- ---- record batches
 
-module _ (fs : FieldTrees) (ms : Pairs) (is : IdTrees) (o : Endianness) (extra : ℕ) (k : Known) (t : Spot) (n : ℕ) (xs bytes : List ℕ)
+module _ (fs : FieldTrees) (ms : Pairs) (is : IdTrees) (o : Endianness) (version : MetadataVersion) (p : Option (List ℕ)) (k : Known) (t : Spot) (n : ℕ) (xs bytes : List ℕ)
     (long : n ≤ length xs) (e : bytes ≡ take n xs) (s : Known) (at : AreAt s k) where
   -- what was read of the bytes is what the message means to whoever knows as much
-  record_is : record_meaning (headed fs ms is o extra).schema extra s.dictionaries (whole (take n xs)) t None None ≡ record_meaning (bare fs is o) extra k.dictionaries (first bytes n) t None None
+  record_is : record_meaning (asks fs ms is o version p).head.schema (extra_of version) s.dictionaries (whole (take n xs)) t p None ≡ record_meaning (bare fs is o) (extra_of version) k.dictionaries (first bytes n) t p None
   record_is =
-      record_alike (headed fs ms is o extra).schema extra s.dictionaries k.dictionaries (whole (take n xs)) t at.alike
-      ∙ same_record fs ms is o extra k.dictionaries (whole (take n xs)) t
-      ∙ sym (ap (λ (b : Body). record_meaning (bare fs is o) extra k.dictionaries b t None None) (body_is n xs bytes long e))
+      record_alike (asks fs ms is o version p).head.schema (extra_of version) s.dictionaries k.dictionaries (whole (take n xs)) t p at.alike
+      ∙ same_record fs ms is o version p k.dictionaries (whole (take n xs)) t
+      ∙ sym (ap (λ (b : Body). record_meaning (bare fs is o) (extra_of version) k.dictionaries b t p None) (body_is n xs bytes long e))
 
-  read_of : dictionary_meaning (headed fs ms is o extra).schema extra k.dictionaries (whole (take n xs)) t ≡ dictionary_meaning (bare fs is o) extra k.dictionaries (first bytes n) t
+  read_of : dictionary_meaning (asks fs ms is o version p).head.schema (extra_of version) k.dictionaries (whole (take n xs)) t ≡ dictionary_meaning (bare fs is o) (extra_of version) k.dictionaries (first bytes n) t
   read_of =
-      same_dictionary fs ms is o extra k.dictionaries (whole (take n xs)) t
-      ∙ sym (ap (λ (b : Body). dictionary_meaning (bare fs is o) extra k.dictionaries b t) (body_is n xs bytes long e))
+      same_dictionary fs ms is o version p k.dictionaries (whole (take n xs)) t
+      ∙ sym (ap (λ (b : Body). dictionary_meaning (bare fs is o) (extra_of version) k.dictionaries b t) (body_is n xs bytes long e))
 
   chunk_reads : (chunk : List AnyArray) (l : Known) → l.dictionaries ≡ k.dictionaries → l.count ≡ 0
-      → record_meaning (bare fs is o) extra k.dictionaries (first bytes n) t None None ≡ Some (chunk_seen chunk)
-      → ReadsBody (headed fs ms is o extra) s (header 3 t n) xs (Ok (Some chunk)) l (drop n xs)
+      → record_meaning (bare fs is o) (extra_of version) k.dictionaries (first bytes n) t p None ≡ Some (chunk_seen chunk)
+      → ReadsBody (asks fs ms is o version p) s (header 3 t n) xs (Ok (Some chunk)) l (drop n xs)
   chunk_reads chunk l same none means = (
     record { dictionaries = s.dictionaries; count = 0 },
     record { alike = alike_then s.dictionaries k.dictionaries l.dictionaries at.alike (same_values k.dictionaries l.dictionaries (sym same)); count = sym none },
-    record_body (headed fs ms is o extra) s t n xs (Some (chunk_seen chunk)) long (record_is ∙ means),
+    record_body (asks fs ms is o version p) s t n xs (Some (chunk_seen chunk)) long (record_is ∙ means),
   )
 
-  record_blames : (e' : Fault) → IsFaultOfBatch (kinds_of fs is) (chosen None (count (kinds_of fs is))) e' → BlamesBody (headed fs ms is o extra).schema s.count 3 e'
+  record_blames : (e' : Fault) → IsFaultOfBatch (kinds_of fs is) (chosen p (count (kinds_of fs is))) e' → BlamesBody (asks fs ms is o version p) s.count 3 e'
   record_blames e' fault = record { record_batch = λ q. inl fault; dictionary_batch = λ q. absurd (omega (arith, q)); other = λ q r. absurd (r refl) }
 
-  record_refused : (e' : Fault) → OwnFault e' (IsFaultOfBatch (kinds_of fs is) (chosen None (count (kinds_of fs is))) e')
-      → OwnFault e' (record_meaning (bare fs is o) extra k.dictionaries (first bytes n) t None None ≡ None) → (l : Known)
-      → ReadsBody (headed fs ms is o extra) s (header 3 t n) xs (Err e') l (drop n xs)
+  record_refused : (e' : Fault) → OwnFault e' (IsFaultOfBatch (kinds_of fs is) (chosen p (count (kinds_of fs is))) e')
+      → OwnFault e' (record_meaning (bare fs is o) (extra_of version) k.dictionaries (first bytes n) t p None ≡ None) → (l : Known)
+      → ReadsBody (asks fs ms is o version p) s (header 3 t n) xs (Err e') l (drop n xs)
   record_refused e' only none l =
-      both_claims e' (body_item (headed fs ms is o extra) s (header 3 t n) xs ≡ done faulty) (BlamesBody (headed fs ms is o extra).schema s.count 3 e')
-      (claims_through e' (record_meaning (bare fs is o) extra k.dictionaries (first bytes n) t None None ≡ None) (body_item (headed fs ms is o extra) s (header 3 t n) xs ≡ done faulty)
-      (λ means. record_body (headed fs ms is o extra) s t n xs None long (record_is ∙ means)) none)
-      (claims_through e' (IsFaultOfBatch (kinds_of fs is) (chosen None (count (kinds_of fs is))) e') (BlamesBody (headed fs ms is o extra).schema s.count 3 e')
+      both_claims e' (chosen_body (asks fs ms is o version p) s (header 3 t n) xs ≡ done faulty) (BlamesBody (asks fs ms is o version p) s.count 3 e')
+      (claims_through e' (record_meaning (bare fs is o) (extra_of version) k.dictionaries (first bytes n) t p None ≡ None) (chosen_body (asks fs ms is o version p) s (header 3 t n) xs ≡ done faulty)
+      (λ means. record_body (asks fs ms is o version p) s t n xs None long (record_is ∙ means)) none)
+      (claims_through e' (IsFaultOfBatch (kinds_of fs is) (chosen p (count (kinds_of fs is))) e') (BlamesBody (asks fs ms is o version p) s.count 3 e')
       (record_blames e') only)
 
-  values_read : (l : Known) → k.count < most_dictionaries → l.count ≡ k.count + 1 → AlsoGives (dictionary_meaning (bare fs is o) extra k.dictionaries (first bytes n) t) l.dictionaries
-      → ReadsBody (headed fs ms is o extra) s (header 2 t n) xs (Ok None) l (drop n xs)
+  values_read : (l : Known) → k.count < most_dictionaries → l.count ≡ k.count + 1 → AlsoGives (dictionary_meaning (bare fs is o) (extra_of version) k.dictionaries (first bytes n) t) l.dictionaries
+      → ReadsBody (asks fs ms is o version p) s (header 2 t n) xs (Ok None) l (drop n xs)
   values_read l few more_by given =
-      let h = headed fs ms is o extra in
-      let also : AlsoGives (dictionary_meaning h.schema extra s.dictionaries (whole (take n xs)) t) l.dictionaries =
-      dictionary_alike h.schema extra s.dictionaries k.dictionaries (whole (take n xs)) t given.known l.dictionaries at.alike (read_of ∙ given.some) given.alike in
+      let h = asks fs ms is o version p in
+      let also : AlsoGives (dictionary_meaning h.head.schema (extra_of version) s.dictionaries (whole (take n xs)) t) l.dictionaries =
+      dictionary_alike h.head.schema (extra_of version) s.dictionaries k.dictionaries (whole (take n xs)) t given.known l.dictionaries at.alike (read_of ∙ given.some) given.alike in
       let same : s.count ≡ k.count = at.count in (
         record { dictionaries = also.known; count = s.count + 1 },
         record { alike = also.alike; count = omega (arith, same, more_by) },
         dictionary_body h s t n xs (Some also.known) long (omega (arith, same, few)) also.some,
       )
 
-  values_blame : (e' : Fault) → IsDictionaryFault e' → BlamesBody (headed fs ms is o extra).schema s.count 2 e'
+  values_blame : (e' : Fault) → IsDictionaryFault e' → BlamesBody (asks fs ms is o version p) s.count 2 e'
   values_blame e' fault = record { record_batch = λ q. absurd (omega (arith, q)); dictionary_batch = λ q. inl fault; other = λ q r. absurd (q refl) }
 
   values_refused : (e' : Fault) → k.count < most_dictionaries → OwnFault e' (IsDictionaryFault e')
-      → OwnFault e' (dictionary_meaning (bare fs is o) extra k.dictionaries (first bytes n) t ≡ None) → (l : Known)
-      → ReadsBody (headed fs ms is o extra) s (header 2 t n) xs (Err e') l (drop n xs)
+      → OwnFault e' (dictionary_meaning (bare fs is o) (extra_of version) k.dictionaries (first bytes n) t ≡ None) → (l : Known)
+      → ReadsBody (asks fs ms is o version p) s (header 2 t n) xs (Err e') l (drop n xs)
   values_refused e' few only none l =
-      let h = headed fs ms is o extra in
+      let h = asks fs ms is o version p in
       let same : s.count ≡ k.count = at.count in
-      both_claims e' (body_item h s (header 2 t n) xs ≡ done faulty) (BlamesBody h.schema s.count 2 e')
-      (claims_through e' (dictionary_meaning (bare fs is o) extra k.dictionaries (first bytes n) t ≡ None) (body_item h s (header 2 t n) xs ≡ done faulty)
+      both_claims e' (chosen_body h s (header 2 t n) xs ≡ done faulty) (BlamesBody h s.count 2 e')
+      (claims_through e' (dictionary_meaning (bare fs is o) (extra_of version) k.dictionaries (first bytes n) t ≡ None) (chosen_body h s (header 2 t n) xs ≡ done faulty)
       (λ means. dictionary_body h s t n xs None long (omega (arith, same, few))
-      (no_dictionary_alike h.schema extra s.dictionaries k.dictionaries (whole (take n xs)) t at.alike (read_of ∙ means))) none)
-      (claims_through e' (IsDictionaryFault e') (BlamesBody h.schema s.count 2 e') (values_blame e') only)
+      (no_dictionary_alike h.head.schema (extra_of version) s.dictionaries k.dictionaries (whole (take n xs)) t at.alike (read_of ∙ means))) none)
+      (claims_through e' (IsDictionaryFault e') (BlamesBody h s.count 2 e') (values_blame e') only)
 
 -- what the answer of a record batch says, of a body with bytes behind it
-record_answer : (fs : FieldTrees) (ms : Pairs) (is : IdTrees) (o : Endianness) (extra : ℕ) (k : Known) (t : Spot) (n : ℕ) (xs bytes : List ℕ)
+record_answer : (fs : FieldTrees) (ms : Pairs) (is : IdTrees) (o : Endianness) (version : MetadataVersion) (p : Option (List ℕ)) (k : Known) (t : Spot) (n : ℕ) (xs bytes : List ℕ)
     → n ≤ length xs → bytes ≡ take n xs → (r : Result (List AnyArray) Fault) (l : Known) → OnOk r ((l.dictionaries ≡ k.dictionaries) × (l.count ≡ 0))
-    → IfErr r (λ e. OwnFault e (IsFaultOfBatch (kinds_of fs is) (chosen None (count (kinds_of fs is))) e))
-    → GivesBatch (bare fs is o) extra k.dictionaries (first bytes n) t None None r
-    → GivesBody (headed fs ms is o extra) k (header 3 t n) xs (of_record r) l (drop n xs)
-record_answer fs ms is o extra k t n xs bytes long e (Ok chunk) l next only read = record {
-  each = λ s at. chunk_reads fs ms is o extra k t n xs bytes long e s at chunk l next.0 next.1 read.1;
+    → IfErr r (λ e. OwnFault e (IsFaultOfBatch (kinds_of fs is) (chosen p (count (kinds_of fs is))) e))
+    → GivesBatch (bare fs is o) (extra_of version) k.dictionaries (first bytes n) t p None r
+    → GivesBody (asks fs ms is o version p) k (header 3 t n) xs (of_record r) l (drop n xs)
+record_answer fs ms is o version p k t n xs bytes long e (Ok chunk) l next only read = record {
+  each = λ s at. chunk_reads fs ms is o version p k t n xs bytes long e s at chunk l next.0 next.1 read.1;
 }
-record_answer fs ms is o extra k t n xs bytes long e (Err e') l next only read =
-    let u : Option Chunk = record_meaning (bare fs is o) extra k.dictionaries (first bytes n) t None None in
+record_answer fs ms is o version p k t n xs bytes long e (Err e') l next only read =
+    let u : Option Chunk = record_meaning (bare fs is o) (extra_of version) k.dictionaries (first bytes n) t p None in
     record {
-      each = λ s at. record_refused fs ms is o extra k t n xs bytes long e s at e' only
+      each = λ s at. record_refused fs ms is o version p k t n xs bytes long e s at e' only
           (claims_through e' (IsSome u → ⊥) (u ≡ None) (none_there u) read) l;
     }
 
-dictionary_answer : (fs : FieldTrees) (ms : Pairs) (is : IdTrees) (o : Endianness) (extra : ℕ) (k : Known) (t : Spot) (n : ℕ) (xs bytes : List ℕ)
+dictionary_answer : (fs : FieldTrees) (ms : Pairs) (is : IdTrees) (o : Endianness) (version : MetadataVersion) (p : Option (List ℕ)) (k : Known) (t : Spot) (n : ℕ) (xs bytes : List ℕ)
     → n ≤ length xs → bytes ≡ take n xs → (r : Result Unit Fault) (l : Known) → k.count < most_dictionaries → OnOk r (l.count ≡ k.count + 1)
     → IfErr r (λ e. OwnFault e (IsDictionaryFault e))
-    → GivesDictionary (bare fs is o) extra k.dictionaries (first bytes n) t r l.dictionaries
-    → GivesBody (headed fs ms is o extra) k (header 2 t n) xs (of_dictionary r) l (drop n xs)
-dictionary_answer fs ms is o extra k t n xs bytes long e (Ok u) l few next only read = record {
-  each = λ s at. values_read fs ms is o extra k t n xs bytes long e s at l few next
-      (some_there (dictionary_meaning (bare fs is o) extra k.dictionaries (first bytes n) t) l.dictionaries read.0 read.1);
+    → GivesDictionary (bare fs is o) (extra_of version) k.dictionaries (first bytes n) t r l.dictionaries
+    → GivesBody (asks fs ms is o version p) k (header 2 t n) xs (of_dictionary r) l (drop n xs)
+dictionary_answer fs ms is o version p k t n xs bytes long e (Ok u) l few next only read = record {
+  each = λ s at. values_read fs ms is o version p k t n xs bytes long e s at l few next
+      (some_there (dictionary_meaning (bare fs is o) (extra_of version) k.dictionaries (first bytes n) t) l.dictionaries read.0 read.1);
 }
-dictionary_answer fs ms is o extra k t n xs bytes long e (Err e') l few next only read =
-    let u : Option Dictionaries = dictionary_meaning (bare fs is o) extra k.dictionaries (first bytes n) t in
+dictionary_answer fs ms is o version p k t n xs bytes long e (Err e') l few next only read =
+    let u : Option Dictionaries = dictionary_meaning (bare fs is o) (extra_of version) k.dictionaries (first bytes n) t in
     record {
-      each = λ s at. values_refused fs ms is o extra k t n xs bytes long e s at e' few only
+      each = λ s at. values_refused fs ms is o version p k t n xs bytes long e s at e' few only
           (claims_through e' (IsSome u → ⊥) (u ≡ None) (none_there u) read) l;
     }
 
 -- of these bytes, whatever is ahead of them then
-held : (h : Head) (k : Known) (tag : ℕ) (t : Spot) (body : List ℕ) (r : Result (Option (List AnyArray)) Fault) (l : Known)
+held : (h : Request) (k : Known) (tag : ℕ) (t : Spot) (body : List ℕ) (r : Result (Option (List AnyArray)) Fault) (l : Known)
     → ((xs : List ℕ) → length body ≤ length xs → body ≡ take (length body) xs → GivesBody h k (header tag t (length body)) xs r l (drop (length body) xs))
     → GivesHeld h k tag t body r l
 held h k tag t body r l given = record {
@@ -223,37 +225,35 @@ held h k tag t body r l given = record {
       (given (body ++ ys) long (sym (take_at body ys (length body) refl)));
 }
 
-pub columns_give : (fs : FieldTrees) (ms : Pairs) (is : IdTrees) (o : Endianness) (extra : ℕ) (k : Known) (t : Spot) (body : List ℕ) (r : Result (List AnyArray) Fault) (l : Known)
+pub columns_give : (fs : FieldTrees) (ms : Pairs) (is : IdTrees) (o : Endianness) (version : MetadataVersion) (p : Option (List ℕ)) (k : Known) (t : Spot) (body : List ℕ) (r : Result (List AnyArray) Fault) (l : Known)
     → OnOk r ((l.dictionaries ≡ k.dictionaries) × (l.count ≡ 0))
-    → IfErr r (λ e. OwnFault e (IsFaultOfBatch (kinds_of fs is) (chosen None (count (kinds_of fs is))) e))
-    → GivesBatch (bare fs is o) extra k.dictionaries (first body (length body)) t None None r
-    → GivesHeld (headed fs ms is o extra) k 3 t body (of_record r) l
-columns_give fs ms is o extra k t body r l next only read =
-    held (headed fs ms is o extra) k 3 t body (of_record r) l
-    (λ xs long e. record_answer fs ms is o extra k t (length body) xs body long e r l next only read)
+    → IfErr r (λ e. OwnFault e (IsFaultOfBatch (kinds_of fs is) (chosen p (count (kinds_of fs is))) e))
+    → GivesBatch (bare fs is o) (extra_of version) k.dictionaries (first body (length body)) t p None r
+    → GivesHeld (asks fs ms is o version p) k 3 t body (of_record r) l
+columns_give fs ms is o version p k t body r l next only read =
+    held (asks fs ms is o version p) k 3 t body (of_record r) l
+    (λ xs long e. record_answer fs ms is o version p k t (length body) xs body long e r l next only read)
 
-pub values_give : (fs : FieldTrees) (ms : Pairs) (is : IdTrees) (o : Endianness) (extra : ℕ) (k : Known) (t : Spot) (body : List ℕ) (r : Result Unit Fault) (l : Known)
+pub values_give : (fs : FieldTrees) (ms : Pairs) (is : IdTrees) (o : Endianness) (version : MetadataVersion) (p : Option (List ℕ)) (k : Known) (t : Spot) (body : List ℕ) (r : Result Unit Fault) (l : Known)
     → k.count < most_dictionaries → OnOk r (l.count ≡ k.count + 1) → IfErr r (λ e. OwnFault e (IsDictionaryFault e))
-    → GivesDictionary (bare fs is o) extra k.dictionaries (first body (length body)) t r l.dictionaries
-    → GivesHeld (headed fs ms is o extra) k 2 t body (of_dictionary r) l
-values_give fs ms is o extra k t body r l few next only read =
-    held (headed fs ms is o extra) k 2 t body (of_dictionary r) l
-    (λ xs long e. dictionary_answer fs ms is o extra k t (length body) xs body long e r l few next only read)
+    → GivesDictionary (bare fs is o) (extra_of version) k.dictionaries (first body (length body)) t r l.dictionaries
+    → GivesHeld (asks fs ms is o version p) k 2 t body (of_dictionary r) l
+values_give fs ms is o version p k t body r l few next only read =
+    held (asks fs ms is o version p) k 2 t body (of_dictionary r) l
+    (λ xs long e. dictionary_answer fs ms is o version p k t (length body) xs body long e r l few next only read)
 
 -- the faults of a batch are a stream's
 pub batch_faults :
-    (fs : FieldTrees) (ms : Pairs) (is : IdTrees) (o : Endianness) (r : Result (List AnyArray) Fault)
-    → IfErr r (λ e. OwnFault e (IsFaultOfBatch (kinds_of fs is) (chosen None (count (kinds_of fs is))) e))
-    → IfErr r (λ e. OwnFault e (IsStreamFault (record { fields = fs; metadata = ms; ids = is; order = o }) e))
-batch_faults fs ms is o (Ok x) h = tt
-batch_faults fs ms is o (Err e) h =
-    claims_through e (IsFaultOfBatch (kinds_of fs is) (chosen None (count (kinds_of fs is))) e) (IsStreamFault (record { fields = fs; metadata = ms; ids = is; order = o }) e)
+    (fs : FieldTrees) (ms : Pairs) (is : IdTrees) (o : Endianness) (version : MetadataVersion) (p : Option (List ℕ)) (e : Fault)
+    → OwnFault e (IsFaultOfBatch (kinds_of fs is) (chosen p (count (kinds_of fs is))) e) → OwnFault e (IsStreamFault (asks fs ms is o version p) e)
+batch_faults fs ms is o version p e h =
+    claims_through e (IsFaultOfBatch (kinds_of fs is) (chosen p (count (kinds_of fs is))) e) (IsStreamFault (asks fs ms is o version p) e)
     (λ f. inr (inr (inl (inl f)))) h
 
 -- ---- bodies that aren't there, and other messages
 
-short_body : (h : Head) (s : Known) (m : Header) (xs : List ℕ) → length xs < m.body → body_item h s m xs ≡ done faulty
-unfolding body_item
+short_body : (h : Request) (s : Known) (m : Header) (xs : List ℕ) → length xs < m.body → chosen_body h s m xs ≡ done faulty
+unfolding chosen_body
 short_body h s m xs short = rw (lt-ltb (length xs) m.body short) refl
 
 outside : (m n : ℕ) → (m ≤ n → ⊥) → n < m
@@ -263,10 +263,10 @@ outside m n denied = elim (cases_lt n m) [
 ]
 
 -- a body that isn't there, of a record or a dictionary
-pub cut_body : (h : Head) (s : Known) (m : Header) (xs : List ℕ) (e : Fault) → (m.tag ≡ 3) ⊎ (m.tag ≡ 2) → OwnFault e ((e ≡ Faults.Ended) × (m.body ≤ length xs → ⊥))
-    → OwnFault e ((body_item h s m xs ≡ done faulty) × BlamesBody h.schema s.count m.tag e)
+pub cut_body : (h : Request) (s : Known) (m : Header) (xs : List ℕ) (e : Fault) → (m.tag ≡ 3) ⊎ (m.tag ≡ 2) → OwnFault e ((e ≡ Faults.Ended) × (m.body ≤ length xs → ⊥))
+    → OwnFault e ((chosen_body h s m xs ≡ done faulty) × BlamesBody h s.count m.tag e)
 cut_body h s m xs e kind cut =
-    claims_through e ((e ≡ Faults.Ended) × (m.body ≤ length xs → ⊥)) ((body_item h s m xs ≡ done faulty) × BlamesBody h.schema s.count m.tag e)
+    claims_through e ((e ≡ Faults.Ended) × (m.body ≤ length xs → ⊥)) ((chosen_body h s m xs ≡ done faulty) × BlamesBody h s.count m.tag e)
     (λ c. (
       short_body h s m xs (outside m.body (length xs) c.1),
       record {
@@ -283,38 +283,38 @@ either_way : {X : Type 0} (b : Bool) (x : X) → cond b x x ≡ x
 either_way true x = refl
 either_way false x = refl
 
-other_tag : (h : Head) (s : Known) (m : Header) (xs : List ℕ) → (m.tag == 3) ≡ false → (m.tag == 2) ≡ false → body_item h s m xs ≡ done faulty
-unfolding body_item
+other_tag : (h : Request) (s : Known) (m : Header) (xs : List ℕ) → (m.tag == 3) ≡ false → (m.tag == 2) ≡ false → chosen_body h s m xs ≡ done faulty
+unfolding chosen_body
 other_tag h s m xs no_record no_dictionary = rw (no_record, no_dictionary) (either_way (nat_lt (length xs) m.body) (done faulty))
 
-no_batch : (schema : Schema) (n tag : ℕ) → tag ≢ 2 → tag ≢ 3 → BlamesBody schema n tag (Faults.OutOfSpec UnexpectedMessageType)
-no_batch schema n tag no_dictionary no_record = record {
+no_batch : (h : Request) (n tag : ℕ) → tag ≢ 2 → tag ≢ 3 → BlamesBody h n tag (Faults.OutOfSpec UnexpectedMessageType)
+no_batch h n tag no_dictionary no_record = record {
   record_batch = λ q. absurd (no_record q);
   dictionary_batch = λ q. absurd (no_dictionary q);
   other = λ q r. refl;
 }
 
 -- a message that is neither a record nor a dictionary
-pub other_refused : (h : Head) (k : Known) (x : MessageHeaderRef) → ((t : Spot) → x ≡ headers.DictionaryBatch t → ⊥) → ((t : Spot) → x ≡ headers.RecordBatch t → ⊥)
+pub other_refused : (h : Request) (k : Known) (x : MessageHeaderRef) → ((t : Spot) → x ≡ headers.DictionaryBatch t → ⊥) → ((t : Spot) → x ≡ headers.RecordBatch t → ⊥)
     → RefusesBody h k (header_parts x).0 (header_parts x).1 (Faults.OutOfSpec UnexpectedMessageType)
 other_refused h k (headers.Schema t) no_dictionary no_record = record {
-  each = λ n xs. record { each = λ s at. (other_tag h s (header 1 t n) xs refl refl, no_batch h.schema s.count 1 (λ q. omega (arith, q)) (λ q. omega (arith, q))) };
+  each = λ n xs. record { each = λ s at. (other_tag h s (header 1 t n) xs refl refl, no_batch h s.count 1 (λ q. omega (arith, q)) (λ q. omega (arith, q))) };
 }
 other_refused h k (headers.DictionaryBatch t) no_dictionary no_record = absurd (no_dictionary t refl)
 other_refused h k (headers.RecordBatch t) no_dictionary no_record = absurd (no_record t refl)
 other_refused h k (headers.Tensor t) no_dictionary no_record = record {
-  each = λ n xs. record { each = λ s at. (other_tag h s (header 4 t n) xs refl refl, no_batch h.schema s.count 4 (λ q. omega (arith, q)) (λ q. omega (arith, q))) };
+  each = λ n xs. record { each = λ s at. (other_tag h s (header 4 t n) xs refl refl, no_batch h s.count 4 (λ q. omega (arith, q)) (λ q. omega (arith, q))) };
 }
 other_refused h k (headers.SparseTensor t) no_dictionary no_record = record {
-  each = λ n xs. record { each = λ s at. (other_tag h s (header 5 t n) xs refl refl, no_batch h.schema s.count 5 (λ q. omega (arith, q)) (λ q. omega (arith, q))) };
+  each = λ n xs. record { each = λ s at. (other_tag h s (header 5 t n) xs refl refl, no_batch h s.count 5 (λ q. omega (arith, q)) (λ q. omega (arith, q))) };
 }
 
 -- one dictionary too many
-full_body : (h : Head) (s : Known) (t : Spot) (n : ℕ) (xs : List ℕ) → most_dictionaries ≤ s.count → body_item h s (header 2 t n) xs ≡ done faulty
-unfolding body_item
+full_body : (h : Request) (s : Known) (t : Spot) (n : ℕ) (xs : List ℕ) → most_dictionaries ≤ s.count → chosen_body h s (header 2 t n) xs ≡ done faulty
+unfolding chosen_body
 full_body h s t n xs full = rw (le-ltb s.count most_dictionaries full) (either_way (nat_lt (length xs) n) (done faulty))
 
-full_refused : (h : Head) (k : Known) (t : Spot) → most_dictionaries ≤ k.count → RefusesBody h k 2 t Faults.TooManyDictionaries
+full_refused : (h : Request) (k : Known) (t : Spot) → most_dictionaries ≤ k.count → RefusesBody h k 2 t Faults.TooManyDictionaries
 full_refused h k t full = record {
   each = λ n xs. record {
     each = λ s at.
@@ -326,6 +326,6 @@ full_refused h k t full = record {
   };
 }
 
-pub full_header : (h : Head) (k : Known) (x : MessageHeaderRef) → (header_parts x).0 ≡ 2 → most_dictionaries ≤ k.count
+pub full_header : (h : Request) (k : Known) (x : MessageHeaderRef) → (header_parts x).0 ≡ 2 → most_dictionaries ≤ k.count
     → RefusesBody h k (header_parts x).0 (header_parts x).1 Faults.TooManyDictionaries
 full_header h k x e full = subst (λ (n : ℕ). RefusesBody h k n (header_parts x).1 Faults.TooManyDictionaries) (sym e) (full_refused h k (header_parts x).1 full)

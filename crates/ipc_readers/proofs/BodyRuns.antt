@@ -5,14 +5,15 @@ use Rattle.ipc_devices.specs.Faults.{OnIo, OwnFault}
 use Rattle.ipc_devices.specs.declared.fault.Fault.{Fault}
 use Rattle.ipc_devices.specs.declared.fault.Fault.TheVariants.{Ended}
 use Rattle.ipc_views.specs.Spot.{Spot}
-use Rattle.ipc_model.specs.Streams.{Head, Header, Known}
+use Rattle.ipc_model.specs.Streams.{Header, Known}
 use Rattle.ipc_readers.proofs.Bodies.{claims_through, cut_body, header}
+use Rattle.ipc_readers.specs.ChosenStreams.{Request}
 use Rattle.ipc_readers.specs.Streams.{BodyGave, GivesBody, GivesHeld, RefusesBody}
 use Rattle.ipc_devices.specs.Gives.{going, stop_of, Follows, Gives, GivesInOrder, GivesNothing, StopsBefore}
 use Rattle.ipc_devices.proofs.Stops.{fault_stop, fault_going, answer_going}
 
 -- the body was given
-pub body_read : {S : Type 0} (gives : Gives S) (h : Head) (k : Known) (tag : ℕ) (t : Spot) (n : ℕ) (a b : S) (body : List ℕ) (r : Result (Option (List AnyArray)) Fault) (l : Known)
+pub body_read : {S : Type 0} (gives : Gives S) (h : Request) (k : Known) (tag : ℕ) (t : Spot) (n : ℕ) (a b : S) (body : List ℕ) (r : Result (Option (List AnyArray)) Fault) (l : Known)
     → length body ≡ n → gives a body going b → OnIo r ⊥ → GivesHeld h k tag t body r l → BodyGave gives h k (header tag t n) a r l b
 body_read gives h k tag t n a b body r l size gave own held = record {
   stop = going;
@@ -26,7 +27,7 @@ body_read gives h k tag t n a b body r l size gave own held = record {
 }
 
 -- a fault before the body was read
-pub body_stopped : {S : Type 0} (gives : Gives S) (h : Head) (k : Known) (m : Header) (a b : S) (e : Fault) (l : Known) → (m.tag ≡ 3) ⊎ (m.tag ≡ 2) → OwnFault e (e ≡ Ended)
+pub body_stopped : {S : Type 0} (gives : Gives S) (h : Request) (k : Known) (m : Header) (a b : S) (e : Fault) (l : Known) → (m.tag ≡ 3) ⊎ (m.tag ≡ 2) → OwnFault e (e ≡ Ended)
     → StopsBefore gives a m.body e b → BodyGave gives h k m a (Err e) l b
 body_stopped gives h k m a b e l kind only s = record {
   stop = stop_of e;
@@ -56,7 +57,7 @@ pub stopped_behind : {S : Type 0} (gives : Gives S) → GivesInOrder gives → (
 stopped_behind gives law a b c n e none s = (s.0, s.1, law a [] b s.0 (stop_of e) c none s.2)
 
 -- a refusal before anything was read
-pub body_refused : {S : Type 0} (gives : Gives S) → GivesNothing gives → (h : Head) (k : Known) (tag : ℕ) (t : Spot) (n : ℕ) (a : S) (e : Fault) → OnIo {X = Unit} (Err e) ⊥
+pub body_refused : {S : Type 0} (gives : Gives S) → GivesNothing gives → (h : Request) (k : Known) (tag : ℕ) (t : Spot) (n : ℕ) (a : S) (e : Fault) → OnIo {X = Unit} (Err e) ⊥
     → RefusesBody h k tag t e → BodyGave gives h k (header tag t n) a (Err e) k a
 body_refused gives nothing h k tag t n a e own refused = record {
   stop = going;

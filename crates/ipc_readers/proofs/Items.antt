@@ -4,9 +4,10 @@ use Rattle.lower_arrays.specs.declared.array.AnyArray.{AnyArray}
 use Rattle.ipc_devices.specs.Faults.{OwnFault}
 use Rattle.ipc_devices.specs.declared.fault.Fault.{Fault}
 use Rattle.ipc_model.specs.Frame.{Frame, message, mark, waiting, broken, frame}
-use Rattle.ipc_model.specs.Streams.{Head, Header, Known, header_of, body_item, frame_item, message_item, item, more, done, faulty}
+use Rattle.ipc_model.specs.Streams.{Header, Known, header_of, more, done, faulty}
 use Rattle.ipc_read.specs.Chunks.{chunk_seen}
 use Rattle.ipc_readers.proofs.Bodies.{both_claims, claims_through}
+use Rattle.ipc_readers.specs.ChosenStreams.{Request, chosen_body, chosen_frame, chosen_item, chosen_message}
 use Rattle.ipc_readers.specs.Messages.{opened}
 use Rattle.ipc_readers.specs.Streams.{BlamesBody, BlamesFront, BlamesOpened, GivesBody, GivesItem, BodyGave, ItemGave, ItemStop, IsWithinMessage, ReadsBody, ReadsItem}
 use Rattle.ipc_readers.specs.declared.read.stream.reader.Found.{Found}
@@ -55,12 +56,12 @@ behind_none q rest e = rw e refl
 
 -- ---- the item of a frame
 
-item_of : (h : Head) (s : Known) (xs : List ℕ) (f : Frame) → frame xs ≡ f → item h s xs ≡ frame_item h s f
-unfolding item
-item_of h s xs f e = ap (frame_item h s) e
+item_of : (h : Request) (s : Known) (xs : List ℕ) (f : Frame) → frame xs ≡ f → chosen_item h s xs ≡ chosen_frame h s f
+unfolding chosen_item
+item_of h s xs f e = ap (chosen_frame h s) e
 
-body_of : (h : Head) (s : Known) (xs m rest : List ℕ) (d : Option Header) → frame xs ≡ message m rest → header_of m ≡ d → item h s xs ≡ message_item h s d rest
-body_of h s xs m rest d e f = item_of h s xs (message m rest) e ∙ ap (λ o. message_item h s o rest) f
+body_of : (h : Request) (s : Known) (xs m rest : List ℕ) (d : Option Header) → frame xs ≡ message m rest → header_of m ≡ d → chosen_item h s xs ≡ chosen_message h s d rest
+body_of h s xs m rest d e f = item_of h s xs (message m rest) e ∙ ap (λ o. chosen_message h s o rest) f
 
 -- an answer of a body as one of a message
 abbrev pub as_found : Result (Option (List AnyArray)) Fault → Result Found Fault
@@ -68,21 +69,21 @@ as_found (Ok (Some chunk)) = Ok (fronts.Chunk chunk)
 as_found (Ok None) = Ok fronts.Dictionary
 as_found (Err e) = Err e
 
-body_is_front : (h : Head) (s : Known) (xs m rest left : List ℕ) (d : Header) (q : List ℕ) (r : Result (Option (List AnyArray)) Fault) (l : Known) → frame xs ≡ message m rest
+body_is_front : (h : Request) (s : Known) (xs m rest left : List ℕ) (d : Header) (q : List ℕ) (r : Result (Option (List AnyArray)) Fault) (l : Known) → frame xs ≡ message m rest
     → header_of m ≡ Some d → opened m ≡ Ok d → q ≡ [] → ReadsBody h s d rest r l left → ReadsItem h s xs (as_found r) l q (q ++ left)
 body_is_front h s xs m rest left d q (Ok (Some chunk)) l e f opens none g =
     (g.0, g.1, body_of h s xs m rest (Some d) e f ∙ g.2 ∙ ap (λ ys. more (Some (chunk_seen chunk)) g.0 ys) (sym (behind_none q left none)))
 body_is_front h s xs m rest left d q (Ok None) l e f opens none g =
     (g.0, g.1, body_of h s xs m rest (Some d) e f ∙ g.2 ∙ ap (λ ys. more None g.0 ys) (sym (behind_none q left none)))
 body_is_front h s xs m rest left d q (Err x) l e f opens none g =
-    claims_through x ((body_item h s d rest ≡ done faulty) × BlamesBody h.schema s.count d.tag x)
-    ((item h s xs ≡ done faulty) × BlamesFront h.schema s.count (frame xs) x)
+    claims_through x ((chosen_body h s d rest ≡ done faulty) × BlamesBody h s.count d.tag x)
+    ((chosen_item h s xs ≡ done faulty) × BlamesFront h s.count (frame xs) x)
     (λ k. (
       body_of h s xs m rest (Some d) e f ∙ k.0,
-      subst (λ (y : Frame). BlamesFront h.schema s.count y x) (sym e) (subst (λ (o : Result Header Fault). BlamesOpened h.schema s.count o x) (sym opens) k.1),
+      subst (λ (y : Frame). BlamesFront h s.count y x) (sym e) (subst (λ (o : Result Header Fault). BlamesOpened h s.count o x) (sym opens) k.1),
     )) g
 
-body_is_item : (h : Head) (k : Known) (xs m rest left : List ℕ) (d : Header) (q : List ℕ) (r : Result (Option (List AnyArray)) Fault) (l : Known) → frame xs ≡ message m rest
+body_is_item : (h : Request) (k : Known) (xs m rest left : List ℕ) (d : Header) (q : List ℕ) (r : Result (Option (List AnyArray)) Fault) (l : Known) → frame xs ≡ message m rest
     → header_of m ≡ Some d → opened m ≡ Ok d → q ≡ [] → GivesBody h k d rest r l left → GivesItem h k xs (as_found r) l q (q ++ left)
 body_is_item h k xs m rest left d q r l e f opens none g = record {
   each = λ s at. body_is_front h s xs m rest left d q r l e f opens none (g.each s at);
@@ -96,7 +97,7 @@ stop_is_item (Err e) s h = h
 -- ---- what was given
 
 module _ {S : Type 0} (gives : Gives S) where
-  pub item_waits : (h : Head) (k : Known) (p q m : List ℕ) (a b : S) → FrameGave gives p a (Ok frames.Waiting) m q b → ItemGave gives h k p a (Ok fronts.Waiting) k q b
+  pub item_waits : (h : Request) (k : Known) (p q m : List ℕ) (a b : S) → FrameGave gives p a (Ok frames.Waiting) m q b → ItemGave gives h k p a (Ok fronts.Waiting) k q b
   item_waits h k p q m a b g = record {
     stop = ended;
     stops = refl;
@@ -106,7 +107,7 @@ module _ {S : Type 0} (gives : Gives S) where
         (λ all rest f. record { each = λ s at. (at, item_of h s (p ++ all) (waiting q) (is_waiting (frame (p ++ all)) m q rest f)) }) g;
   }
 
-  pub item_marks : (h : Head) (k : Known) (p q m : List ℕ) (a b : S) → FrameGave gives p a (Ok frames.Mark) m q b → ItemGave gives h k p a (Ok fronts.Mark) k q b
+  pub item_marks : (h : Request) (k : Known) (p q m : List ℕ) (a b : S) → FrameGave gives p a (Ok frames.Mark) m q b → ItemGave gives h k p a (Ok fronts.Mark) k q b
   item_marks h k p q m a b g = record {
     stop = going;
     stops = refl;
@@ -118,7 +119,7 @@ module _ {S : Type 0} (gives : Gives S) where
         record { each = λ s at. (item_of h s (p ++ all) (mark rest) here, here ∙ ap mark (sym (behind_none q rest (none_marked (frame (p ++ all)) m q rest f)))) }) g;
   }
 
-  pub item_breaks : (h : Head) (k l : Known) (p q m : List ℕ) (a b : S) (e : Fault) → OwnFault e (IsFramingFault e) → FrameGave gives p a (Err e) m q b → ItemGave gives h k p a (Err e) l q b
+  pub item_breaks : (h : Request) (k l : Known) (p q m : List ℕ) (a b : S) (e : Fault) → OwnFault e (IsFramingFault e) → FrameGave gives p a (Err e) m q b → ItemGave gives h k p a (Err e) l q b
   item_breaks h k l p q m a b e only g = record {
     stop = stop_of e;
     stops = fault_stop e;
@@ -127,14 +128,14 @@ module _ {S : Type 0} (gives : Gives S) where
         (λ xs v _. record { within = inl v })
         (λ all rest f. record {
           each = λ s at. claims_through e ((frame (p ++ all) ≡ broken) × IsFramingFault e)
-              ((item h s (p ++ all) ≡ done faulty) × BlamesFront h.schema s.count (frame (p ++ all)) e)
-              (λ c. (item_of h s (p ++ all) broken c.0, subst (λ (y : Frame). BlamesFront h.schema s.count y e) (sym c.0) c.1))
+              ((chosen_item h s (p ++ all) ≡ done faulty) × BlamesFront h s.count (frame (p ++ all)) e)
+              (λ c. (item_of h s (p ++ all) broken c.0, subst (λ (y : Frame). BlamesFront h s.count y e) (sym c.0) c.1))
               (both_claims e (frame (p ++ all) ≡ broken) (IsFramingFault e) f only);
         }) g;
   }
 
   -- a message whose metadata mean none
-  pub item_unopened : (h : Head) (k l : Known) (p q m : List ℕ) (a b : S) (e : Fault) → FaultStop e going → header_of m ≡ None → opened m ≡ Err e
+  pub item_unopened : (h : Request) (k l : Known) (p q m : List ℕ) (a b : S) (e : Fault) → FaultStop e going → header_of m ≡ None → opened m ≡ Err e
       → FrameGave gives p a (Ok frames.Message) m q b → ItemGave gives h k p a (Err e) l q b
   item_unopened h k l p q m a b e own none opens g = record {
     stop = going;
@@ -145,14 +146,14 @@ module _ {S : Type 0} (gives : Gives S) where
         (λ all rest f.
         let here = is_message (frame (p ++ all)) m q rest f in
         record {
-          each = λ s at. claimed e ((item h s (p ++ all) ≡ done faulty) × BlamesFront h.schema s.count (frame (p ++ all)) e) (
+          each = λ s at. claimed e ((chosen_item h s (p ++ all) ≡ done faulty) × BlamesFront h s.count (frame (p ++ all)) e) (
             body_of h s (p ++ all) m rest None here none,
-            subst (λ (y : Frame). BlamesFront h.schema s.count y e) (sym here) (subst (λ (o : Result Header Fault). BlamesOpened h.schema s.count o e) (sym opens) refl),
+            subst (λ (y : Frame). BlamesFront h s.count y e) (sym here) (subst (λ (o : Result Header Fault). BlamesOpened h s.count o e) (sym opens) refl),
           );
         }) g;
   }
 
-  pub item_then : GivesInOrder gives → (h : Head) (k l : Known) (p q m : List ℕ) (d : Header) (r : Result (Option (List AnyArray)) Fault) (a b c : S) → header_of m ≡ Some d → opened m ≡ Ok d
+  pub item_then : GivesInOrder gives → (h : Request) (k l : Known) (p q m : List ℕ) (d : Header) (r : Result (Option (List AnyArray)) Fault) (a b c : S) → header_of m ≡ Some d → opened m ≡ Ok d
       → FrameGave gives p a (Ok frames.Message) m q b → BodyGave gives h k d b r l c → ItemGave gives h k p a (as_found r) l q c
   item_then law h k l p q m d r a b c there opens before behind = record {
     stop = behind.stop;

@@ -1,5 +1,5 @@
 -- Who knows the same values at each id reads the same batches.
-use Rattle.std.proofs.Common.{◌≡◌, ℕ, Option, None, Some, refl, sym, ap, ◌∙◌, subst}
+use Rattle.std.proofs.Common.{◌≡◌, ℕ, List, Option, None, Some, refl, ap, ◌∙◌, subst}
 use Rattle.ipc_laws.proofs.Agreeing.{agree_chosen, alike_record_law}
 use Rattle.ipc_laws.proofs.Readers.{alike_dictionary_law}
 use Rattle.ipc_laws.specs.Agreement.{AreAlike, KnowAlike}
@@ -18,9 +18,9 @@ alike_then ds es fs a b = record { each = λ id. a.each id ∙ b.each id }
 
 -- ---- what they read
 
-pub record_alike : (schema : Schema) (extra : ℕ) (ds es : Dictionaries) (b : Body) (t : Spot) → KnowAlike ds es
-    → record_meaning schema extra ds b t None None ≡ record_meaning schema extra es b t None None
-record_alike schema extra ds es b t a = alike_record_law schema extra ds es b t None None (agree_chosen (kinds schema) (chosen None (count (kinds schema))) ds es a)
+pub record_alike : (schema : Schema) (extra : ℕ) (ds es : Dictionaries) (b : Body) (t : Spot) (p : Option (List ℕ)) → KnowAlike ds es
+    → record_meaning schema extra ds b t p None ≡ record_meaning schema extra es b t p None
+record_alike schema extra ds es b t p a = alike_record_law schema extra ds es b t p None (agree_chosen (kinds schema) (chosen p (count (kinds schema))) ds es a)
 
 -- the values that another knows after a dictionary batch
 pub record AlsoGives (o : Option Dictionaries) (fs : Dictionaries) : Type 0 where

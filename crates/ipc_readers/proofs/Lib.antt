@@ -3,6 +3,11 @@ pub mod Openings
 pub mod Sized
 pub mod Prefixes
 pub mod Bodies
+pub mod AskedBatches
+pub mod AskedColumns
+pub mod GivenColumns
+pub mod ChosenStreams
+pub mod PrunedStreams
 pub mod BodyRuns
 pub mod Items
 pub mod MetadataRuns

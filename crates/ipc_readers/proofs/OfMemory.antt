@@ -10,11 +10,12 @@ use Rattle.ipc_devices.specs.declared.fault.SchemaFault.TheVariants.{NotASchema}
 use Rattle.ipc_devices.proofs.Gave.{to_memory}
 use Rattle.ipc_devices.proofs.Stops.{answer_risen, fault_risen, not_below, nothing_claimed}
 use Rattle.ipc_model.specs.Frame.{Frame, message, mark, waiting, broken, frame}
-use Rattle.ipc_model.specs.Streams.{Head, Known, done, faulty, item}
+use Rattle.ipc_model.specs.Streams.{Known, done, faulty}
+use Rattle.ipc_readers.specs.ChosenStreams.{Request, chosen_item}
 use Rattle.ipc_readers.specs.Frames.{IsFramingFault, due}
 use Rattle.ipc_readers.specs.Metadata.{GivesMetadata, MetadataGave, metadata_at}
 use Rattle.ipc_readers.specs.Runs.{Answer, FailsLaw}
-use Rattle.ipc_readers.specs.Streams.{BlamesFront, GivesItem, ItemGave, ItemsGave, ItemStop, IsWithinMessage, NextStep, ReadsItem, begun_of, device_of, head_of, is_over, known_of, last_found, metadata_of, next_result}
+use Rattle.ipc_readers.specs.Streams.{BlamesFront, GivesItem, ItemGave, ItemsGave, ItemStop, IsWithinMessage, NextStep, ReadsItem, request_of, begun_of, device_of, is_over, known_of, last_found, next_result}
 use Rattle.ipc_readers.specs.declared.read.stream.metadata.StreamMetadata.{StreamMetadata}
 use Rattle.ipc_readers.specs.declared.read.stream.reader.StreamReader.{StreamReader}
 use Rattle.ipc_readers.specs.declared.read.stream.reader.StreamState.{StreamState}
@@ -24,7 +25,7 @@ use Rattle.ipc_readers.specs.declared.read.stream.reader.Found.TheVariants as fr
 -- ---- messages
 
 -- what an end leaves isn't asked of
-item_at_end : (h : Head) (s : Known) (xs : List ℕ) (l : Known) (q zs ys : List ℕ) (r : Result Found Fault) → ItemStop r ended → ReadsItem h s xs r l q zs → ReadsItem h s xs r l q ys
+item_at_end : (h : Request) (s : Known) (xs : List ℕ) (l : Known) (q zs ys : List ℕ) (r : Result Found Fault) → ItemStop r ended → ReadsItem h s xs r l q zs → ReadsItem h s xs r l q ys
 item_at_end h s xs l q zs ys (Ok (fronts.Chunk chunk)) e g = absurd (cc e)
 item_at_end h s xs l q zs ys (Ok fronts.Dictionary) e g = absurd (cc e)
 item_at_end h s xs l q zs ys (Ok fronts.Waiting) e g = g
@@ -32,15 +33,15 @@ item_at_end h s xs l q zs ys (Ok fronts.Mark) e g = absurd (cc e)
 item_at_end h s xs l q zs ys (Err x) e g = g
 
 -- a device's failure says nothing of the bytes
-item_at_failure : (h : Head) (s : Known) (xs : List ℕ) (l : Known) (q ys : List ℕ) (r : Result Found Fault) → ItemStop r failed → ReadsItem h s xs r l q ys
+item_at_failure : (h : Request) (s : Known) (xs : List ℕ) (l : Known) (q ys : List ℕ) (r : Result Found Fault) → ItemStop r failed → ReadsItem h s xs r l q ys
 item_at_failure h s xs l q ys (Ok (fronts.Chunk chunk)) e = absurd (cc e)
 item_at_failure h s xs l q ys (Ok fronts.Dictionary) e = absurd (cc e)
 item_at_failure h s xs l q ys (Ok fronts.Waiting) e = absurd (cc e)
 item_at_failure h s xs l q ys (Ok fronts.Mark) e = absurd (cc e)
-item_at_failure h s xs l q ys (Err x) e = nothing_claimed x ((item h s xs ≡ done faulty) × BlamesFront h.schema s.count (frame xs) x) e
+item_at_failure h s xs l q ys (Err x) e = nothing_claimed x ((chosen_item h s xs ≡ done faulty) × BlamesFront h s.count (frame xs) x) e
 
 pub item_ahead : {S : Type 0} (gives : Gives S) (known : Bool) (memory : S → Memory) → GivesAhead known gives memory → IsTrue known
-    → (h : Head) (k l : Known) (p q : List ℕ) (r : Result Found Fault) (a b : S) → ItemGave gives h k p a r l q b
+    → (h : Request) (k l : Known) (p q : List ℕ) (r : Result Found Fault) (a b : S) → ItemGave gives h k p a r l q b
     → GivesItem h k (p ++ after (memory a)) r l q (q ++ after (memory b))
 item_ahead gives known memory law t h k l p q r a b g =
     to_memory gives known memory law t (λ xs. IsWithinMessage (p ++ xs)) (λ all rest. GivesItem h k (p ++ all) r l q (q ++ rest)) (ItemStop r) a b
@@ -86,7 +87,7 @@ item_risen (Err e) s old new h f = fault_risen (Option StreamState) e s old new 
 risen_behind : (r : Result (Option StreamState) Fault) (old mid new : ℕ) → mid ≡ old → OnIo r (Rises mid new) × (mid ≤ new) → OnIo r (Rises old new) × (old ≤ new)
 risen_behind r old mid new e h = subst (λ (n : ℕ). OnIo r (Rises n new) × (n ≤ new)) e h
 
-items_fail : {S : Type 0} (gives : Gives S) (failures : S → ℕ) → GivesFails gives failures → (h : Head) (n : ℕ) (k l : Known) (p q : List ℕ) (r : Result (Option StreamState) Fault) (a b : S)
+items_fail : {S : Type 0} (gives : Gives S) (failures : S → ℕ) → GivesFails gives failures → (h : Request) (n : ℕ) (k l : Known) (p q : List ℕ) (r : Result (Option StreamState) Fault) (a b : S)
     → ItemsGave gives h n k p a r l q b → OnIo r (Rises (failures a) (failures b)) × (failures a ≤ failures b)
 items_fail gives failures fails h zero k l p q r a b g =
     let i = g.0 in
@@ -107,7 +108,7 @@ module _ {R : Type 0} (gives : Gives R) (known : Bool) (memory : R → Memory) (
       (subst (λ (x : Answer). OnIo (next_result x) (Rises (failures (device_of a)) (failures (device_of b)))) (sym none) tt, omega (arith, same))
   by_over false e =
       let g = step.gave e in
-      items_fail gives failures fails (head_of (metadata_of a)) g.passed (known_of a) (known_of b) (begun_of a) (begun_of b) (next_result r) (device_of a) (device_of b) g.items
+      items_fail gives failures fails (request_of a) g.passed (known_of a) (known_of b) (begun_of a) (begun_of b) (next_result r) (device_of a) (device_of b) g.items
 
 pub next_fails : {R : Type 0} (gives : Gives R) (known : Bool) (memory : R → Memory) (failures : R → ℕ) → GivesFails gives failures → (a : StreamReader R)
     → FailsLaw gives known memory failures a

@@ -3,11 +3,13 @@ use Rattle.std.proofs.Common.{◌≡◌, ◌≢◌, List, [], ◌∷◌, None, S
 use Rattle.ipc_devices.specs.Device.{Memory}
 use Rattle.ipc_devices.specs.Gives.{Gives}
 use Rattle.ipc_model.specs.Batches.{Chunk}
-use Rattle.ipc_model.specs.Streams.{Head, Known, End, marked, waits, faulty, Meant, meaning}
+use Rattle.ipc_model.specs.Streams.{Known, End, marked, waits, faulty, Meant}
 use Rattle.ipc_read.specs.Chunks.{chunk_seen}
 use Rattle.ipc_readers.proofs.Bodies.{claims_through}
+use Rattle.ipc_readers.proofs.Loops.{same_request}
+use Rattle.ipc_readers.specs.ChosenStreams.{Request, chosen_meaning}
 use Rattle.ipc_readers.specs.Runs.{Answer, Calls, AreNone, AreAnswers}
-use Rattle.ipc_readers.specs.Streams.{Knows, ahead, begun_of, head_of, is_over, metadata_of}
+use Rattle.ipc_readers.specs.Streams.{Knows, ahead, request_of, begun_of, is_over}
 use Rattle.ipc_readers.specs.declared.read.stream.reader.StreamReader.{StreamReader}
 use Rattle.ipc_readers.specs.declared.read.stream.reader.StreamState.TheVariants as states
 
@@ -25,7 +27,7 @@ first_chunk c d cs ds e = (cc, cc)
 
 pub read_law : {R : Type 0} (gives : Gives R) (known : Bool) (memory : R → Memory) (a : StreamReader R) (rs : List Answer) (s : Known) (cs : List Chunk) (e : End)
     → IsTrue known → is_over a ≡ false → Knows a s → e ≢ faulty
-    → meaning (head_of (metadata_of a)) s (ahead memory a) ≡ record { chunks = cs; end = e } → Calls gives known memory a rs
+    → chosen_meaning (request_of a) s (ahead memory a) ≡ record { chunks = cs; end = e } → Calls gives known memory a rs
     → AreAnswers cs e rs
 read_law gives known memory a [] s cs e k going at sound means calls = tt
 read_law gives known memory a (Some (Err f) ∷ rs) s cs e k going at sound means calls = (
@@ -51,17 +53,17 @@ read_law gives known memory a (Some (Ok (states.Some chunk)) ∷ rs) s [] e k go
     let here = ap (λ (m : Meant). m.chunks) (sym given.2 ∙ means) in
     absurd cc
 read_law gives known memory a (Some (Ok (states.Some chunk)) ∷ rs) s (c ∷ cs) e k going at sound means calls =
-    let h = head_of (metadata_of a) in
+    let h = request_of a in
     let b = calls.0 in
     let given = (calls.1.next k going).each s at in
     let t = given.0 in
-    let same : head_of (metadata_of b) ≡ h = ap head_of calls.1.described in
+    let same : request_of b ≡ h = same_request a b calls.1.described calls.1.projected in
     let here = sym given.2 ∙ means in
-    let parts = first_chunk (chunk_seen chunk) c (meaning h t (ahead memory b)).chunks cs (ap (λ (m : Meant). m.chunks) here) in
-    let left : meaning h t (ahead memory b) ≡ record { chunks = cs; end = e } =
+    let parts = first_chunk (chunk_seen chunk) c (chosen_meaning h t (ahead memory b)).chunks cs (ap (λ (m : Meant). m.chunks) here) in
+    let left : chosen_meaning h t (ahead memory b) ≡ record { chunks = cs; end = e } =
     λ i. record { chunks = parts.1 i; end = ap (λ (m : Meant). m.end) here i } in (
       parts.0,
       read_law gives known memory b rs t cs e k (calls.1.finished going) given.1 sound
-          (ap (λ (g : Head). meaning g t (ahead memory b)) same ∙ left)
+          (ap (λ (g : Request). chosen_meaning g t (ahead memory b)) same ∙ left)
           calls.2,
     )

@@ -1,9 +1,10 @@
 -- What waits is begun.
 use Rattle.std.proofs.Common.{◌≡◌, ℕ, zero, suc, Bool, List, [], ◌++◌, Some, None, Ok, refl, subst, sym, ap, ◌∙◌, append-nil}
 use Rattle.ipc_laws.specs.Agreement.{AreAt}
-use Rattle.ipc_model.proofs.Meanings.{item_waits}
-use Rattle.ipc_model.specs.Streams.{Head, Known, item, more}
-use Rattle.ipc_readers.specs.Streams.{ItemsGave, begun_of, device_of, head_of, known_of, metadata_of}
+use Rattle.ipc_model.specs.Streams.{Known, more}
+use Rattle.ipc_readers.proofs.ChosenStreams.{chosen_waits}
+use Rattle.ipc_readers.specs.ChosenStreams.{Request, chosen_item}
+use Rattle.ipc_readers.specs.Streams.{ItemsGave, request_of, begun_of, device_of, known_of}
 use Rattle.ipc_devices.specs.Device.{Memory}
 use Rattle.ipc_devices.specs.Gives.{Stop, going, ended, Follows, Gives, GivesCounted, GivesInOrder}
 use Rattle.ipc_readers.specs.Runs.{Passed, WaitsLaw}
@@ -17,15 +18,15 @@ follows_going : (s : Stop) (ys : List ℕ) → s ≡ going → Follows s ys
 follows_going s ys e = subst (λ (x : Stop). Follows x ys) (sym e) tt
 
 -- what was given before the device had no more
-pub record GaveAll {S : Type 0} (gives : Gives S) (h : Head) (k : Known) (p : List ℕ) (a : S) (l : Known) (q : List ℕ) (b : S) : Type 0 where
+pub record GaveAll {S : Type 0} (gives : Gives S) (h : Request) (k : Known) (p : List ℕ) (a : S) (l : Known) (q : List ℕ) (b : S) : Type 0 where
   pub bytes : List ℕ
   pub gave : gives a bytes ended b
   pub kept : (s : Known) → AreAt s k → Passed h s (p ++ bytes) l q
 
-passed_more : (h : Head) (s t : Known) (xs zs : List ℕ) (l : Known) (q : List ℕ) → item h s xs ≡ more None t zs → Passed h t zs l q → Passed h s xs l q
+passed_more : (h : Request) (s t : Known) (xs zs : List ℕ) (l : Known) (q : List ℕ) → chosen_item h s xs ≡ more None t zs → Passed h t zs l q → Passed h s xs l q
 passed_more h s t xs zs l q e p = record { count = suc p.count; known = p.known; at = p.at; passes = (t, zs, e, p.passes) }
 
-module _ {S : Type 0} (gives : Gives S) (law : GivesInOrder gives) (h : Head) where
+module _ {S : Type 0} (gives : Gives S) (law : GivesInOrder gives) (h : Request) where
   items_wait : (n : ℕ) (k l : Known) (p q : List ℕ) (a b : S) → ItemsGave gives h n k p a (Ok (Some states.Waiting)) l q b → GaveAll gives h k p a l q b
   items_wait zero k l p q a b g =
       let run = g.0.run in
@@ -35,7 +36,7 @@ module _ {S : Type 0} (gives : Gives S) (law : GivesInOrder gives) (h : Head) wh
         gave = subst (λ (x : Stop). gives a run.bytes x b) stops run.gave;
         kept = λ s at.
             let read = (run.holds [] (follows_end g.0.stop stops)).each s at in
-            let all = item_waits h s (p ++ (run.bytes ++ [])) s q read.1 in
+            let all = chosen_waits h s (p ++ (run.bytes ++ [])) s q read.1 in
             record { count = 0; known = s; at = read.0; passes = (refl, sym (all.0 ∙ ap (λ (l : List ℕ). p ++ l) (append-nil run.bytes))) };
       }
   items_wait (suc n) k l p q a b g =
@@ -56,7 +57,7 @@ pub waits_with_all : {R : Type 0} (gives : Gives R) (known : Bool) (memory : R �
     → WaitsLaw gives known memory given a
 waits_with_all gives known memory given law counts a b going_on step =
     let g = step.gave going_on in
-    let all = items_wait gives law (head_of (metadata_of a)) g.passed (known_of a) (known_of b) (begun_of a) (begun_of b) (device_of a) (device_of b) g.items in
+    let all = items_wait gives law (request_of a) g.passed (known_of a) (known_of b) (begun_of a) (begun_of b) (device_of a) (device_of b) g.items in
     record {
       bytes = all.bytes;
       gave = all.gave;

@@ -1,6 +1,8 @@
 pub mod Frames
 pub mod Messages
 pub mod Metadata
+pub mod ChosenColumns
+pub mod ChosenStreams
 pub mod Streams
 pub mod Refusals
 pub mod Runs

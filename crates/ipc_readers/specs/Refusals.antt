@@ -1,13 +1,14 @@
 -- Which faults of the input's the reader of a stream can answer.
-use Rattle.std.specs.Prelude.{◌≡◌, ◌⊎◌, ℕ, ◌≤◌, None}
+use Rattle.std.specs.Prelude.{◌≡◌, ◌⊎◌, ℕ, ◌≤◌}
 use Rattle.ipc_devices.specs.declared.fault.Fault.{Fault}
 use Rattle.ipc_devices.specs.declared.fault.Fault.TheVariants.{Ended, OutOfSpec, TooManyDictionaries}
 use Rattle.ipc_devices.specs.declared.fault.OutOfSpecKind.TheVariants.{InvalidFlatbufferMessage, MissingMessageHeader, InvalidFlatbufferHeader, InvalidFlatbufferBodyLength, UnexpectedNegativeInteger, UnexpectedMessageType}
-use Rattle.ipc_model.specs.Batches.{Schema, chosen, kinds}
+use Rattle.ipc_model.specs.Batches.{chosen, kinds}
 use Rattle.ipc_model.specs.Kinds.{count}
 use Rattle.ipc_model.specs.Streams.{most_dictionaries}
 use Rattle.ipc_read.specs.DictionaryBatches.{IsDictionaryFault}
 use Rattle.ipc_read.specs.Refusals.{IsFaultOfBatch}
+use Rattle.ipc_readers.specs.ChosenStreams.{Request}
 use Rattle.ipc_readers.specs.Frames.{IsFramingFault}
 
 -- of a message: its header or the length of its body is absent, ill-made or below 0, or it is of another kind
@@ -20,15 +21,15 @@ IsMessageFault (OutOfSpec UnexpectedNegativeInteger) = Unit {0}
 IsMessageFault (OutOfSpec UnexpectedMessageType) = Unit {0}
 IsMessageFault _ = ⊥
 
--- of a record batch: those of its columns and of what it lists, and a body that isn't there
-abbrev pub IsRecordFault : Schema → Fault → Type 0
-IsRecordFault schema e = IsFaultOfBatch (kinds schema) (chosen None (count (kinds schema))) e ⊎ (e ≡ Ended)
+-- of a record batch: those of its columns that are asked for and of what it lists, and a body that isn't there
+abbrev pub IsRecordFault : Request → Fault → Type 0
+IsRecordFault h e = let ts = kinds h.head.schema in IsFaultOfBatch ts (chosen h.projection (count ts)) e ⊎ (e ≡ Ended)
 
 -- Of a dictionary batch, where n came since the last record batch: those of its values, of its id and of what it lists, a body that
 -- isn't there, and that no more may come.
 abbrev pub IsDictionaryMessageFault : ℕ → Fault → Type 0
 IsDictionaryMessageFault n e = IsDictionaryFault e ⊎ ((e ≡ Ended) ⊎ ((e ≡ TooManyDictionaries) × (most_dictionaries ≤ n)))
 
--- of a stream of this schema: of a frame, a message, a record batch or a dictionary batch
-abbrev pub IsStreamFault : Schema → Fault → Type 0
-IsStreamFault schema e = IsFramingFault e ⊎ (IsMessageFault e ⊎ (IsRecordFault schema e ⊎ (IsDictionaryFault e ⊎ (e ≡ TooManyDictionaries))))
+-- of a stream of which this is asked: of a frame, a message, a record batch or a dictionary batch
+abbrev pub IsStreamFault : Request → Fault → Type 0
+IsStreamFault h e = IsFramingFault e ⊎ (IsMessageFault e ⊎ (IsRecordFault h e ⊎ (IsDictionaryFault e ⊎ (e ≡ TooManyDictionaries))))

@@ -7,9 +7,10 @@ use Rattle.ipc_devices.specs.Gives.{ended, Counts, Gives}
 use Rattle.ipc_devices.specs.declared.fault.Fault.{Fault}
 use Rattle.ipc_model.specs.Batches.{Chunk}
 use Rattle.ipc_laws.specs.Agreement.{AreAt}
-use Rattle.ipc_model.specs.Streams.{Head, Known, End, marked, waits, faulty, item, meaning, more}
+use Rattle.ipc_model.specs.Streams.{Known, End, marked, waits, faulty, more}
 use Rattle.ipc_read.specs.Chunks.{chunk_seen}
-use Rattle.ipc_readers.specs.Streams.{Knows, NextStep, ahead, begun_of, device_of, head_of, is_over, known_of, metadata_of, next_result}
+use Rattle.ipc_readers.specs.ChosenStreams.{Request, chosen_item, chosen_meaning}
+use Rattle.ipc_readers.specs.Streams.{Knows, NextStep, ahead, request_of, begun_of, device_of, is_over, known_of, next_result}
 use Rattle.ipc_readers.specs.declared.read.stream.reader.StreamReader.{StreamReader}
 use Rattle.ipc_readers.specs.declared.read.stream.reader.StreamState.{StreamState}
 use Rattle.ipc_readers.specs.declared.read.stream.reader.StreamState.TheVariants as states
@@ -40,21 +41,21 @@ AreAnswers [] (waits known begun) (Some (Ok states.Waiting) ∷ rs) = Unit {0}
 AreAnswers [] marked (None ∷ rs) = AreNone rs
 AreAnswers _ _ _ = ⊥
 
--- A stream that doesn't end in a fault is read as what it means to who knows as much as the reader.
+-- A stream that doesn't end in a fault is read as what it means, by the columns that are asked for, to who knows as much as the reader.
 abbrev pub ReadLaw : {R : Type 0} → Gives R → Bool → (R → Memory) → StreamReader R → Type 0
 ReadLaw gives known memory a = (rs : List Answer) (s : Known) (cs : List Chunk) (e : End) → IsTrue known → is_over a ≡ false → Knows a s
-    → e ≢ faulty → meaning (head_of (metadata_of a)) s (ahead memory a) ≡ record { chunks = cs; end = e }
+    → e ≢ faulty → chosen_meaning (request_of a) s (ahead memory a) ≡ record { chunks = cs; end = e }
     → Calls gives known memory a rs → AreAnswers cs e rs
 
 -- ---- calls of any device
 
 -- n dictionary messages stand one behind the other at the front of xs, and ys behind them, where t is known
-abbrev pub Passes : Head → ℕ → (s : Known) → (xs : List ℕ) → (t : Known) → (ys : List ℕ) → Type 0
+abbrev pub Passes : Request → ℕ → (s : Known) → (xs : List ℕ) → (t : Known) → (ys : List ℕ) → Type 0
 Passes h zero s xs t ys = (s ≡ t) × (xs ≡ ys)
-Passes h (suc n) s xs t ys = (u : Known) × (zs : List ℕ) × (item h s xs ≡ more None u zs) × Passes h n u zs t ys
+Passes h (suc n) s xs t ys = (u : Known) × (zs : List ℕ) × (chosen_item h s xs ≡ more None u zs) × Passes h n u zs t ys
 
 -- Some dictionary messages stand at the front of xs, and ys behind them, where as much is known as l.
-pub record Passed (h : Head) (s : Known) (xs : List ℕ) (l : Known) (ys : List ℕ) : Type 0 where
+pub record Passed (h : Request) (s : Known) (xs : List ℕ) (l : Known) (ys : List ℕ) : Type 0 where
   pub count : ℕ
   pub known : Known
   pub at : AreAt known l
@@ -65,7 +66,7 @@ pub record Passed (h : Head) (s : Known) (xs : List ℕ) (l : Known) (ys : List 
 pub record Waits {R : Type 0} (gives : Gives R) (given : R → ℕ) (a b : StreamReader R) : Type 0 where
   pub bytes : List ℕ
   pub gave : gives (device_of a) bytes ended (device_of b)
-  pub kept : (s : Known) → Knows a s → Passed (head_of (metadata_of a)) s (begun_of a ++ bytes) (known_of b) (begun_of b)
+  pub kept : (s : Known) → Knows a s → Passed (request_of a) s (begun_of a ++ bytes) (known_of b) (begun_of b)
   pub counted : Counts (given (device_of a)) (length bytes) (given (device_of b))
 
 abbrev pub WaitsLaw : {R : Type 0} → Gives R → Bool → (R → Memory) → (R → ℕ) → StreamReader R → Type 0

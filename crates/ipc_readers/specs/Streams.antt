@@ -2,6 +2,7 @@
 -- (Arrow columnar format, "IPC Streaming Format".)
 use Rattle.std.specs.Prelude.{◌≡◌, ◌≢◌, ◌⊎◌, ℕ, zero, suc, ◌+◌, ◌<◌, ◌≤◌, List, [], ◌∷◌, ◌++◌, length, Option, None, Some, option_map, Result, Ok, Err, IfErr, IfOk, OnErr, map, Bool, true, false, IsTrue}
 use Rattle.lower.specs.TypeViews.{fields_view, pairs_of}
+use Rattle.lower.specs.declared.datatypes.schema.Schema as schemas
 use Rattle.lower_arrays.specs.AnyLayouts.{layout_of}
 use Rattle.lower_arrays.specs.declared.array.AnyArray.{AnyArray}
 use Rattle.ipc_base.specs.IdTrees.{all_ids_view}
@@ -14,14 +15,17 @@ use Rattle.ipc_devices.specs.declared.fault.Fault.TheVariants.{OutOfSpec}
 use Rattle.ipc_devices.specs.declared.fault.OutOfSpecKind.TheVariants.{UnexpectedMessageType}
 use Rattle.ipc_laws.specs.Agreement.{AreAt}
 use Rattle.ipc_views.specs.Spot.{Spot}
-use Rattle.ipc_model.specs.Batches.{Schema, chosen, extra_of}
+use Rattle.ipc_model.specs.Batches.{chosen}
 use Rattle.ipc_model.specs.ReadChunks.{HaveMeaning}
 use Rattle.ipc_model.specs.Frame.{Frame, broken, frame, message, mark}
-use Rattle.ipc_model.specs.Streams.{Head, Header, Known, header_of, more, done, faulty, body_item, item, marked, most_dictionaries, with_chunks, meaning, nothing_known, waits}
+use Rattle.ipc_model.specs.Streams.{Head, Header, Known, header_of, more, done, faulty, marked, most_dictionaries, with_chunks, nothing_known, waits}
 use Rattle.ipc_read.specs.Chunks.{chunk_seen, order_of}
+use Rattle.ipc_readers.specs.ChosenColumns.{asked_of, shown_by}
+use Rattle.ipc_readers.specs.ChosenStreams.{Request, chosen_body, chosen_item, chosen_meaning}
 use Rattle.ipc_readers.specs.Frames.{IsFramingFault, begun_bytes, due}
 use Rattle.ipc_readers.specs.Messages.{opened}
 use Rattle.ipc_readers.specs.Refusals.{IsDictionaryMessageFault, IsRecordFault, IsStreamFault}
+use Rattle.ipc_readers.specs.declared.read.stream.chosen.Chosen.{Chosen}
 use Rattle.ipc_readers.specs.declared.read.stream.metadata.StreamMetadata.{StreamMetadata}
 use Rattle.ipc_readers.specs.declared.read.stream.reader.Batches.{Batches}
 use Rattle.ipc_readers.specs.declared.read.stream.reader.Found.{Found}
@@ -46,6 +50,18 @@ device_of r = r.reader
 -- what the schema message said
 abbrev pub metadata_of : {R : Type 0} → StreamReader R → StreamMetadata
 metadata_of r = r.batches.metadata
+
+-- the columns that are asked for, prepared: none where all are read
+abbrev pub chosen_of : {R : Type 0} → StreamReader R → Option Chosen
+chosen_of r = r.batches.projection
+
+-- their numbers
+abbrev pub projection_of : {R : Type 0} → StreamReader R → Option (List ℕ)
+projection_of r = asked_of (chosen_of r)
+
+-- the schema of the chunks
+abbrev pub schema_of : {R : Type 0} → StreamReader R → schemas.Schema
+schema_of r = shown_by (metadata_of r).schema (chosen_of r)
 
 -- the bytes of a prefix that an earlier call began to read
 abbrev pub begun_of : {R : Type 0} → StreamReader R → List ℕ
@@ -84,15 +100,22 @@ head_of m = record {
     ids = all_ids_view m.ipc_schema.fields.items;
     order = order_of m.ipc_schema.is_little_endian;
   };
-  extra = extra_of m.version;
+  version = m.version;
 }
+
+-- what is asked of a stream
+abbrev pub request_in : Batches → Request
+request_in b = record { head = head_of b.metadata; projection = asked_of b.projection }
+
+abbrev pub request_of : {R : Type 0} → StreamReader R → Request
+request_of r = request_in r.batches
 
 -- ---- the values of dictionaries
 
 -- At each dictionary place of a chunk's columns, those inside the values of others aside, stand the values that are known.
 abbrev pub HasKnownValues : Batches → List AnyArray → Type 0
 HasKnownValues b chunk =
-    HaveMeaning (known_in b).dictionaries (all_ids_view b.metadata.ipc_schema.fields.items) (chosen None (length b.metadata.schema.fields.items)) (chunk_seen chunk) (map layout_of chunk)
+    HaveMeaning (known_in b).dictionaries (all_ids_view b.metadata.ipc_schema.fields.items) (chosen (asked_of b.projection) (length b.metadata.schema.fields.items)) (chunk_seen chunk) (map layout_of chunk)
 
 abbrev pub BodyHasValues : Batches → Option (List AnyArray) → Type 0
 BodyHasValues b None = Unit {0}
@@ -108,22 +131,22 @@ StateHasValues b _ = Unit {0}
 
 -- ---- one message
 
--- Which faults of the input's a message with a header of this tag can have in a stream of this schema, n dictionary messages behind the
--- last record, if its header is well made.
-pub record BlamesBody (schema : Schema) (n tag : ℕ) (e : Fault) : Type 0 where
-  pub record_batch : tag ≡ 3 → IsRecordFault schema e
+-- Which faults of the input's a message with a header of this tag can have in a stream of which h is asked, n dictionary messages behind
+-- the last record, if its header is well made.
+pub record BlamesBody (h : Request) (n tag : ℕ) (e : Fault) : Type 0 where
+  pub record_batch : tag ≡ 3 → IsRecordFault h e
   pub dictionary_batch : tag ≡ 2 → IsDictionaryMessageFault n e
   pub other : tag ≢ 2 → tag ≢ 3 → e ≡ OutOfSpec UnexpectedMessageType
 
-abbrev pub BlamesOpened : Schema → ℕ → Result Header Fault → Fault → Type 0
-BlamesOpened schema n (Ok m) e = BlamesBody schema n m.tag e
-BlamesOpened schema n (Err f) e = e ≡ f
+abbrev pub BlamesOpened : Request → ℕ → Result Header Fault → Fault → Type 0
+BlamesOpened h n (Ok m) e = BlamesBody h n m.tag e
+BlamesOpened h n (Err f) e = e ≡ f
 
 -- Which fault of the input's what stands at the front has: that of the frame, that of its metadata, or one of its kind.
-abbrev pub BlamesFront : Schema → ℕ → Frame → Fault → Type 0
-BlamesFront schema n (message metadata behind) e = BlamesOpened schema n (opened metadata) e
-BlamesFront schema n broken e = IsFramingFault e
-BlamesFront schema n _ e = ⊥
+abbrev pub BlamesFront : Request → ℕ → Frame → Fault → Type 0
+BlamesFront h n (message metadata behind) e = BlamesOpened h n (opened metadata) e
+BlamesFront h n broken e = IsFramingFault e
+BlamesFront h n _ e = ⊥
 
 -- a message of this tag may be read: a record, or a dictionary where fewer than the most came since the last record
 pub record IsAdmitted (n tag : ℕ) : Type 0 where
@@ -146,33 +169,33 @@ of_dictionary (Err e) = Err e
 
 -- The body of a message was read of xs, which leaves ys: what it means to s is its chunk, if it is a record, and what is known then is
 -- what l is. A fault of the input's says that it means nothing, and is one of its kind.
-abbrev pub ReadsBody : Head → (s : Known) → Header → List ℕ → Result (Option (List AnyArray)) Fault → (l : Known) → List ℕ → Type 0
-ReadsBody h s m xs (Ok c) l ys = (t : Known) × AreAt t l × (body_item h s m xs ≡ more (option_map chunk_seen c) t ys)
-ReadsBody h s m xs (Err e) l ys = OwnFault e ((body_item h s m xs ≡ done faulty) × BlamesBody h.schema s.count m.tag e)
+abbrev pub ReadsBody : Request → (s : Known) → Header → List ℕ → Result (Option (List AnyArray)) Fault → (l : Known) → List ℕ → Type 0
+ReadsBody h s m xs (Ok c) l ys = (t : Known) × AreAt t l × (chosen_body h s m xs ≡ more (option_map chunk_seen c) t ys)
+ReadsBody h s m xs (Err e) l ys = OwnFault e ((chosen_body h s m xs ≡ done faulty) × BlamesBody h s.count m.tag e)
 
 -- the same for whoever knows as much as k
-pub record GivesBody (h : Head) (k : Known) (m : Header) (xs : List ℕ) (r : Result (Option (List AnyArray)) Fault) (l : Known) (ys : List ℕ) : Type 0 where
+pub record GivesBody (h : Request) (k : Known) (m : Header) (xs : List ℕ) (r : Result (Option (List AnyArray)) Fault) (l : Known) (ys : List ℕ) : Type 0 where
   pub each : (s : Known) → AreAt s k → ReadsBody h s m xs r l ys
 
 -- This body was read, as the message gives it whose body it is, whatever is ahead of it then.
-pub record GivesHeld (h : Head) (k : Known) (tag : ℕ) (t : Spot) (body : List ℕ) (r : Result (Option (List AnyArray)) Fault) (l : Known) : Type 0 where
+pub record GivesHeld (h : Request) (k : Known) (tag : ℕ) (t : Spot) (body : List ℕ) (r : Result (Option (List AnyArray)) Fault) (l : Known) : Type 0 where
   pub each : (ys : List ℕ) → GivesBody h k (record { tag = tag; table = t; body = length body }) (body ++ ys) r l ys
 
 -- A message was refused before its body was read, whatever that is.
-pub record RefusesBody (h : Head) (k : Known) (tag : ℕ) (t : Spot) (e : Fault) : Type 0 where
+pub record RefusesBody (h : Request) (k : Known) (tag : ℕ) (t : Spot) (e : Fault) : Type 0 where
   pub each : (n : ℕ) (xs : List ℕ) → GivesBody h k (record { tag = tag; table = t; body = n }) xs (Err e) k xs
 
--- What was read is what stands at the front of xs, for a schema h and who knows s. begun is what is kept then, l what is known, and ys
+-- What was read is what stands at the front of xs to who knows s, of what h asks for. begun is what is kept then, l what is known, and ys
 -- what is ahead: behind the mark all that follows it, which another can read.
-abbrev pub ReadsItem : Head → (s : Known) → List ℕ → Result Found Fault → (l : Known) → (begun ys : List ℕ) → Type 0
-ReadsItem h s xs (Ok (fronts.Chunk chunk)) l begun ys = (t : Known) × AreAt t l × (item h s xs ≡ more (Some (chunk_seen chunk)) t ys)
-ReadsItem h s xs (Ok fronts.Dictionary) l begun ys = (t : Known) × AreAt t l × (item h s xs ≡ more None t ys)
-ReadsItem h s xs (Ok fronts.Waiting) l begun ys = AreAt s l × (item h s xs ≡ done (waits s begun))
-ReadsItem h s xs (Ok fronts.Mark) l begun ys = (item h s xs ≡ done marked) × (frame xs ≡ mark ys)
-ReadsItem h s xs (Err e) l begun ys = OwnFault e ((item h s xs ≡ done faulty) × BlamesFront h.schema s.count (frame xs) e)
+abbrev pub ReadsItem : Request → (s : Known) → List ℕ → Result Found Fault → (l : Known) → (begun ys : List ℕ) → Type 0
+ReadsItem h s xs (Ok (fronts.Chunk chunk)) l begun ys = (t : Known) × AreAt t l × (chosen_item h s xs ≡ more (Some (chunk_seen chunk)) t ys)
+ReadsItem h s xs (Ok fronts.Dictionary) l begun ys = (t : Known) × AreAt t l × (chosen_item h s xs ≡ more None t ys)
+ReadsItem h s xs (Ok fronts.Waiting) l begun ys = AreAt s l × (chosen_item h s xs ≡ done (waits s begun))
+ReadsItem h s xs (Ok fronts.Mark) l begun ys = (chosen_item h s xs ≡ done marked) × (frame xs ≡ mark ys)
+ReadsItem h s xs (Err e) l begun ys = OwnFault e ((chosen_item h s xs ≡ done faulty) × BlamesFront h s.count (frame xs) e)
 
 -- the same for whoever knows as much as k
-pub record GivesItem (h : Head) (k : Known) (xs : List ℕ) (r : Result Found Fault) (l : Known) (begun ys : List ℕ) : Type 0 where
+pub record GivesItem (h : Request) (k : Known) (xs : List ℕ) (r : Result Found Fault) (l : Known) (begun ys : List ℕ) : Type 0 where
   pub each : (s : Known) → AreAt s k → ReadsItem h s xs r l begun ys
 
 -- a dictionary is one more since the last record
@@ -183,7 +206,7 @@ CountsOn _ old new = Unit {0}
 -- ---- what a device gave
 
 -- The bytes of a body were given, or the first of them.
-abbrev pub BodyGave : {S : Type 0} → Gives S → Head → Known → Header → S → Result (Option (List AnyArray)) Fault → Known → S → Type 0
+abbrev pub BodyGave : {S : Type 0} → Gives S → Request → Known → Header → S → Result (Option (List AnyArray)) Fault → Known → S → Type 0
 BodyGave gives h k m a r l b = GaveTo gives (AnswerStop r) (λ xs. length xs ≤ m.body) (λ all rest. GivesBody h k m all r l rest) a b
 
 -- It waits exactly where the device gave no more.
@@ -198,7 +221,7 @@ pub record IsWithinMessage (bytes : List ℕ) : Type 0 where
       ((m : List ℕ) × (rest : List ℕ) × (h : Header) × (frame bytes ≡ message m rest) × (header_of m ≡ Some h) × (length rest ≤ h.body))
 
 -- Behind the begun bytes p, no more was given than the rest of a message. It is what GivesItem says of it, whatever follows.
-abbrev pub ItemGave : {S : Type 0} → Gives S → Head → (k : Known) → (p : List ℕ) → S → Result Found Fault → (l : Known) → (q : List ℕ) → S → Type 0
+abbrev pub ItemGave : {S : Type 0} → Gives S → Request → (k : Known) → (p : List ℕ) → S → Result Found Fault → (l : Known) → (q : List ℕ) → S → Type 0
 ItemGave gives h k p a r l q b = GaveTo gives (ItemStop r) (λ xs. IsWithinMessage (p ++ xs)) (λ all rest. GivesItem h k (p ++ all) r l q (q ++ rest)) a b
 
 -- what a call of `next` found last
@@ -210,13 +233,13 @@ last_found (Err e) = Err e
 
 -- n dictionary messages were read one behind the other, and then what the answer says. Behind a fault what is known is what was known
 -- before the message that has it.
-abbrev pub ItemsGave : {S : Type 0} → Gives S → Head → ℕ → (k : Known) → (p : List ℕ) → S → Result (Option StreamState) Fault → (l : Known) → (q : List ℕ) → S → Type 0
+abbrev pub ItemsGave : {S : Type 0} → Gives S → Request → ℕ → (k : Known) → (p : List ℕ) → S → Result (Option StreamState) Fault → (l : Known) → (q : List ℕ) → S → Type 0
 ItemsGave gives h zero k p a r l q b = ItemGave gives h k p a (last_found r) l q b × OnErr r (AreAt k l)
 ItemsGave {S} gives h (suc n) k p a r l q b = (u : Known) × (v : List ℕ) × (c : S) × ItemGave gives h k p a (Ok fronts.Dictionary) u v c × ItemsGave gives h n u v c r l q b
 
 -- Dictionary messages were read, as many as there were, and then the message behind them, or what else stands there. Nothing else was
 -- given.
-pub record NextGave {S : Type 0} (gives : Gives S) (h : Head) (k : Known) (p : List ℕ) (a : S) (r : Result (Option StreamState) Fault) (l : Known) (q : List ℕ) (b : S) : Type 0 where
+pub record NextGave {S : Type 0} (gives : Gives S) (h : Request) (k : Known) (p : List ℕ) (a : S) (r : Result (Option StreamState) Fault) (l : Known) (q : List ℕ) (b : S) : Type 0 where
   pub passed : ℕ
   pub items : ItemsGave gives h passed k p a r l q b
 
@@ -226,19 +249,19 @@ pub record NextGave {S : Type 0} (gives : Gives S) (h : Head) (k : Known) (p : L
 abbrev pub ahead : {R : Type 0} → (R → Memory) → StreamReader R → List ℕ
 ahead memory r = begun_of r ++ after (memory (device_of r))
 
--- The next of a stream xs of a schema h to who knows s, where ys is ahead then, and l is known. A chunk is the first that the stream
--- means, and what it means further is what ys means to who knows as much. Else the stream means that it waits, with the begun bytes kept,
+-- The next of a stream xs to who knows s, of what h asks for, where ys is ahead then, and l is known. A chunk is the first that the
+-- stream means, and what it means further is what ys means to who knows as much. Else the stream means that it waits, with the begun bytes kept,
 -- or that it ends. A fault of the input's says that it means nothing from here on.
-abbrev pub ReadsNext : Head → (s : Known) → List ℕ → Result (Option StreamState) Fault → (l : Known) → (begun ys : List ℕ) → Type 0
+abbrev pub ReadsNext : Request → (s : Known) → List ℕ → Result (Option StreamState) Fault → (l : Known) → (begun ys : List ℕ) → Type 0
 ReadsNext h s xs (Ok (Some (states.Some chunk))) l begun ys =
-    (t : Known) × AreAt t l × (meaning h s xs ≡ with_chunks (chunk_seen chunk ∷ []) (meaning h t ys))
+    (t : Known) × AreAt t l × (chosen_meaning h s xs ≡ with_chunks (chunk_seen chunk ∷ []) (chosen_meaning h t ys))
 ReadsNext h s xs (Ok (Some states.Waiting)) l begun ys =
-    (t : Known) × AreAt t l × (meaning h s xs ≡ record { chunks = []; end = waits t begun })
-ReadsNext h s xs (Ok None) l begun ys = meaning h s xs ≡ record { chunks = []; end = marked }
-ReadsNext h s xs (Err e) l begun ys = OwnFault e (meaning h s xs ≡ record { chunks = []; end = faulty })
+    (t : Known) × AreAt t l × (chosen_meaning h s xs ≡ record { chunks = []; end = waits t begun })
+ReadsNext h s xs (Ok None) l begun ys = chosen_meaning h s xs ≡ record { chunks = []; end = marked }
+ReadsNext h s xs (Err e) l begun ys = OwnFault e (chosen_meaning h s xs ≡ record { chunks = []; end = faulty })
 
 -- the same for whoever knows as much as k
-pub record GivesNext (h : Head) (k : Known) (xs : List ℕ) (r : Result (Option StreamState) Fault) (l : Known) (begun ys : List ℕ) : Type 0 where
+pub record GivesNext (h : Request) (k : Known) (xs : List ℕ) (r : Result (Option StreamState) Fault) (l : Known) (begun ys : List ℕ) : Type 0 where
   pub each : (s : Known) → AreAt s k → ReadsNext h s xs r l begun ys
 
 -- `next` as a `Result`
@@ -255,11 +278,12 @@ ends (Some (Err e)) = true
 
 -- What a call of `next` takes and answers, and what stands then. The dictionaries of a chunk are those that the reader knows. Where nothing comes any more, the device isn't asked.
 pub record NextStep {R : Type 0} (gives : Gives R) (known : Bool) (memory : R → Memory) (a : StreamReader R) (r : Option (Result StreamState Fault)) (b : StreamReader R) : Type 0 where
-  pub only : IfErr (next_result r) (λ e. OwnFault e (IsStreamFault (head_of (metadata_of a)).schema e))
+  pub only : IfErr (next_result r) (λ e. OwnFault e (IsStreamFault (request_of a) e))
   pub described : metadata_of b ≡ metadata_of a
+  pub projected : chosen_of b ≡ chosen_of a
   pub over : is_over a ≡ true → (r ≡ None) × (is_over b ≡ true) × (device_of b ≡ device_of a)
   pub finished : is_over a ≡ false → is_over b ≡ ends r
   pub values : IfOk (next_result r) (StateHasValues b.batches)
-  pub gave : is_over a ≡ false → NextGave gives (head_of (metadata_of a)) (known_of a) (begun_of a) (device_of a) (next_result r) (known_of b) (begun_of b) (device_of b)
+  pub gave : is_over a ≡ false → NextGave gives (request_of a) (known_of a) (begun_of a) (device_of a) (next_result r) (known_of b) (begun_of b) (device_of b)
   pub next : IsTrue known → is_over a ≡ false
-      → GivesNext (head_of (metadata_of a)) (known_of a) (ahead memory a) (next_result r) (known_of b) (begun_of b) (ahead memory b)
+      → GivesNext (request_of a) (known_of a) (ahead memory a) (next_result r) (known_of b) (begun_of b) (ahead memory b)

@@ -1,5 +1,5 @@
 -- The next chunk of a stream goes to those that were read.
-use Rattle.std.proofs.Common.{◌≡◌, ℕ, List, [], ◌∷◌, ◌++◌, Option, None, Some, Ok, Err, Bool, true, false, IsTrue, refl, sym, ap, subst, ◌∙◌, append-nil, append_assoc}
+use Rattle.std.proofs.Common.{◌≡◌, ℕ, List, [], ◌∷◌, ◌++◌, Option, None, Some, Ok, Err, Bool, true, false, refl, sym, ap, subst, ◌∙◌, append-nil, append_assoc}
 use Rattle.std.proofs.lemmas.List.{map-append}
 use Rattle.lower_arrays.specs.declared.array.AnyArray.{AnyArray}
 use Rattle.ipc_devices.specs.Device.{Memory}
@@ -8,11 +8,12 @@ use Rattle.ipc_devices.specs.Faults.{OwnFault}
 use Rattle.ipc_devices.specs.declared.fault.Fault.{Fault}
 use Rattle.ipc_devices.specs.declared.fault.Fault.TheVariants as faults
 use Rattle.ipc_model.specs.Batches.{Chunk}
-use Rattle.ipc_model.specs.Streams.{Known, Meant, faulty, marked, meaning, waits, with_chunks}
+use Rattle.ipc_model.specs.Streams.{Known, Meant, faulty, marked, waits, with_chunks}
 use Rattle.ipc_readers.proofs.Bodies.{claims_through}
+use Rattle.ipc_readers.proofs.Loops.{same_request}
 use Rattle.ipc_readers.proofs.OfMemory.{next_fails, other_answer}
-use Rattle.ipc_readers.specs.Streams.{Knows, NextStep, ahead, begun_of, head_of, is_over, metadata_of}
-use Rattle.ipc_readers.specs.declared.read.stream.metadata.StreamMetadata.{StreamMetadata}
+use Rattle.ipc_readers.specs.ChosenStreams.{Request, chosen_meaning}
+use Rattle.ipc_readers.specs.Streams.{Knows, NextStep, ahead, request_of, begun_of, is_over}
 use Rattle.ipc_readers.specs.declared.read.stream.reader.StreamReader.{StreamReader}
 use Rattle.ipc_readers.specs.declared.read.stream.reader.StreamState.{StreamState}
 use Rattle.ipc_readers.specs.declared.read.stream.reader.StreamState.TheVariants as states
@@ -45,12 +46,12 @@ pushed gives known memory failures fails a b chunk xs ys step added = record {
     step.finished going,
     λ m ahead_a.
         let read = (step.next k going).each ahead_a.known ahead_a.knows in
-        let n = meaning (head_of (metadata_of a)) read.0 (ahead memory b) in (
+        let n = chosen_meaning (request_of a) read.0 (ahead memory b) in (
           n,
           record {
             known = read.0;
             knows = read.1;
-            means = ap (λ (x : StreamMetadata). meaning (head_of x) read.0 (ahead memory b)) step.described;
+            means = ap (λ (g : Request). chosen_meaning g read.0 (ahead memory b)) (same_request a b step.described step.projected);
           },
           more_read xs chunk m n (sym ahead_a.means ∙ read.2)
               ∙ ap (λ (zs : List (List AnyArray)). with_chunks (chunks_seen zs) n) (sym added),
@@ -65,7 +66,7 @@ refused_push gives known memory failures fails a b e xs ys step = record {
   failed = other_answer (Option StreamState) Bool e _ (next_fails gives known memory failures fails a (Some (Err e)) b step).0;
   monotone = (next_fails gives known memory failures fails a (Some (Err e)) b step).1;
   push = λ k going. claims_through e _ _ (λ refused m ahead_a. sym (ap (λ (x : Meant). x.end) ahead_a.means) ∙ ap (λ (x : Meant). x.end) (refused ahead_a.known ahead_a.knows))
-      (for_each (Knows a) (λ s. meaning (head_of (metadata_of a)) s (ahead memory a) ≡ record { chunks = []; end = faulty }) e (step.next k going).each);
+      (for_each (Knows a) (λ s. chosen_meaning (request_of a) s (ahead memory a) ≡ record { chunks = []; end = faulty }) e (step.next k going).each);
 }
 
 -- a chunk for which there is no memory

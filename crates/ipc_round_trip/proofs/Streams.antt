@@ -20,7 +20,7 @@ use Rattle.ipc_views.specs.MessageSlots.{message_version}
 use Rattle.ipc_views.specs.Spot.{Spot}
 use Rattle.ipc_views.specs.Tables.{root_at}
 use Rattle.ipc_views.specs.declared.schema.MetadataVersion.{MetadataVersion}
-use Rattle.ipc_model.specs.Batches.{Chunk, Schema, extra_of}
+use Rattle.ipc_model.specs.Batches.{Chunk, Schema}
 use Rattle.ipc_model.specs.Frame.{Frame, message, mark, waiting, broken, frame}
 use Rattle.ipc_model.specs.Schemas.{given, made, schema_of}
 use Rattle.ipc_model.specs.Schemas.{head_of as head_at}
@@ -30,7 +30,9 @@ use Rattle.ipc_read.specs.Chunks.{order_of}
 use Rattle.ipc_readers.specs.Metadata.{GivesMetadata, MetadataGave, MetadataSeen, metadata_at, metadata_seen, table_version, version_at, version_slot}
 use Rattle.ipc_readers.proofs.Bodies.{claims_through}
 use Rattle.ipc_readers.proofs.OfMemory.{metadata_ahead, metadata_fails, no_failure}
-use Rattle.ipc_readers.specs.Streams.{Begins, Knows, ahead, device_of, head_of, metadata_of}
+use Rattle.ipc_readers.proofs.ChosenStreams.{whole_law}
+use Rattle.ipc_readers.specs.ChosenStreams.{Request, chosen_meaning}
+use Rattle.ipc_readers.specs.Streams.{Begins, ahead, request_of, device_of, head_of, projection_of}
 use Rattle.ipc_readers.specs.declared.read.stream.metadata.StreamMetadata.{StreamMetadata}
 use Rattle.ipc_readers.specs.declared.read.stream.reader.StreamReader.{StreamReader}
 use Rattle.ipc_round_trip.specs.Reading.{EndsAs, IsReadable, MeansAhead, RefusesAhead, RefusesStream}
@@ -46,32 +48,32 @@ use Rattle.ipc_round_trip.specs.RoundTrip.{EndsStream, FinishedLaw, OpenLaw, Rea
 use Rattle.ipc_round_trip.specs.declared.read.WholeStream.{WholeStream}
 
 -- a stream that is there
-abbrev stream_or : Option Stream → Stream → Stream
+abbrev pub stream_or : Option Stream → Stream → Stream
 stream_or (Some s) other = s
 stream_or None other = other
 
 -- ---- the schema message
 
 abbrev with_version : Schema → MetadataVersion → Option Head
-with_version schema version = Some (record { schema = schema; extra = extra_of version })
+with_version schema version = Some (record { schema = schema; version = version })
 
 slot_head : (schema : Schema) (v : Result MetadataVersion TableFault) (x : MetadataSeen) → option_map (λ version. (schema, version)) (result_ok (version_slot v)) ≡ Some x
-    → given (made v) (with_version schema) ≡ Some (record { schema = x.0; extra = extra_of x.1 })
+    → given (made v) (with_version schema) ≡ Some (record { schema = x.0; version = x.1 })
 slot_head schema (Ok v) x e = cc
 slot_head schema (Err f) x e = absurd cc
 
 table_head : (schema : Schema) (t : Result Spot TableFault) (x : MetadataSeen) → option_map (λ version. (schema, version)) (result_ok (table_version t)) ≡ Some x
-    → given (made t) (λ spot. given (made (message_version spot)) (with_version schema)) ≡ Some (record { schema = x.0; extra = extra_of x.1 })
+    → given (made t) (λ spot. given (made (message_version spot)) (with_version schema)) ≡ Some (record { schema = x.0; version = x.1 })
 table_head schema (Ok t) x e = slot_head schema (message_version t) x e
 table_head schema (Err f) x e = absurd cc
 
 schema_head : (o : Option Schema) (t : Result Spot TableFault) (x : MetadataSeen) → given o (λ schema. option_map (λ version. (schema, version)) (result_ok (table_version t))) ≡ Some x
-    → given o (λ schema. given (made t) (λ spot. given (made (message_version spot)) (with_version schema))) ≡ Some (record { schema = x.0; extra = extra_of x.1 })
+    → given o (λ schema. given (made t) (λ spot. given (made (message_version spot)) (with_version schema))) ≡ Some (record { schema = x.0; version = x.1 })
 schema_head None t x e = absurd cc
 schema_head (Some schema) t x e = table_head schema t x e
 
 -- the head that a schema message says
-head_is : (m : List ℕ) (x : StreamMetadata) → metadata_at m ≡ Some (metadata_seen x) → head_at m ≡ Some (head_of x)
+pub head_is : (m : List ℕ) (x : StreamMetadata) → metadata_at m ≡ Some (metadata_seen x) → head_at m ≡ Some (head_of x)
 unfolding metadata_at head_at version_at
 head_is m x e = schema_head (schema_of m) (root_at m) (metadata_seen x) e
 
@@ -105,7 +107,7 @@ no_schema : (o : Option Schema) (t : Result Spot TableFault) → given {B = Meta
 no_schema None t e = refl
 no_schema (Some schema) t e = no_table schema t e
 
-no_head : (m : List ℕ) → metadata_at m ≡ None → head_at m ≡ None
+pub no_head : (m : List ℕ) → metadata_at m ≡ None → head_at m ≡ None
 unfolding metadata_at head_at version_at
 no_head m e = no_schema (schema_of m) (root_at m) e
 
@@ -157,7 +159,7 @@ pub head_same : (a b : StreamMetadata) → schema_view a.schema ≡ schema_view 
     → head_of a ≡ head_of b
 head_same a b s v d = λ i. record {
   schema = record { fields = (s i).0; metadata = (s i).1; ids = (d i).0; order = order_of (d i).1 };
-  extra = extra_of (v i);
+  version = v i;
 }
 
 new_rest : {R : Type 0} (memory : R → Memory) (device : R) (a : StreamMetadata) (r : StreamReader R) → Begins device a r → ahead memory r ≡ after (memory device)
@@ -165,17 +167,27 @@ new_rest memory device a r h =
     ap (λ xs. xs ++ after (memory (device_of r))) h.begun
     ∙ ap (λ d. after (memory d)) h.reader
 
--- what is ahead of a new reader is what stands behind the schema, to who knows nothing
-pub new_ahead : {R : Type 0} (memory : R → Memory) (device : R) (a b : StreamMetadata) (r : StreamReader R) → Begins device a r → head_of a ≡ head_of b
-    → MeansAhead memory r (meaning (head_of b) nothing_known (after (memory device)))
-new_ahead memory device a b r h e = record {
+-- what is asked of a new reader
+asked_new : {R : Type 0} (device : R) (a b : StreamMetadata) (r : StreamReader R) (p : Option (List ℕ)) → Begins device a r → head_of a ≡ head_of b → projection_of r ≡ p
+    → request_of r ≡ record { head = head_of b; projection = p }
+asked_new device a b r p h e asked = let heads = ap head_of h.described ∙ e in λ i. record { head = heads i; projection = asked i }
+
+-- what is ahead of a new reader is what stands behind the schema, to who knows nothing, by the columns that are asked for
+pub chosen_ahead : {R : Type 0} (memory : R → Memory) (device : R) (a b : StreamMetadata) (r : StreamReader R) (p : Option (List ℕ)) → Begins device a r → head_of a ≡ head_of b
+    → projection_of r ≡ p → MeansAhead memory r (chosen_meaning (record { head = head_of b; projection = p }) nothing_known (after (memory device)))
+chosen_ahead memory device a b r p h e asked = record {
   known = nothing_known;
   knows = h.knows;
   means =
-      ap (λ x. meaning (head_of x) nothing_known (ahead memory r)) h.described
-      ∙ ap (λ x. meaning x nothing_known (ahead memory r)) e
-      ∙ ap (meaning (head_of b) nothing_known) (new_rest memory device a r h);
+      ap (λ (g : Request). chosen_meaning g nothing_known (ahead memory r)) (asked_new device a b r p h e asked)
+      ∙ ap (chosen_meaning (record { head = head_of b; projection = p }) nothing_known) (new_rest memory device a r h);
 }
+
+-- the same of all columns
+pub new_ahead : {R : Type 0} (memory : R → Memory) (device : R) (a b : StreamMetadata) (r : StreamReader R) → Begins device a r → head_of a ≡ head_of b → projection_of r ≡ None
+    → MeansAhead memory r (meaning (head_of b) nothing_known (after (memory device)))
+new_ahead memory device a b r h e asked =
+    subst (λ (m : Meant). MeansAhead memory r m) (whole_law (head_of b) nothing_known (after (memory device))) (chosen_ahead memory device a b r None h e asked)
 
 pub ends_same : (x y : Bool) (e : End) → x ≡ y → EndsAs y e → EndsAs x e
 ends_same x y e f h = subst (λ (b : Bool). EndsAs b e) (sym f) h
@@ -184,29 +196,29 @@ ends_same x y e f h = subst (λ (b : Bool). EndsAs b e) (sym f) h
 
 -- a stream whose chunks are refused can't be read
 pub refused_chunks : {R : Type 0} (memory : R → Memory) (device : R) (bytes xs : List ℕ) (a b : StreamMetadata) (r : StreamReader R) (e : Fault) → xs ≡ bytes
-    → GivesMetadata (frame xs) (Ok b) (after (memory device)) → Begins device a r → head_of a ≡ head_of b → RefusesAhead memory r e → OwnFault e (¬ (IsReadable bytes))
-refused_chunks memory device bytes xs a b r e same h begins heads refused =
+    → GivesMetadata (frame xs) (Ok b) (after (memory device)) → Begins device a r → head_of a ≡ head_of b → projection_of r ≡ None → RefusesAhead memory r e → OwnFault e (¬ (IsReadable bytes))
+refused_chunks memory device bytes xs a b r e same h begins heads asked refused =
     claims_through e _ _ (λ ends readable.
     let rest = after (memory device) in
     let meant = meaning (head_of b) nothing_known rest in
     let none : Stream = record { head = head_of b; meant = meant } in
     let there = sym (whole_stream bytes xs rest b same h) ∙ readable.stream in
-    let end_is : meant.end ≡ faulty = ends meant (new_ahead memory device a b r begins heads) in
+    let end_is : meant.end ≡ faulty = ends meant (new_ahead memory device a b r begins heads asked) in
     readable.sound (sym (ap (λ (o : Option Stream). (stream_or o none).meant.end) there) ∙ end_is)) refused
 
 -- ---- what was written
 
-ends_marked : (over : Bool) (e : End) → e ≡ marked → EndsAs over e → over ≡ true
+pub ends_marked : (over : Bool) (e : End) → e ≡ marked → EndsAs over e → over ≡ true
 ends_marked true e is h = refl
 ends_marked false (waits k begun) is h = absurd cc
 ends_marked false marked is h = absurd h
 ends_marked false faulty is h = absurd h
 
-ends_waiting : (over : Bool) (e : End) (k : Known) → e ≡ waits k [] → EndsAs over e → over ≡ false
+pub ends_waiting : (over : Bool) (e : End) (k : Known) → e ≡ waits k [] → EndsAs over e → over ≡ false
 ends_waiting true e k is h = absurd cc
 ends_waiting false e k is h = refl
 
-abbrev seen_stream : WholeStream → Meant → Stream
+abbrev pub seen_stream : WholeStream → Meant → Stream
 seen_stream s meant = record { head = head_of s.metadata; meant = meant }
 
 pub finished_law : FinishedLaw

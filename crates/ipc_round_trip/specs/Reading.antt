@@ -8,10 +8,11 @@ use Rattle.ipc_devices.specs.declared.fault.Fault.{Fault}
 use Rattle.ipc_devices.specs.declared.fault.Fault.TheVariants.{Io, Memory}
 use Rattle.lower_arrays.specs.declared.array.AnyArray.{AnyArray}
 use Rattle.ipc_model.specs.Batches.{Chunk}
-use Rattle.ipc_model.specs.Streams.{Head, Known, End, marked, waits, faulty, Meant, meaning, with_chunks}
+use Rattle.ipc_model.specs.Streams.{Head, Known, End, marked, waits, faulty, Meant, with_chunks}
 use Rattle.ipc_model.specs.WholeStreams.{stream_of}
 use Rattle.ipc_read.specs.Chunks.{chunk_seen}
-use Rattle.ipc_readers.specs.Streams.{Knows, ahead, device_of, head_of, is_over, metadata_of}
+use Rattle.ipc_readers.specs.ChosenStreams.{chosen_meaning}
+use Rattle.ipc_readers.specs.Streams.{Knows, ahead, request_of, device_of, head_of, is_over, metadata_of}
 use Rattle.ipc_readers.specs.declared.read.stream.reader.StreamReader.{StreamReader}
 use Rattle.ipc_round_trip.specs.declared.read.WholeStream.{WholeStream}
 
@@ -19,11 +20,11 @@ use Rattle.ipc_round_trip.specs.declared.read.WholeStream.{WholeStream}
 abbrev pub chunks_seen : List (List AnyArray) → List Chunk
 chunks_seen xs = map chunk_seen xs
 
--- what is ahead of a reader means m to someone who knows the same dictionaries
+-- what is ahead of a reader means m, by the columns that are asked for, to someone who knows the same dictionaries
 pub record MeansAhead {R : Type 0} (memory : R → devices.Memory) (r : StreamReader R) (m : Meant) : Type 0 where
   pub known : Known
   pub knows : Knows r known
-  pub means : meaning (head_of (metadata_of r)) known (ahead memory r) ≡ m
+  pub means : chosen_meaning (request_of r) known (ahead memory r) ≡ m
 
 -- a stream ends by its mark, or it waits for more
 abbrev pub EndsAs : Bool → End → Type 0

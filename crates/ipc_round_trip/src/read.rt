@@ -41,7 +41,7 @@ fn push_next<R: Reads + Drop>(
 }
 
 // All chunks up to the mark, or up to where the stream waits.
-fn read_chunks<R: Reads + Drop>(
+pub(crate) fn read_chunks<R: Reads + Drop>(
     alloc: Global,
     reader: &mut StreamReader<R>,
 ) -> Result<Vec<Chunk<AnyArray>>, Fault>

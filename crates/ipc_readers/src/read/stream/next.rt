@@ -1,26 +1,28 @@
 //! Reads the next chunk of a stream.
-ghost use Rattle.std.specs.Prelude.{◌≡◌, ◌<◌, ◌+◌, ◌^◌, ◌↔◌, IsTrue, IsSome, IfOk, IfErr, OnOk, OnErr, None, false, vec_capacity};
+ghost use Rattle.std.specs.Prelude.{◌≡◌, ◌<◌, ◌+◌, ◌^◌, ◌↔◌, IsTrue, IsSome, IfOk, IfErr, OnOk, OnErr, length, vec_capacity};
 ghost use Rattle.std.specs.Iterator.{endless};
 ghost use Rattle.ipc_devices.specs.Faults.{OnIo, OwnFault};
-ghost use Rattle.ipc_devices.specs.declared.fault.Fault.TheVariants.{NotYetImplemented};
-ghost use Rattle.ipc_devices.specs.declared.fault.Nyi.TheVariants.{Pending};
+ghost use Rattle.ipc_devices.specs.declared.fault.Fault.TheVariants.{Memory};
 ghost use Rattle.ipc_base.specs.Fitting.{AllFit};
 ghost use Rattle.ipc_base.specs.IdTrees.{all_ids_view};
 ghost use Rattle.ipc_laws.specs.Agreement.{AreAt};
+ghost use Rattle.ipc_model.specs.Batches.{IsProjection};
 ghost use Rattle.ipc_model.specs.Streams.{most_dictionaries};
 ghost use Rattle.ipc_views.specs.Unions.{header_parts};
 ghost use Rattle.lower.specs.TypeViews.{fields_view};
+ghost use Rattle.ipc_readers.specs.ChosenColumns.{ShowsColumns, items_of};
 ghost use Rattle.ipc_readers.specs.Messages.{header_seen};
 ghost use Rattle.ipc_readers.specs.Refusals.{IsStreamFault};
-ghost use Rattle.ipc_readers.specs.Streams.{NextStep, IsWaiting, HasChunk, Begins, BodyGave, BodyHasValues, Counted, CountsOn, FrontHasValues, GivesHeld, HasKnownValues, IsAdmitted, ItemGave, NextGave, RefusesBody, StateHasValues, begun_of, device_of, head_of, is_over, known_in, known_of, metadata_of, of_dictionary, of_record};
+ghost use Rattle.ipc_readers.specs.Streams.{NextStep, IsWaiting, HasChunk, Begins, BodyGave, BodyHasValues, Counted, CountsOn, FrontHasValues, GivesHeld, HasKnownValues, IsAdmitted, ItemGave, NextGave, RefusesBody, StateHasValues, request_of, request_in, begun_of, chosen_of, device_of, is_over, known_in, known_of, metadata_of, of_dictionary, of_record, projection_of, schema_of};
 
 use crate::read::begun::{Begun, Frame};
 use crate::read::frame::read_frame;
 use crate::read::message::{Message, open_message};
+use crate::read::stream::choosing::{choose, ordered, rising};
 use crate::read::stream::metadata::StreamMetadata;
 use crate::read::stream::reader::{Batches, Found, StreamReader, StreamState};
 use ipc_base::chunk::Chunk;
-use ipc_devices::fault::{Fault, Nyi, OutOfSpecKind};
+use ipc_devices::fault::{Fault, OutOfSpecKind};
 use ipc_devices::{MemFile, Reads, read_into};
 use ipc_read::read::common::read_record_batch;
 use ipc_read::read::dictionaries::read_dictionary;
@@ -57,24 +59,25 @@ impl StreamState {
 }
 
 impl Batches {
-    // The columns of a record batch of this body.
+    // The columns of a record batch of this body that are asked for.
     fn columns(&mut self, batch: RecordBatchRef<'_>, body: &[u8]) -> Result<Chunk<AnyArray>, Fault>
         ensures described { self.new.metadata ≡ self.old.metadata }
+        ensures projected { self.new.projection ≡ self.old.projection }
         ensures counted { OnOk result (self.new.count ≡ 0) }
         ensures kept { OnErr result (AreAt (known_in self.old) (known_in self.new)) }
-        ensures only { IfErr result (λ e. OwnFault e (IsStreamFault (head_of self.old.metadata).schema e)) }
+        ensures only { IfErr result (λ e. OwnFault e (IsStreamFault (request_in self.old) e)) }
         ensures own { OnIo result ⊥ }
         ensures values { IfOk result (λ chunk. HasKnownValues self.new chunk) }
-        ensures memory { GivesHeld (head_of self.old.metadata) (known_in self.old) 3 batch.entry body.now
+        ensures memory { GivesHeld (request_in self.old) (known_in self.old) 3 batch.entry body.now
             (of_record result) (known_in self.new) }
     {
         let mut bytes = MemFile::new(body);
-        let chunk = read_record_batch(
+        let read = read_record_batch(
             self.alloc,
             batch,
             &self.metadata.schema.fields,
             &self.metadata.ipc_schema,
-            None,
+            rising(&self.projection),
             None,
             &self.dictionaries,
             self.metadata.version,
@@ -83,6 +86,7 @@ impl Batches {
             body.len() as u64,
             &mut self.scratch,
         )?;
+        let chunk = ordered(self.alloc, &self.projection, read)?;
         self.count = 0;
         Ok(chunk)
     }
@@ -92,11 +96,12 @@ impl Batches {
     fn values(&mut self, batch: DictionaryBatchRef<'_>, body: &[u8]) -> Result<(), Fault>
         requires { self.old.count < most_dictionaries }
         ensures described { self.new.metadata ≡ self.old.metadata }
+        ensures projected { self.new.projection ≡ self.old.projection }
         ensures counted { OnOk result (self.new.count ≡ self.old.count + 1) }
         ensures kept { OnErr result (AreAt (known_in self.old) (known_in self.new)) }
-        ensures only { IfErr result (λ e. OwnFault e (IsStreamFault (head_of self.old.metadata).schema e)) }
+        ensures only { IfErr result (λ e. OwnFault e (IsStreamFault (request_in self.old) e)) }
         ensures own { OnIo result ⊥ }
-        ensures memory { GivesHeld (head_of self.old.metadata) (known_in self.old) 2 batch.entry body.now
+        ensures memory { GivesHeld (request_in self.old) (known_in self.old) 2 batch.entry body.now
             (of_dictionary result) (known_in self.new) }
     {
         let mut bytes = MemFile::new(body);
@@ -125,12 +130,13 @@ impl Batches {
     ) -> Result<Option<Chunk<AnyArray>>, Fault>
         requires { IsAdmitted self.old.count (header_parts header).0 }
         ensures described { self.new.metadata ≡ self.old.metadata }
+        ensures projected { self.new.projection ≡ self.old.projection }
         ensures counted { IfOk result (λ c. Counted c self.old.count self.new.count) }
         ensures values { IfOk result (λ c. BodyHasValues self.new c) }
         ensures kept { OnErr result (AreAt (known_in self.old) (known_in self.new)) }
-        ensures only { IfErr result (λ e. OwnFault e (IsStreamFault (head_of self.old.metadata).schema e)) }
+        ensures only { IfErr result (λ e. OwnFault e (IsStreamFault (request_in self.old) e)) }
         ensures own { OnIo result ⊥ }
-        ensures memory { GivesHeld (head_of self.old.metadata) (known_in self.old) (header_parts header.entry).0
+        ensures memory { GivesHeld (request_in self.old) (known_in self.old) (header_parts header.entry).0
             (header_parts header.entry).1 body.now result (known_in self.new) }
     {
         match header {
@@ -149,9 +155,9 @@ impl Batches {
     // Refuses a message of another kind, and one dictionary batch too many.
     fn check(&self, header: &MessageHeaderRef<'_>) -> Result<(), Fault>
         ensures admitted { OnOk result (IsAdmitted self.now.count (header_parts header.now).0) }
-        ensures only { IfErr result (λ e. OwnFault e (IsStreamFault (head_of self.now.metadata).schema e)) }
+        ensures only { IfErr result (λ e. OwnFault e (IsStreamFault (request_in self.now) e)) }
         ensures own { OnIo result ⊥ }
-        ensures refused { IfErr result (λ e. RefusesBody (head_of self.now.metadata) (known_in self.now)
+        ensures refused { IfErr result (λ e. RefusesBody (request_in self.now) (known_in self.now)
             (header_parts header.now).0 (header_parts header.now).1 e) }
     {
         match header {
@@ -175,11 +181,12 @@ impl Batches {
     ) -> Result<Option<Chunk<AnyArray>>, Fault>
         requires { message.body_length < 2 ^ 63 }
         ensures described { self.new.metadata ≡ self.old.metadata }
+        ensures projected { self.new.projection ≡ self.old.projection }
         ensures counted { IfOk result (λ c. Counted c self.old.count self.new.count) }
         ensures values { IfOk result (λ c. BodyHasValues self.new c) }
         ensures kept { OnErr result (AreAt (known_in self.old) (known_in self.new)) }
-        ensures only { IfErr result (λ e. OwnFault e (IsStreamFault (head_of self.old.metadata).schema e)) }
-        ensures gives { BodyGave R.gives (head_of self.old.metadata) (known_in self.old) (header_seen message.entry)
+        ensures only { IfErr result (λ e. OwnFault e (IsStreamFault (request_in self.old) e)) }
+        ensures gives { BodyGave R.gives (request_in self.old) (known_in self.old) (header_seen message.entry)
             reader.old result (known_in self.new) reader.new }
         ensures shown { R.shows reader.old message.entry.body_length
             → (body.new.items ≡ body.old.items) × (vec_capacity body.new ≡ vec_capacity body.old) }
@@ -199,9 +206,11 @@ impl Batches {
 
 impl<R: Reads + Drop> StreamReader<R> {
     /// A reader of the messages behind the schema message of a stream, which `metadata` is of. The ids
-    /// in it have the shape of its fields. Where no columns are chosen it takes no memory.
+    /// in it have the shape of its fields (see `fits`). A projection names columns that are there, none of them twice (see
+    /// `is_projection`): the chunks have these columns, in this order. An empty one gives chunks without columns. Without a
+    /// projection all columns are read, and the call takes no memory.
     ///
-    /// Fault: `NotYetImplemented(Pending)` where columns are chosen. No other comes.
+    /// Fault: `Memory`, where there is a projection. No other comes.
     #[tactic(auto, using(ipc_base::proofs::FitTests::all_test))]
     pub fn new(
         alloc: Global,
@@ -209,18 +218,19 @@ impl<R: Reads + Drop> StreamReader<R> {
         metadata: StreamMetadata,
         projection: Option<Vec<usize>>,
     ) -> Result<StreamReader<R>, Fault>
-        requires { AllFit (fields_view metadata.schema.fields.items)
+        requires fits { AllFit (fields_view metadata.schema.fields.items)
             (all_ids_view metadata.ipc_schema.fields.items) }
+        requires columns { IsProjection (items_of projection) (length metadata.schema.fields.items) }
         ensures ok { IfOk result (λ made. Begins reader metadata made) }
-        ensures all { OnOk result (projection ≡ None) }
-        ensures only { IfErr result (λ e. (e ≡ NotYetImplemented Pending) × IsSome projection) }
+        ensures asked { IfOk result (λ made. projection_of made ≡ items_of projection) }
+        ensures shown { IfOk result (λ made. ShowsColumns (items_of projection) metadata.schema (schema_of made)) }
+        ensures only { IfErr result (λ e. (e ≡ Memory) × IsSome projection) }
     {
-        if projection.is_some() {
-            return Err(Fault::NotYetImplemented(Nyi::Pending));
-        }
+        let projection = choose(alloc, &metadata.schema, projection)?;
         let batches = Batches {
             alloc,
             metadata,
+            projection,
             dictionaries: HashMap::new(alloc),
             count: 0,
             scratch: Vec::new(alloc),
@@ -242,11 +252,14 @@ impl<R: Reads + Drop> StreamReader<R> {
         &self.batches.metadata
     }
 
-    /// The schema of the chunks.
+    /// The schema of the chunks: the columns that are asked for, in this order, or all; with the metadata of the stream's schema.
     pub fn schema(&self) -> &Schema
-        ensures { result.now ≡ (metadata_of self.now).schema }
+        ensures { result.now ≡ schema_of self.now }
     {
-        &self.batches.metadata.schema
+        match &self.batches.projection {
+            Some(chosen) => &chosen.schema,
+            None => &self.batches.metadata.schema,
+        }
     }
 
     /// Whether `next` gives None from now on: after the mark, and after a fault.
@@ -266,13 +279,14 @@ impl<R: Reads + Drop> StreamReader<R> {
 
     // What stands at the front.
     fn read_item(&mut self) -> Result<Found, Fault>
-        ensures only { IfErr result (λ e. OwnFault e (IsStreamFault (head_of (metadata_of self.old)).schema e)) }
+        ensures only { IfErr result (λ e. OwnFault e (IsStreamFault (request_of self.old) e)) }
         ensures finished { is_over self.new ≡ is_over self.old }
         ensures described { metadata_of self.new ≡ metadata_of self.old }
+        ensures projected { chosen_of self.new ≡ chosen_of self.old }
         ensures counted { IfOk result (λ f. CountsOn f (known_of self.old).count (known_of self.new).count) }
         ensures values { IfOk result (λ f. FrontHasValues self.new.batches f) }
         ensures kept { OnErr result (AreAt (known_of self.old) (known_of self.new)) }
-        ensures gives { ItemGave R.gives (head_of (metadata_of self.old)) (known_of self.old) (begun_of self.old)
+        ensures gives { ItemGave R.gives (request_of self.old) (known_of self.old) (begun_of self.old)
             (device_of self.old) result (known_of self.new) (begun_of self.new) (device_of self.new) }
     {
         match read_frame(&mut self.reader, &mut self.begun, &mut self.message)? {
@@ -293,11 +307,12 @@ impl<R: Reads + Drop> StreamReader<R> {
 
     // The next chunk, or None at the mark. The dictionary batches before it are read.
     fn read_next(&mut self) -> Result<Option<StreamState>, Fault>
-        ensures only { IfErr result (λ e. OwnFault e (IsStreamFault (head_of (metadata_of self.old)).schema e)) }
+        ensures only { IfErr result (λ e. OwnFault e (IsStreamFault (request_of self.old) e)) }
         ensures finished { is_over self.new ≡ is_over self.old }
         ensures described { metadata_of self.new ≡ metadata_of self.old }
+        ensures projected { chosen_of self.new ≡ chosen_of self.old }
         ensures values { IfOk result (λ state. StateHasValues self.new.batches state) }
-        ensures gives { NextGave R.gives (head_of (metadata_of self.old)) (known_of self.old) (begun_of self.old)
+        ensures gives { NextGave R.gives (request_of self.old) (known_of self.old) (begun_of self.old)
             (device_of self.old) result (known_of self.new) (begun_of self.new) (device_of self.new) }
     {
         loop {

@@ -1,11 +1,14 @@
 //! What a reader of a stream holds and answers.
-ghost use Rattle.std.specs.Prelude.{IsTrue, ◌≤◌};
+ghost use Rattle.std.specs.Prelude.{IsTrue, length, ◌≤◌};
 ghost use Rattle.ipc_base.specs.Fitting.{all_fit};
 ghost use Rattle.ipc_base.specs.IdTrees.{all_ids_view};
+ghost use Rattle.ipc_model.specs.Batches.{is_projection};
 ghost use Rattle.ipc_model.specs.Streams.{most_dictionaries};
+ghost use Rattle.ipc_readers.specs.ChosenColumns.{asked_of};
 ghost use Rattle.lower.specs.TypeViews.{fields_view};
 
 use crate::read::begun::Begun;
+use crate::read::stream::chosen::Chosen;
 use crate::read::stream::metadata::StreamMetadata;
 use ipc_base::chunk::Chunk;
 use ipc_read::read::Dictionaries;
@@ -20,12 +23,13 @@ use std::alloc::Global;
 /// input ends before the next message, or up to three bytes into its prefix, which are kept, and then
 /// each later call goes on from there; None from the mark that ends the stream on; or a fault, once, and
 /// None from then on. The dictionaries that a column has are those that were read before its record batch; chunks share their values.
+/// Where columns are asked for the chunks are of these, in this order; another column isn't read, and isn't judged.
 ///
 /// Faults of `next`: those of [`read_frame`], [`open_message`], [`read_dictionary`] and [`read_record_batch`]; `Ended` where
 /// the body is shorter than stated; `OutOfSpec(UnexpectedMessageType)` where the message is neither a
 /// record batch nor a dictionary batch; `TooManyDictionaries` at the 65,537th dictionary batch since the last record batch;
 /// `Io` where the device failed; `Memory`. No other comes. Over bytes in memory there is no `Io`, and a
-/// fault other than `Memory` comes only where what stands ahead means nothing.
+/// fault other than `Memory` comes only where what stands ahead means nothing by the columns that are asked for.
 ///
 /// [`read_frame`]: crate::read::frame::read_frame
 /// [`open_message`]: crate::read::message::open_message
@@ -47,6 +51,8 @@ pub struct StreamReader<R> {
 pub(crate) struct Batches {
     pub(crate) alloc: Global,
     pub(crate) metadata: StreamMetadata,
+    // the columns that are asked for, if not all
+    pub(crate) projection: Option<Chosen>,
     // the values that are known, by their ids
     pub(crate) dictionaries: Dictionaries,
     // how many dictionary batches came since the last record batch
@@ -54,6 +60,7 @@ pub(crate) struct Batches {
     // room for parts of a body
     pub(crate) scratch: Vec<u8>,
     ghost few: { count ≤ most_dictionaries },
+    ghost there: { IsTrue (is_projection (asked_of projection) (length metadata.schema.fields.items)) },
     ghost fits: { IsTrue (all_fit (fields_view metadata.schema.fields.items)
         (all_ids_view metadata.ipc_schema.fields.items)) },
 }

@@ -1,4 +1,4 @@
-use Rattle.std.proofs.Common.{rules, ◌≡◌, Ok, Err, true, false, refl}
+use Rattle.std.proofs.Common.{rules}
 use Rattle.std.proofs.lemmas.Result.{err_from_is_err_and}
 use Rattle.ipc_round_trip.proofs.Pushes.{all_read, goes_on, refused_ahead}
 use Rattle.ipc_round_trip.proofs.read.read_chunks.Goals as goal

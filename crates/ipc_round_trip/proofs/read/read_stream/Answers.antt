@@ -15,7 +15,7 @@ returns c =
     let begins = c.in_ok-reader.ensures.ok in
     let all = c.in_ok-chunks.ensures.memory refl begins.unfinished in
     let heads = head_same c.in_ok-copy.copy c.in_ok-metadata.metadata copied.schema copied.version copied.ids in
-    let ahead = new_ahead slice_memory c.read_stream_metadata.new.reader c.in_ok-copy.copy c.in_ok-metadata.metadata c.in_ok-reader.reader begins heads in
+    let ahead = new_ahead slice_memory c.read_stream_metadata.new.reader c.in_ok-copy.copy c.in_ok-metadata.metadata c.in_ok-reader.reader begins heads c.in_ok-reader.ensures.asked in
     let front : after (record { whole = c.new-input.result.inner.now; place = c.new-input.result.position }) ≡ c.args.bytes.now =
     ap (λ f. after (record { whole = f.inner.now; place = f.position })) c.new-input.ensures in
     record {
@@ -50,4 +50,4 @@ returns-in_err-chunks c =
     rw (p.1, p.2) (refuses_stream fault _ (no_failure (Vec (List AnyArray) Global) WholeStream fault c.in_err-chunks.ensures.failed)
     (refused_chunks slice_memory c.read_stream_metadata.new.reader c.args.bytes.now _ c.in_ok-copy.copy c.in_ok-metadata.metadata c.in_ok-reader.reader fault front
     (slice_metadata (Ok c.in_ok-metadata.metadata) c.new-input.result c.read_stream_metadata.new.reader c.in_ok-metadata.ensures.gives)
-    begins heads (c.in_err-chunks.ensures.refused refl begins.unfinished)))
+    begins heads c.in_ok-reader.ensures.asked (c.in_err-chunks.ensures.refused refl begins.unfinished)))

@@ -1,6 +1,6 @@
 use Rattle.std.proofs.Common.{◌∙◌, refl, Ok, Err, Some, None}
 use Rattle.ipc_readers.proofs.Steps.{next_ahead}
-use Rattle.ipc_readers.specs.Streams.{NextGave, begun_of, device_of, head_of, known_of, metadata_of}
+use Rattle.ipc_readers.specs.Streams.{NextGave, request_of, begun_of, device_of, known_of}
 use Rattle.ipc_readers.proofs.read.stream.next.StreamReaderIterator.next.Goals as goal
 
 pub returns-in-Ok-Some-clause-steps : goal.returns-in-Ok-Some-clause-steps
@@ -8,11 +8,12 @@ returns-in-Ok-Some-clause-steps g c =
     let memory = g.R.Failures.memory in
     let old = c.args.self.now in
     let new = c.read_next.new.self in
-    let h = head_of (metadata_of old) in
+    let h = request_of old in
     let gave : NextGave g.R.Reads.gives h (known_of old) (begun_of old) (device_of old) (Ok (Some c.in-Ok-Some.state)) (known_of new) (begun_of new) (device_of new) = rw c.in-Ok-Some.field-0-is at c.in-Ok-Some.ensures.gives in
     record {
       only = tt;
       described = c.in-Ok-Some.ensures.described;
+      projected = c.in-Ok-Some.ensures.projected;
       values = rw c.in-Ok-Some.field-0-is at c.in-Ok-Some.ensures.values;
       over = λ e. absurd (cc (e, c.if-self.false));
       finished = λ _. c.in-Ok-Some.ensures.finished ∙ c.if-self.false;
@@ -25,11 +26,12 @@ returns-in-Ok-None-clause-steps g c =
     let memory = g.R.Failures.memory in
     let old = c.args.self.now in
     let new = c.read_next.new.self in
-    let h = head_of (metadata_of old) in
+    let h = request_of old in
     let gave : NextGave g.R.Reads.gives h (known_of old) (begun_of old) (device_of old) (Ok None) (known_of new) (begun_of new) (device_of new) = rw c.in-Ok-None.field-0-is at c.in-Ok-None.ensures.gives in
     record {
       only = tt;
       described = c.in-Ok-None.ensures.described;
+      projected = c.in-Ok-None.ensures.projected;
       values = tt;
       over = λ e. absurd (cc (e, c.if-self.false));
       finished = λ _. refl;
@@ -42,11 +44,12 @@ returns-in-Err-clause-steps g c =
     let memory = g.R.Failures.memory in
     let old = c.args.self.now in
     let new = c.read_next.new.self in
-    let h = head_of (metadata_of old) in
+    let h = request_of old in
     let gave : NextGave g.R.Reads.gives h (known_of old) (begun_of old) (device_of old) (Err c.in-Err.e) (known_of new) (begun_of new) (device_of new) = c.in-Err.ensures.gives in
     record {
       only = c.in-Err.ensures.only;
       described = c.in-Err.ensures.described;
+      projected = c.in-Err.ensures.projected;
       values = tt;
       over = λ e. absurd (cc (e, c.if-self.false));
       finished = λ _. refl;

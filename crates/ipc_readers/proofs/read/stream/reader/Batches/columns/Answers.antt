@@ -1,18 +1,44 @@
-use Rattle.std.proofs.Common.{rules, ◌≡◌, refl, sym, None, ℕ, List, length, subst, Result, Ok, Err}
-use Rattle.lower.specs.TypeViews.{fields_view, pairs_of}
+use Rattle.std.proofs.Common.{rules, ◌≡◌, refl, sym, None, Option, ℕ, List, map, length, subst, Ok, Err}
+use Rattle.std.specs.Option.{option_copied}
+use Rattle.lower.specs.TypeViews.{pairs_of}
 use Rattle.lower.specs.declared.datatypes.Field.{Field}
+use Rattle.lower_arrays.specs.AnyLayouts.{layout_of}
 use Rattle.lower_arrays.specs.declared.array.AnyArray.{AnyArray}
 use Rattle.ipc_base.specs.IdTrees.{all_ids_view}
 use Rattle.ipc_columns.specs.Bodies.{known_dictionaries}
 use Rattle.ipc_devices.specs.Faults.{OwnFault}
 use Rattle.ipc_devices.specs.declared.fault.Fault.{Fault}
 use Rattle.ipc_model.specs.Batches.{extra_of, kinds, chosen}
-use Rattle.ipc_read.proofs.Fields.{field_count}
-use Rattle.ipc_read.specs.Chunks.{GivesBatch, batch_schema, order_of}
+use Rattle.ipc_model.specs.ReadChunks.{HaveMeaning}
+use Rattle.ipc_read.specs.Chunks.{GivesBatch, batch_schema, chunk_seen, order_of}
+use Rattle.ipc_read.specs.Columns.{ArePrepared}
 use Rattle.ipc_read.specs.Refusals.{IsFaultOfBatch}
-use Rattle.ipc_readers.proofs.Bodies.{batch_faults, columns_give}
-use Rattle.ipc_readers.specs.Streams.{known_in}
+use Rattle.ipc_readers.proofs.AskedBatches.{are_prepared}
+use Rattle.ipc_readers.proofs.AskedColumns.{as_many_read, values_in_order}
+use Rattle.ipc_readers.proofs.GivenColumns.{given_columns, no_memory, refused_columns, stream_faults}
+use Rattle.ipc_readers.specs.ChosenColumns.{rising_of}
+use Rattle.ipc_readers.specs.Streams.{known_in, request_in}
 use Rattle.ipc_readers.proofs.read.stream.reader.Batches.columns.Goals as goal
+
+pub read_record_batch-requires : goal.read_record_batch-requires
+read_record_batch-requires c =
+    let old = c.args.self.now in
+    let fs : List Field = old.metadata.schema.fields.items in
+    let fields_are : c.deref.result.now ≡ fs = search rules in
+    record {
+      prepared = subst (λ (p : Option (List ℕ)). ArePrepared p (length c.deref.result.now)) (sym c.rising.ensures.columns)
+          (subst (λ (ds : List Field). ArePrepared (rising_of old.projection) (length ds)) (sym fields_are) (are_prepared (length fs) old.projection old.there c.rising.ensures.same));
+    }
+
+pub ordered-requires : goal.ordered-requires
+ordered-requires c =
+    let old = c.args.self.now in
+    let fs : List Field = old.metadata.schema.fields.items in
+    let fields_are : c.deref.result.now ≡ fs = search rules in
+    let read : List AnyArray = c.in_ok-read.read in
+    let Many : Option (List ℕ) → List Field → Type 0 = λ p ds. length read ≡ length (chosen p (length ds)) in
+    as_many_read (length fs) old.projection (length read)
+    (subst (λ ds. Many (rising_of old.projection) ds) fields_are (subst (λ p. Many p c.deref.result.now) c.rising.ensures.columns c.in_ok-read.ensures.many))
 
 pub returns-clause-memory : goal.returns-clause-memory
 returns-clause-memory c =
@@ -20,19 +46,21 @@ returns-clause-memory c =
     let m = old.metadata in
     let body : List ℕ = c.args.body.now in
     let fs : List Field = m.schema.fields.items in
-    let is = all_ids_view m.ipc_schema.fields.items in
     let bytes : List ℕ = c.new-bytes.result.inner.now in
     let bytes_are : bytes ≡ body = search rules in
     let fields_are : c.deref.result.now ≡ fs = search rules in
-    let r : Result (List AnyArray) Fault = Ok c.in_ok-chunk.chunk in
-    let Read : List Field → List ℕ → Type 0 = λ ds bs. GivesBatch (batch_schema ds m.ipc_schema) (extra_of m.version) (known_dictionaries old.dictionaries) (record { source = bs; base = 0; size = length body }) c.args.batch None None r in
-    let given : Read c.deref.result.now bytes = c.in_ok-chunk.ensures.memory refl in
-    columns_give (fields_view fs) (pairs_of m.schema.metadata.entries) is (order_of m.ipc_schema.is_little_endian) (extra_of m.version) (known_in old)
-    c.args.batch body r (record { dictionaries = known_dictionaries old.dictionaries; count = 0 }) (refl, refl) tt
-    (subst (λ bs. Read fs bs) bytes_are (subst (λ ds. Read ds bytes) fields_are given))
+    let read : List AnyArray = c.in_ok-read.read in
+    let Read : Option (List ℕ) → List Field → List ℕ → Type 0 = λ p ds bs. GivesBatch (batch_schema ds m.ipc_schema) (extra_of m.version) (known_dictionaries old.dictionaries) (record { source = bs; base = 0; size = length body }) c.args.batch p None (Ok read) in
+    let given : Read (option_copied c.rising.result) c.deref.result.now bytes = c.in_ok-read.ensures.memory refl in
+    let Many : Option (List ℕ) → List Field → Type 0 = λ p ds. length read ≡ length (chosen p (length ds)) in
+    given_columns old.projection fs (pairs_of m.schema.metadata.entries) (all_ids_view m.ipc_schema.fields.items) (order_of m.ipc_schema.is_little_endian) m.version c.rising.ensures.same
+    (known_in old) c.args.batch body read c.in_ok-chunk.chunk
+    (as_many_read (length fs) old.projection (length read) (subst (λ ds. Many (rising_of old.projection) ds) fields_are (subst (λ p. Many p c.deref.result.now) c.rising.ensures.columns c.in_ok-read.ensures.many)))
+    c.in_ok-chunk.ensures.ordered
+    (subst (λ bs. Read (rising_of old.projection) fs bs) bytes_are (subst (λ ds. Read (rising_of old.projection) ds bytes) fields_are (subst (λ p. Read p c.deref.result.now bytes) c.rising.ensures.columns given)))
 
-pub returns-in_err-chunk-clause-memory : goal.returns-in_err-chunk-clause-memory
-returns-in_err-chunk-clause-memory c =
+pub returns-in_err-read-clause-memory : goal.returns-in_err-read-clause-memory
+returns-in_err-read-clause-memory c =
     let old = c.args.self.now in
     let m = old.metadata in
     let body : List ℕ = c.args.body.now in
@@ -41,28 +69,50 @@ returns-in_err-chunk-clause-memory c =
     let bytes : List ℕ = c.new-bytes.result.inner.now in
     let bytes_are : bytes ≡ body = search rules in
     let fields_are : c.deref.result.now ≡ fs = search rules in
-    let fault : Fault = c.in_err-chunk.field-0.0 in
+    let fault : Fault = c.in_err-read.field-0.0 in
     let e : c.from_residual.result ≡ Err fault = search rules in
-    let r : Result (List AnyArray) Fault = Err fault in
-    let Read : List Field → List ℕ → Type 0 = λ ds bs. GivesBatch (batch_schema ds m.ipc_schema) (extra_of m.version) (known_dictionaries old.dictionaries) (record { source = bs; base = 0; size = length body }) c.args.batch None None r in
-    let given : Read c.deref.result.now bytes = c.in_err-chunk.ensures.memory refl in
-    let Blames : List Field → ℕ → Type 0 = λ ds n. OwnFault fault (IsFaultOfBatch (kinds (batch_schema ds m.ipc_schema)) (chosen None n) fault) in
-    let blamed : Blames c.deref.result.now (length c.deref.result.now) = c.in_err-chunk.ensures.only in
-    let only : Blames fs (length fs) = subst (λ (ds : List Field). Blames ds (length ds)) fields_are blamed in
-    rw e (columns_give (fields_view fs) (pairs_of m.schema.metadata.entries) is (order_of m.ipc_schema.is_little_endian) (extra_of m.version) (known_in old)
-    c.args.batch body r (known_in old) tt (subst (λ (n : ℕ). Blames fs n) (sym (field_count fs is)) only)
-    (subst (λ bs. Read fs bs) bytes_are (subst (λ ds. Read ds bytes) fields_are given)))
+    let Read : Option (List ℕ) → List Field → List ℕ → Type 0 = λ p ds bs. GivesBatch (batch_schema ds m.ipc_schema) (extra_of m.version) (known_dictionaries old.dictionaries) (record { source = bs; base = 0; size = length body }) c.args.batch p None (Err fault) in
+    let given : Read (option_copied c.rising.result) c.deref.result.now bytes = c.in_err-read.ensures.memory refl in
+    let Blames : Option (List ℕ) → List Field → Type 0 = λ p ds. OwnFault fault (IsFaultOfBatch (kinds (batch_schema ds m.ipc_schema)) (chosen p (length ds)) fault) in
+    let blamed : Blames (option_copied c.rising.result) c.deref.result.now = c.in_err-read.ensures.only in
+    rw e (refused_columns old.projection fs (pairs_of m.schema.metadata.entries) is (order_of m.ipc_schema.is_little_endian) m.version c.rising.ensures.same
+    (known_in old) c.args.batch body fault
+    (subst (λ ds. Blames (rising_of old.projection) ds) fields_are (subst (λ p. Blames p c.deref.result.now) c.rising.ensures.columns blamed))
+    (subst (λ bs. Read (rising_of old.projection) fs bs) bytes_are (subst (λ ds. Read (rising_of old.projection) ds bytes) fields_are (subst (λ p. Read p c.deref.result.now bytes) c.rising.ensures.columns given))))
 
-pub returns-in_err-chunk-clause-only : goal.returns-in_err-chunk-clause-only
-returns-in_err-chunk-clause-only c =
-    let m = c.args.self.now.metadata in
+pub returns-in_err-chunk-clause-memory : goal.returns-in_err-chunk-clause-memory
+returns-in_err-chunk-clause-memory c =
+    let old = c.args.self.now in
+    let fault : Fault = c.in_err-chunk.field-0.0 in
+    let e : c.from_residual-in_err-chunk.result ≡ Err fault = search rules in
+    rw e (no_memory (request_in old) (known_in old) 3 c.args.batch c.args.body.now fault (known_in old) c.in_err-chunk.ensures.only)
+
+pub returns-in_err-read-clause-only : goal.returns-in_err-read-clause-only
+returns-in_err-read-clause-only c =
+    let old = c.args.self.now in
+    let m = old.metadata in
+    let fs : List Field = m.schema.fields.items in
+    let fields_are : c.deref.result.now ≡ fs = search rules in
+    let fault : Fault = c.in_err-read.field-0.0 in
+    let e : c.from_residual.result ≡ Err fault = search rules in
+    let Blames : Option (List ℕ) → List Field → Type 0 = λ p ds. OwnFault fault (IsFaultOfBatch (kinds (batch_schema ds m.ipc_schema)) (chosen p (length ds)) fault) in
+    let blamed : Blames (option_copied c.rising.result) c.deref.result.now = c.in_err-read.ensures.only in
+    rw e (stream_faults old.projection fs (pairs_of m.schema.metadata.entries) (all_ids_view m.ipc_schema.fields.items) (order_of m.ipc_schema.is_little_endian) m.version c.rising.ensures.same fault
+    (subst (λ ds. Blames (rising_of old.projection) ds) fields_are (subst (λ p. Blames p c.deref.result.now) c.rising.ensures.columns blamed)))
+
+pub returns-clause-values : goal.returns-clause-values
+returns-clause-values c =
+    let old = c.args.self.now in
+    let m = old.metadata in
     let fs : List Field = m.schema.fields.items in
     let is = all_ids_view m.ipc_schema.fields.items in
+    let known = known_dictionaries old.dictionaries in
     let fields_are : c.deref.result.now ≡ fs = search rules in
-    let fault : Fault = c.in_err-chunk.field-0.0 in
-    let e : c.from_residual.result ≡ Err fault = search rules in
-    let r : Result (List AnyArray) Fault = Err fault in
-    let Blames : List Field → ℕ → Type 0 = λ ds n. OwnFault fault (IsFaultOfBatch (kinds (batch_schema ds m.ipc_schema)) (chosen None n) fault) in
-    let blamed : Blames c.deref.result.now (length c.deref.result.now) = c.in_err-chunk.ensures.only in
-    let only : Blames fs (length fs) = subst (λ (ds : List Field). Blames ds (length ds)) fields_are blamed in
-    rw e (batch_faults (fields_view fs) (pairs_of m.schema.metadata.entries) is (order_of m.ipc_schema.is_little_endian) r (subst (λ (n : ℕ). Blames fs n) (sym (field_count fs is)) only))
+    let read : List AnyArray = c.in_ok-read.read in
+    let Have : Option (List ℕ) → List Field → Type 0 = λ p ds. HaveMeaning known is (chosen p (length ds)) (chunk_seen read) (map layout_of read) in
+    let have : Have (option_copied c.rising.result) c.deref.result.now = c.in_ok-read.ensures.values refl in
+    let Many : Option (List ℕ) → List Field → Type 0 = λ p ds. length read ≡ length (chosen p (length ds)) in
+    values_in_order known is (length fs) old.projection read c.in_ok-chunk.chunk c.rising.ensures.same
+    (as_many_read (length fs) old.projection (length read) (subst (λ ds. Many (rising_of old.projection) ds) fields_are (subst (λ p. Many p c.deref.result.now) c.rising.ensures.columns c.in_ok-read.ensures.many)))
+    c.in_ok-chunk.ensures.ordered
+    (subst (λ ds. Have (rising_of old.projection) ds) fields_are (subst (λ p. Have p c.deref.result.now) c.rising.ensures.columns have))

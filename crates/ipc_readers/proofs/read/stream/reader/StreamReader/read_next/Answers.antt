@@ -7,6 +7,7 @@ pub loop-chunk-preserved : goal.loop-chunk-preserved
 loop-chunk-preserved g c = record {
   finished = c.in_ok-read_item.ensures.finished ∙ c.loop-chunk.invariant.finished;
   on = goes_past g.R.Reads.gives c.args.self.now c.loop-chunk.self c.read_item.new.self (c.in_ok-read_item.ensures.described ∙ c.loop-chunk.invariant.on.described)
+      (c.in_ok-read_item.ensures.projected ∙ c.loop-chunk.invariant.on.projected)
       c.loop-chunk.invariant.on (rw c.in-Dictionary.is at c.in_ok-read_item.ensures.gives);
 }
 
