@@ -5,5 +5,6 @@ pub mod BlockRecords
 pub mod BlockDictionaries
 pub mod KnownAlike
 pub mod Openings
-pub mod Steps
 pub mod Tails
+pub mod NeededValues
+pub mod Reasons

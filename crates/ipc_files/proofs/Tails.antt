@@ -6,9 +6,9 @@ use Rattle.std.proofs.lemmas.List.{take_all, drop-drop, length-drop}
 use Rattle.ipc_devices.specs.declared.fault.Fault.TheVariants.{OutOfSpec}
 use Rattle.ipc_devices.specs.declared.fault.OutOfSpecKind.TheVariants.{InvalidFooter, NegativeFooterLength}
 use Rattle.ipc_views.specs.Tables.{root_at}
-use Rattle.ipc_model.specs.Files.{FileMetadata, footer_at, footer_of_length, last, magic, metadata_of}
+use Rattle.ipc_model.specs.Files.{FileMetadata, footer_at, last, magic, metadata_of}
 use Rattle.ipc_model.specs.Schemas.{made, given}
-use Rattle.ipc_files.specs.Files.{footer_length, stated_length}
+use Rattle.ipc_files.specs.Files.{BeginningLaw, footer_from, footer_length, metadata_from, stated_length}
 
 -- ---- tests
 
@@ -71,26 +71,27 @@ ends : (bytes : List ℕ) → 10 ≤ length bytes → drop 4 (last 10 bytes) ≡
 ends bytes h = let e : length bytes - 10 + 4 ≡ length bytes - 6 = omega (arith, h) in
     drop-drop 4 (length bytes - 10) bytes ∙ ap (λ n. drop n bytes) e
 
-abbrev Meant : List ℕ → ℕ → Option FileMetadata
-Meant bytes n = given (made (root_at (take n (last (n + 10) bytes)))) (footer_at (length bytes))
+abbrev Meant : ℕ → List ℕ → ℕ → Option FileMetadata
+Meant start bytes n = given (made (root_at (take n (last (n + 10) bytes)))) (footer_at (length bytes - start))
 
 -- A file with its head, its tail and the footer that it states means what the footer says.
-pub metadata-is : (bytes : List ℕ) (n : ℕ) → take 6 bytes ≡ magic → n + 10 ≤ length bytes → footer_length (last 10 bytes) ≡ Ok n → metadata_of bytes ≡ Meant bytes n
-unfolding metadata_of
-metadata-is bytes n head fits s =
+pub metadata-is : (start : ℕ) (bytes : List ℕ) (n : ℕ) → take 6 (drop start bytes) ≡ magic → n + 10 ≤ length bytes → footer_length (last 10 bytes) ≡ Ok n
+    → metadata_from start bytes ≡ Meant start bytes n
+unfolding metadata_from
+metadata-is start bytes n head fits s =
     let st = is-stated (last 10 bytes) n s in
     let tail : bytes_eq (last 6 bytes) magic ≡ true = ap (λ xs. bytes_eq xs magic) (sym (ends bytes (omega (arith, fits)))) ∙ st.0 in
-    rw (not-below (length bytes) 10 (omega (arith, fits)), same-bytes (take 6 bytes) magic head, tail, st.1.1, st.1.0, not-below (length bytes) (n + 10) fits) refl
+    rw (not-below (length bytes) 10 (omega (arith, fits)), same-bytes (take 6 (drop start bytes)) magic head, tail, st.1.1, st.1.0, not-below (length bytes) (n + 10) fits) refl
 
 no-head : (a b c : Bool) (o : Option FileMetadata) → (b ≡ true → ⊥) → (if a then None else if b && c then o else None) ≡ None
 no-head true b c o e = refl
 no-head false true c o e = absurd (e refl)
 no-head false false c o e = refl
 
-pub other-head : (bytes : List ℕ) → (take 6 bytes ≡ magic → ⊥) → metadata_of bytes ≡ None
-unfolding metadata_of
-other-head bytes h = no-head (nat_lt (length bytes) 10) (bytes_eq (take 6 bytes) magic) (bytes_eq (last 6 bytes) magic)
-    (footer_of_length bytes (from_le_bytes w32 (take 4 (last 10 bytes)))) (λ e. h ((bytes_eq-Decides (take 6 bytes) magic).0 e))
+pub other-head : (start : ℕ) (bytes : List ℕ) → (take 6 (drop start bytes) ≡ magic → ⊥) → metadata_from start bytes ≡ None
+unfolding metadata_from
+other-head start bytes h = no-head (nat_lt (length bytes) 10) (bytes_eq (take 6 (drop start bytes)) magic) (bytes_eq (last 6 bytes) magic)
+    (footer_from start bytes (from_le_bytes w32 (take 4 (last 10 bytes)))) (λ e. h ((bytes_eq-Decides (take 6 (drop start bytes)) magic).0 e))
 
 no-tail : (a b c t u : Bool) (o : Option FileMetadata) → (a ≡ false → c ≡ true → t ≡ true → u ≡ false → ⊥)
     → (if a then None else if b && c then (if t then (if u then None else o) else None) else None) ≡ None
@@ -101,10 +102,22 @@ no-tail false true true false u o h = refl
 no-tail false true true true true o h = refl
 no-tail false true true true false o h = absurd (h refl refl refl refl)
 
-pub other-tail : (bytes : List ℕ) → ((n : ℕ) → n + 10 ≤ length bytes → footer_length (last 10 bytes) ≡ Ok n → ⊥) → metadata_of bytes ≡ None
-unfolding metadata_of
-other-tail bytes h =
+pub other-tail : (start : ℕ) (bytes : List ℕ) → ((n : ℕ) → n + 10 ≤ length bytes → footer_length (last 10 bytes) ≡ Ok n → ⊥) → metadata_from start bytes ≡ None
+unfolding metadata_from
+other-tail start bytes h =
     let n = from_le_bytes w32 (take 4 (last 10 bytes)) in
-    no-tail (nat_lt (length bytes) 10) (bytes_eq (take 6 bytes) magic) (bytes_eq (last 6 bytes) magic) (nat_lt n (2 ^ 31)) (nat_lt (length bytes) (n + 10)) (Meant bytes n)
+    no-tail (nat_lt (length bytes) 10) (bytes_eq (take 6 (drop start bytes)) magic) (bytes_eq (last 6 bytes) magic) (nat_lt n (2 ^ 31)) (nat_lt (length bytes) (n + 10))
+    (Meant start bytes n)
     (λ long tail small whole. h n (isnt-below (length bytes) (n + 10) whole)
     (states (last 10 bytes) n (ap (λ xs. bytes_eq xs magic) (ends bytes (isnt-below (length bytes) 10 long)) ∙ tail) refl (is-below n (2 ^ 31) small)))
+
+-- from the beginning of a device on
+pub beginning_law : BeginningLaw
+unfolding metadata_from metadata_of
+beginning_law bytes =
+    let n = from_le_bytes w32 (take 4 (last 10 bytes)) in
+    let all : length bytes - 0 ≡ length bytes = omega arith in
+    ap (λ (size : ℕ). if nat_lt (length bytes) 10 then None
+    else if bytes_eq (take 6 bytes) magic && bytes_eq (last 6 bytes) magic then (if nat_lt n (2 ^ 31)
+    then (if nat_lt (length bytes) (n + 10) then None else given (made (root_at (take n (last (n + 10) bytes)))) (footer_at size)) else None)
+    else None) all

@@ -1,6 +1,6 @@
--- Which faults refuse a file, and what stands at its end.
+-- What a file means that begins in the midst of a device, which faults refuse a file, and what stands at its end.
 -- (Arrow columnar format, "IPC File Format".)
-use Rattle.std.specs.Prelude.{◌≡◌, ℕ, ◌+◌, ◌≤◌, ◌^◌, nat_lt, if◌then◌else◌, List, length, take, drop, Result, Ok, Err}
+use Rattle.std.specs.Prelude.{◌≡◌, ◌⊎◌, ℕ, ◌+◌, ◌-◌, ◌<◌, ◌≤◌, ◌^◌, nat_lt, ◌&&◌, if◌then◌else◌, List, [], ◌∷◌, length, take, drop, Option, None, Result, Ok, Err, Bool, IsTrue}
 use Rattle.std.specs.Int.{w32, from_le_bytes}
 use Rattle.std.specs.Str.{bytes_eq}
 use Rattle.ipc_devices.specs.Faults.{OwnFault}
@@ -9,7 +9,34 @@ use Rattle.ipc_devices.specs.declared.fault.Fault.TheVariants.{Ended, NotYetImpl
 use Rattle.ipc_devices.specs.declared.fault.Nyi.TheVariants.{FeatherV1}
 use Rattle.ipc_devices.specs.declared.fault.OutOfSpecKind.TheVariants.{InvalidHeader, InvalidFooter, NegativeFooterLength, InvalidFlatbufferFooter, MissingRecordBatches, InvalidFlatbufferRecordBatches, MissingSchema, InvalidFlatbufferSchema, MissingFields, InvalidFlatbufferDictionaries}
 use Rattle.ipc_devices.specs.declared.fault.SchemaFault.TheVariants.{NotASchema}
-use Rattle.ipc_model.specs.Files.{last, magic}
+use Rattle.ipc_views.specs.Tables.{root_at}
+use Rattle.ipc_model.specs.Files.{FileMetadata, footer_at, last, magic, metadata_of}
+use Rattle.ipc_model.specs.Schemas.{made, given}
+use Rattle.ipc_files.specs.Footers.{RootFault}
+
+-- ---- a file that begins at a place
+
+-- The bytes of a device from a place on are a file: it begins there, and its size is counted from there. Its tail and its footer stand
+-- at the end of the device.
+abbrev pub footer_from : ℕ → List ℕ → ℕ → Option FileMetadata
+footer_from start bytes n =
+    if nat_lt n (2 ^ 31)
+    then (if nat_lt (length bytes) (n + 10) then None else given (made (root_at (take n (last (n + 10) bytes))))
+    (footer_at (length bytes - start)))
+    else None
+
+unfoldable pub metadata_from : ℕ → List ℕ → Option FileMetadata
+metadata_from start bytes =
+    if nat_lt (length bytes) 10 then None
+    else if bytes_eq (take 6 (drop start bytes)) magic
+    && bytes_eq (last 6 bytes) magic then footer_from start bytes (from_le_bytes w32 (take 4 (last 10 bytes)))
+    else None
+
+-- one that begins with the device means what its bytes mean
+abbrev pub BeginningLaw : Type 0
+BeginningLaw = (bytes : List ℕ) → metadata_from 0 bytes ≡ metadata_of bytes
+
+-- ---- which faults come
 
 -- of the head: another one, that of the older Feather format, or less than one
 abbrev pub HeadFault : Fault → Type 0
@@ -55,3 +82,42 @@ footer_length tail =
 abbrev pub GivesTail : List ℕ → Result (ℕ × ℕ) Fault → Type 0
 GivesTail bytes (Ok (end, n)) = (end ≡ length bytes) × ((n + 10 ≤ length bytes) × (footer_length (last 10 bytes) ≡ Ok n))
 GivesTail bytes (Err e) = OwnFault e ((n : ℕ) → n + 10 ≤ length bytes → footer_length (last 10 bytes) ≡ Ok n → ⊥)
+
+-- ---- why a fault comes
+
+-- FEA1
+abbrev pub feather : List ℕ
+feather = 70 ∷ 69 ∷ 65 ∷ 49 ∷ []
+
+-- Of the first bytes: there are less than 6, they are those of the older Feather format, or neither that nor ARROW1.
+abbrev pub HeadReason : List ℕ → Fault → Type 0
+HeadReason front Ended = length front < 6
+HeadReason front (NotYetImplemented FeatherV1) = take 4 front ≡ feather
+HeadReason front (OutOfSpec InvalidHeader) = (take 6 front ≡ magic → ⊥) × (take 4 front ≡ feather → ⊥)
+HeadReason front _ = ⊥
+
+-- there are less than 10 bytes, or less than those and the footer that is stated
+abbrev pub IsShort : List ℕ → Type 0
+IsShort bytes = (length bytes < 10) ⊎ ((n : ℕ) × (footer_length (last 10 bytes) ≡ Ok n) × (length bytes < n + 10))
+
+-- of the last ones: there are too few, or they state no length
+abbrev pub TailReason : List ℕ → Fault → Type 0
+TailReason bytes Ended = IsShort bytes
+TailReason bytes e = footer_length (last 10 bytes) ≡ Err e
+
+-- of the footer: each tells of the slot that it names
+abbrev pub FooterReason : List ℕ → Fault → Type 0
+FooterReason bytes e =
+    (n : ℕ) × (n + 10 ≤ length bytes) × (footer_length (last 10 bytes) ≡ Ok n) × RootFault e (root_at (take n (last (n + 10) bytes)))
+
+-- of a file that begins at a place
+abbrev pub FileReason : ℕ → List ℕ → Fault → Type 0
+FileReason start bytes e = HeadReason (drop start bytes) e ⊎ (TailReason bytes e ⊎ FooterReason bytes e)
+
+-- ---- how many bytes are read
+
+-- No more was given than the head, the tail and the footer, whose length the tail states.
+pub record FooterGiven (known : Bool) (bytes : List ℕ) (old new : ℕ) : Type 0 where
+  pub footer : ℕ
+  pub stated : IsTrue known → footer_length (last 10 bytes) ≡ Ok footer
+  pub most : new ≤ old + (16 + footer)

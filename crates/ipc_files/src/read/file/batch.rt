@@ -1,5 +1,5 @@
 //! Reads the record batch at a block of a file.
-ghost use Rattle.std.specs.Prelude.{◌≡◌, ◌+◌, ◌≤◌, ◌<◌, length, vec_len, IsTrue, IfErr, OnOk, Some, None, Err, slice_get};
+ghost use Rattle.std.specs.Prelude.{◌≡◌, ◌+◌, ◌≤◌, ◌<◌, length, map, vec_len, IsTrue, IfOk, IfErr, OnOk, Some, None, Err, slice_get};
 ghost use Rattle.std.specs.Option.{option_and_then, option_copied};
 ghost use Rattle.ipc_devices.specs.Device.{Rises};
 ghost use Rattle.ipc_devices.specs.Faults.{OnIo, OwnFault};
@@ -7,6 +7,9 @@ ghost use Rattle.ipc_devices.specs.declared.fault.Fault.TheVariants.{OutOfSpec};
 ghost use Rattle.ipc_devices.specs.declared.fault.OutOfSpecKind.TheVariants.{NegativeFooterLength, UnexpectedNegativeInteger};
 ghost use Rattle.ipc_model.specs.Batches.{chosen, extra_of, kinds, lists_of, record_meaning};
 ghost use Rattle.ipc_model.specs.Files.{file_chunk, placed};
+ghost use Rattle.ipc_model.specs.ReadChunks.{HaveMeaning};
+ghost use Rattle.ipc_base.specs.IdTrees.{all_ids_view};
+ghost use Rattle.lower_arrays.specs.AnyLayouts.{layout_of};
 ghost use Rattle.ipc_files.specs.Batches.{HasNegativeLength, IsRecordFault, block_metadata, needed_bytes, needed_record};
 ghost use Rattle.ipc_files.specs.Blocks.{IsRefused};
 ghost use Rattle.ipc_files.specs.Footers.{GivesPart, file_seen};
@@ -52,6 +55,7 @@ fn read_record<R: Reads + Seeks>(
     scratch: &mut Vec<u8>,
 ) -> Result<Chunk<AnyArray>, Fault>
     requires prepared { ArePrepared (option_copied projection) (length metadata.now.schema.fields.items) }
+    ensures many { IfOk result (λ chunk. length chunk ≡ length (chosen (option_copied projection.entry) (length metadata.now.schema.fields.items))) }
     ensures only { let js = chosen (option_copied projection.entry) (length metadata.now.schema.fields.items) in
         IfErr result (λ e. OwnFault e (IsFaultOfBatch (kinds (file_seen metadata.now).schema) js e)) }
     ensures monotone { R.failures reader.old ≤ R.failures reader.new }
@@ -61,6 +65,8 @@ fn read_record<R: Reads + Seeks>(
     ensures memory { IsTrue R.known → let m = file_seen metadata.now in
         GivesPart chunk_seen result (record_meaning m.schema (extra_of version) (known_dictionaries dictionaries.now)
         (record { source = (R.memory reader.old).whole; base = body; size = m.size }) batch.entry (option_copied projection.entry) limit) }
+    ensures values { IsTrue R.known → let js = chosen (option_copied projection.entry) (length metadata.now.schema.fields.items) in
+        IfOk result (λ xs. HaveMeaning (known_dictionaries dictionaries.now) (all_ids_view metadata.now.ipc_schema.fields.items) js (chunk_seen xs) (map layout_of xs)) }
     ensures whole { IsTrue R.still → (R.memory reader.new).whole ≡ (R.memory reader.old).whole }
 {
     read_record_batch(
@@ -83,7 +89,8 @@ fn read_record<R: Reads + Seeks>(
 /// columns of the projection, in rising order, or all where there is none, and of each at most `limit` slots. The index is that of
 /// a block in `metadata`, and the dictionaries are those of [`read_file_dictionaries`]. Each version is that of the block's own
 /// message, and the lengths of bodies aren't used. Of a column that isn't chosen no byte is read, and nothing is judged. Where it is
-/// Ok, no more bytes are taken of the device than the message, its prefix and what the buffers of the chosen columns list.
+/// Ok, no more bytes are taken of the device than the message, its prefix and what the buffers of the chosen columns list. At each
+/// dictionary place of a column, those inside the values of others aside, stand the values that the dictionaries have under its id.
 ///
 /// Over memory it is Ok exactly where the block has a meaning by the projection and the limit, and the chunk is then that. Faults:
 /// `OutOfSpec(NegativeFooterLength)` where a number of the block is below 0; `Ended` where its message isn't there, and
@@ -107,6 +114,7 @@ pub fn read_batch<R: Reads + Seeks>(
 ) -> Result<Chunk<AnyArray>, Fault>
     requires index { index < vec_len metadata.now.blocks }
     requires prepared { ArePrepared (option_copied projection) (length metadata.now.schema.fields.items) }
+    ensures many { IfOk result (λ chunk. length chunk ≡ length (chosen (option_copied projection.entry) (length metadata.now.schema.fields.items))) }
     ensures only { let m = file_seen metadata.now in
         let js = chosen (option_copied projection.entry) (length metadata.now.schema.fields.items) in
         IfErr result (λ e. OwnFault e (IsRecordFault (kinds m.schema) js e)) }
@@ -121,6 +129,8 @@ pub fn read_batch<R: Reads + Seeks>(
     ensures memory { IsTrue R.known → GivesPart chunk_seen result
         (file_chunk (file_seen metadata.now) (known_dictionaries dictionaries.now) (R.memory reader.old).whole
         (option_copied projection.entry) limit index) }
+    ensures values { IsTrue R.known → let js = chosen (option_copied projection.entry) (length metadata.now.schema.fields.items) in
+        IfOk result (λ xs. HaveMeaning (known_dictionaries dictionaries.now) (all_ids_view metadata.now.ipc_schema.fields.items) js (chunk_seen xs) (map layout_of xs)) }
     ensures whole { IsTrue R.still → (R.memory reader.new).whole ≡ (R.memory reader.old).whole }
 {
     let block = &metadata.blocks[index];

@@ -1,5 +1,5 @@
 //! The metadata of a file, which its footer holds.
-ghost use Rattle.std.specs.Prelude.{◌≡◌, ◌+◌, ◌≤◌, ◌<◌, ◌^◌, length, take, drop, IsTrue, IfOk, IfErr, OnErr};
+ghost use Rattle.std.specs.Prelude.{◌≡◌, ◌+◌, ◌≤◌, ◌<◌, ◌^◌, length, take, drop, IsTrue, IfOk, IfErr, OnOk, OnErr};
 ghost use Rattle.ipc_devices.specs.Device.{Rises, after};
 ghost use Rattle.ipc_devices.specs.Faults.{OnIo, OwnFault, Answers};
 ghost use Rattle.ipc_devices.specs.declared.fault.Fault.TheVariants.{Ended};
@@ -8,7 +8,7 @@ ghost use Rattle.ipc_base.specs.Fitting.{AllFit};
 ghost use Rattle.ipc_base.specs.IdTrees.{all_ids_view, ipc_schema_view};
 ghost use Rattle.ipc_model.specs.Files.{magic, metadata_of, or_no_blocks};
 ghost use Rattle.ipc_files.specs.Footers.{file_seen, optional_blocks, GivesPart};
-ghost use Rattle.ipc_files.specs.Files.{FileFault, HeadFault, TailFault, GivesTail, footer_length};
+ghost use Rattle.ipc_files.specs.Files.{BeginningLaw, FileFault, FileReason, FooterGiven, HeadFault, HeadReason, TailFault, TailReason, GivesTail, footer_length, metadata_from};
 
 use crate::read::file::exact::read_exact;
 use crate::read::file::footer::deserialize_footer;
@@ -81,11 +81,18 @@ impl FileMetadata {
     }
 }
 
+/// A file that begins where its device does means what its bytes mean.
+pub fn files_from_the_beginning()
+    ensures { BeginningLaw }
+{}
+
 // Reads what a file has to begin with.
 fn read_head<R: Reads>(reader: &mut R) -> Result<(), Fault>
     ensures only { IfErr result (λ e. OwnFault e (HeadFault e)) }
     ensures monotone { R.failures reader.old ≤ R.failures reader.new }
     ensures failed { OnIo result (Rises (R.failures reader.old) (R.failures reader.new)) }
+    ensures given { R.given reader.new ≤ R.given reader.old + 6 }
+    ensures reason { IsTrue R.known → IfErr result (λ e. OwnFault e (HeadReason (after (R.memory reader.old)) e)) }
     ensures memory { IsTrue R.known → Answers result
         (take 6 (after (R.memory reader.old)) ≡ magic)
         (λ _. Unit {0}) }
@@ -129,6 +136,8 @@ fn read_footer_len<R: Reads + Seeks>(reader: &mut R) -> Result<(u64, u32), Fault
     ensures only { IfErr result (λ e. OwnFault e (TailFault e)) }
     ensures monotone { R.failures reader.old ≤ R.failures reader.new }
     ensures failed { OnIo result (Rises (R.failures reader.old) (R.failures reader.new)) }
+    ensures given { R.given reader.new ≤ R.given reader.old + 10 }
+    ensures reason { IsTrue R.known → IfErr result (λ e. OwnFault e (TailReason (R.memory reader.old).whole e)) }
     ensures memory { IsTrue R.known → GivesTail (R.memory reader.old).whole result }
     ensures whole { IsTrue R.still → (R.memory reader.new).whole ≡ (R.memory reader.old).whole }
 {
@@ -148,8 +157,9 @@ fn read_footer_len<R: Reads + Seeks>(reader: &mut R) -> Result<(u64, u32), Fault
 
 /// Reads what the footer of a file says. The file begins where the reader stands, and ends where the device does.
 ///
-/// Over memory that is read from its beginning it is Ok exactly where the file's metadata have a meaning. Faults:
-/// `Ended` where the file is shorter than its head and its tail, or than the footer that it states;
+/// Over memory it is Ok exactly where the file's metadata have a meaning; its size is counted from where it begins. Where it is Ok, no
+/// more bytes are taken of the device than the head, the tail and the footer. Faults, over memory only where they hold: `Ended` where
+/// the file is shorter than its head, the device shorter than the tail, or than that and the footer that it states;
 /// `NotYetImplemented(FeatherV1)` and `OutOfSpec(InvalidHeader)` where it begins with `FEA1`, or with anything else but
 /// `ARROW1`; `OutOfSpec(InvalidFooter)` where it doesn't end with that; `OutOfSpec(NegativeFooterLength)` where the
 /// length of the footer is below 0; of the footer those of [`deserialize_footer`]; `Io` and `Memory`. For a stated length
@@ -163,6 +173,9 @@ pub fn read_file_metadata<R: Reads + Seeks>(
         (all_ids_view m.ipc_schema.fields.items)) }
     ensures monotone { R.failures reader.old ≤ R.failures reader.new }
     ensures failed { OnIo result (Rises (R.failures reader.old) (R.failures reader.new)) }
+    ensures given { OnOk result (FooterGiven R.known (R.memory reader.old).whole (R.given reader.old) (R.given reader.new)) }
+    ensures reason { IsTrue R.known → IfErr result (λ e. OwnFault e (FileReason (R.memory reader.old).place (R.memory reader.old).whole e)) }
+    ensures anywhere { IsTrue R.known → GivesPart file_seen result (metadata_from (R.memory reader.old).place (R.memory reader.old).whole) }
     ensures memory { IsTrue R.known → (R.memory reader.old).place ≡ 0
         → GivesPart file_seen result (metadata_of (R.memory reader.old).whole) }
     ensures whole { IsTrue R.still → (R.memory reader.new).whole ≡ (R.memory reader.old).whole }

@@ -1,8 +1,9 @@
-use Rattle.std.proofs.Common.{rules, ◌≡◌, ◌∙◌, Ok, Err, sym, ap}
+use Rattle.std.proofs.Common.{rules, ◌≡◌, ◌∙◌, [], ◌∷◌, Ok, Err, refl, sym, ap}
 use Rattle.ipc_model.specs.Files.{block_header}
 use Rattle.ipc_columns.specs.Bodies.{known_dictionaries}
 use Rattle.ipc_files.proofs.BlockDictionaries.{refused-dictionary-place, refused-dictionary-message, refused-dictionary-header, refused-dictionary-kind, read-dictionary}
 use Rattle.ipc_files.proofs.BlockHeaders.{own-none}
+use Rattle.ipc_files.proofs.BlockRecords.{message-read}
 use Rattle.ipc_files.proofs.read.file.dictionaries.read_dictionary_block.Goals as goal
 
 pub returns-in_err-place-clause-memory : goal.returns-in_err-place-clause-memory
@@ -49,3 +50,8 @@ returns-clause-memory g c = λ k.
     c.in_ok-place.place c.in_ok-place.ensures.place c.read_metadata.new.metadata.items (c.in_ok-read_metadata.ensures.memory k) c.in_ok-message.message
     (ap block_header (sym c.deref.ensures.value) ∙ c.in_ok-message.ensures.meaning) {X = Unit {0}} c.in_ok-batch.batch (g.R.Failures.memory c.read_metadata.new.reader).whole
     (Ok tt) (known_dictionaries c.read_values.new.dictionaries) c.in_ok-batch.ensures (c.in_ok-read_metadata.ensures.whole (g.met.R.Seeks.known_still k)) (c.in_ok-read_values.ensures.memory k)
+
+pub returns-clause-message : goal.returns-clause-message
+returns-clause-message g c = λ k.
+    message-read (c.args.block.now ∷ []) 0 c.args.block.now refl (g.R.Failures.memory c.args.reader.now).whole c.in_ok-place.place c.read_metadata.new.metadata.items c.in_ok-message.message
+    c.in_ok-place.ensures.place (c.in_ok-read_metadata.ensures.memory k) (ap block_header (sym c.deref.ensures.value) ∙ c.in_ok-message.ensures.meaning)

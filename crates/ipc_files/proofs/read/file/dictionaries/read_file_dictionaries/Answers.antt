@@ -1,16 +1,29 @@
-use Rattle.std.proofs.Common.{arith, ◌∙◌, List, [], Some, subst}
+use Rattle.std.proofs.Common.{arith, rules, ◌∙◌, List, [], Some, subst}
 use Rattle.ipc_laws.specs.Agreement.{AreAlike}
 use Rattle.ipc_views.specs.declared.file.Block.{Block}
 use Rattle.ipc_model.specs.Files.{all_of, dictionaries_after}
 use Rattle.ipc_files.specs.Footers.{file_seen}
 use Rattle.ipc_columns.specs.Bodies.{known_dictionaries}
+use Rattle.ipc_files.proofs.NeededValues.{GivenFor, all_given, more_given, none_given}
 use Rattle.ipc_files.proofs.KnownAlike.{next-known, all-known}
 use Rattle.ipc_files.proofs.read.file.dictionaries.read_file_dictionaries.Goals as goal
+
+pub loop-block-init : goal.loop-block-init
+loop-block-init g c = record {
+  monotone = search rules;
+  whole = search rules;
+  given = none_given g.R.Failures.known (file_seen c.args.metadata.now).schema (g.R.Failures.memory c.args.reader.now).whole c.dictionary_blocks-blocks.result.now (g.R.Failures.given c.args.reader.now);
+  known = search rules;
+}
 
 pub loop-block-preserved : goal.loop-block-preserved
 loop-block-preserved g c = record {
   monotone = omega (arith, c.loop-block.invariant.monotone, c.in_ok-read_dictionary_block.ensures.monotone);
   whole = λ k. c.in_ok-read_dictionary_block.ensures.whole k ∙ c.loop-block.invariant.whole k;
+  given = more_given g.R.Failures.known (file_seen c.args.metadata.now).schema (g.R.Failures.memory c.args.reader.now).whole (g.R.Failures.memory c.loop-block.reader).whole
+      c.dictionary_blocks-blocks.result.now c.loop-block.block-index _ _ (g.R.Failures.given c.loop-block.reader) (g.R.Failures.given c.read_dictionary_block.new.reader)
+      c.read_dictionary_block.new.message_scratch.items c.loop-block-test.true c.loop-block.invariant.given (λ k. c.loop-block.invariant.whole (g.met.R.Seeks.known_still k))
+      c.in_ok-read_dictionary_block.ensures.message c.in_ok-read_dictionary_block.ensures.given;
   known = λ k.
       let m = file_seen c.args.metadata.now in
       let source = (g.R.Failures.memory c.args.reader.now).whole in
@@ -28,3 +41,12 @@ returns-clause-memory g c = λ k.
     subst (λ (blocks : List Block). AreAlike (dictionaries_after m (all_of source) [] blocks) (Some (known_dictionaries c.loop-block.dictionaries))) c.dictionary_blocks-blocks.ensures
     (all-known m source bs c.loop-block.block-index (known_dictionaries c.loop-block.dictionaries) (dictionaries_after m (all_of source) [] bs) (omega (arith, c.loop-block-test.false))
     (c.loop-block.invariant.known k))
+
+pub returns-clause-given : goal.returns-clause-given
+returns-clause-given g c =
+    let m = file_seen c.args.metadata.now in
+    let source = (g.R.Failures.memory c.args.reader.now).whole in
+    let bs = c.dictionary_blocks-blocks.result.now in
+    let all = all_given g.R.Failures.known m.schema source bs c.loop-block.block-index (g.R.Failures.given c.args.reader.now) (g.R.Failures.given c.loop-block.reader) (omega (arith, c.loop-block-test.false)) c.loop-block.invariant.given in
+    let named = subst (λ (blocks : List Block). GivenFor g.R.Failures.known m.schema source blocks (g.R.Failures.given c.args.reader.now) (g.R.Failures.given c.loop-block.reader)) c.dictionary_blocks-blocks.ensures all in
+    record { bytes = named.bytes; needed = named.needed; most = named.most }

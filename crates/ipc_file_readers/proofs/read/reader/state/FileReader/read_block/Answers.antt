@@ -1,0 +1,48 @@
+use Rattle.std.proofs.Common.{rules, ◌≡◌, Err, refl}
+use Rattle.ipc_columns.specs.Bodies.{known_dictionaries}
+use Rattle.ipc_file_readers.proofs.Blocks.{no_io, read_chunk, refused_chunk, same_known}
+use Rattle.ipc_file_readers.proofs.read.reader.state.FileReader.read_block.Goals as goal
+
+pub returns-in_err-chunk : goal.returns-in_err-chunk
+returns-in_err-chunk g c =
+    let fault = c.in_err-chunk.field-0.0 in
+    let is : c.from_residual.result ≡ Err fault = search rules in
+    record {
+      gave = record {
+        file = record { described = refl; asked = refl; shown = refl };
+        block = refl;
+        remaining = refl;
+        held = refl;
+        asked = record {
+          monotone = c.in_err-chunk.ensures.monotone;
+          failed = search rules;
+          whole = c.in_err-chunk.ensures.whole;
+        };
+        chunk = λ ds e.
+            refused_chunk g.R.Failures.known c.args.self.now.projection c.args.self.now.metadata c.args.self.now.remaining c.args.block
+            (known_dictionaries c.in-Some.dictionaries) ds (g.R.Failures.memory c.args.self.now.reader).whole _ _ _ c.rising_of.ensures.same c.rising_of.ensures.value
+            (same_known known_dictionaries c.args.self.now.dictionaries c.in-Some.dictionaries ds c.in-Some.is e) c.from_residual.result fault is
+            c.in_err-chunk.ensures.only c.in_err-chunk.ensures.memory;
+      };
+    }
+
+pub returns : goal.returns
+returns g c = record {
+  gave = record {
+    file = record { described = refl; asked = refl; shown = refl };
+    block = refl;
+    remaining = refl;
+    held = refl;
+    asked = record {
+      monotone = c.in_ok-chunk.ensures.monotone;
+      failed = no_io c.in_order.result _ c.in_order.ensures.only;
+      whole = c.in_ok-chunk.ensures.whole;
+    };
+    chunk = λ ds e.
+        read_chunk g.R.Failures.known c.args.self.now.projection c.args.self.now.metadata c.args.self.now.remaining c.args.block
+        (known_dictionaries c.in-Some.dictionaries) ds (g.R.Failures.memory c.args.self.now.reader).whole _ _ _ c.rising_of.ensures.same c.rising_of.ensures.value
+        (same_known known_dictionaries c.args.self.now.dictionaries c.in-Some.dictionaries ds c.in-Some.is e) c.in_ok-chunk.chunk c.in_order.result
+        c.read_batch.new.message_scratch.items c.in_ok-chunk.ensures.many c.in_order.ensures.order c.in_order.ensures.only c.in_ok-chunk.ensures.message
+        c.in_ok-chunk.ensures.given c.in_ok-chunk.ensures.memory c.in_ok-chunk.ensures.values;
+  };
+}

@@ -1,0 +1,5 @@
+pub mod Columns
+pub mod Readers
+pub mod Rows
+pub mod Runs
+pub mod Steps

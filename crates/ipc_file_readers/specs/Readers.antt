@@ -1,0 +1,173 @@
+-- What a reader of a file holds and answers.
+-- (Arrow columnar format, "IPC File Format".)
+use Rattle.std.specs.Prelude.{◌≡◌, ◌⊎◌, ℕ, ◌+◌, ◌-◌, ◌≤◌, nat_le, Bool, true, false, IsTrue, IfOk, IfErr, OnOk, List, map, length, Option, None, Some, option_map, slice_get, Result, Ok, Err, vec_len, Vec}
+use Rattle.std.specs.declared.alloc.Global.{Global}
+use Rattle.lower.specs.declared.datatypes.schema.Schema.{Schema}
+use Rattle.lower_arrays.specs.AnyLayouts.{layout_of}
+use Rattle.lower_arrays.specs.Layouts.{len_of}
+use Rattle.lower_arrays.specs.declared.array.AnyArray.{AnyArray}
+use Rattle.ipc_base.specs.Chunks.{row_count}
+use Rattle.ipc_devices.specs.Device.{Memory, Rises}
+use Rattle.ipc_devices.specs.Faults.{OnIo, OwnFault}
+use Rattle.ipc_devices.specs.declared.fault.Fault.{Fault}
+use Rattle.ipc_model.specs.Batches.{kinds, chosen}
+use Rattle.ipc_model.specs.Entries.{Dictionaries, Limit}
+use Rattle.ipc_model.specs.Files.{FileMetadata as Meaning, file_dictionaries, file_chunk}
+use Rattle.ipc_model.specs.ReadChunks.{HaveMeaning}
+use Rattle.ipc_base.specs.IdTrees.{all_ids_view}
+use Rattle.ipc_laws.specs.Agreement.{AreAlike, KnowAlike}
+use Rattle.ipc_columns.specs.Bodies.{known_dictionaries}
+use Rattle.ipc_read.specs.Chunks.{chunk_seen}
+use Rattle.ipc_files.specs.Batches.{IsRecordFault, block_metadata, needed_bytes}
+use Rattle.ipc_files.specs.Dictionaries.{IsDictionaryBlockFault}
+use Rattle.ipc_files.specs.Footers.{GivesPart, file_seen}
+use Rattle.ipc_files.specs.declared.read.file.metadata.FileMetadata.{FileMetadata}
+use Rattle.ipc_file_readers.specs.Columns.{asked_by, shown_by, IsSchemaOf}
+use Rattle.ipc_file_readers.specs.declared.read.reader.state.FileReader.{FileReader}
+
+-- ---- what a reader holds
+
+abbrev pub device_of : {R : Type 0} → FileReader R → R
+device_of x = x.reader
+
+abbrev pub metadata_of : {R : Type 0} → FileReader R → FileMetadata
+metadata_of x = x.metadata
+
+-- the columns that are asked for, in this order: none where all are given
+abbrev pub asked_of : {R : Type 0} → FileReader R → Option (List ℕ)
+asked_of x = asked_by x.projection
+
+-- the schema of the chunks
+abbrev pub schema_of : {R : Type 0} → FileReader R → Schema
+schema_of x = shown_by x.metadata.schema x.projection
+
+-- the dictionaries, once they were read
+abbrev pub known_of : {R : Type 0} → FileReader R → Option Dictionaries
+known_of x = option_map known_dictionaries x.dictionaries
+
+-- the number of the next block
+abbrev pub block_of : {R : Type 0} → FileReader R → ℕ
+block_of x = x.current_block
+
+-- how many rows are left of the limit
+abbrev pub remaining_of : {R : Type 0} → FileReader R → Limit
+remaining_of x = x.remaining
+
+-- whether nothing comes from now on
+abbrev pub is_over : {R : Type 0} → FileReader R → Bool
+is_over x = nat_le (vec_len x.metadata.blocks) x.current_block
+
+-- how many blocks are left
+abbrev pub blocks_left : {R : Type 0} → FileReader R → ℕ
+blocks_left x = vec_len x.metadata.blocks - x.current_block
+
+-- the room for data and for messages
+abbrev pub scratches_of : {R : Type 0} → FileReader R → Vec ℕ Global × Vec ℕ Global
+scratches_of x = (x.data_scratch, x.message_scratch)
+
+-- the file, as its metadata say it
+abbrev pub file_of : {R : Type 0} → FileReader R → Meaning
+file_of x = file_seen (metadata_of x)
+
+-- the numbers of the columns that are asked for: all where there is no projection
+abbrev pub columns_asked : FileMetadata → Option (List ℕ) → List ℕ
+columns_asked m asked = chosen asked (length m.schema.fields.items)
+
+-- A reader begins at the first block, and no dictionary was read.
+pub record Begins {R : Type 0} (reader : R) (metadata : FileMetadata) (asked : Option (List ℕ)) (limit : Limit) (x : FileReader R) : Type 0 where
+  pub device : device_of x ≡ reader
+  pub described : metadata_of x ≡ metadata
+  pub asked_for : asked_of x ≡ asked
+  pub shown : IsSchemaOf metadata.schema asked (schema_of x)
+  pub unread : known_of x ≡ None
+  pub block : block_of x ≡ 0
+  pub remaining : remaining_of x ≡ limit
+
+-- the file and what is asked of it are the same
+pub record IsOfSameFile {R : Type 0} (a b : FileReader R) : Type 0 where
+  pub described : metadata_of b ≡ metadata_of a
+  pub asked : asked_of b ≡ asked_of a
+  pub shown : schema_of b ≡ schema_of a
+
+-- nothing but the scratches is another
+pub record DiffersInScratches {R : Type 0} (a b : FileReader R) : Type 0 where
+  pub file : IsOfSameFile a b
+  pub device : device_of b ≡ device_of a
+  pub known : known_of b ≡ known_of a
+  pub block : block_of b ≡ block_of a
+  pub remaining : remaining_of b ≡ remaining_of a
+
+-- ---- what a call of `next` answers
+
+-- an answer of `next`
+abbrev pub Answer : Type 0
+Answer = Option (Result (List AnyArray) Fault)
+
+-- the same as a `Result`
+abbrev pub next_result : Answer → Result (Option (List AnyArray)) Fault
+next_result None = Ok None
+next_result (Some (Ok x)) = Ok (Some x)
+next_result (Some (Err e)) = Err e
+
+-- how many rows were given
+abbrev pub rows_given : Result (List AnyArray) Fault → ℕ
+rows_given (Ok xs) = row_count (λ x. len_of (layout_of x)) xs
+rows_given (Err e) = 0
+
+-- a limit, less some rows
+abbrev pub less : Limit → ℕ → Limit
+less None n = None
+less (Some l) n = Some (l - n)
+
+-- The dictionaries of a file are known: those that were, or those that were read now.
+abbrev pub AreKnown : Bool → Option Dictionaries → Option Dictionaries → Dictionaries → Type 0
+AreKnown known (Some before) file ds = before ≡ ds
+AreKnown known None file ds = IsTrue known → AreAlike file (Some ds)
+
+-- Of the bytes of a file no more was given than the message of block i, its prefix and what the buffers of the columns that are asked
+-- for list.
+pub record WasGiven (known : Bool) (m : FileMetadata) (asked : Option (List ℕ)) (i : ℕ) (source : List ℕ) (old new : ℕ) : Type 0 where
+  pub metadata : List ℕ
+  pub message : IsTrue known → block_metadata source (slice_get m.blocks.items i) ≡ Some metadata
+  pub most : new ≤ old + needed_bytes (kinds (file_seen m).schema) (columns_asked m asked) metadata
+
+-- At the dictionary places of the columns that are asked for, those inside the values of others aside, stand the values that are known.
+abbrev pub HaveKnownValues : FileMetadata → Option (List ℕ) → Dictionaries → List AnyArray → Type 0
+HaveKnownValues m asked ds xs = HaveMeaning ds (all_ids_view m.ipc_schema.fields.items) (columns_asked m asked) (chunk_seen xs) (map layout_of xs)
+
+-- The dictionaries were refused: it is told once, and nothing comes after it.
+pub record WereRefused {R : Type 0} (known : Bool) (memory : R → Memory) (a : FileReader R) (e : Fault) (b : FileReader R) : Type 0 where
+  pub unread : known_of a ≡ None
+  pub only : OwnFault e (IsDictionaryBlockFault e)
+  pub meaning : IsTrue known → OwnFault e (file_dictionaries (file_of a) (memory (device_of a)).whole ≡ None)
+  pub over : is_over b ≡ true
+
+-- The chunk of the next block was given, or its fault, which leaves the limit as it was. The block behind it is the next then. Where the
+-- dictionaries were known before, no more was read than that chunk needs.
+pub record WasNext {R : Type 0} (known : Bool) (memory : R → Memory) (given : R → ℕ) (a : FileReader R) (r : Result (List AnyArray) Fault) (b : FileReader R) : Type 0 where
+  pub dictionaries : Dictionaries
+  pub held : known_of b ≡ Some dictionaries
+  pub are : AreKnown known (known_of a) (file_dictionaries (file_of a) (memory (device_of a)).whole) dictionaries
+  pub block : block_of b ≡ block_of a + 1
+  pub remaining : remaining_of b ≡ less (remaining_of a) (rows_given r)
+  pub many : IfOk r (λ xs. length xs ≡ length (columns_asked (metadata_of a) (asked_of a)))
+  pub only : IfErr r (λ e. OwnFault e (IsRecordFault (kinds (file_of a).schema) (columns_asked (metadata_of a) (asked_of a)) e))
+  pub bytes : (ds : Dictionaries) → known_of a ≡ Some ds
+      → OnOk r (WasGiven known (metadata_of a) (asked_of a) (block_of a) (memory (device_of a)).whole (given (device_of a)) (given (device_of b)))
+  pub meaning : IsTrue known → (ds : Dictionaries) → KnowAlike dictionaries ds
+      → GivesPart chunk_seen r (file_chunk (file_of a) ds (memory (device_of a)).whole (asked_of a) (remaining_of a) (block_of a))
+  pub values : IsTrue known → IfOk r (HaveKnownValues (metadata_of a) (asked_of a) dictionaries)
+
+abbrev pub HasNext : {R : Type 0} → Bool → (R → Memory) → (R → ℕ) → FileReader R → Answer → FileReader R → Type 0
+HasNext known memory given a None b = ⊥
+HasNext known memory given a (Some (Ok xs)) b = WasNext known memory given a (Ok xs) b
+HasNext known memory given a (Some (Err e)) b = WereRefused known memory a e b ⊎ WasNext known memory given a (Err e) b
+
+-- What a call of `next` takes and answers, and what stands then. Where nothing comes any more, nothing is changed.
+pub record NextStep {R : Type 0} (known still : Bool) (memory : R → Memory) (failures given : R → ℕ) (a : FileReader R) (r : Answer) (b : FileReader R) : Type 0 where
+  pub file : IsOfSameFile a b
+  pub monotone : failures (device_of a) ≤ failures (device_of b)
+  pub failed : OnIo (next_result r) (Rises (failures (device_of a)) (failures (device_of b)))
+  pub whole : IsTrue still → (memory (device_of b)).whole ≡ (memory (device_of a)).whole
+  pub over : is_over a ≡ true → (r ≡ None) × (b ≡ a)
+  pub next : is_over a ≡ false → HasNext known memory given a r b

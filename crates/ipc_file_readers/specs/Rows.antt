@@ -1,0 +1,41 @@
+-- The rows of a file, as a reader gives them.
+-- (Arrow columnar format, "IPC File Format".)
+use Rattle.std.specs.Prelude.{◌≡◌, ◌++◌, ℕ, ◌+◌, Bool, IsTrue, List, [], ◌∷◌, length, take, None, Some, slice_get, Ok}
+use Rattle.lower_arrays.specs.Slots.{Slot}
+use Rattle.ipc_devices.specs.Device.{Memory}
+use Rattle.ipc_model.specs.BatchLaws.{column_at}
+use Rattle.ipc_model.specs.Batches.{Chunk}
+use Rattle.ipc_model.specs.Entries.{Dictionaries, Limit}
+use Rattle.ipc_model.specs.Files.{FileMetadata as Meaning, file_chunk, file_dictionaries}
+use Rattle.ipc_read.specs.Chunks.{chunk_seen}
+use Rattle.ipc_file_readers.specs.Readers.{Answer, asked_of, block_of, columns_asked, device_of, file_of, known_of, metadata_of, remaining_of}
+use Rattle.ipc_file_readers.specs.Runs.{Calls, HoldsDictionaries}
+use Rattle.ipc_file_readers.specs.declared.read.reader.state.FileReader.{FileReader}
+
+-- the slots of a column of some chunks, one behind the other
+abbrev pub joined : List Chunk → ℕ → List Slot
+joined [] j = []
+joined (c ∷ cs) j = (column_at c j).slots ++ joined cs j
+
+-- the first of a limit
+abbrev pub first_of : Limit → List Slot → List Slot
+first_of None xs = xs
+first_of (Some n) xs = take n xs
+
+-- the answers are these chunks, one by one
+abbrev pub AreChunks : List Answer → List Chunk → Type 0
+AreChunks [] [] = Unit {0}
+AreChunks (Some (Ok xs) ∷ rs) (c ∷ cs) = (chunk_seen xs ≡ c) × AreChunks rs cs
+AreChunks _ _ = ⊥
+
+-- The blocks from block i on mean these chunks, whole.
+pub record Mean (m : Meaning) (ds : Dictionaries) (source : List ℕ) (i : ℕ) (cs : List Chunk) : Type 0 where
+  pub each : (k : ℕ) (c : Chunk) → slice_get cs k ≡ Some c → file_chunk m ds source None None (i + k) ≡ Some c
+
+-- Where calls gave a chunk for each of some blocks that have a meaning, the rows of these chunks, joined, are the first rows of the columns
+-- that are asked for, as many as are left of the limit.
+abbrev pub RowsLaw : {R : Type 0} → Bool → Bool → (R → Memory) → (R → ℕ) → (R → ℕ) → FileReader R → Type 0
+RowsLaw known still memory failures given a = (rs : List Answer) (ds : Dictionaries) (cs gs : List Chunk) → IsTrue known
+    → HoldsDictionaries (known_of a) (file_dictionaries (file_of a) (memory (device_of a)).whole) ds → Calls known still memory failures given a rs
+    → Mean (file_of a) ds (memory (device_of a)).whole (block_of a) cs → AreChunks rs gs → length gs ≡ length cs
+    → (p j : ℕ) → slice_get (columns_asked (metadata_of a) (asked_of a)) p ≡ Some j → joined gs p ≡ first_of (remaining_of a) (joined cs j)

@@ -1,0 +1,65 @@
+-- What the steps of a call of `next` do, one by one.
+-- (Arrow columnar format, "IPC File Format".)
+use Rattle.std.specs.Prelude.{◌≡◌, ℕ, ◌+◌, ◌≤◌, Bool, IsTrue, IfOk, IfErr, OnOk, List, length, Option, None, Some, Result}
+use Rattle.lower_arrays.specs.declared.array.AnyArray.{AnyArray}
+use Rattle.ipc_devices.specs.Device.{Memory, Rises}
+use Rattle.ipc_devices.specs.Faults.{OnIo, OwnFault}
+use Rattle.ipc_devices.specs.declared.fault.Fault.{Fault}
+use Rattle.ipc_model.specs.Batches.{kinds}
+use Rattle.ipc_model.specs.Entries.{Dictionaries, Limit}
+use Rattle.ipc_model.specs.Files.{file_dictionaries, file_chunk}
+use Rattle.ipc_laws.specs.Agreement.{KnowAlike}
+use Rattle.ipc_read.specs.Chunks.{chunk_seen}
+use Rattle.ipc_files.specs.Batches.{IsRecordFault}
+use Rattle.ipc_files.specs.Dictionaries.{IsDictionaryBlockFault}
+use Rattle.ipc_files.specs.Footers.{GivesPart, file_seen}
+use Rattle.ipc_files.specs.declared.read.file.metadata.FileMetadata.{FileMetadata}
+use Rattle.ipc_file_readers.specs.Readers.{AreKnown, HaveKnownValues, IsOfSameFile, WasGiven, asked_of, block_of, columns_asked, device_of, file_of, known_of, less, metadata_of, remaining_of, rows_given}
+use Rattle.ipc_file_readers.specs.declared.read.reader.state.FileReader.{FileReader}
+
+-- the device was asked
+pub record WasAsked {R X : Type 0} (still : Bool) (memory : R → Memory) (failures : R → ℕ) (a : FileReader R) (r : Result X Fault) (b : FileReader R) : Type 0 where
+  pub monotone : failures (device_of a) ≤ failures (device_of b)
+  pub failed : OnIo r (Rises (failures (device_of a)) (failures (device_of b)))
+  pub whole : IsTrue still → (memory (device_of b)).whole ≡ (memory (device_of a)).whole
+
+-- The dictionaries are known, or they were refused.
+pub record DictionariesGave {R : Type 0} (known still : Bool) (memory : R → Memory) (failures : R → ℕ) (a : FileReader R) (r : Result Unit Fault) (b : FileReader R) : Type 0 where
+  pub file : IsOfSameFile a b
+  pub block : block_of b ≡ block_of a
+  pub remaining : remaining_of b ≡ remaining_of a
+  pub asked : WasAsked still memory failures a r b
+  pub are : IfOk r (λ _. (ds : Dictionaries) × (known_of b ≡ Some ds)
+      × AreKnown known (known_of a) (file_dictionaries (file_of a) (memory (device_of a)).whole) ds)
+  pub left_alone : (ds : Dictionaries) → known_of a ≡ Some ds → device_of b ≡ device_of a
+  pub unread : IfErr r (λ e. known_of a ≡ None)
+  pub only : IfErr r (λ e. OwnFault e (IsDictionaryBlockFault e))
+  pub refused : IsTrue known → IfErr r (λ e. OwnFault e (file_dictionaries (file_of a) (memory (device_of a)).whole ≡ None))
+
+-- The chunk of block i was given, by the dictionaries that are known, or its fault.
+pub record WasChunk (known : Bool) (m : FileMetadata) (asked : Option (List ℕ)) (limit : Limit) (i : ℕ) (ds : Dictionaries) (source : List ℕ) (old new : ℕ) (r : Result (List AnyArray) Fault) : Type 0 where
+  pub many : IfOk r (λ xs. length xs ≡ length (columns_asked m asked))
+  pub only : IfErr r (λ e. OwnFault e (IsRecordFault (kinds (file_seen m).schema) (columns_asked m asked) e))
+  pub bytes : OnOk r (WasGiven known m asked i source old new)
+  pub meaning : IsTrue known → (es : Dictionaries) → KnowAlike ds es → GivesPart chunk_seen r (file_chunk (file_seen m) es source asked limit i)
+  pub values : IsTrue known → IfOk r (HaveKnownValues m asked ds)
+
+-- The chunk of block i was given, or its fault.
+pub record BlockGave {R : Type 0} (known still : Bool) (memory : R → Memory) (failures given : R → ℕ) (i : ℕ) (a : FileReader R) (r : Result (List AnyArray) Fault) (b : FileReader R) : Type 0 where
+  pub file : IsOfSameFile a b
+  pub block : block_of b ≡ block_of a
+  pub remaining : remaining_of b ≡ remaining_of a
+  pub held : known_of b ≡ known_of a
+  pub asked : WasAsked still memory failures a r b
+  pub chunk : (ds : Dictionaries) → known_of a ≡ Some ds
+      → WasChunk known (metadata_of a) (asked_of a) (remaining_of a) i ds (memory (device_of a)).whole (given (device_of a)) (given (device_of b)) r
+
+-- That of the next block was, and the reader stands behind it.
+pub record NextGave {R : Type 0} (known still : Bool) (memory : R → Memory) (failures given : R → ℕ) (a : FileReader R) (r : Result (List AnyArray) Fault) (b : FileReader R) : Type 0 where
+  pub file : IsOfSameFile a b
+  pub block : block_of b ≡ block_of a + 1
+  pub remaining : remaining_of b ≡ less (remaining_of a) (rows_given r)
+  pub held : known_of b ≡ known_of a
+  pub asked : WasAsked still memory failures a r b
+  pub chunk : (ds : Dictionaries) → known_of a ≡ Some ds
+      → WasChunk known (metadata_of a) (asked_of a) (remaining_of a) (block_of a) ds (memory (device_of a)).whole (given (device_of a)) (given (device_of b)) r

@@ -1,0 +1,185 @@
+//! Reads the next chunk of a file.
+ghost use Rattle.std.specs.Prelude.{◌≡◌, ◌<◌, false, [], length, IsSome, IfOk, IfErr, vec_len};
+ghost use Rattle.std.specs.Iterator.{at_most};
+ghost use Rattle.ipc_devices.specs.declared.fault.Fault.TheVariants.{Memory};
+ghost use Rattle.ipc_model.specs.Batches.{IsProjection};
+ghost use Rattle.ipc_file_readers.specs.Columns.{numbers_of};
+ghost use Rattle.ipc_file_readers.specs.Readers.{Begins, DiffersInScratches, NextStep, blocks_left, device_of, is_over, known_of, less, metadata_of, schema_of, scratches_of};
+ghost use Rattle.ipc_file_readers.specs.Steps.{BlockGave, DictionariesGave, NextGave};
+
+use crate::read::reader::columns::{in_order, projection_of, rising_of};
+use crate::read::reader::state::FileReader;
+use ipc_base::chunk::Chunk;
+use ipc_devices::fault::Fault;
+use ipc_devices::{Reads, Seeks};
+use ipc_files::read::file::{FileMetadata, read_batch, read_file_dictionaries};
+use lower::datatypes::Schema;
+use lower_arrays::array::AnyArray;
+use std::alloc::Global;
+
+// A limit, less some rows.
+fn less(limit: Option<usize>, rows: usize) -> Option<usize>
+    ensures { result ≡ less limit rows }
+{
+    match limit {
+        Some(limit) => Some(limit.saturating_sub(rows)),
+        None => None,
+    }
+}
+
+impl<R: Reads + Seeks + Drop> FileReader<R> {
+    /// A reader of the chunks of a file, which `metadata` is of. Where columns are chosen, they are there, and none is chosen twice.
+    /// Where none are, it takes no memory. It reads nothing.
+    ///
+    /// It answers `Memory` where there is no memory, and no other fault.
+    pub fn new(
+        alloc: Global,
+        reader: R,
+        metadata: FileMetadata,
+        projection: Option<Vec<usize>>,
+        limit: Option<usize>,
+    ) -> Result<FileReader<R>, Fault>
+        requires { IsProjection (numbers_of projection) (length metadata.schema.fields.items) }
+        ensures ok { IfOk result (λ made. Begins reader metadata (numbers_of projection) limit made) }
+        ensures only { IfErr result (λ e. (e ≡ Memory) × IsSome projection) }
+    {
+        let projection = projection_of(alloc, &metadata.schema, projection)?;
+        Ok(FileReader {
+            alloc,
+            reader,
+            metadata,
+            dictionaries: None,
+            current_block: 0,
+            projection,
+            remaining: limit,
+            message_scratch: Vec::new(alloc),
+            data_scratch: Vec::new(alloc),
+        })
+    }
+
+    /// The schema of the chunks: the fields of the columns that are asked for, in this order, with the metadata of the file's schema.
+    pub fn schema(&self) -> &Schema
+        ensures { result.now ≡ schema_of self.now }
+    {
+        match &self.projection {
+            Some(projection) => &projection.schema,
+            None => &self.metadata.schema,
+        }
+    }
+
+    /// What the footer said.
+    pub fn metadata(&self) -> &FileMetadata
+        ensures { result.now ≡ metadata_of self.now }
+    {
+        &self.metadata
+    }
+
+    /// What was read from.
+    pub fn into_inner(self) -> R
+        ensures { result ≡ device_of self }
+    {
+        self.reader
+    }
+
+    /// Whether `next` gives None from now on: behind the last block, and after a fault of the dictionaries.
+    pub fn is_finished(&self) -> bool
+        ensures { result ≡ is_over self.now }
+    {
+        self.current_block >= self.metadata.blocks.len()
+    }
+
+    /// Takes the room for data and that for messages. Empty ones stay.
+    pub fn get_scratches(&mut self) -> (Vec<u8>, Vec<u8>)
+        ensures taken { result ≡ scratches_of self.old }
+        ensures data_left { (scratches_of self.new).0.items ≡ [] }
+        ensures message_left { (scratches_of self.new).1.items ≡ [] }
+        ensures same { DiffersInScratches self.old self.new }
+    {
+        let data = std::mem::replace(&mut self.data_scratch, Vec::new(self.alloc));
+        let message = std::mem::replace(&mut self.message_scratch, Vec::new(self.alloc));
+        (data, message)
+    }
+
+    /// Gives room for data and room for messages, in place of those that it has.
+    pub fn set_scratches(&mut self, scratches: (Vec<u8>, Vec<u8>))
+        ensures given { scratches_of self.new ≡ scratches }
+        ensures same { DiffersInScratches self.old self.new }
+    {
+        (self.data_scratch, self.message_scratch) = scratches;
+    }
+
+    // Reads the dictionaries, where they weren't read yet.
+    fn read_dictionaries(&mut self) -> Result<(), Fault>
+        ensures gave { DictionariesGave R.known R.still R.memory R.failures self.old result self.new }
+    {
+        if self.dictionaries.is_some() {
+            return Ok(());
+        }
+        let read = read_file_dictionaries(
+            self.alloc,
+            &mut self.reader,
+            &self.metadata,
+            &mut self.data_scratch,
+        )?;
+        self.dictionaries = Some(read);
+        Ok(())
+    }
+
+    // The chunk of a block, with the columns that are asked for. The dictionaries were read.
+    fn read_block(&mut self, block: usize) -> Result<Chunk<AnyArray>, Fault>
+        requires known { IsSome (known_of self.old) }
+        requires within { block < vec_len (metadata_of self.old).blocks }
+        ensures gave { BlockGave R.known R.still R.memory R.failures R.given block self.old result self.new }
+    {
+        let Some(dictionaries) = &self.dictionaries else {
+            unreachable!();
+        };
+        let chunk = read_batch(
+            self.alloc,
+            &mut self.reader,
+            dictionaries,
+            &self.metadata,
+            rising_of(&self.projection),
+            self.remaining,
+            block,
+            &mut self.message_scratch,
+            &mut self.data_scratch,
+        )?;
+        in_order(self.alloc, &self.projection, chunk)
+    }
+
+    // The chunk of the next block, behind which the reader stands then, also after a fault. The dictionaries were read.
+    fn read_next(&mut self) -> Result<Chunk<AnyArray>, Fault>
+        requires known { IsSome (known_of self.old) }
+        requires more { is_over self.old ≡ false }
+        ensures next { NextGave R.known R.still R.memory R.failures R.given self.old result self.new }
+    {
+        let block = self.current_block;
+        self.current_block += 1;
+        let chunk = self.read_block(block)?;
+        self.remaining = less(self.remaining, chunk.len());
+        Ok(chunk)
+    }
+}
+
+impl<R: Reads + Seeks + Drop> Iterator for FileReader<R> {
+    type Item = Result<Chunk<AnyArray>, Fault>;
+
+    // At most one item comes for each block that is left.
+    ghost remaining = { λ a. at_most (blocks_left a) };
+
+    ghost next_gives = { λ a r b. NextStep R.known R.still R.memory R.failures R.given a r b };
+
+    fn next(&mut self) -> Option<Result<Chunk<AnyArray>, Fault>> {
+        if self.is_finished() {
+            return None;
+        }
+        match self.read_dictionaries() {
+            Ok(()) => Some(self.read_next()),
+            Err(e) => {
+                self.current_block = self.metadata.blocks.len();
+                Some(Err(e))
+            }
+        }
+    }
+}

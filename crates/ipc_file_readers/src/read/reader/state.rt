@@ -1,0 +1,40 @@
+//! What a reader of a file holds.
+ghost use Rattle.std.specs.Prelude.{IsTrue, length};
+ghost use Rattle.ipc_file_readers.specs.Columns.{are_projected};
+
+use crate::read::reader::columns::Projection;
+use ipc_files::read::file::FileMetadata;
+use ipc_read::read::Dictionaries;
+use std::alloc::Global;
+
+/// Reads the chunks of a file, that of a block at a call of `next`, in the order of the footer (Arrow columnar format, "IPC File
+/// Format").
+///
+/// The first call reads the dictionaries, once, unless there are no record blocks. A fault of theirs, of any kind, is answered once,
+/// and None from then on. Then each call answers the chunk of the next block, or its fault, after which the next call goes on with
+/// the block behind it. A chunk has the columns that are asked for, in this order, or all, and at most as many rows as are left of the
+/// limit, which is one for all chunks together: a chunk of no rows comes for each block behind the last row. Chunks share the values
+/// of the dictionaries. Behind the last block `next` answers None, reads nothing and takes no memory.
+///
+/// Faults of `next`: those of [`read_file_dictionaries`] and [`read_batch`], and no other. Where it answers a chunk, and the dictionaries
+/// were read before, it takes no more bytes of the device than the block's message, its prefix and what the buffers of the given
+/// columns list.
+///
+/// [`read_file_dictionaries`]: ipc_files::read::file::read_file_dictionaries
+/// [`read_batch`]: ipc_files::read::file::read_batch
+#[derive(Drop)]
+pub struct FileReader<R> {
+    pub(crate) alloc: Global,
+    pub(crate) reader: R,
+    pub(crate) metadata: FileMetadata,
+    // none before the first block
+    pub(crate) dictionaries: Option<Dictionaries>,
+    // the number of the next block
+    pub(crate) current_block: usize,
+    pub(crate) projection: Option<Projection>,
+    // how many rows are still to be given, where there is a limit
+    pub(crate) remaining: Option<usize>,
+    pub(crate) message_scratch: Vec<u8>,
+    pub(crate) data_scratch: Vec<u8>,
+    ghost projected: { IsTrue (are_projected projection (length metadata.schema.fields.items)) },
+}

@@ -1,0 +1,56 @@
+-- Why a file is refused.
+use Rattle.std.proofs.Common.{◌≡◌, ◌⊎◌, ℕ, ◌+◌, ◌-◌, ◌^◌, ◌≤◌, nat_lt, if◌then◌else◌, Bool, true, false, List, length, take, drop, Result, Ok, Err, IfErr, sym, ap, ◌∙◌, subst, arith, bytes_eq, inl, inr}
+use Rattle.std.specs.Int.{w32, from_le_bytes}
+use Rattle.std.proofs.lemmas.Bool.{true≢false}
+use Rattle.std.proofs.lemmas.List.{take_all, take-take, length-drop}
+use Rattle.std.proofs.lemmas.Slice.Eq.{bytes_eq-Decides}
+use Rattle.ipc_devices.specs.Device.{Memory, after}
+use Rattle.ipc_devices.specs.Faults.{OwnFault}
+use Rattle.ipc_devices.specs.declared.fault.Fault.{Fault}
+use Rattle.ipc_devices.specs.declared.fault.Fault.TheVariants as faults
+use Rattle.ipc_devices.specs.declared.fault.OutOfSpecKind.TheVariants.{InvalidFooter, NegativeFooterLength}
+use Rattle.ipc_views.specs.Tables.{root_at}
+use Rattle.ipc_model.specs.Files.{last, magic}
+use Rattle.ipc_files.specs.Files.{FileReason, TailReason, feather, footer_length}
+use Rattle.ipc_files.specs.Footers.{RootFault}
+
+pub own_of : (e : Fault) (P : Type 0) → P → OwnFault e P
+own_of faults.Memory P p = tt
+own_of (faults.Io e) P p = tt
+own_of _ P p = p
+
+-- a tail that states no length
+no_length : (a b : Bool) (n : ℕ) (e : Fault) → (if a then (if b then Ok n else Err (faults.OutOfSpec NegativeFooterLength)) else Err (faults.OutOfSpec InvalidFooter)) ≡ Err e
+    → (e ≡ faults.OutOfSpec NegativeFooterLength) ⊎ (e ≡ faults.OutOfSpec InvalidFooter)
+no_length true true n e h = absurd cc
+no_length true false n e h = inl cc
+no_length false b n e h = inr cc
+
+by_tail : (tail : List ℕ) (e : Fault) → footer_length tail ≡ Err e → (e ≡ faults.OutOfSpec NegativeFooterLength) ⊎ (e ≡ faults.OutOfSpec InvalidFooter)
+unfolding footer_length
+by_tail tail e h = no_length (bytes_eq (drop 4 tail) magic) (nat_lt (from_le_bytes w32 (take 4 tail)) (2 ^ 31)) (from_le_bytes w32 (take 4 tail)) e h
+
+pub tail_reason : (bytes : List ℕ) (e : Fault) → footer_length (last 10 bytes) ≡ Err e → OwnFault e (TailReason bytes e)
+tail_reason bytes e h = elim (by_tail (last 10 bytes) e h) [
+  | inl is ↦ subst (λ (f : Fault). OwnFault f (TailReason bytes f)) (sym is) (h ∙ ap Err is)
+  | inr is ↦ subst (λ (f : Fault). OwnFault f (TailReason bytes f)) (sym is) (h ∙ ap Err is)
+]
+
+-- the last 10 bytes, where they are read
+pub tail_read : (whole buf : List ℕ) (m : Memory) (end : ℕ) → m.whole ≡ whole → m.place ≡ end - 10 → end ≡ length whole → 10 ≤ length whole → buf ≡ take 10 (after m) → buf ≡ last 10 whole
+tail_read whole buf m end same at is long h =
+    let here : m.place ≡ length whole - 10 = omega (arith, at, is) in
+    let there : after m ≡ last 10 whole = ap (λ (xs : List ℕ). drop m.place xs) same ∙ ap (λ (n : ℕ). drop n whole) here in
+    h ∙ ap (λ (xs : List ℕ). take 10 xs) there ∙ take_all 10 (last 10 whole) (omega (arith, length-drop (length whole - 10) whole, long))
+
+-- a head that begins otherwise
+pub not_feather : (front head : List ℕ) (b : Bool) → head ≡ take 6 front → b ≡ bytes_eq feather (take 4 head) → b ≡ false → take 4 front ≡ feather → ⊥
+not_feather front head b h test unlike e =
+    let same : take 4 head ≡ feather = ap (λ (xs : List ℕ). take 4 xs) h ∙ take-take 4 6 front (omega arith) ∙ e in
+    true≢false (sym ((bytes_eq-Decides feather (take 4 head)).1 (sym same)) ∙ sym test ∙ unlike)
+
+pub footer_reason : {X : Type 0} (r : Result X Fault) (start : ℕ) (whole footer : List ℕ) (n : ℕ) → n + 10 ≤ length whole → footer_length (last 10 whole) ≡ Ok n
+    → footer ≡ take n (last (n + 10) whole) → IfErr r (λ e. RootFault e (root_at footer)) → IfErr r (λ e. OwnFault e (FileReason start whole e))
+footer_reason (Ok x) start whole footer n fits stated same h = tt
+footer_reason (Err e) start whole footer n fits stated same h =
+    own_of e (FileReason start whole e) (inr (inr (n, fits, stated, subst (λ (xs : List ℕ). RootFault e (root_at xs)) same h)))
