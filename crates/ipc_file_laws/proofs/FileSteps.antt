@@ -1,5 +1,5 @@
 -- What a file means, one step after the other.
-use Rattle.std.proofs.Common.{◌≡◌, ℕ, pos, ◌+◌, ◌≤◌, List, [], ◌∷◌, ◌++◌, length, refl, sym, ap, subst, ◌∙◌, arith, append_assoc, append-nil, length-append}
+use Rattle.std.proofs.Common.{◌≡◌, ℕ, pos, ◌+◌, ◌≤◌, max, List, [], ◌∷◌, ◌++◌, length, refl, sym, ap, subst, ◌∙◌, arith, append_assoc, append-nil, length-append}
 use Rattle.lower_types.specs.declared.Endianness.{Endianness}
 use Rattle.lower_arrays.specs.Layouts.{Layout, layouts}
 use Rattle.ipc_model.proofs.FileFollowing.{blocks_follow_law}
@@ -14,20 +14,33 @@ use Rattle.ipc_laws.specs.Messages.{message_bytes}
 use Rattle.ipc_laws.specs.Places.{head_written}
 use Rattle.ipc_laws.specs.Remembered.{filled_of}
 use Rattle.ipc_footers.proofs.FileTails.{law}
-use Rattle.ipc_file_laws.specs.FileBytes.{AreValues, FileEndLaw, FileGrowLaw, FileStartLaw, FileWriteLaw, IsColumns, Sent, all_bytes, block_at, blocks_at, chunk_bytes, file_so_far, sent_bytes}
+use Rattle.ipc_file_laws.specs.FileBytes.{AreValues, FileEndLaw, FileGrowLaw, FileSizeLaw, FileStartLaw, FileWriteLaw, IsColumns, Sent, all_bytes, block_at, blocks_at, chunk_bytes, file_so_far, sent_bytes}
 
 pub start_law : FileStartLaw
-start_law schema bytes = record { chunks = λ pairs. record { known = []; agrees = record { each = λ i. refl }; blocks = record { dictionaries = refl; chunks = refl } } }
+start_law schema size bytes = record { chunks = λ pairs. record { known = []; agrees = record { each = λ i. refl }; blocks = record { dictionaries = refl; chunks = refl } } }
 
 pub grow_law : FileGrowLaw
-grow_law schema bytes more ds bs r cs held = record {
+grow_law schema size bytes more ds bs r cs held = record {
   chunks = λ pairs.
       let h = held.chunks pairs in
       let sees : SeesMore (all_of bytes) (all_of (bytes ++ more)) = record { added = λ b. more; behind = λ b. refl } in
       record {
         known = h.known;
         agrees = h.agrees;
-        blocks = blocks_follow_law (file_so_far schema pairs ds bs (length bytes)) (length (bytes ++ more)) (all_of bytes) (all_of (bytes ++ more)) h.known cs sees (omega (arith, length-append bytes more)) h.blocks;
+        blocks =
+            blocks_follow_law (file_so_far schema pairs ds bs (max size (length bytes))) (max size (length (bytes ++ more))) (all_of bytes) (all_of (bytes ++ more)) h.known cs sees (omega (arith, length-append bytes more)) h.blocks;
+      };
+}
+
+pub size_law : FileSizeLaw
+size_law schema size more bytes ds bs r cs le held = record {
+  chunks = λ pairs.
+      let h = held.chunks pairs in
+      let sees : SeesMore (all_of bytes) (all_of bytes) = record { added = λ b. []; behind = λ b. sym (append-nil bytes) } in
+      record {
+        known = h.known;
+        agrees = h.agrees;
+        blocks = blocks_follow_law (file_so_far schema pairs ds bs (max size (length bytes))) (max more (length bytes)) (all_of bytes) (all_of bytes) h.known cs sees (omega (arith, le)) h.blocks;
       };
 }
 
@@ -89,12 +102,13 @@ columns-at order m front columns own v room =
     }
 
 pub write_law : FileWriteLaw
-write_law order fs metadata is bytes ds bs before after cs columns ws own writable held sent = record {
+write_law order fs metadata is size bytes ds bs before after cs columns ws own writable held sent = record {
   chunks = λ pairs.
       let schema = (head_written order fs metadata is).schema in
       let all : List ℕ = bytes ++ chunk_bytes ws own in
-      let so_far = file_so_far schema pairs ds bs (length bytes) in
-      let m = file_so_far schema pairs ds bs (length all) in
+      let so_far = file_so_far schema pairs ds bs (max size (length bytes)) in
+      let longest : ℕ = max size (length all) in
+      let m = file_so_far schema pairs ds bs longest in
       let h = held.chunks pairs in
       let longer = length-append bytes (chunk_bytes ws own) in
       let messages = length-append (all_bytes ws) (sent_bytes own) in
@@ -102,7 +116,7 @@ write_law order fs metadata is bytes ds bs before after cs columns ws own writab
       let grown : HasChunks m (all_of all) before cs = record {
         known = h.known;
         agrees = h.agrees;
-        blocks = blocks_follow_law so_far (length all) (all_of bytes) (all_of all) h.known cs sees (omega (arith, longer)) h.blocks;
+        blocks = blocks_follow_law so_far longest (all_of bytes) (all_of all) h.known cs sees (omega (arith, longer)) h.blocks;
       } in
       let order_is = stand-in-order order m bytes (sent_bytes own) sent.list ws sent.values (omega (arith, longer, messages)) in
       let stand = listed_blocks_law m (all_of all) order before (filled_of (layouts columns) is) sent.list after (blocks_at (length bytes) ws) sent.lists order_is in
@@ -117,10 +131,10 @@ write_law order fs metadata is bytes ds bs before after cs columns ws own writab
 -- ---- the end
 
 pub end_law : FileEndLaw
-end_law order fs metadata is pairs bytes rest whole footer ds bs r cs held more has short means =
+end_law order fs metadata is pairs size bytes rest whole footer ds bs r cs held more long has short means =
     let schema = (head_written order fs metadata is).schema in
     let h = held.chunks pairs in
     let longer = length-append bytes rest in
     let sees : SeesMore (all_of bytes) (all_of whole) = record { added = λ b. rest; behind = λ b. more } in
-    let blocks = blocks_follow_law (file_so_far schema pairs ds bs (length bytes)) (length whole) (all_of bytes) (all_of whole) h.known cs sees (omega (arith, ap length more, longer)) h.blocks in
+    let blocks = blocks_follow_law (file_so_far schema pairs ds bs (max size (length bytes))) (length whole) (all_of bytes) (all_of whole) h.known cs sees (omega (arith, ap length more, longer, long)) h.blocks in
     record { known = h.known; means = record { metadata = law whole footer _ has short means; dictionaries = blocks.dictionaries; chunks = blocks.chunks } }

@@ -1,2 +1,7 @@
+pub mod Appending
+pub mod AppendRows
+pub mod Ends
 pub mod FileSteps
+pub mod NormalFiles
+pub mod NormalWritable
 pub mod StreamSteps

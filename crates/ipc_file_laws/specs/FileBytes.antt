@@ -1,6 +1,6 @@
 -- The bytes that a file's writer sends, and what they mean.
 -- (Arrow columnar format, "IPC File Format"; File.fbs.)
-use Rattle.std.specs.Prelude.{◌≡◌, ℕ, pos, ◌+◌, ◌^◌, ◌<◌, List, [], ◌∷◌, ◌++◌, length, Some}
+use Rattle.std.specs.Prelude.{◌≡◌, ℕ, pos, ◌+◌, ◌^◌, ◌<◌, ◌≤◌, max, List, [], ◌∷◌, ◌++◌, length, Some}
 use Rattle.lower.specs.TypeTrees.{Pairs, FieldTrees}
 use Rattle.lower_types.specs.declared.Endianness.{Endianness}
 use Rattle.lower_arrays.specs.Layouts.{Layout, layouts}
@@ -96,25 +96,30 @@ chunk_bytes ws own = all_bytes ws ++ sent_bytes own
 abbrev pub file_so_far : Schema → Pairs → List Block → List Block → ℕ → FileMetadata
 file_so_far schema pairs ds bs size = record { schema = schema; pairs = pairs; dictionaries = ds; blocks = bs; size = size }
 
--- The bytes of a file that has no footer yet: its dictionaries are those that its writer remembers, and its records mean these chunks.
-pub record HoldsFile (schema : Schema) (bytes : List ℕ) (ds bs : List Block) (r : Remembered) (cs : List Chunk) : Type 0 where
-  pub chunks : (pairs : Pairs) → HasChunks (file_so_far schema pairs ds bs (length bytes)) (all_of bytes) r cs
+-- The bytes of a file that has no footer yet and will be at least `size` bytes long: its dictionaries are those that its writer remembers, and its records mean these chunks.
+pub record HoldsFile (schema : Schema) (size : ℕ) (bytes : List ℕ) (ds bs : List Block) (r : Remembered) (cs : List Chunk) : Type 0 where
+  pub chunks : (pairs : Pairs) → HasChunks (file_so_far schema pairs ds bs (max size (length bytes))) (all_of bytes) r cs
 
 -- whatever a file begins with, it has no chunk
 abbrev pub FileStartLaw : Type 0
-FileStartLaw = (schema : Schema) (bytes : List ℕ) → HoldsFile schema bytes [] [] nothing_remembered []
+FileStartLaw = (schema : Schema) (size : ℕ) (bytes : List ℕ) → HoldsFile schema size bytes [] [] nothing_remembered []
 
 -- nothing changes where bytes come behind
 abbrev pub FileGrowLaw : Type 0
-FileGrowLaw = (schema : Schema) (bytes more : List ℕ) (ds bs : List Block) (r : Remembered) (cs : List Chunk) → HoldsFile schema bytes ds bs r cs
-    → HoldsFile schema (bytes ++ more) ds bs r cs
+FileGrowLaw = (schema : Schema) (size : ℕ) (bytes more : List ℕ) (ds bs : List Block) (r : Remembered) (cs : List Chunk) → HoldsFile schema size bytes ds bs r cs
+    → HoldsFile schema size (bytes ++ more) ds bs r cs
+
+-- nor where the file will be longer
+abbrev pub FileSizeLaw : Type 0
+FileSizeLaw = (schema : Schema) (size more : ℕ) (bytes : List ℕ) (ds bs : List Block) (r : Remembered) (cs : List Chunk) → size ≤ more
+    → HoldsFile schema size bytes ds bs r cs → HoldsFile schema more bytes ds bs r cs
 
 -- what is sent of a chunk adds just this chunk
 abbrev pub FileWriteLaw : Type 0
-FileWriteLaw = (order : Endianness) (fs : FieldTrees) (metadata : Pairs) (is : IdTrees) (bytes : List ℕ) (ds bs : List Block) (before after : Remembered) (cs : List Chunk)
+FileWriteLaw = (order : Endianness) (fs : FieldTrees) (metadata : Pairs) (is : IdTrees) (size : ℕ) (bytes : List ℕ) (ds bs : List Block) (before after : Remembered) (cs : List Chunk)
     (columns : List Layout) (ws : List Sent) (own : Sent) → IsWritable fs metadata is
-    → HoldsFile (head_written order fs metadata is).schema bytes ds bs before cs → SendsChunk order fs is before after columns ws own
-    → HoldsFile (head_written order fs metadata is).schema (bytes ++ chunk_bytes ws own) (ds ++ blocks_at (length bytes) ws)
+    → HoldsFile (head_written order fs metadata is).schema size bytes ds bs before cs → SendsChunk order fs is before after columns ws own
+    → HoldsFile (head_written order fs metadata is).schema size (bytes ++ chunk_bytes ws own) (ds ++ blocks_at (length bytes) ws)
     (bs ++ block_at (length bytes + length (all_bytes ws)) own ∷ []) after (cs ++ chunk_written columns ∷ [])
 
 -- a whole file: its metadata, and its chunks
@@ -122,11 +127,11 @@ pub record IsFile (bytes : List ℕ) (m : FileMetadata) (cs : List Chunk) : Type
   pub known : Dictionaries
   pub means : MeansFile bytes m known cs
 
--- its footer ends it, whatever stands between
+-- its footer ends it, whatever stands between, where the file is as long as it had to be
 abbrev pub FileEndLaw : Type 0
-FileEndLaw = (order : Endianness) (fs : FieldTrees) (metadata : Pairs) (is : IdTrees) (pairs : Pairs) (bytes rest whole footer : List ℕ) (ds bs : List Block) (r : Remembered) (cs : List Chunk)
-    → HoldsFile (head_written order fs metadata is).schema bytes ds bs r cs
-    → whole ≡ bytes ++ rest → HasFooter whole footer → length footer < 2 ^ 31 → MeansFooter footer (file_written order fs metadata is pairs ds bs)
+FileEndLaw = (order : Endianness) (fs : FieldTrees) (metadata : Pairs) (is : IdTrees) (pairs : Pairs) (size : ℕ) (bytes rest whole footer : List ℕ) (ds bs : List Block) (r : Remembered) (cs : List Chunk)
+    → HoldsFile (head_written order fs metadata is).schema size bytes ds bs r cs
+    → whole ≡ bytes ++ rest → size ≤ length whole → HasFooter whole footer → length footer < 2 ^ 31 → MeansFooter footer (file_written order fs metadata is pairs ds bs)
     → IsFile whole (file_written order fs metadata is pairs ds bs (length whole)) cs
 
 -- ---- without the first eight bytes

@@ -12,6 +12,13 @@ delivered known grows d d' r bytes h = record { monotone = h.monotone; failed = 
 pub stopped : {X Y : Type 0} (known grows : Bool) (d d' : DeviceSeen) (e : Fault) (bytes : List ℕ) → Sends {X = X} known grows d d' (Err e) bytes → Delivers {X = Y} known grows d d' (Err e) bytes
 stopped known grows d d' e bytes h = record { monotone = h.monotone; failed = h.failed; only = h.only; memory = λ k. tt; part = h.part }
 
+-- the same of a call that answers something else
+pub delivered_as : {X Y : Type 0} (known grows : Bool) (d d' : DeviceSeen) (x : X) (y : Y) (bytes : List ℕ) → Delivers {X = X} known grows d d' (Ok x) bytes → Delivers {X = Y} known grows d d' (Ok y) bytes
+delivered_as known grows d d' x y bytes h = record { monotone = h.monotone; failed = tt; only = tt; memory = h.memory; part = h.part }
+
+pub failed_as : {X Y : Type 0} (known grows : Bool) (d d' : DeviceSeen) (e : Fault) (bytes : List ℕ) → Delivers {X = X} known grows d d' (Err e) bytes → Delivers {X = Y} known grows d d' (Err e) bytes
+failed_as known grows d d' e bytes h = record { monotone = h.monotone; failed = h.failed; only = h.only; memory = λ k. tt; part = h.part }
+
 -- all was sent, and what was kept back
 pub flushed : (known grows : Bool) (d d' d'' : DeviceSeen) (bytes : List ℕ) → Sends {X = Unit {0}} known grows d d' (Ok tt) bytes → d'.failures ≤ d''.failures → (IsTrue known → d''.memory ≡ d'.memory)
     → Delivers {X = Unit {0}} known grows d d'' (Ok tt) bytes

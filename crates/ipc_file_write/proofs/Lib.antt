@@ -1,2 +1,15 @@
+pub mod AppendEnds
+pub mod AppendOpens
+pub mod Appends
+pub mod CallLists
 pub mod Deliveries
+pub mod EncodedMessages
+pub mod Exactness
+pub mod FileHeads
+pub mod FileRefusals
 pub mod FileStates
+pub mod Keeping
+pub mod Onward
+pub mod PlacedMessages
+pub mod StartsAndEnds
+pub mod Writes

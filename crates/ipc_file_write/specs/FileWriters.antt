@@ -1,22 +1,24 @@
 -- What the calls of a file's writer do, and what its bytes mean.
 -- (Arrow columnar format, "IPC File Format".)
-use Rattle.std.specs.Prelude.{◌≡◌, ℕ, ◌<◌, ◌≤◌, ◌^◌, Bool, IsTrue, List, [], ◌++◌, length, Option, Some, None, Result, OnErr, OnOk, IfErr}
+use Rattle.std.specs.Prelude.{◌≡◌, ℕ, ◌+◌, ◌-◌, ◌<◌, ◌≤◌, ◌^◌, max, Bool, true, false, IsTrue, List, [], ◌++◌, length, take, replicate, Option, Some, None, IfSome, Result, Ok, Err, OnErr, OnOk, IfErr}
 use Rattle.lower.specs.TypeTrees.{Pairs, FieldTrees}
 use Rattle.lower.specs.TypeViews.{fields_view, pairs_of}
 use Rattle.lower_types.specs.declared.Endianness.{Endianness}
+use Rattle.ipc_base.specs.Fitting.{AllFit}
 use Rattle.ipc_base.specs.IdTrees.{IdTrees, all_ids_view}
 use Rattle.ipc_devices.specs.Device.{Memory, WritesOver, before}
-use Rattle.ipc_devices.specs.Faults.{IsIo, OnIo, OnRefused}
-use Rattle.ipc_devices.specs.declared.fault.ArgFault.TheVariants.{TooLarge}
+use Rattle.ipc_devices.specs.Faults.{IsIo, OnIo, OnRefused, OwnFault}
+use Rattle.ipc_devices.specs.declared.fault.ArgFault.TheVariants.{FieldsShape, NotWritable, TooLarge}
 use Rattle.ipc_devices.specs.declared.fault.Fault.{Fault}
 use Rattle.ipc_devices.specs.declared.fault.Fault.TheVariants.{Argument, Io, Memory as NoMemory, State}
 use Rattle.ipc_devices.specs.declared.fault.StateFault.{StateFault}
 use Rattle.ipc_devices.specs.declared.fault.StateFault.TheVariants as faults
 use Rattle.ipc_views.specs.declared.file.Block.{Block}
 use Rattle.ipc_model.specs.Batches.{Chunk}
+use Rattle.ipc_model.specs.Files.{magic}
 use Rattle.ipc_model.specs.Schemas.{head_of}
 use Rattle.ipc_model.specs.Streams.{Head}
-use Rattle.ipc_model.specs.Writable.{IsWritable, file_weight}
+use Rattle.ipc_model.specs.Writable.{IsWritable, IsWritableFile, file_weight}
 use Rattle.ipc_model.specs.WrittenLaws.{prefix}
 use Rattle.ipc_plan.specs.Sending.{DeviceSeen, WritesSome}
 use Rattle.ipc_laws.specs.Messages.{message_bytes}
@@ -28,15 +30,18 @@ use Rattle.ipc_write.specs.Sending.{FailsOrIsFull}
 use Rattle.ipc_write.specs.Writers.{chosen_ids, fault_unless_new, fault_unless_started}
 use Rattle.ipc_write.specs.declared.stream.WriterState.{WriterState}
 use Rattle.ipc_write.specs.declared.stream.WriterState.TheVariants.{New, Started, Finished, Failed}
-use Rattle.ipc_footers.specs.Footers.{RefusesFooter, WritesFooter, file_written, tail_of}
+use Rattle.ipc_footers.specs.Footers.{AreFew, RefusesFooter, WritesFooter, file_written, tail_of}
+use Rattle.ipc_file_laws.specs.Appending.{HaveNegative, greatest_end}
 use Rattle.ipc_file_laws.specs.FileBytes.{EndsStream, HoldsFile, HoldsStream, IsFile, file_head}
 use Rattle.ipc_file_write.specs.declared.file.FileWriter.{FileWriter}
+use Rattle.ipc_file_write.specs.declared.sending.Ending.{Ending}
 use Rattle.ipc_file_write.specs.declared.writer.Starting.{Starting}
 
 -- ---- what is seen of a writer
 
 -- What a writer writes to, how far it is, the order of the bytes of its numbers, its schema, the ids that it starts with, those that it
--- was started with, the pairs of its footer, the dictionaries that it remembers, the blocks of what it wrote, and where the next message stands.
+-- was started with, the pairs of its footer, the dictionaries that it remembers, the blocks of its file, where the next message stands, and
+-- how many bytes the file has at least, once it is finished: those of a file that is gone on with.
 pub record FileSeen (W : Type 0) : Type 0 where
   pub device : W
   pub state : WriterState
@@ -50,6 +55,7 @@ pub record FileSeen (W : Type 0) : Type 0 where
   pub dictionaries : List Block
   pub blocks : List Block
   pub place : ℕ
+  pub size : ℕ
 
 abbrev pub seen : {W : Type 0} → FileWriter W → FileSeen W
 seen w = record {
@@ -65,6 +71,7 @@ seen w = record {
   dictionaries = w.dictionary_blocks.items;
   blocks = w.record_blocks.items;
   place = w.block_offsets;
+  size = w.size;
 }
 
 -- the memory that callers may hand from one writer to another
@@ -97,46 +104,67 @@ pub record IsFresh {W : Type 0} (w : FileSeen W) (bytes : List ℕ) (cs : List C
   pub no_dictionaries : w.dictionaries ≡ []
   pub no_blocks : w.blocks ≡ []
 
--- A file that has no footer yet, with these chunks; without its first eight bytes a stream of the same.
-pub record IsOpenFile {W : Type 0} (w : FileSeen W) (bytes : List ℕ) (cs : List Chunk) : Type 0 where
+-- A file that has no footer yet, with these chunks. Where it is a stream too, it is one of the same without its first eight bytes, and nothing
+-- stands behind its last block. The next message stands behind all blocks that there are.
+pub record IsOpenFile {W : Type 0} (is_stream : Bool) (w : FileSeen W) (bytes : List ℕ) (cs : List Chunk) : Type 0 where
   pub writable : IsWritable w.fields w.metadata w.ids
   pub light : file_weight w.fields w.metadata w.pairs ≤ max_weight
-  pub file : HoldsFile (head_of_file w).schema bytes w.dictionaries w.blocks w.remembers cs
-  pub stream : HoldsStream bytes (head_of_file w) w.remembers cs
+  pub begun : take 6 bytes ≡ magic
+  pub long : 8 ≤ length bytes
+  pub file : HoldsFile (head_of_file w).schema w.size bytes w.dictionaries w.blocks w.remembers cs
+  pub stream : IsTrue is_stream → HoldsStream bytes (head_of_file w) w.remembers cs
   pub place : w.place ≡ length bytes
+  pub natural : HaveNegative (w.dictionaries ++ w.blocks) → ⊥
+  pub reached : 0 < length w.blocks → w.place ≤ max 8 (greatest_end (w.dictionaries ++ w.blocks))
+  pub last : IsTrue is_stream → greatest_end (w.dictionaries ++ w.blocks) ≤ w.place
 
--- A whole file of the normal form of the schema with its ids, in this order of bytes, with these pairs and these chunks; without its
--- first eight bytes a stream of the same.
-pub record IsWholeFile {W : Type 0} (w : FileSeen W) (bytes : List ℕ) (cs : List Chunk) : Type 0 where
+-- A whole file of the normal form of the schema with its ids, in this order of bytes, with these pairs and these chunks. Where it is a
+-- stream too, it is one of the same without its first eight bytes. What it has before its mark can be gone on with.
+pub record IsWholeFile {W : Type 0} (is_stream : Bool) (w : FileSeen W) (bytes : List ℕ) (cs : List Chunk) : Type 0 where
   pub file : IsFile bytes (file_written w.order w.fields w.metadata w.ids w.pairs w.dictionaries w.blocks (length bytes)) cs
-  pub stream : EndsStream bytes (head_of_file w) cs
+  pub stream : IsTrue is_stream → EndsStream bytes (head_of_file w) cs
+  pub front : List ℕ
+  pub behind : List ℕ
+  pub bytes_are : bytes ≡ front ++ behind
+  pub open_front : IsOpenFile is_stream w front cs
+  pub long : w.size ≤ length bytes
 
 -- What the bytes of a writer in this state are. Where a device failed, the chunks that were taken still stand at their blocks.
-abbrev pub FileIs : {W : Type 0} → WriterState → FileSeen W → List ℕ → List Chunk → Type 0
-FileIs New w bytes cs = IsFresh w bytes cs
-FileIs Started w bytes cs = IsOpenFile w bytes cs
-FileIs Finished w bytes cs = IsWholeFile w bytes cs
-FileIs Failed w bytes cs = HoldsFile (head_of_file w).schema bytes w.dictionaries w.blocks w.remembers cs
+abbrev pub FileIs : {W : Type 0} → Bool → WriterState → FileSeen W → List ℕ → List Chunk → Type 0
+FileIs is_stream New w bytes cs = IsFresh w bytes cs
+FileIs is_stream Started w bytes cs = IsOpenFile is_stream w bytes cs
+FileIs is_stream Finished w bytes cs = IsWholeFile is_stream w bytes cs
+FileIs is_stream Failed w bytes cs = HoldsFile (head_of_file w).schema w.size bytes w.dictionaries w.blocks w.remembers cs
 
 -- what stands in a memory before its place: the bytes that were there before, and those of the file
-pub record HoldsBytes {W : Type 0} (m : Memory) (w : FileSeen W) (base : List ℕ) (cs : List Chunk) : Type 0 where
+pub record HoldsBytes {W : Type 0} (is_stream : Bool) (m : Memory) (w : FileSeen W) (base : List ℕ) (cs : List Chunk) : Type 0 where
   pub bytes : List ℕ
   pub held : before m ≡ base ++ bytes
-  pub file : FileIs w.state w bytes cs
+  pub file : FileIs is_stream w.state w bytes cs
 
--- the device of a writer holds `base`, and then a file of these chunks
+-- the device of a writer holds `base`, and then a file of these chunks, which is a stream too
 abbrev pub Agrees : {W : Type 0} → (W → Memory) → FileSeen W → List ℕ → List Chunk → Type 0
-Agrees memory w base cs = HoldsBytes (memory w.device) w base cs
+Agrees memory w base cs = HoldsBytes true (memory w.device) w base cs
 
--- the file has the chunks that it had
+-- the same of a file that may be no stream, since others wrote its beginning
+abbrev pub AgreesAlone : {W : Type 0} → (W → Memory) → FileSeen W → List ℕ → List Chunk → Type 0
+AgreesAlone memory w base cs = HoldsBytes false (memory w.device) w base cs
+
+-- the file has the chunks that it had, and is a stream where it was one
 pub record Remains {W : Type 0} (known : Bool) (memory : W → Memory) (a b : FileSeen W) : Type 0 where
-  pub kept : IsTrue known → (base : List ℕ) (cs : List Chunk) → Agrees memory a base cs → Agrees memory b base cs
+  pub kept : IsTrue known → (is_stream : Bool) (base : List ℕ) (cs : List Chunk) → HoldsBytes is_stream (memory a.device) a base cs
+      → HoldsBytes is_stream (memory b.device) b base cs
 
--- a writer that wrote nothing, whatever stands before it
+-- a writer that wrote nothing, whatever stands before it, and goes on with no file
 pub record HasNothing {W : Type 0} (memory : W → Memory) (w : FileSeen W) : Type 0 where
   pub agrees : Agrees memory w (before (memory w.device)) []
+  pub new_file : w.size ≡ 0
 
 -- ---- calls
+
+-- The state comes first: where it has a fault, a call answers that one, whatever it is called with, and does nothing.
+abbrev pub StateComesFirst : {W : Type 0} → Option StateFault → FileSeen W → Result Unit Fault → FileSeen W → Type 0
+StateComesFirst own a r b = IfSome own (λ e. (r ≡ Err (State e)) × (b ≡ a))
 
 -- A call that sends these bytes to a device: it fails with `Io` alone, where the device counted a failure or has too little room. What went out
 -- are the first bytes, and all of them where it is Ok.
@@ -158,12 +186,14 @@ pub record Kept {W : Type 0} (a b : FileSeen W) : Type 0 where
   pub blocks : b.blocks ≡ a.blocks
   pub place : b.place ≡ a.place
 
--- the order of bytes, the schema and the ids that were chosen stay whatever is called
+-- the order of bytes, the schema, the ids that were chosen, the pairs and the size stay whatever is sent
 pub record IsSameFile {W : Type 0} (a b : FileSeen W) : Type 0 where
   pub order : b.order ≡ a.order
   pub fields : b.fields ≡ a.fields
   pub metadata : b.metadata ≡ a.metadata
   pub chosen : b.chosen ≡ a.chosen
+  pub pairs : b.pairs ≡ a.pairs
+  pub size : b.size ≡ a.size
 
 -- What a call that sends these bytes does to its device, and what a refused one leaves.
 pub record FileStep {W : Type 0} (known grows : Bool) (failures room : W → ℕ) (memory : W → Memory) (a : FileSeen W) (r : Result Unit Fault) (b : FileSeen W) (bytes : List ℕ) : Type 0 where
@@ -182,10 +212,28 @@ pub record SendsBytes {W : Type 0} (known grows : Bool) (failures room : W → �
 -- why a writer refuses to start
 abbrev pub RefusesStart : {W : Type 0} → FileSeen W → Fault → Type 0
 RefusesStart w (State e) = fault_unless_new w.state ≡ Some e
-RefusesStart w (Argument TooLarge) = file_weight w.fields w.metadata w.pairs ≤ max_weight → ⊥
 RefusesStart w (Argument e) = RefusesSchema (Argument e) w.fields w.metadata w.chosen
 RefusesStart w NoMemory = Unit {0}
 RefusesStart w _ = ⊥
+
+-- A writer may start its file: it is new, and its schema with the ids that were chosen can be written, the pairs beside it.
+pub record MayBeStarted {W : Type 0} (w : FileSeen W) : Type 0 where
+  pub new : w.state ≡ New
+  pub writable : IsWritableFile w.fields w.metadata w.chosen w.pairs
+
+-- which of these conditions isn't met
+abbrev pub MissesStart : {W : Type 0} → FileSeen W → Fault → Type 0
+MissesStart w (State e) = ¬ (w.state ≡ New)
+MissesStart w (Argument FieldsShape) = ¬ AllFit w.fields w.chosen
+MissesStart w (Argument NotWritable) = ¬ IsWritable w.fields w.metadata w.chosen
+MissesStart w NoMemory = Unit {0}
+MissesStart w (Io e) = Unit {0}
+MissesStart w _ = ⊥
+
+-- It starts just where it may, memory and devices aside; a refusal names a condition, and it isn't met.
+abbrev pub AnswersStart : {W : Type 0} → FileSeen W → Result Unit Fault → Type 0
+AnswersStart w (Ok x) = MayBeStarted w
+AnswersStart w (Err e) = MissesStart w e × OwnFault e (¬ MayBeStarted w)
 
 -- the same, or its device fails
 abbrev pub OrFails : (Fault → Type 0) → Fault → Type 0
@@ -229,13 +277,41 @@ RefusesFinish w (Argument e) = RefusesFooter (Argument e) w.fields w.metadata w.
 RefusesFinish w NoMemory = Unit {0}
 RefusesFinish w _ = ⊥
 
--- A writer may end its file: what it sends then is the mark that ends the stream, the footer, and what stands behind that.
-pub record MayFinish {W : Type 0} (w : FileSeen W) (bytes : List ℕ) : Type 0 where
+-- A writer may end its file: it is started, and a footer can name all blocks.
+pub record MayBeFinished {W : Type 0} (w : FileSeen W) : Type 0 where
+  pub started : w.state ≡ Started
+  pub few : AreFew w.dictionaries w.blocks
+
+-- which of these conditions isn't met
+abbrev pub MissesFinish : {W : Type 0} → FileSeen W → Fault → Type 0
+MissesFinish w (State e) = ¬ (w.state ≡ Started)
+MissesFinish w (Argument TooLarge) = ¬ AreFew w.dictionaries w.blocks
+MissesFinish w NoMemory = Unit {0}
+MissesFinish w (Io e) = Unit {0}
+MissesFinish w _ = ⊥
+
+-- It ends just where it may, memory and devices aside; a refusal names a condition, and it isn't met.
+abbrev pub AnswersFinish : {W : Type 0} → FileSeen W → Result Unit Fault → Type 0
+AnswersFinish w (Ok x) = MayBeFinished w
+AnswersFinish w (Err e) = MissesFinish w e × OwnFault e (¬ MayBeFinished w)
+
+-- all bytes of an ending
+abbrev pub ending_bytes : Ending → List ℕ
+ending_bytes e = prefix 0 ++ (replicate e.zeros 0 ++ e.bytes.items)
+
+-- A writer may end its file: what it sends then is the mark that ends the stream, the footer, and what stands behind that; and before
+-- the footer as many bytes 0 as it takes to end no earlier than a file that is gone on with ended.
+pub record MayFinish {W : Type 0} (w : FileSeen W) (e : Ending) : Type 0 where
   pub was : w.state ≡ Started
   pub footer : List ℕ
   pub short : length footer < 2 ^ 31
   pub writes : WritesFooter w.order footer w.fields w.metadata w.ids w.pairs w.dictionaries w.blocks
-  pub bytes_are : bytes ≡ prefix 0 ++ (footer ++ tail_of footer)
+  pub bytes_are : e.bytes.items ≡ footer ++ tail_of footer
+  pub zeros_are : e.zeros ≡ w.size - w.place - (8 + length e.bytes.items)
+
+-- The file ends no earlier than one that is gone on with ended: nothing of that stands behind its footer.
+pub record ReachesEnd {W : Type 0} (known : Bool) (memory : W → Memory) (a b : FileSeen W) : Type 0 where
+  pub reaches : IsTrue known → a.place ≤ (memory a.device).place → a.size ≤ (memory b.device).place
 
 -- the fault of a state in which a writer takes no pairs
 abbrev pub fault_if_over : WriterState → Option StateFault
@@ -250,9 +326,13 @@ RefusesPairs w pairs (State e) = fault_if_over w.state ≡ Some e
 RefusesPairs w pairs (Argument TooLarge) = file_weight w.fields w.metadata pairs ≤ max_weight → ⊥
 RefusesPairs w pairs _ = ⊥
 
--- the pairs took the place of those that were there
+-- the pairs took the place of those that were there, and nothing else changed
 pub record TakesPairs {W : Type 0} (a b : FileSeen W) (pairs : Pairs) : Type 0 where
   pub open_state : fault_if_over a.state ≡ None
   pub light : file_weight a.fields a.metadata pairs ≤ max_weight
   pub are : b.pairs ≡ pairs
   pub state : b.state ≡ a.state
+  pub order : b.order ≡ a.order
+  pub fields : b.fields ≡ a.fields
+  pub metadata : b.metadata ≡ a.metadata
+  pub chosen : b.chosen ≡ a.chosen

@@ -1,5 +1,8 @@
 //! What a writer of a file holds.
 ghost use Rattle.std.specs.Prelude.{◌≡◌, true};
+ghost use Rattle.lower.specs.TypeViews.{fields_view, pairs_of};
+ghost use Rattle.ipc_base.specs.IdTrees.{all_ids_view};
+ghost use Rattle.ipc_file_write.specs.Keeping.{StaysWritable};
 
 use ipc_base::ipc::IpcField;
 use ipc_encode::common::EncodedData;
@@ -29,10 +32,13 @@ pub struct FileWriter<W> {
     pub(crate) record_blocks: Vec<Block>,
     // where the next message stands in the file
     pub(crate) block_offsets: u64,
+    // how long the file was that is gone on with, else 0
+    pub(crate) size: u64,
     pub(crate) custom_metadata: Metadata,
     // the dictionaries that were written, which have to stay
     pub(crate) dictionary_tracker: DictionaryTracker,
     // memory that callers may hand from one writer to another
     pub(crate) encoded_message: EncodedData,
     ghost keeps: { dictionary_tracker.cannot_replace ≡ true },
+    ghost writable: { ∥ StaysWritable state (fields_view schema.fields.items) (pairs_of schema.metadata.entries) (all_ids_view ipc_fields.items) (pairs_of custom_metadata.entries) ∥₁ },
 }

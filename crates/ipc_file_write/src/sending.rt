@@ -1,15 +1,27 @@
 //! Sends bytes to the device of a writer, and makes those that begin and end a file.
-ghost use Rattle.std.specs.Prelude.{◌≡◌, ◌^◌, ◌<◌, ◌++◌, IfOk, OnErr, OnOk, length};
-ghost use Rattle.ipc_plan.specs.Sending.{seen_by};
+ghost use Rattle.std.specs.Prelude.{◌≡◌, ◌^◌, ◌<◌, ◌++◌, IfOk, OnErr, OnOk, length, map, replicate};
+ghost use Rattle.lower_arrays.specs.AnyLayouts.{layout_of};
+ghost use Rattle.ipc_schema_write.specs.WriterAnswers.{byte_order};
+ghost use Rattle.ipc_tracker.specs.Listings.{listed};
+ghost use Rattle.ipc_plan.specs.Sending.{Sends, seen_by};
 ghost use Rattle.ipc_model.specs.WrittenLaws.{prefix};
+ghost use Rattle.ipc_chunks.specs.Messages.{AreSendable};
+ghost use Rattle.ipc_write.specs.Messages.{all_seen, messages_bytes};
 ghost use Rattle.ipc_write.specs.declared.stream.WriterState.TheVariants.{Failed};
 ghost use Rattle.ipc_footers.specs.Footers.{tail_of};
 ghost use Rattle.ipc_file_laws.specs.FileBytes.{file_head};
-ghost use Rattle.ipc_file_write.specs.FileWriters.{Delivers};
+ghost use Rattle.ipc_file_write.specs.FileWriters.{Delivers, ending_bytes};
+ghost use Rattle.ipc_file_write.specs.Writes.{HandsChunk};
 
+use crate::blocks::{Placed, place_chunk};
+use ipc_base::chunk::Chunk;
+use ipc_chunks::messages::{Messages, encode_messages};
 use ipc_devices::{Fault, Writes};
-use ipc_plan::sending::send_bytes;
+use ipc_plan::sending::{send_bytes, zeros};
+use ipc_tracker::NewDictionary;
+use ipc_write::common_sync::write_messages;
 use ipc_write::stream::WriterState;
+use lower_arrays::array::AnyArray;
 use std::alloc::{AllocError, Global};
 
 /// What a file begins with: `ARROW1`, and two bytes 0, so that the first message stands at a multiple of 8.
@@ -20,6 +32,16 @@ const ARROW_MAGIC: [u8; 6] = *b"ARROW1";
 
 /// What stands before the length of a message.
 const CONTINUATION_MARKER: [u8; 4] = [0xff; 4];
+
+/// What ends a stream: the marker, and the length 0.
+const END_OF_STREAM: [u8; 8] = [0xff, 0xff, 0xff, 0xff, 0, 0, 0, 0];
+
+// What ends a file: the mark, so many bytes 0, and then these bytes, its footer and what stands behind that.
+#[derive(Drop)]
+pub(crate) struct Ending {
+    pub(crate) zeros: u64,
+    pub(crate) bytes: Vec<u8>,
+}
 
 // Sends all of these bytes. After a failure nothing more is sent.
 pub(crate) fn send<W: Writes>(
@@ -41,12 +63,36 @@ pub(crate) fn send<W: Writes>(
     }
 }
 
-// Sends all of these bytes, and then what the device may have kept back.
-fn send_and_flush<W: Writes>(writer: &mut W, bytes: &[u8]) -> Result<(), Fault>
-    ensures sends { Delivers W.known W.grows (seen_by W.failures W.room W.memory writer.old)
-        (seen_by W.failures W.room W.memory writer.new) result bytes.now }
+// Sends so many bytes 0.
+fn send_zeros<W: Writes>(writer: &mut W, count: u64) -> Result<(), Fault>
+    ensures { Sends W.known W.grows (seen_by W.failures W.room W.memory writer.old)
+        (seen_by W.failures W.room W.memory writer.new) result (replicate count 0) }
 {
-    send_bytes(writer, bytes)?;
+    let mut left = count;
+    while left > 0 {
+        let part = left.min(64);
+        send_bytes(writer, zeros(part as usize))?;
+        left -= part;
+    }
+    Ok(())
+}
+
+// Sends the mark, the bytes 0, and the footer.
+fn send_ending<W: Writes>(writer: &mut W, ending: &Ending) -> Result<(), Fault>
+    ensures { Sends W.known W.grows (seen_by W.failures W.room W.memory writer.old)
+        (seen_by W.failures W.room W.memory writer.new) result (ending_bytes ending.now) }
+{
+    send_bytes(writer, &END_OF_STREAM)?;
+    send_zeros(writer, ending.zeros)?;
+    send_bytes(writer, &ending.bytes)
+}
+
+// Sends the last bytes of a file, and then what the device may have kept back.
+fn send_and_flush<W: Writes>(writer: &mut W, ending: &Ending) -> Result<(), Fault>
+    ensures sends { Delivers W.known W.grows (seen_by W.failures W.room W.memory writer.old)
+        (seen_by W.failures W.room W.memory writer.new) result (ending_bytes ending.now) }
+{
+    send_ending(writer, ending)?;
     writer.flush()?;
     Ok(())
 }
@@ -55,14 +101,14 @@ fn send_and_flush<W: Writes>(writer: &mut W, bytes: &[u8]) -> Result<(), Fault>
 pub(crate) fn send_last<W: Writes>(
     writer: &mut W,
     state: &mut WriterState,
-    bytes: &[u8],
+    ending: &Ending,
 ) -> Result<(), Fault>
     ensures sends { Delivers W.known W.grows (seen_by W.failures W.room W.memory writer.old)
-        (seen_by W.failures W.room W.memory writer.new) result bytes.now }
+        (seen_by W.failures W.room W.memory writer.new) result (ending_bytes ending.now) }
     ensures stays { OnOk result (state.new ≡ state.old) }
     ensures failed { OnErr result (state.new ≡ Failed) }
 {
-    match send_and_flush(writer, bytes) {
+    match send_and_flush(writer, ending) {
         Ok(()) => Ok(()),
         Err(fault) => {
             *state = WriterState::Failed;
@@ -84,16 +130,55 @@ pub(crate) fn beginning(alloc: Global, metadata: &[u8]) -> Result<Vec<u8>, Alloc
     Ok(bytes)
 }
 
-// What a file ends with that has this footer: the mark that ends its stream, the footer, and what stands behind it.
-pub(crate) fn ending(alloc: Global, footer: &[u8]) -> Result<Vec<u8>, AllocError>
+// A footer, and what stands behind it.
+pub(crate) fn footer_and_tail(alloc: Global, footer: &[u8]) -> Result<Vec<u8>, AllocError>
     requires { length footer.now < 2 ^ 31 }
-    ensures { IfOk result (λ bytes. bytes.items ≡ prefix 0 ++ (footer.now ++ tail_of footer.now)) }
+    ensures { IfOk result (λ bytes. bytes.items ≡ footer.now ++ tail_of footer.now) }
 {
     let mut bytes = Vec::new(alloc);
-    bytes.extend_from_slice(&CONTINUATION_MARKER)?;
-    bytes.extend_from_slice(&0u32.to_le_bytes())?;
     bytes.extend_from_slice(footer)?;
     bytes.extend_from_slice(&(footer.len() as u32).to_le_bytes())?;
     bytes.extend_from_slice(&ARROW_MAGIC)?;
     Ok(bytes)
+}
+
+// Sends the messages of a chunk. After a failure nothing more is sent.
+fn send_messages<W: Writes>(
+    writer: &mut W,
+    state: &mut WriterState,
+    messages: &Messages<'_>,
+) -> Result<(), Fault>
+    requires { AreSendable messages.now }
+    ensures sends { Delivers W.known W.grows (seen_by W.failures W.room W.memory writer.old)
+        (seen_by W.failures W.room W.memory writer.new) result (messages_bytes (all_seen messages.now)) }
+    ensures stays { OnOk result (state.new ≡ state.old) }
+    ensures failed { OnErr result (state.new ≡ Failed) }
+{
+    match write_messages(writer, messages) {
+        Ok(()) => Ok(()),
+        Err(fault) => {
+            *state = WriterState::Failed;
+            Err(fault)
+        }
+    }
+}
+
+// Encodes a chunk, of which these dictionaries are to be written, sends its messages to this place of a file, and answers where they stand.
+// All memory is taken before the first byte. After a failure of the device nothing more is sent.
+pub(crate) fn send_chunk<W: Writes>(
+    alloc: Global,
+    writer: &mut W,
+    state: &mut WriterState,
+    columns: &Chunk<AnyArray>,
+    dictionaries: &[NewDictionary],
+    is_little_endian: bool,
+    place: u64,
+) -> Result<Placed, Fault>
+    ensures { HandsChunk W.known W.grows W.failures W.room W.memory (byte_order is_little_endian) (map layout_of columns.now)
+        (map listed dictionaries.now) place writer.old state.old result writer.new state.new }
+{
+    let messages = encode_messages(alloc, columns, dictionaries, is_little_endian)?;
+    let placed = place_chunk(alloc, &messages, place)?;
+    send_messages(writer, state, &messages)?;
+    Ok(placed)
 }

@@ -1,25 +1,37 @@
 //! Writes files: Arrow columnar format, "IPC File Format".
-ghost use Rattle.std.specs.Prelude.{◌≡◌, [], IfErr, IfOk, IsOkAnd, IsTrue, None, OnErr, OnOk, not};
+ghost use Rattle.std.specs.Prelude.{◌≡◌, ◌↔◌, [], All, IfErr, IfOk, IfSome, IsOkAnd, IsSomeAnd, IsTrue, None, OnErr, OnOk, map, not, ◌≤◌, ◌-◌, ◌+◌, ◌^◌};
 ghost use Rattle.lower.specs.TypeViews.{fields_view, pairs_of, schema_view};
 ghost use Rattle.ipc_devices.specs.Device.{before};
+ghost use Rattle.ipc_devices.specs.declared.fault.ArgFault.TheVariants.{FieldsDiffer};
+ghost use Rattle.ipc_devices.specs.declared.fault.Fault.TheVariants.{Argument, State};
+ghost use Rattle.lower_arrays.specs.AnyLayouts.{layout_of};
+ghost use Rattle.lower_arrays.specs.Slots.{IsArray};
 ghost use Rattle.ipc_schema_write.specs.WriterAnswers.{byte_order};
-ghost use Rattle.ipc_write.specs.Writers.{RefusesState, chosen_ids, fault_unless_new, fault_unless_started};
+ghost use Rattle.ipc_tracker.specs.Listings.{listed};
+ghost use Rattle.ipc_write.specs.Meaning.{chunk_written};
+ghost use Rattle.ipc_write.specs.Writers.{HasType, HaveTypes, RefusesState, RefusesTypes, chosen_ids, seen_ids, fault_unless_new, fault_unless_started};
 ghost use Rattle.ipc_write.specs.declared.stream.WriterState.TheVariants.{New, Started};
-ghost use Rattle.ipc_file_write.specs.FileWriters.{Agrees, EndsWith, HasNothing, IsFileOf, MayFinish, MayStart, OrFails, RefusesFinish, RefusesPairs, RefusesStart, Remains, SendsBytes, StartsWith, TakesPairs, fault_if_over, scratches_of, seen};
+ghost use Rattle.ipc_file_write.specs.Writes.{Appends, MayList, RefusesChunk, SendsColumns, WritesExactly, field_normal};
+ghost use Rattle.ipc_file_write.specs.FileWriters.{Agrees, AnswersFinish, AnswersStart, EndsWith, HasNothing, IsFileOf, MayFinish, MayStart, OrFails, ReachesEnd, RefusesFinish, RefusesPairs, RefusesStart, Remains, SendsBytes, StartsWith, StateComesFirst, TakesPairs, fault_if_over, scratches_of, seen};
 
+use crate::blocks::{add, add_all, make_room};
 pub use crate::file::FileWriter;
-use crate::sending::{beginning, ending, send, send_last};
+use crate::sending::{Ending, beginning, footer_and_tail, send, send_chunk, send_last};
+use ipc_base::chunk::Chunk;
 use ipc_base::ipc::{IpcField, clone_ipc_fields};
+use ipc_chunks::messages::list_messages;
 use ipc_devices::Writes;
 use ipc_devices::fault::{ArgFault, Fault, StateFault};
 use ipc_encode::common::{EncodedData, WriteOptions};
 use ipc_footers::footer::footer_to_bytes;
 use ipc_footers::weights::is_light;
 use ipc_schema_write::defaults::writable_ipc_fields;
+use ipc_schema_write::dictionaries::are_same_ids;
 use ipc_schema_write::schema::schema_to_bytes_as;
-use ipc_tracker::DictionaryTracker;
+use ipc_tracker::{DictionaryTracker, NewDictionary};
 use ipc_write::stream::WriterState;
-use lower::datatypes::{Metadata, Schema};
+use lower::datatypes::{Field, Metadata, Schema, is_same_normal_type};
+use lower_arrays::array::AnyArray;
 use std::alloc::Global;
 use std::collections::BTreeMap;
 use std::mem::replace;
@@ -29,6 +41,31 @@ use std::mem::replace;
 pub(crate) struct Starting {
     pub(crate) ipc_fields: Vec<IpcField>,
     pub(crate) bytes: Vec<u8>,
+}
+
+// Whether a column has the type of a field, both in their normal form.
+fn has_type(column: &AnyArray, field: &Field) -> bool
+    ensures same { IsTrue result ↔ HasType column.now (field_normal field.now) }
+    ensures array { IsArray (layout_of column.now) }
+{
+    is_same_normal_type(column.data_type(), &field.data_type)
+}
+
+// Refuses columns that have not the types of these fields, one each, both in their normal form.
+fn check_types(columns: &[AnyArray], fields: &[Field]) -> Result<(), Fault>
+    ensures ok { OnOk result (HaveTypes columns.now (map field_normal fields.now)) }
+    ensures arrays { OnOk result (All (λ array. IsArray (layout_of array)) columns.now) }
+    ensures only { IfErr result (RefusesTypes columns.now (map field_normal fields.now)) }
+{
+    if columns.len() != fields.len() {
+        return Err(Fault::Argument(ArgFault::ColumnCount));
+    }
+    for (i, column) in columns.iter().enumerate() {
+        if !has_type(column, &fields[i]) {
+            return Err(Fault::Argument(ArgFault::ColumnType));
+        }
+    }
+    Ok(())
 }
 
 impl<W: Writes + Drop> FileWriter<W> {
@@ -95,6 +132,7 @@ impl<W: Writes + Drop> FileWriter<W> {
             dictionary_blocks: Vec::new(alloc),
             record_blocks: Vec::new(alloc),
             block_offsets: 0,
+            size: 0,
             custom_metadata: BTreeMap::new(alloc),
             dictionary_tracker: DictionaryTracker::new(alloc, true),
             encoded_message: EncodedData::empty(alloc),
@@ -176,15 +214,14 @@ impl<W: Writes + Drop> FileWriter<W> {
         Ok(())
     }
 
-    // Judges whether the file may start, and makes all that is sent then.
+    // Judges whether the file may start, and makes all that is sent then. Pairs that were set have room beside a schema that can be
+    // written.
     fn starting(&self) -> Result<Starting, Fault>
+        ensures first { IfSome (fault_unless_new self.now.state) (λ e. result ≡ Err (State e)) }
         ensures ok { IfOk result (MayStart (seen self.now)) }
         ensures only { IfErr result (RefusesStart (seen self.now)) }
     {
         self.check_new()?;
-        if !is_light(&self.schema, &self.custom_metadata) {
-            return Err(Fault::Argument(ArgFault::TooLarge));
-        }
         let ipc_fields = match &self.given {
             Some(given) => clone_ipc_fields(given)?,
             None => writable_ipc_fields(self.alloc, &self.schema.fields)?,
@@ -203,14 +240,15 @@ impl<W: Writes + Drop> FileWriter<W> {
     /// on, in pre-order.
     ///
     /// Faults: `State(AlreadyStarted)`, `State(Finished)`, `State(Failed)` by the writer's state; `Argument(FieldsShape)` where the ids
-    /// don't fit the fields; `Argument(NotWritable)` where the schema can't be written; `Argument(TooLarge)` where the weight of the
-    /// schema and the pairs is above `2^30`; `Memory`: after these nothing was sent and the writer is as it was. `Io` where the device
-    /// failed, or where it is memory whose growth was refused: then some of the first bytes may have been sent, and each later `start`,
-    /// `write` and `finish` answers `State(Failed)`.
+    /// don't fit the fields; `Argument(NotWritable)` where the schema can't be written; `Memory`: after these nothing was sent and the
+    /// writer is as it was. `Io` where the device failed, or where it is memory whose growth was refused: then some of the first bytes
+    /// may have been sent, and each later `start`, `write` and `finish` answers `State(Failed)`.
     pub fn start(&mut self) -> Result<(), Fault>
+        ensures first { StateComesFirst (fault_unless_new (seen self.old).state) (seen self.old) result (seen self.new) }
         ensures step { SendsBytes W.known W.grows W.failures W.room W.memory (seen self.old) result (seen self.new) }
         ensures ok { OnOk result (StartsWith (seen self.old) (seen self.new)) }
         ensures only { IfErr result (OrFails (RefusesStart (seen self.old))) }
+        ensures exact { AnswersStart (seen self.old) result }
         ensures means { Remains W.known W.memory (seen self.old) (seen self.new) }
     {
         let Starting { ipc_fields, bytes } = self.starting()?;
@@ -221,9 +259,90 @@ impl<W: Writes + Drop> FileWriter<W> {
         Ok(())
     }
 
+    // Refuses ids that aren't those of the start.
+    fn check_ids(&self, ipc_fields: Option<&[IpcField]>) -> Result<(), Fault>
+        ensures ok { OnOk result (IfSome (seen_ids ipc_fields.entry) (λ given. given ≡ (seen self.now).ids)) }
+        ensures only { IfErr result (λ e. (e ≡ Argument FieldsDiffer)
+            × IsSomeAnd (seen_ids ipc_fields.entry) (λ given. ¬ (given ≡ (seen self.now).ids))) }
+    {
+        match ipc_fields {
+            Some(given) if !are_same_ids(given, &self.ipc_fields) => {
+                Err(Fault::Argument(ArgFault::FieldsDiffer))
+            }
+            _ => Ok(()),
+        }
+    }
+
+    // Judges all of a chunk but the lengths of its columns and the places of its messages, and lists the dictionaries that are to be
+    // written.
+    fn check_write(
+        &self,
+        columns: &[AnyArray],
+        ipc_fields: Option<&[IpcField]>,
+    ) -> Result<Vec<NewDictionary>, Fault>
+        ensures first { IfSome (fault_unless_started self.now.state) (λ e. result ≡ Err (State e)) }
+        ensures ok { IfOk result (λ list. MayList (seen self.now) columns.now (seen_ids ipc_fields.entry) (map listed list.items)) }
+        ensures only { IfErr result (RefusesChunk (seen self.now) columns.now (seen_ids ipc_fields.entry)) }
+    {
+        self.check_started()?;
+        self.check_ids(ipc_fields)?;
+        check_types(columns, &self.schema.fields)?;
+        let list = list_messages(
+            self.alloc,
+            &self.dictionary_tracker,
+            columns,
+            &self.ipc_fields,
+        )?;
+        Ok(list)
+    }
+
+    /// Writes a chunk, whose columns have the types of the schema: the dictionaries that are new, and then the columns. Ids that are
+    /// handed in are those of the start.
+    ///
+    /// Faults: `State(NotStarted)`, `State(Finished)`, `State(Failed)` by the writer's state; `Argument(FieldsDiffer)` for other ids;
+    /// `Argument(ColumnCount)` for another number of columns; `Argument(ColumnType)` for a column of another type, both in their normal
+    /// form; `Argument(SharedDictionary)` with the id where dictionaries of one id have other values; `Argument(DictionaryReplaced)` with
+    /// the id where its values are others than were written before; `Argument(TooLong)` where an array, also one in the values of a
+    /// dictionary, has more than `2^63 - 1` slots that would be written; `Argument(TooLarge)` where the body of a message would have more
+    /// than `2^63 - 1` bytes or end behind there, or the file would have more than `2^25` blocks; `Memory`: after these nothing was sent,
+    /// and the writer, its blocks and the dictionaries that it remembers are as they were. `Io` where the device failed, or where it is
+    /// memory whose growth was refused: then some of the first bytes may have been sent, and each later `start`, `write` and `finish`
+    /// answers `State(Failed)`.
+    pub fn write(
+        &mut self,
+        columns: &Chunk<AnyArray>,
+        ipc_fields: Option<&[IpcField]>,
+    ) -> Result<(), Fault>
+        ensures first { StateComesFirst (fault_unless_started (seen self.old).state) (seen self.old) result (seen self.new) }
+        ensures step { SendsColumns W.known W.grows W.failures W.room W.memory (seen self.old) result (seen self.new) columns.now }
+        ensures exact { WritesExactly (seen self.old) columns.now (seen_ids ipc_fields.entry) result }
+        ensures means { Appends W.known W.memory (seen self.old) result (seen self.new) (chunk_written columns.now) }
+    {
+        let dictionaries = self.check_write(columns.arrays(), ipc_fields)?;
+        let count = dictionaries.len();
+        // There is room to keep all, so that nothing fails once something was sent.
+        make_room(&mut self.dictionary_blocks, &mut self.record_blocks, count)?;
+        self.dictionary_tracker.make_room(count)?;
+        let placed = send_chunk(
+            self.alloc,
+            &mut self.writer,
+            &mut self.state,
+            columns,
+            &dictionaries,
+            self.is_little_endian,
+            self.block_offsets,
+        )?;
+        add_all(&mut self.dictionary_blocks, &placed.dictionaries);
+        add(&mut self.record_blocks, placed.record_batch);
+        self.block_offsets = placed.end;
+        self.dictionary_tracker.remember_all(dictionaries);
+        Ok(())
+    }
+
     // Judges whether the file may end, and makes all that is sent then.
-    fn finishing(&self) -> Result<Vec<u8>, Fault>
-        ensures ok { IfOk result (λ bytes. MayFinish (seen self.now) bytes.items) }
+    fn finishing(&self) -> Result<Ending, Fault>
+        ensures first { IfSome (fault_unless_started self.now.state) (λ e. result ≡ Err (State e)) }
+        ensures ok { IfOk result (λ ending. MayFinish (seen self.now) ending) }
         ensures only { IfErr result (RefusesFinish (seen self.now)) }
     {
         self.check_started()?;
@@ -236,23 +355,37 @@ impl<W: Writes + Drop> FileWriter<W> {
             &self.custom_metadata,
             self.is_little_endian,
         )?;
-        let bytes = ending(self.alloc, &footer)?;
-        Ok(bytes)
+        let bytes = footer_and_tail(self.alloc, &footer)?;
+        let zeros = self.zeros_before(bytes.len() as u64);
+        Ok(Ending { zeros, bytes })
     }
 
-    /// Writes the mark that ends the stream, and the footer, and has the device send all on its way.
+    // How many bytes 0 stand before the last `count` bytes of the file, which stand behind the mark.
+    fn zeros_before(&self, count: u64) -> u64
+        requires { count ≤ 2 ^ 32 }
+        ensures { result ≡ (seen self.now).size - (seen self.now).place - (8 + count) }
+    {
+        let behind = self.size.saturating_sub(self.block_offsets);
+        behind.saturating_sub(count + 8)
+    }
+
+    /// Writes the mark that ends the stream, and the footer, and has the device send all on its way. A file that is gone on with ends no
+    /// earlier than it did: where it would, bytes 0 stand between the mark and the footer.
     ///
     /// Faults: `State(NotStarted)`, `State(Finished)`, `State(Failed)` by the writer's state; `Argument(TooLarge)` where the file has
     /// more than `2^25` blocks; `Memory`: after these nothing was sent and the writer is as it was. `Io` where the device failed, or
     /// where it is memory whose growth was refused, after which each later `start`, `write` and `finish` answers `State(Failed)`.
     pub fn finish(&mut self) -> Result<(), Fault>
+        ensures first { StateComesFirst (fault_unless_started (seen self.old).state) (seen self.old) result (seen self.new) }
         ensures step { SendsBytes W.known W.grows W.failures W.room W.memory (seen self.old) result (seen self.new) }
         ensures ok { OnOk result (EndsWith (seen self.old) (seen self.new)) }
+        ensures reaches { OnOk result (ReachesEnd W.known W.memory (seen self.old) (seen self.new)) }
         ensures only { IfErr result (OrFails (RefusesFinish (seen self.old))) }
+        ensures exact { AnswersFinish (seen self.old) result }
         ensures means { Remains W.known W.memory (seen self.old) (seen self.new) }
     {
-        let bytes = self.finishing()?;
-        send_last(&mut self.writer, &mut self.state, &bytes)?;
+        let ending = self.finishing()?;
+        send_last(&mut self.writer, &mut self.state, &ending)?;
         self.state = WriterState::Finished;
         Ok(())
     }

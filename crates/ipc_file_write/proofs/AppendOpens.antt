@@ -1,0 +1,57 @@
+-- What is known of a writer that goes on with a file.
+use Rattle.std.proofs.Common.{◌≡◌, ℕ, ℤ, Bool, IsTrue, List, Option, Some, None, refl, sym, ap, ◌∙◌}
+use Rattle.std.specs.HashMap.{HashMap, get}
+use Rattle.std.specs.Option.{option_map}
+use Rattle.std.specs.Ordering.{int_eq}
+use Rattle.std.specs.declared.rc.Rc.{Rc}
+use Rattle.ipc_devices.specs.Device.{GoesTo, Memory}
+use Rattle.lower_arrays.specs.AnyLayouts.{layout_of}
+use Rattle.lower_arrays.specs.declared.array.AnyArray.{AnyArray}
+use Rattle.ipc_columns.proofs.KnownValues.{dictionary_found}
+use Rattle.ipc_columns.specs.Bodies.{known_dictionaries}
+use Rattle.ipc_read.proofs.KnownDictionaries.{known_at}
+use Rattle.ipc_model.specs.Entries.{Dictionary}
+use Rattle.ipc_model.specs.Files.{FileMetadata, file_dictionaries}
+use Rattle.ipc_laws.specs.Agreement.{AreAlike}
+use Rattle.ipc_laws.specs.Remembered.{dictionary_of}
+use Rattle.ipc_write.specs.declared.stream.WriterState.TheVariants.{Started}
+use Rattle.ipc_file_laws.specs.Appending.{goes_on}
+use Rattle.ipc_file_write.specs.Appends.{GoesOn, MayGoOn, RemembersFile}
+use Rattle.ipc_file_write.specs.FileWriters.{FileSeen}
+
+found-same : {Z : Type 0} (o : Option (Rc AnyArray Z)) → option_map (λ (values : Rc AnyArray Z). dictionary_of (layout_of values.value)) o ≡ dictionary_found o
+found-same None = refl
+found-same (Some x) = refl
+
+-- what a writer is made of that goes on with a file
+pub record IsMadeOf {W : Type 0} (m : FileMetadata) (w : FileSeen W) : Type 0 where
+  pub state : w.state ≡ Started
+  pub order : w.order ≡ m.schema.order
+  pub fields : w.fields ≡ m.schema.fields
+  pub metadata : w.metadata ≡ m.schema.metadata
+  pub ids : w.ids ≡ m.schema.ids
+  pub pairs : w.pairs ≡ m.pairs
+  pub dictionaries : w.dictionaries ≡ m.dictionaries
+  pub blocks : w.blocks ≡ m.blocks
+  pub size : w.size ≡ m.size
+
+pub opened : {W Z S : Type 0} (known still : Bool) (memory : W → Memory) (m : FileMetadata) (device read : W) (w : FileSeen W) (place : ℕ) (entries : HashMap ℤ (Rc AnyArray Z) S) → MayGoOn m → place ≡ goes_on m
+    → (IsTrue known → IsTrue still) → (IsTrue still → (memory read).whole ≡ (memory device).whole) → (IsTrue known → GoesTo (memory read) (memory w.device) place)
+    → (IsTrue known → AreAlike (file_dictionaries m (memory device).whole) (Some (known_dictionaries entries)))
+    → ((id : ℤ) → w.remembers id ≡ option_map (λ (values : Rc AnyArray Z). dictionary_of (layout_of values.value)) (get int_eq entries id)) → w.place ≡ place → IsMadeOf m w
+    → GoesOn known memory m device w
+opened known still memory m device read w place entries may at keeps same sought alike remembers is_at made = record {
+  may = may;
+  state = made.state;
+  order = made.order;
+  fields = made.fields;
+  metadata = made.metadata;
+  ids = made.ids;
+  pairs = made.pairs;
+  dictionaries = made.dictionaries;
+  blocks = made.blocks;
+  size = made.size;
+  place = is_at ∙ at;
+  stands = λ k. let s = sought k in record { whole = s.whole ∙ same (keeps k); place = s.place ∙ at };
+  remembers = λ k. record { found = known_dictionaries entries; alike = alike k; each = λ id. remembers id ∙ found-same (get int_eq entries id) ∙ sym (known_at entries id) };
+}

@@ -1,0 +1,64 @@
+-- What the calls of a writer of files do, one and many, in the words of `ipc_model`.
+-- (Arrow columnar format, "IPC File Format".)
+use Rattle.std.specs.Prelude.{◌≡◌, ℕ, Bool, IsTrue, List, [], ◌∷◌, ◌++◌, length, Result, Vec, vec_len}
+use Rattle.std.specs.declared.alloc.Global.{Global}
+use Rattle.lower.specs.TypeTrees.{FieldTrees, Pairs}
+use Rattle.lower_types.specs.declared.Endianness.{Endianness}
+use Rattle.ipc_base.specs.IdTrees.{IdTrees}
+use Rattle.ipc_devices.specs.Device.{Memory}
+use Rattle.ipc_devices.specs.declared.fault.Fault.{Fault}
+use Rattle.ipc_model.specs.Batches.{Chunk}
+use Rattle.ipc_model.specs.WriterStates.{MayEnd, Writer, answered, writer_after}
+use Rattle.ipc_model.specs.Writers.{taken}
+use Rattle.ipc_write.specs.Calls.{call_seen, outcome, state_seen}
+use Rattle.ipc_write.specs.declared.calls.StreamCall.{StreamCall}
+use Rattle.ipc_views.specs.declared.file.Block.{Block}
+use Rattle.ipc_schema_write.specs.WriterAnswers.{written_head_as}
+use Rattle.ipc_write.specs.declared.stream.WriterState.{WriterState}
+use Rattle.ipc_write.specs.declared.stream.WriterState.TheVariants.{Started, Finished}
+use Rattle.ipc_footers.specs.Footers.{file_written}
+use Rattle.ipc_file_laws.specs.FileBytes.{EndsStream, IsFile}
+use Rattle.ipc_file_write.specs.FileWriters.{Agrees, FileSeen, IsSameFile}
+
+-- a writer of a file, as far as calls can tell
+abbrev pub writer_seen : {W : Type 0} → FileSeen W → Writer
+writer_seen w = record { state = state_seen w.state; order = w.order; pairs = w.pairs }
+
+-- calls from a to b: the file has these chunks more
+pub record Follows {W : Type 0} (known : Bool) (memory : W → Memory) (a b : FileSeen W) (added : List Chunk) : Type 0 where
+  pub followed : IsTrue known → (base : List ℕ) (cs : List Chunk) → Agrees memory a base cs → Agrees memory b base (cs ++ added)
+
+-- a writer whose file was started has the ids that were chosen
+abbrev pub IdsAre : WriterState → IdTrees → IdTrees → Type 0
+IdsAre Started is chosen = is ≡ chosen
+IdsAre Finished is chosen = is ≡ chosen
+IdsAre _ is chosen = Unit {0}
+
+abbrev pub HasChosen : {W : Type 0} → FileSeen W → Type 0
+HasChosen w = IdsAre w.state w.ids w.chosen
+
+-- A call that was made and answered this: it may end so, it leaves the writer as such a call does, and the file has its chunk more where it was Ok.
+pub record Moves {W : Type 0} (known : Bool) (memory : W → Memory) (a : FileSeen W) (call : StreamCall) (r : Result Unit Fault) (b : FileSeen W) : Type 0 where
+  pub may : MayEnd (call_seen call) (outcome r) (writer_seen a).state
+  pub after : writer_seen b ≡ writer_after (call_seen call) (outcome r) (writer_seen a)
+  pub follows : Follows known memory a b (taken (answered ((call_seen call, outcome r) ∷ [])))
+  pub same : IsSameFile a b
+  pub chosen : HasChosen a → HasChosen b
+
+-- ---- whole files
+
+-- Bytes are a whole file of the normal form of a schema with its ids, in this order of bytes, with these pairs and these chunks; without the
+-- first eight bytes they are a stream of the same.
+pub record IsWrittenFile (bytes : List ℕ) (order : Endianness) (fields : FieldTrees) (metadata : Pairs) (ids : IdTrees) (pairs : Pairs) (cs : List Chunk) : Type 0 where
+  pub dictionaries : List Block
+  pub blocks : List Block
+  pub file : IsFile bytes (file_written order fields metadata ids pairs dictionaries blocks (length bytes)) cs
+  pub stream : EndsStream bytes (written_head_as order fields metadata ids) cs
+
+-- bytes in memory, and the place behind the last of them
+abbrev pub vector : Vec ℕ Global → Memory
+vector v = record { whole = v.items; place = vec_len v }
+
+-- the bytes are what a writer over an empty memory has ended
+pub record EndsFile (w : FileSeen (Vec ℕ Global)) (bytes : List ℕ) : Type 0 where
+  pub file : (cs : List Chunk) → HasChosen w → Agrees vector w [] cs → IsWrittenFile bytes w.order w.fields w.metadata w.chosen w.pairs cs

@@ -1,0 +1,143 @@
+//! Goes on with files that are there: the Arrow columnar format, "IPC File Format".
+ghost use Rattle.std.specs.Prelude.{◌≡◌, ◌-◌, ◌^◌, min, max, IfErr, IfOk, IsTrue, OnOk};
+ghost use Rattle.ipc_devices.specs.declared.fault.Fault.TheVariants.{OutOfSpec};
+ghost use Rattle.ipc_devices.specs.declared.fault.OutOfSpecKind.TheVariants.{UnexpectedNegativeInteger};
+ghost use Rattle.ipc_files.specs.Footers.{file_seen};
+ghost use Rattle.ipc_file_laws.specs.Appending.{HasNegative, HaveNegative, end_of, goes_on, greatest_end};
+ghost use Rattle.ipc_file_write.specs.FileWriters.{seen};
+ghost use Rattle.ipc_file_write.specs.Appends.{CanBeWritten, GoesOn, GoesOnAgain, GoesOnWith, MayGoOn, RefusesFile, RefusesNoWhole, RefusesToGoOn};
+
+use crate::file::FileWriter;
+use ipc_devices::fault::{ArgFault, Fault, OutOfSpecKind};
+use ipc_devices::{Reads, Seeks, Writes};
+use ipc_encode::common::{EncodedData, WriteOptions};
+use ipc_files::read::file::{FileMetadata, read_file_dictionaries};
+use ipc_footers::weights::is_light;
+use ipc_schema_write::schema::serialize_schema;
+use ipc_tracker::DictionaryTracker;
+use ipc_views::Block;
+use ipc_write::stream::WriterState;
+use std::alloc::Global;
+
+/// What a file begins with: `ARROW1`, and two bytes 0.
+const HEAD_LEN: u64 = 8;
+
+// Where a block ends, or the greatest number where that is too small for it.
+fn end_of(block: &Block) -> Result<u64, Fault>
+    ensures ok { IfOk result (λ end. end ≡ min (2 ^ 64 - 1) (end_of block.now)) }
+    ensures natural { OnOk result (HasNegative block.now → ⊥) }
+    ensures only { IfErr result (λ e. (e ≡ OutOfSpec UnexpectedNegativeInteger) × HasNegative block.now) }
+{
+    if block.offset < 0 || block.meta_data_length < 0 || block.body_length < 0 {
+        return Err(Fault::OutOfSpec(OutOfSpecKind::UnexpectedNegativeInteger));
+    }
+    let body = (block.offset as u64).saturating_add(block.meta_data_length as u64);
+    Ok(body.saturating_add(block.body_length as u64))
+}
+
+// The greatest of this place and of the ends of some blocks.
+fn greatest_end(from: u64, blocks: &[Block]) -> Result<u64, Fault>
+    ensures ok { IfOk result (λ end. end ≡ max from (min (2 ^ 64 - 1) (greatest_end blocks.now))) }
+    ensures natural { OnOk result (HaveNegative blocks.now → ⊥) }
+    ensures only { IfErr result (λ e. (e ≡ OutOfSpec UnexpectedNegativeInteger) × HaveNegative blocks.now) }
+{
+    let mut end = from;
+    for block in blocks {
+        end = end.max(end_of(block)?);
+    }
+    Ok(end)
+}
+
+// Refuses a schema and pairs that can't be written, and a file that is too long.
+fn check_written(alloc: Global, metadata: &FileMetadata) -> Result<(), Fault>
+    ensures ok { OnOk result (CanBeWritten (file_seen metadata.now)) }
+    ensures only { IfErr result (RefusesToGoOn (file_seen metadata.now)) }
+{
+    const MOST: u64 = i64::MAX as u64;
+    if metadata.size > MOST || !is_light(&metadata.schema, &metadata.custom_metadata) {
+        return Err(Fault::Argument(ArgFault::TooLarge));
+    }
+    // it is made to be judged
+    let ipc_schema = &metadata.ipc_schema;
+    let _ = serialize_schema(
+        alloc,
+        &metadata.schema,
+        &ipc_schema.fields,
+        ipc_schema.is_little_endian,
+    )?;
+    Ok(())
+}
+
+// Where writing goes on in a file of this size whose blocks end here.
+fn place_in(size: u64, end: u64) -> u64
+    ensures { result ≡ max 8 (min size end) }
+{
+    end.min(size).max(HEAD_LEN)
+}
+
+// Judges whether a file of these metadata can be gone on with, and says where.
+fn place_to_go_on(alloc: Global, metadata: &FileMetadata) -> Result<u64, Fault>
+    ensures place { IfOk result (λ place. place ≡ goes_on (file_seen metadata.now)) }
+    ensures ok { OnOk result (MayGoOn (file_seen metadata.now)) }
+    ensures only { IfErr result (RefusesToGoOn (file_seen metadata.now)) }
+{
+    if metadata.blocks.is_empty() {
+        return Err(Fault::Argument(ArgFault::NoRecordBlocks));
+    }
+    let dictionaries = greatest_end(0, metadata.dictionary_blocks())?;
+    let end = greatest_end(dictionaries, &metadata.blocks)?;
+    check_written(alloc, metadata)?;
+    Ok(place_in(metadata.size, end))
+}
+
+impl<W: Reads + Writes + Seeks + Drop> FileWriter<W> {
+    /// A writer that goes on with a file, whose metadata were read from this device: it is started, and each chunk comes behind those that
+    /// the file has. [`finish`](FileWriter::finish) writes a footer with all blocks, old and new. The file's byte order stays, whatever
+    /// the options say, and so do its pairs, unless others are set. A dictionary whose values the file has isn't written again.
+    ///
+    /// Writing goes on behind all blocks of the file, or at its end where a block ends behind that. What stands before that place is never
+    /// changed, and the file never gets shorter: so whatever a later call answers, these metadata still give the chunks that they gave.
+    ///
+    /// Faults: `Argument(NoRecordBlocks)` where the file has no record block; `OutOfSpec(UnexpectedNegativeInteger)` where one of the three
+    /// numbers of a block is below 0; `Argument(TooLarge)` where the file has more than `2^63 - 1` bytes, or where its schema and its pairs
+    /// weigh more than `2^30`; `Argument(NotWritable)` where the schema can't be written, and `Argument(FieldsShape)` where its ids don't
+    /// fit; those of [`read_file_dictionaries`]; `Io` and `Memory`. No fault changes the file; the device is dropped.
+    pub fn try_from_file(
+        alloc: Global,
+        mut writer: W,
+        metadata: FileMetadata,
+        _options: WriteOptions,
+    ) -> Result<FileWriter<W>, Fault>
+        ensures ok { IfOk result (λ w. GoesOn W.known W.memory (file_seen metadata) writer (seen w)) }
+        ensures only { IfErr result (RefusesFile W.known (file_seen metadata) (W.memory writer).whole) }
+        ensures always { IfErr result (RefusesNoWhole W.known W.memory (file_seen metadata) writer) }
+        ensures means { IfOk result (λ w. GoesOnWith W.known W.memory (file_seen metadata) writer (seen w)) }
+        ensures again { IfOk result (λ w. GoesOnAgain W.known W.memory (file_seen metadata) writer (seen w)) }
+    {
+        let place = place_to_go_on(alloc, &metadata)?;
+        let mut scratch = Vec::new(alloc);
+        let dictionaries = read_file_dictionaries(alloc, &mut writer, &metadata, &mut scratch)?;
+        let mut dictionary_blocks = Vec::new(alloc);
+        dictionary_blocks.extend_from_slice(metadata.dictionary_blocks())?;
+        writer.seek_to(place)?;
+        Ok(FileWriter {
+            alloc,
+            writer,
+            state: WriterState::Started,
+            is_little_endian: metadata.ipc_schema.is_little_endian,
+            schema: metadata.schema,
+            given: None,
+            ipc_fields: metadata.ipc_schema.fields,
+            dictionary_blocks,
+            record_blocks: metadata.blocks,
+            block_offsets: place,
+            size: metadata.size,
+            custom_metadata: metadata.custom_metadata,
+            dictionary_tracker: DictionaryTracker {
+                dictionaries,
+                cannot_replace: true,
+            },
+            encoded_message: EncodedData::empty(alloc),
+        })
+    }
+}
