@@ -1,38 +1,51 @@
-//! `ipcat`: writes the documented example as an Arrow IPC stream, and shows the streams that it is given.
+//! `ipcat`: writes the documented example as an Arrow IPC stream, and shows the streams and files that it is given.
 ghost use Rattle.std.specs.Prelude.{◌≤◌};
 
 mod demo;
+mod file;
 mod forms;
 mod printer;
 mod show;
 mod slots;
 
 use crate::class::tell;
-use arrow2_ipc::io::ipc::fault::{Fault, Nyi, Reads, Seeks, Writes};
+use arrow2_ipc::io::ipc::fault::{Fault, Reads, Seeks, Writes};
 use demo::write_demo;
-use forms::{Form, form_of};
+use file::show_file;
+use forms::{FileWords, Form, form_of};
 use ipc_write::common_sync::write_all;
 use printer::Printer;
 use show::{Outcome, show_stream};
 use std::alloc::Global;
+use std::io;
+use std::io::ErrorKind;
 
 const USAGE: &str = "usage: ipcat demo | ipcat stream [COLS] | ipcat file PATH [COLS [LIMIT]]\n";
 
+/// The path that the words name, for whoever opens what stands there: that of a file, where the words are right.
+pub fn path_of(words: &[String]) -> Option<&str> {
+    match form_of(words)? {
+        Form::File(file) => Some(file.path),
+        Form::Demo | Form::Stream(_) => None,
+    }
+}
+
 /// Does what the words ask for, and answers the exit status: 0, 1 after a fault, whose class stands on
 /// `err` then, and 2 for wrong words, or positions of columns that repeat or aren't in the schema, where `err` has the
-/// usage. `file` is what stands at the path that the words name, if it could be opened. A failed write to `err` is passed over.
+/// usage. `file` is what stands at the path that the words name (see [`path_of`]), and None where that can't be opened, which
+/// is a fault where the words ask for it. A failed write to `err` is passed over.
 pub fn run<R: Reads, F: Reads + Seeks + Drop, O: Writes, E: Writes>(
     alloc: Global,
     words: &[String],
     input: &mut R,
-    _file: Option<F>,
+    file: Option<F>,
     out: &mut O,
     err: &mut E,
 ) -> u8
     ensures { result ≤ 2 }
 {
     let outcome = match form_of(words) {
-        Some(form) => run_form(alloc, form, input, out),
+        Some(form) => run_form(alloc, form, input, file, out),
         None => Ok(Outcome::WrongWords),
     };
     match outcome {
@@ -48,10 +61,11 @@ pub fn run<R: Reads, F: Reads + Seeks + Drop, O: Writes, E: Writes>(
     }
 }
 
-fn run_form<R: Reads, O: Writes>(
+fn run_form<R: Reads, F: Reads + Seeks + Drop, O: Writes>(
     alloc: Global,
     form: Form<'_>,
     input: &mut R,
+    file: Option<F>,
     out: &mut O,
 ) -> Result<Outcome, Fault> {
     match form {
@@ -62,11 +76,35 @@ fn run_form<R: Reads, O: Writes>(
         Form::Stream(columns) => {
             let mut printer = Printer::new(alloc, out);
             let shown = show_stream(alloc, input, columns, &mut printer);
-            let sent = printer.send();
-            let outcome = shown?;
-            sent?;
-            Ok(outcome)
+            sent(shown, printer)
         }
-        Form::Pending => Err(Fault::NotYetImplemented(Nyi::Pending)),
+        Form::File(words) => {
+            let mut printer = Printer::new(alloc, out);
+            let shown = show_opened(alloc, file, words, &mut printer);
+            sent(shown, printer)
+        }
+    }
+}
+
+// What came of a form, once all is sent that it printed.
+fn sent<O: Writes>(
+    shown: Result<Outcome, Fault>,
+    mut printer: Printer<O>,
+) -> Result<Outcome, Fault> {
+    let sent = printer.send();
+    let outcome = shown?;
+    sent?;
+    Ok(outcome)
+}
+
+fn show_opened<F: Reads + Seeks + Drop, O: Writes>(
+    alloc: Global,
+    file: Option<F>,
+    words: FileWords<'_>,
+    printer: &mut Printer<O>,
+) -> Result<Outcome, Fault> {
+    match file {
+        Some(mut file) => show_file(alloc, &mut file, words, printer),
+        None => Err(Fault::Io(io::Error::from(ErrorKind::NotFound))),
     }
 }

@@ -1,8 +1,9 @@
-//! `ipconvert` reads an Arrow IPC stream and writes it again, in either byte order.
+//! `ipconvert` reads an Arrow IPC stream or file and writes it again as a stream, in either byte order.
 #![tactic(auto)]
 
 use arrow2_ipc::io::ipc::fault::Watched;
-use ipc_tools::convert::run;
+use ipc_tools::convert::{path_of, run};
+use std::fs::File;
 use std::process::ExitCode;
 use std::{env, io};
 
@@ -10,10 +11,15 @@ fn main(rt: HostRuntime) -> io::Result<ExitCode> {
     let mut words = env::args(&rt)?;
     let _program = words.next();
     let words: Vec<String> = words.collect(rt.alloc())?;
+    let file = match path_of(&words) {
+        Some(path) => File::open(&rt, path).ok().map(Watched::new),
+        None => None,
+    };
     let status = run(
         rt.alloc(),
         &words,
         &mut Watched::new(rt.stdin()),
+        file,
         &mut Watched::new(rt.stdout()),
         &mut Watched::new(rt.stderr()),
     );

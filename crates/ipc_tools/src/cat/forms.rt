@@ -1,6 +1,6 @@
 //! What the words of a call ask for.
 
-/// The program's forms, of which some aren't there yet.
+/// The program's forms.
 #[derive(Clone, Copy)]
 pub enum Form<'a> {
     /// `demo`: the documented example, as a stream.
@@ -9,8 +9,21 @@ pub enum Form<'a> {
     /// `stream`: these columns of a stream.
     Stream(Columns<'a>),
 
-    /// Words that are right, of a form that isn't there yet.
-    Pending,
+    /// `file`: what is named of a file.
+    File(FileWords<'a>),
+}
+
+/// Which file is shown, and what of it.
+#[derive(Clone, Copy)]
+pub struct FileWords<'a> {
+    /// Where the file stands.
+    pub path: &'a str,
+
+    /// Which columns are shown.
+    pub columns: Columns<'a>,
+
+    /// How many rows are shown of all chunks together, or None for all.
+    pub limit: Option<usize>,
 }
 
 /// Which columns are shown.
@@ -44,17 +57,22 @@ fn stream_form(words: &[String]) -> Option<Form<'_>> {
 }
 
 fn file_form(words: &[String]) -> Option<Form<'_>> {
-    match words {
-        [_path] => {}
-        [_path, columns] => {
-            columns_in(columns.as_str())?;
-        }
-        [_path, columns, limit] if is_limit(limit.as_str()) => {
-            columns_in(columns.as_str())?;
-        }
+    let (path, others) = words.split_first()?;
+    let (columns, limit) = match others {
+        [] => (Columns::All, None),
+        [columns] => (columns_in(columns.as_str())?, None),
+        [columns, limit] => (
+            columns_in(columns.as_str())?,
+            Some(limit_in(limit.as_str())?),
+        ),
         _ => return None,
-    }
-    Some(Form::Pending)
+    };
+    let path = path.as_str();
+    Some(Form::File(FileWords {
+        path,
+        columns,
+        limit,
+    }))
 }
 
 // `-`, which stands for all columns, or positions joined by commas.
@@ -69,8 +87,12 @@ fn columns_in(word: &str) -> Option<Columns<'_>> {
 }
 
 // A number of rows, up to 2^64 - 1.
-fn is_limit(word: &str) -> bool {
-    is_decimal(word) && word.parse::<u64>().is_ok()
+fn limit_in(word: &str) -> Option<usize> {
+    if is_decimal(word) {
+        word.parse().ok()
+    } else {
+        None
+    }
 }
 
 // Decimal digits alone. Leading zeros are fine.

@@ -28,22 +28,19 @@ enum Progress {
 }
 
 /// Prints these columns of a stream, up to its end or to where it waits for more. Its schema is read first, and then
-/// the positions of the columns are judged.
+/// the positions of the columns are judged. Other columns aren't read.
 pub fn show_stream<R: Reads + Drop, W: Writes>(
     alloc: Global,
     input: R,
     columns: Columns<'_>,
     printer: &mut Printer<W>,
 ) -> Result<Outcome, Fault> {
-    let mut input = input;
-    let metadata = read_stream_metadata(alloc, &mut input)?;
-    let Some(positions) = positions_of(alloc, columns, metadata.schema.fields.len())? else {
+    let Some(mut reader) = open_stream(alloc, input, columns)? else {
         return Ok(Outcome::WrongWords);
     };
-    let mut reader = StreamReader::new(alloc, input, metadata, None)?;
-    put_schema(printer, &reader.schema().fields, &positions)?;
+    put_schema(printer, &reader.schema().fields)?;
     for _ in 0..u64::MAX {
-        match show_next(&mut reader, &positions, printer)? {
+        match show_next(&mut reader, printer)? {
             Progress::Chunk => printer.send()?,
             Progress::Waits => {
                 printer.put(b"waiting\n")?;
@@ -56,34 +53,42 @@ pub fn show_stream<R: Reads + Drop, W: Writes>(
     Ok(Outcome::Done)
 }
 
-// The positions of these columns of so many, where each is one of them and none repeats.
-fn positions_of(
+// A reader of these columns of a stream, behind its schema. There is none where a position isn't in the schema, or repeats.
+fn open_stream<R: Reads + Drop>(
     alloc: Global,
+    input: R,
     columns: Columns<'_>,
-    count: usize,
-) -> Result<Option<Vec<usize>>, AllocError> {
+) -> Result<Option<StreamReader<R>>, Fault> {
+    let mut input = input;
+    let metadata = read_stream_metadata(alloc, &mut input)?;
+    let Columns::At(word) = columns else {
+        let reader = StreamReader::new(alloc, input, metadata, None)?;
+        return Ok(Some(reader));
+    };
+    let Some(positions) = positions_in(alloc, word)? else {
+        return Ok(None);
+    };
+    if !is_projection(&positions, metadata.schema.fields.len()) {
+        return Ok(None);
+    }
+    let reader = StreamReader::new(alloc, input, metadata, Some(positions))?;
+    Ok(Some(reader))
+}
+
+/// The positions in a word, where each of them is a number that a position can be.
+pub fn positions_in(alloc: Global, word: &str) -> Result<Option<Vec<usize>>, AllocError> {
     let mut positions = Vec::new(alloc);
-    match columns {
-        Columns::All => positions.extend(0..count)?,
-        Columns::At(word) => {
-            for position in word.split(',') {
-                match position.parse::<usize>() {
-                    Ok(position) => positions.push(position)?,
-                    Err(_) => return Ok(None),
-                }
-            }
+    for position in word.split(',') {
+        match position.parse::<usize>() {
+            Ok(position) => positions.push(position)?,
+            Err(_) => return Ok(None),
         }
     }
-    if is_projection(&positions, count) {
-        Ok(Some(positions))
-    } else {
-        Ok(None)
-    }
+    Ok(Some(positions))
 }
 
 fn show_next<R: Reads + Drop, W: Writes>(
     reader: &mut StreamReader<R>,
-    positions: &[usize],
     printer: &mut Printer<W>,
 ) -> Result<Progress, Fault> {
     match reader.next() {
@@ -91,39 +96,34 @@ fn show_next<R: Reads + Drop, W: Writes>(
         Some(Err(fault)) => Err(fault),
         Some(Ok(StreamState::Waiting)) => Ok(Progress::Waits),
         Some(Ok(StreamState::Some(chunk))) => {
-            put_chunk(printer, &chunk, positions)?;
+            put_chunk(printer, &chunk)?;
             Ok(Progress::Chunk)
         }
     }
 }
 
-fn put_schema<W: Writes>(
-    printer: &mut Printer<W>,
-    fields: &[Field],
-    positions: &[usize],
-) -> Result<(), Fault> {
+/// Prints the names of these fields.
+pub fn put_schema<W: Writes>(printer: &mut Printer<W>, fields: &[Field]) -> Result<(), Fault> {
     printer.put(b"schema ")?;
-    put_number(printer, positions.len())?;
+    put_number(printer, fields.len())?;
     printer.put(b"\n")?;
-    for position in positions {
-        if let Some(field) = fields.get(*position) {
-            put_text(printer, field.name.as_bytes())?;
-        }
+    for field in fields {
+        put_text(printer, field.name.as_bytes())?;
         printer.put(b"\n")?;
     }
     Ok(())
 }
 
-fn put_chunk<W: Writes>(
+/// Prints a chunk row by row.
+pub fn put_chunk<W: Writes>(
     printer: &mut Printer<W>,
     chunk: &Chunk<AnyArray>,
-    positions: &[usize],
 ) -> Result<(), Fault> {
     printer.put(b"chunk ")?;
     put_number(printer, chunk.len())?;
     printer.put(b"\n")?;
     for row in 0..chunk.len() {
-        put_row(printer, chunk.arrays(), positions, row)?;
+        put_row(printer, chunk.arrays(), row)?;
     }
     Ok(())
 }
@@ -131,26 +131,26 @@ fn put_chunk<W: Writes>(
 fn put_row<W: Writes>(
     printer: &mut Printer<W>,
     arrays: &[AnyArray],
-    positions: &[usize],
     row: usize,
 ) -> Result<(), Fault> {
-    for (column, position) in positions.iter().enumerate() {
+    for (column, array) in arrays.iter().enumerate() {
         if column != 0 {
             printer.put(b"\t")?;
         }
-        put_cell(printer, arrays.get(*position), row)?;
+        put_cell(printer, array, row)?;
     }
     printer.put(b"\n")
 }
 
-// Prints what stands in a row. A column or a row that isn't there, which no chunk has, prints as `null`.
+// Prints what stands in a row. A row that isn't there, which no column of a chunk lacks, prints as `null`.
 fn put_cell<W: Writes>(
     printer: &mut Printer<W>,
-    array: Option<&AnyArray>,
+    array: &AnyArray,
     row: usize,
 ) -> Result<(), Fault> {
-    match array {
-        Some(array) if row < array.len() => put_slot(printer, array, row),
-        _ => printer.put(b"null"),
+    if row < array.len() {
+        put_slot(printer, array, row)
+    } else {
+        printer.put(b"null")
     }
 }

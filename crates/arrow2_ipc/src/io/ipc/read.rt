@@ -1,5 +1,6 @@
 //! Reading.
 pub use ipc_devices::OutOfSpecKind;
+pub use ipc_file_readers::read::reader::FileReader;
 pub use ipc_files::read::file::{
     FileMetadata, read_batch, read_file_dictionaries, read_file_metadata,
 };
@@ -13,5 +14,6 @@ pub use ipc_read::read::dictionaries::read_dictionary;
 pub use ipc_readers::read::stream::{
     StreamMetadata, StreamReader, StreamState, read_stream_metadata,
 };
+pub use ipc_round_trip::columns::read_stream_columns;
 pub use ipc_round_trip::read::{WholeStream, read_stream};
 pub use ipc_schema::read::schema::{deserialize_schema, deserialize_schema_counted};
