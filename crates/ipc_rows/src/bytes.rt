@@ -33,8 +33,8 @@ pub fn bytes(alloc: Global, value: &Value) -> Result<Vec<u8>, Trouble> {
     Ok(out)
 }
 
-// Adds a part, or makes its change to what stands before it.
-fn put_part(alloc: Global, out: &mut Vec<u8>, part: &Value) -> Result<(), Trouble> {
+/// Adds a part, or makes its change to what stands before it.
+pub fn put_part(alloc: Global, out: &mut Vec<u8>, part: &Value) -> Result<(), Trouble> {
     if let Some(length) = part.get("cut") {
         return cut(out, count(Some(length), "cut")?);
     }
@@ -49,7 +49,7 @@ fn put_part(alloc: Global, out: &mut Vec<u8>, part: &Value) -> Result<(), Troubl
         return Ok(out.extend_from_slice(&message(alloc, table)?)?);
     }
     if let Some(table) = part.get("footer") {
-        return Ok(out.extend_from_slice(&footer(alloc, table)?)?);
+        return Ok(out.extend_from_slice(&footer(alloc, table, &[])?)?);
     }
     if let Some(table) = part.get("framed") {
         return put_framed(alloc, out, table, part);

@@ -6,7 +6,9 @@ mod buffers;
 mod chunks;
 mod devices;
 mod encoded;
+mod files;
 mod frames;
+mod items;
 mod messages;
 mod numbers;
 pub mod plain_schemas;
@@ -125,6 +127,7 @@ enum Call {
     ColumnsByBoth,
     DamagedRecordsOf,
     CutBodiesOf,
+    KnownBy,
     ChunkOf,
     ClonedIdsOf,
     ReadOf,
@@ -137,6 +140,14 @@ enum Call {
     StreamByBoth,
     CutStreamsOf,
     DamagedStreamsOf,
+    FileOf,
+    FileSchemaOf,
+    DictionariesOf,
+    BatchesOf,
+    GivenOf,
+    ItemsOf,
+    CutFilesOf,
+    DamagedFilesOf,
     DeviceBy,
     ProjectionOf,
     PreparedBy,
@@ -152,7 +163,7 @@ enum Call {
     IpcatDamaged,
 }
 
-const CALLS: [(&str, Call); 56] = [
+const CALLS: [(&str, Call); 65] = [
     ("slots_of", Call::SlotsOf),
     ("parts_of", Call::PartsOf),
     ("bits_of", Call::BitsOf),
@@ -184,6 +195,7 @@ const CALLS: [(&str, Call); 56] = [
     ("columns_by_both", Call::ColumnsByBoth),
     ("damaged_records_of", Call::DamagedRecordsOf),
     ("cut_bodies_of", Call::CutBodiesOf),
+    ("known_by", Call::KnownBy),
     ("chunk_of", Call::ChunkOf),
     ("cloned_ids_of", Call::ClonedIdsOf),
     ("read_of", Call::ReadOf),
@@ -196,6 +208,14 @@ const CALLS: [(&str, Call); 56] = [
     ("stream_by_both", Call::StreamByBoth),
     ("cut_streams_of", Call::CutStreamsOf),
     ("damaged_streams_of", Call::DamagedStreamsOf),
+    ("file_of", Call::FileOf),
+    ("file_schema_of", Call::FileSchemaOf),
+    ("dictionaries_of", Call::DictionariesOf),
+    ("batches_of", Call::BatchesOf),
+    ("given_of", Call::GivenOf),
+    ("items_of", Call::ItemsOf),
+    ("cut_files_of", Call::CutFilesOf),
+    ("damaged_files_of", Call::DamagedFilesOf),
     ("device_by", Call::DeviceBy),
     ("projection_of", Call::ProjectionOf),
     ("prepared_by", Call::PreparedBy),
@@ -244,6 +264,7 @@ fn put_called(alloc: Global, out: &mut Text, call: Call, parts: &Value) -> Resul
         Call::ColumnsByBoth => records::columns_by_both(alloc, out, parts),
         Call::DamagedRecordsOf => records::damaged_records_of(alloc, out, parts),
         Call::CutBodiesOf => records::cut_bodies_of(alloc, out, parts),
+        Call::KnownBy => records::known_by(alloc, out, parts),
         Call::ChunkOf => chunks::chunk_of(alloc, out, parts),
         Call::ClonedIdsOf => chunks::cloned_ids_of(alloc, out, parts),
         Call::ReadOf => streams::read_of(alloc, out, parts),
@@ -256,6 +277,14 @@ fn put_called(alloc: Global, out: &mut Text, call: Call, parts: &Value) -> Resul
         Call::StreamByBoth => plain_streams::stream_by_both(alloc, out, parts),
         Call::CutStreamsOf => plain_streams::cut_streams_of(alloc, out, parts),
         Call::DamagedStreamsOf => plain_streams::damaged_streams_of(alloc, out, parts),
+        Call::FileOf => files::file_of(alloc, out, parts),
+        Call::FileSchemaOf => files::file_schema_of(alloc, out, parts),
+        Call::DictionariesOf => files::dictionaries_of(alloc, out, parts),
+        Call::BatchesOf => files::batches_of(alloc, out, parts),
+        Call::GivenOf => files::given_of(alloc, out, parts),
+        Call::ItemsOf => items::items_of(alloc, out, parts),
+        Call::CutFilesOf => files::cut_files_of(alloc, out, parts),
+        Call::DamagedFilesOf => files::damaged_files_of(alloc, out, parts),
         Call::DeviceBy => devices::device_by(alloc, out, parts),
         Call::ProjectionOf => projections::projection_of(alloc, out, parts),
         Call::PreparedBy => projections::prepared_by(alloc, out, parts),

@@ -10,6 +10,7 @@ mod bytes;
 mod calls;
 mod chunks;
 mod damages;
+mod files;
 mod json;
 mod numbers;
 mod parts;

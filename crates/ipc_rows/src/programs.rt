@@ -30,7 +30,7 @@ pub fn run_of(alloc: Global, program: Program, words: &[String], input: &[u8]) -
     let no_file = None::<MemFile<&[u8]>>;
     let status = match program {
         Program::Ipcat => cat::run(alloc, words, &mut input, no_file, &mut out, &mut err),
-        Program::Ipconvert => convert::run(alloc, words, &mut input, &mut out, &mut err),
+        Program::Ipconvert => convert::run(alloc, words, &mut input, no_file, &mut out, &mut err),
     };
     Run { status, out, err }
 }

@@ -1,17 +1,16 @@
 //! Record messages: `{"fields": [FIELD, ..], "nodes": [[2, 0], ..], "buffers": [[0, 8], ..], "body": BYTES}`. Each node is a
 //! length and a count of nulls, each buffer a place and a length. `"order": "big"` has the highest byte of numbers first, `"version": "V4"` is
-//! that of the metadata, `"ids": [ID, ..]` are the fields' as in `schemas.rt`, `"chosen": [2, 0]` reads these columns and gives them in this
-//! order, `"limit": 2` reads so many slots at most, `"dictionaries": [[ID, ARRAY], ..]` are the values that are known. `"message": BYTES` may
-//! stand in place of nodes and buffers.
+//! that of the metadata, `"ids": [ID, ..]` are the fields' as in `schemas.rt`, the columns are chosen as in `projections.rt`,
+//! `"dictionaries": [[ID, ARRAY], ..]` are the values that are known. `"message": BYTES` may stand in place of nodes and buffers.
 ghost use Rattle.std.specs.Prelude.{length};
 ghost use Rattle.std.specs.Option.{option_copied};
 ghost use Rattle.ipc_read.specs.Columns.{ArePrepared};
 
 use crate::arrays::array;
 use crate::bytes::bytes;
-use crate::json::{self, both, count, items, member};
+use crate::json::{self, both, items, member};
 use crate::plain::{PlainForm, all_columns, kinds_of};
-use crate::projections::{in_order, prepared};
+use crate::projections::{chosen, chosen_fields, in_order, limit, prepared};
 use crate::schemas::{ids_of, is_little_endian};
 use crate::tables::version;
 use crate::trouble::Trouble;
@@ -22,9 +21,11 @@ use ipc_devices::MemFile;
 use ipc_projections::read::projection::is_prepared;
 use ipc_read::read::Dictionaries;
 use ipc_read::read::common::read_record_batch;
-use ipc_views::{MessageHeaderRef, MessageRef, MetadataVersion, RecordBatchRef};
+use ipc_read::read::dictionaries::read_dictionary;
+use ipc_views::{
+    DictionaryBatchRef, MessageHeaderRef, MessageRef, MetadataVersion, RecordBatchRef,
+};
 use lower::datatypes::Field;
-use lower::datatypes::clones::clone_fields;
 use lower_arrays::array::AnyArray;
 use lower_types::Endianness;
 use serde_json::Value;
@@ -48,7 +49,7 @@ pub struct RecordForm {
     version: MetadataVersion,
     chosen: Option<Vec<usize>>,
     limit: Option<usize>,
-    dictionaries: Dictionaries,
+    pub dictionaries: Dictionaries,
 }
 
 /// The record of a row.
@@ -67,10 +68,6 @@ pub fn record_of(alloc: Global, value: &Value) -> Result<Record, Trouble> {
 }
 
 fn form(alloc: Global, value: &Value) -> Result<RecordForm, Trouble> {
-    let limit = match value.get("limit") {
-        None => None,
-        Some(limit) => Some(count(Some(limit), "limit")?),
-    };
     let fields = fields(alloc, member(value, "fields")?, LEVELS)?;
     let ids = IpcSchema {
         fields: ids_of(alloc, value, &fields)?,
@@ -81,7 +78,7 @@ fn form(alloc: Global, value: &Value) -> Result<RecordForm, Trouble> {
         ids,
         version: version(value)?,
         chosen: chosen(alloc, value)?,
-        limit,
+        limit: limit(value)?,
         dictionaries: dictionaries(alloc, value)?,
     })
 }
@@ -100,17 +97,6 @@ fn dictionaries(alloc: Global, value: &Value) -> Result<Dictionaries, Trouble> {
     Ok(out)
 }
 
-fn chosen(alloc: Global, value: &Value) -> Result<Option<Vec<usize>>, Trouble> {
-    let Some(columns) = value.get("chosen") else {
-        return Ok(None);
-    };
-    let mut out = Vec::new(alloc);
-    for column in items(Some(columns), "chosen")? {
-        out.push(count(Some(column), "chosen")?)?;
-    }
-    Ok(Some(out))
-}
-
 /// The record batch of a message, where it holds one.
 pub fn batch_of(message: &[u8]) -> Option<RecordBatchRef<'_>> {
     let Ok(message) = MessageRef::read_as_root(message) else {
@@ -122,7 +108,40 @@ pub fn batch_of(message: &[u8]) -> Option<RecordBatchRef<'_>> {
     }
 }
 
+/// The dictionary batch of a message, where it holds one.
+pub fn dictionary_batch_of(message: &[u8]) -> Option<DictionaryBatchRef<'_>> {
+    let Ok(message) = MessageRef::read_as_root(message) else {
+        return None;
+    };
+    match message.header() {
+        Ok(Some(MessageHeaderRef::DictionaryBatch(batch))) => Some(batch),
+        _ => None,
+    }
+}
+
 impl RecordForm {
+    /// Puts the values of a dictionary batch to those that are known.
+    pub fn put_values(
+        &mut self,
+        alloc: Global,
+        batch: DictionaryBatchRef,
+        body: &[u8],
+    ) -> Result<(), Trouble> {
+        read_dictionary(
+            alloc,
+            batch,
+            &self.fields,
+            &self.ids,
+            &mut self.dictionaries,
+            self.version,
+            &mut MemFile::new(body),
+            0,
+            body.len() as u64,
+            &mut Vec::new(alloc),
+        )?;
+        Ok(())
+    }
+
     /// The columns that a record means by the reader, in the order in which they are chosen.
     pub fn read(
         &self,
@@ -169,17 +188,7 @@ impl RecordForm {
 
     /// The fields of the columns that are read.
     pub fn chosen_fields(&self, alloc: Global) -> Result<Vec<Field>, Trouble> {
-        let Some(chosen) = &self.chosen else {
-            return Ok(clone_fields(&self.fields)?);
-        };
-        let mut out = Vec::new(alloc);
-        for column in chosen {
-            match self.fields.get(*column) {
-                Some(field) => out.push(field.clone()?)?,
-                None => return Err(Trouble::Row("chosen")),
-            }
-        }
-        Ok(out)
+        chosen_fields(alloc, &self.fields, &self.chosen)
     }
 
     /// The same for the plain program.

@@ -6,7 +6,8 @@
 //! A schema is `{"fields": [FIELD, ..], "endianness": "Big", "metadata": PAIRS}`, of which all but the fields may be left out. A
 //! batch is `{"length": 3, "nodes": [[3, 1], ..], "buffers": [[64, 12], ..]}`: of a node the length and how many are null, of a buffer its
 //! place and length. A footer is `{"schema": SCHEMA, "dictionaries": [BLOCK, ..], "record_batches": [BLOCK, ..], "metadata": PAIRS}`,
-//! and may have a version; a block is `[1024, 200, 64]`, its place and its lengths of metadata and body. Pairs are `[["k", "v"], ..]`.
+//! of which each may be left out, and may have a version; a block is `[1024, 200, 64]`, its place and its lengths of metadata and body, or, in
+//! a file, the number of a message. Pairs are `[["k", "v"], ..]`.
 //!
 //! A field is `{"name": "f", "type": TYPE, "nullable": true, "children": [FIELD, ..], "dictionary": DICTIONARY, "metadata": PAIRS}`,
 //! of which only the name and the type must stand. `"lists": 63` puts it into so many lists of its name. A dictionary is
@@ -41,16 +42,47 @@ pub fn message(alloc: Global, value: &Value) -> Result<Vec<u8>, Trouble> {
     Ok(message.to_bytes(alloc)?)
 }
 
-/// The bytes of a file's footer.
-pub fn footer(alloc: Global, value: &Value) -> Result<Vec<u8>, Trouble> {
+/// The bytes of the footer of a file in which these messages stand.
+pub fn footer(alloc: Global, value: &Value, messages: &[Block]) -> Result<Vec<u8>, Trouble> {
+    let schema = match value.get("schema") {
+        None => None,
+        Some(table) => Some(schema(alloc, table)?),
+    };
     let footer = Footer {
         version: version(value)?,
-        schema: Some(schema(alloc, member(value, "schema")?)?),
-        dictionaries: Some(values(alloc, member(value, "dictionaries")?, "dictionaries")?),
-        record_batches: Some(values(alloc, member(value, "record_batches")?, "record_batches")?),
+        schema,
+        dictionaries: blocks(alloc, value.get("dictionaries"), messages)?,
+        record_batches: blocks(alloc, value.get("record_batches"), messages)?,
         custom_metadata: stated_pairs(alloc, value)?,
     };
     Ok(footer.to_bytes(alloc)?)
+}
+
+// Blocks, where a footer has a list of them.
+fn blocks(
+    alloc: Global,
+    value: Option<&Value>,
+    messages: &[Block],
+) -> Result<Option<Vec<Block>>, Trouble> {
+    if value.is_none() {
+        return Ok(None);
+    }
+    let mut out = Vec::new(alloc);
+    for block in items(value, "blocks")? {
+        out.push(block_of(block, messages)?)?;
+    }
+    Ok(Some(out))
+}
+
+// A block by its numbers, or by that of its message.
+fn block_of(value: &Value, messages: &[Block]) -> Result<Block, Trouble> {
+    match value {
+        Value::Array(_) => Block::of(value, "blocks"),
+        _ => match messages.get(count(Some(value), "blocks")?) {
+            Some(block) => Ok(*block),
+            None => Err(Trouble::Row("blocks")),
+        },
+    }
 }
 
 const VERSIONS: [(&str, MetadataVersion); 5] = [

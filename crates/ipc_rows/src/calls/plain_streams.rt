@@ -177,8 +177,8 @@ pub fn damaged_streams_of(alloc: Global, out: &mut Text, value: &Value) -> Resul
     Ok(())
 }
 
-// Each byte of the ranges set to each of the bytes.
-fn sets_of(alloc: Global, value: &Value) -> Result<Vec<Damage>, Trouble> {
+/// Each byte of the ranges set to each of the bytes.
+pub fn sets_of(alloc: Global, value: &Value) -> Result<Vec<Damage>, Trouble> {
     let mut all = Vec::new(alloc);
     let set = bytes(alloc, member(value, "bytes")?)?;
     for range in items(value.get("places"), "places")? {

@@ -22,8 +22,8 @@ use serde_json::Value;
 use std::alloc::Global;
 use std::collections::HashMap;
 
-// The columns of a projection.
-fn projection_in(alloc: Global, value: &Value) -> Result<Vec<usize>, Trouble> {
+/// The columns of a projection.
+pub fn projection_in(alloc: Global, value: &Value) -> Result<Vec<usize>, Trouble> {
     let mut out = Vec::new(alloc);
     for column in items(value.get("projection"), "projection")? {
         out.push(count(Some(column), "projection")?)?;

@@ -1,5 +1,7 @@
 //! Record messages, in the notation of `records.rt`. `"columns_of": RECORD` gives a chunk, by the reader; `"plain_columns_of": RECORD` gives
-//! `[SLOTS, ..]` by the plain program, or null where the record means nothing.
+//! `[SLOTS, ..]` by the plain program, or null where the record means nothing. `"known_by": RECORD` with `"shown": [0, ..]`, whose message holds a
+//! dictionary batch, reads that, and gives `{"answer": "ok", "values": [SLOTS, ..]}`: whether it was read, or its fault, and the values that are known then
+//! under these ids, null where there are none.
 //!
 //! `"columns_by_both": RECORD` gives how their answers stand to each other: `"Columns"`, the same ones; `"NoColumns"`, the reader refuses
 //! what means nothing; `"NoBatch"`, the message holds no record batch; else `"Differ"`. `"damaged_records_of": RECORD` makes both read the message with each damage, and gives `{"cuts": 200, "differ": [], "sets": 800}`:
@@ -8,13 +10,17 @@
 
 use crate::chunks::{put_chunk, put_columns};
 use crate::damages::{Tried, damaged, damages};
+use crate::json::{items, number};
 use crate::plain::{PlainColumns, PlainForm, put_plain_columns};
-use crate::records::{Record, RecordForm, batch_of, record_of};
+use crate::records::{Record, RecordForm, batch_of, dictionary_batch_of, record_of};
 use crate::runs::Runs;
+use crate::slots::put_slots;
 use crate::text::Text;
 use crate::trouble::Trouble;
+use crate::types::LEVELS;
 use ipc_base::chunk::Chunk;
 use ipc_devices::fault::Fault;
+use ipc_read::read::Dictionaries;
 use lower_arrays::array::AnyArray;
 use serde_json::Value;
 use std::alloc::Global;
@@ -37,6 +43,42 @@ pub fn plain_columns_of(alloc: Global, out: &mut Text, value: &Value) -> Result<
         Some(columns) => put_plain_columns(out, &columns),
         None => out.put("null"),
     }
+    Ok(())
+}
+
+/// What is known once a dictionary batch is read.
+pub fn known_by(alloc: Global, out: &mut Text, value: &Value) -> Result<(), Trouble> {
+    let mut record = record_of(alloc, value)?;
+    let batch = dictionary_batch_of(&record.message).ok_or(Trouble::Row("record"))?;
+    let read = record.form.put_values(alloc, batch, &record.body);
+    out.put("{\"answer\":");
+    match read {
+        Ok(()) => out.put("\"ok\""),
+        Err(Trouble::Refused(fault)) => out.shown(&fault),
+        Err(trouble) => return Err(trouble),
+    }
+    out.put(",\"values\":");
+    put_shown(out, &record.form.dictionaries, value)?;
+    out.put("}");
+    Ok(())
+}
+
+/// Appends the values of the dictionaries that are to be shown, null where there are none.
+pub fn put_shown(
+    out: &mut Text,
+    dictionaries: &Dictionaries,
+    value: &Value,
+) -> Result<(), Trouble> {
+    out.put("[");
+    for id in items(value.get("shown"), "shown")? {
+        let id: i64 = number(Some(id), "shown")?;
+        out.comma();
+        match dictionaries.get(&id) {
+            Some(values) => put_slots(out, values, LEVELS),
+            None => out.put("null"),
+        }
+    }
+    out.put("]");
     Ok(())
 }
 

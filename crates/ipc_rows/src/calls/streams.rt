@@ -7,8 +7,10 @@
 //!
 //! `"head_of": STREAM` gives a schema, with its version. `"answers_of": {"stream": STREAM, "calls": 2}` makes so many calls of `next`, and
 //! gives `{"answers": [[ANSWER, FINISHED], ..], "columns": ["x: Int32", ..], "fits": true, "order": "little", "version": "V5"}`: what each answers, which
-//! is a chunk, `"waiting"`, null or a fault, whether the reader is finished then, and what it says of the schema behind them.
+//! is a chunk, `"waiting"`, null or a fault, whether the reader is finished then, and what it says of the schema behind them. With
+//! `"projection": [2, 0]` these columns are asked for.
 
+use crate::calls::projections::projection_in;
 use crate::chunks::put_chunk;
 use crate::json::{both, count, member};
 use crate::schemas::{put_schema, schema};
@@ -18,6 +20,7 @@ use crate::written::{stream, write};
 use ipc_base::ipc::fits;
 use ipc_devices::MemFile;
 use ipc_devices::fault::Fault;
+use ipc_projections::read::projection::is_projection;
 use ipc_readers::read::stream::{StreamMetadata, StreamReader, StreamState, read_stream_metadata};
 use lower::datatypes::Field;
 use serde_json::Value;
@@ -30,6 +33,20 @@ fn opened(alloc: Global, stream: &[u8]) -> Result<Reader<'_>, Trouble> {
     let mut input = MemFile::new(stream);
     let metadata = read_stream_metadata(alloc, &mut input)?;
     Ok(StreamReader::new(alloc, input, metadata, None)?)
+}
+
+// The same, of the columns that a row asks for, where it asks for some.
+fn asked<'a>(alloc: Global, stream: &'a [u8], value: &Value) -> Result<Reader<'a>, Trouble> {
+    if value.get("projection").is_none() {
+        return opened(alloc, stream);
+    }
+    let projection = projection_in(alloc, value)?;
+    let mut input = MemFile::new(stream);
+    let metadata = read_stream_metadata(alloc, &mut input)?;
+    if !is_projection(&projection, metadata.schema.fields.len()) {
+        return Err(Trouble::Row("projection"));
+    }
+    Ok(StreamReader::new(alloc, input, metadata, Some(projection))?)
 }
 
 /// The chunks of a stream, and how it ends.
@@ -131,7 +148,7 @@ pub fn head_of(alloc: Global, out: &mut Text, value: &Value) -> Result<(), Troub
 /// What so many calls of a reader answer.
 pub fn answers_of(alloc: Global, out: &mut Text, value: &Value) -> Result<(), Trouble> {
     let stream = stream(alloc, member(value, "stream")?)?;
-    let mut reader = opened(alloc, &stream)?;
+    let mut reader = asked(alloc, &stream, value)?;
     let fields = reader.schema().clone()?.fields;
     out.put("{\"answers\":[");
     for _ in 0..count(value.get("calls"), "calls")? {
@@ -171,12 +188,16 @@ pub fn put_columns(alloc: Global, out: &mut Text, fields: &[Field]) -> Result<()
 fn put_head(out: &mut Text, head: &StreamMetadata) {
     out.put("\"fits\":");
     out.show(&fits(&head.schema.fields, &head.ipc_schema.fields));
-    out.put(",\"order\":\"");
-    out.put(if head.ipc_schema.is_little_endian {
-        "little"
-    } else {
-        "big"
-    });
-    out.put("\",\"version\":");
+    put_order(out, head.ipc_schema.is_little_endian);
+    out.put(",\"version\":");
     out.name(&head.version);
+}
+
+/// Appends the order of bytes, as a further member.
+pub fn put_order(out: &mut Text, is_little_endian: bool) {
+    out.put(if is_little_endian {
+        ",\"order\":\"little\""
+    } else {
+        ",\"order\":\"big\""
+    });
 }
