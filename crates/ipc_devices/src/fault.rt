@@ -11,9 +11,6 @@ use thiserror::Error;
 pub type Result<T> = std::result::Result<T, Fault>;
 
 /// Why a call was refused.
-///
-/// No call answers yet the cases of files, of dictionary batches, of bitmaps, and of columns of floats
-/// or of a fixed size: nothing reads or writes these.
 #[derive(Debug, Drop, Error)]
 pub enum Fault {
     /// The bytes break a rule of the Arrow columnar format.
@@ -200,12 +197,6 @@ pub enum Nyi {
     /// Files of Feather's first version.
     #[error("Feather V1 files")]
     FeatherV1,
-    /// Going on with a big-endian file.
-    #[error("appending to a big-endian file")]
-    BigEndianAppend,
-    /// What a later version of this repository brings.
-    #[error("dictionaries, nulls, big-endian bodies, chosen columns, a schema's metadata in writing, and columns other than of whole numbers")]
-    Pending,
 }
 
 /// How the tables of a message or a footer can be ill-made.

@@ -8,7 +8,8 @@ use crate::device::{Failures, Reads, Seeks, Writes};
 use std::io;
 use std::io::{ErrorKind, SeekFrom};
 
-/// A device of any standard one. It counts what that gives, and the calls in which it fails.
+/// A device of any standard one. It counts what that gives, and the calls in which it fails. A place that it takes for invalid, as a file
+/// does with one past the greatest length that its file system has, lies behind all that it holds: `seek_to` such a place goes to its end.
 #[derive(Drop)]
 pub struct Watched<T> {
     inner: T,
@@ -139,7 +140,10 @@ impl<T: io::Seek> Seeks for Watched<T> {
     ghost known_still = { λ known. known };
 
     fn seek_to(&mut self, place: u64) -> io::Result<()> {
-        let answer = self.inner.seek(SeekFrom::Start(place));
+        let answer = match self.inner.seek(SeekFrom::Start(place)) {
+            Err(e) if e.kind() == ErrorKind::InvalidInput => self.inner.seek(SeekFrom::End(0)),
+            answer => answer,
+        };
         self.counted(answer)?;
         Ok(())
     }
