@@ -2,7 +2,8 @@
 #        perl judge_edits.pl applies CRATE..                        (at the top of the repository)
 #
 # For tools/edits: judges the edits of one crate, or says whether all edits of these crates apply. WAS is the crate as it stands. COUNTS
-# is written: how many edits are refused, and how many are not.
+# is written when all are judged: how many edits are refused, and how many are not; where they can't be, it stays as it was, and the
+# status is 2.
 #
 # How one check tries many edits:
 #
@@ -184,11 +185,15 @@ sub changed {
 my $child;
 $SIG{TERM} = sub { kill 'TERM', $child if $child; exit 2 };
 
-# Checks the copy with these texts in place of its own, over what the check of the crate itself kept: the status, and the lines.
+# Ends where no more can be judged.
+sub stop { print "edits: $_[0]\n"; exit 2 }
+
+# Checks the copy with these texts in place of its own, over what the check of the crate itself kept: the status, and the lines. A check
+# that was killed says nothing of an edit, so nothing more is judged then.
 sub check {
     my ($texts, @flags) = @_;
     # What is kept holds each module once. Over what a check of edits kept, functions would be proved again that only it had edited.
-    system("rm -rf src specs proofs out/incremental && cp -a '$was/.' .") && die "edits: the copy of $crate cannot be written\n" if $checks++ > 1;
+    system("rm -rf src specs proofs out/incremental && cp -a '$was/.' .") && stop("the copy of $crate cannot be written") if $checks++ > 1;
     for (keys %$texts) {
         my ($folder) = m{^(.*)/};
         mkdir $folder if !-d $folder;
@@ -200,8 +205,9 @@ sub check {
     chomp(my @lines = grep { !/^rt: / } <$from>);
     close $from;
     $child = 0;
-    my $status = $? >> 8;
-    die "edits: the kept work of a library below $crate cannot be used: remove its out/\n" if grep { /Run the lower steps again/ } @lines;
+    my ($signal, $status) = ($? & 127, $? >> 8);
+    stop("a check of $crate was killed") if $signal || $status > 128;
+    stop("the kept work of a library below $crate cannot be used: remove its out/") if grep { /Run the lower steps again/ } @lines;
     return ($status, @lines);
 }
 
@@ -339,8 +345,8 @@ sub in_place {
 
 sub judge_all {
     my ($status, @lines) = check({});
-    if ($status || $lines[-1] !~ /^logic=proved/) { print "$crate: the crate itself is not proved, so no edit was judged\n"; return }
-    system("mkdir -p '$was/out' && cp -a out/incremental '$was/out'") && die "edits: what the check of $crate kept cannot be copied\n";
+    stop("$crate itself is not proved") if $status || !@lines || $lines[-1] !~ /^logic=proved/;
+    system("mkdir -p '$was/out' && cp -a out/incremental '$was/out'") && stop("what the check of $crate kept cannot be copied");
     %is_proved = map { /^fn (\S+): proved/ ? ($1 => 1) : () } @lines;
     my (%own_of, %texts, @in_copies, @in_place, @alone);
     for my $edit (@edits) {
@@ -398,4 +404,4 @@ my ($own, $system) = (times)[2, 3];
 printf "%s: %d refused, %d not, by %d checks, %d of them of one edit alone; %d CPU seconds in %d\n",
     $crate, $refused, @edits - $refused, $checks, $alone, $own + $system, time - $began;
 open my $out, '>', $counts or die "$counts: $!";
-print $out "$refused ", @edits - $refused, "\n";
+print $out "$refused ", @edits - $refused, " 0\n";
