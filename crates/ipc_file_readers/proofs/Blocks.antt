@@ -10,8 +10,11 @@ use Rattle.ipc_model.specs.Batches.{Chunk, chosen, kinds}
 use Rattle.ipc_model.specs.Entries.{Dictionaries, Limit}
 use Rattle.ipc_model.specs.Files.{FileMetadata as Meaning, file_chunk}
 use Rattle.ipc_model.specs.ReadChunks.{HaveMeaning}
-use Rattle.ipc_base.specs.IdTrees.{all_ids_view}
+use Rattle.ipc_base.specs.IdTrees.{IdTrees, all_ids_view}
 use Rattle.lower_arrays.specs.AnyLayouts.{layout_of}
+use Rattle.ipc_projections.specs.ChosenColumns.{AreAsMany, AreOrdered, AreShuffled, asked_by, rising_by}
+use Rattle.ipc_projections.specs.declared.read.chosen.ChosenColumns.{ChosenColumns}
+use Rattle.ipc_read.proofs.AskedColumns.{AreArrays, as_many_read, values_in_order}
 use Rattle.ipc_read.specs.Chunks.{chunk_seen}
 use Rattle.ipc_files.specs.Batches.{IsRecordFault, block_metadata, needed_bytes}
 use Rattle.ipc_files.specs.Footers.{GivesPart, file_seen}
@@ -19,11 +22,8 @@ use Rattle.ipc_files.specs.declared.read.file.metadata.FileMetadata.{FileMetadat
 use Rattle.ipc_files.proofs.Openings.{own-weaker}
 use Rattle.ipc_file_readers.proofs.AskedFaults.{bytes_asked, fault_asked, many_asked}
 use Rattle.ipc_file_readers.proofs.Chunks.{chunk_alike, given_in_order, refused_in_order}
-use Rattle.ipc_file_readers.proofs.Values.{values_asked}
-use Rattle.ipc_file_readers.specs.Columns.{AreGivenBy, ArePermuted, AreReadBy, asked_by, rising_by}
 use Rattle.ipc_file_readers.specs.Readers.{AreKnown}
 use Rattle.ipc_file_readers.specs.Steps.{WasChunk}
-use Rattle.ipc_file_readers.specs.declared.read.reader.columns.Projection.{Projection}
 
 -- ---- an answer that memory alone can refuse
 
@@ -44,29 +44,30 @@ on_ok (Err e) P p = tt
 
 -- ---- columns
 
-read_by : (q : Option Projection) (n : ℕ) (xs : List AnyArray) → length xs ≡ length (chosen (rising_by q) n) → AreReadBy q xs
-read_by None n xs e = tt
-read_by (Some q) n xs e = e
-
-as_many : (q : Option Projection) (read given : List AnyArray) → AreGivenBy q read given → length given ≡ length read
+as_many : (q : Option ChosenColumns) (read given : List AnyArray) → AreOrdered q read given → length given ≡ length read
 as_many None read given h = ap length h
 as_many (Some q) read given h = h.count
 
-given_many : (q : Option Projection) (n : ℕ) (read : List AnyArray) (r : Result (List AnyArray) Fault) → ArePermuted q → length read ≡ length (chosen (rising_by q) n)
-    → IfOk r (λ given. AreGivenBy q read given) → IfOk r (λ xs. length xs ≡ length (chosen (asked_by q) n))
+given_many : (q : Option ChosenColumns) (n : ℕ) (read : List AnyArray) (r : Result (List AnyArray) Fault) → AreShuffled q → length read ≡ length (chosen (rising_by q) n)
+    → IfOk r (λ given. AreOrdered q read given) → IfOk r (λ xs. length xs ≡ length (chosen (asked_by q) n))
 given_many q n read (Ok given) same long h = many_asked q n (length given) same (as_many q read given h ∙ long)
 given_many q n read (Err e) same long h = tt
 
+values_given : (known : Dictionaries) (is : IdTrees) (q : Option ChosenColumns) (n : ℕ) (read : List AnyArray) (r : Result (List AnyArray) Fault) → AreShuffled q → AreAsMany q (length read)
+    → IfOk r (λ given. AreOrdered q read given) → AreArrays known is (chosen (rising_by q) n) read → IfOk r (λ given. AreArrays known is (chosen (asked_by q) n) given)
+values_given known is q n read (Ok given) same many order h = values_in_order known is n q read given same many order h
+values_given known is q n read (Err e) same many order h = tt
+
 -- ---- what it means
 
-module _ (q : Option Projection) (same : ArePermuted q) (m : Meaning) (ds es : Dictionaries) (alike : KnowAlike ds es) (source : List ℕ) (limit : Limit) (i : ℕ) where
+module _ (q : Option ChosenColumns) (same : AreShuffled q) (m : Meaning) (ds es : Dictionaries) (alike : KnowAlike ds es) (source : List ℕ) (limit : Limit) (i : ℕ) where
   moved : (r : Result (List AnyArray) Fault) → GivesPart chunk_seen r (file_chunk m ds source (asked_by q) limit i) → GivesPart chunk_seen r (file_chunk m es source (asked_by q) limit i)
   moved r h = subst (λ (o : Option Chunk). GivesPart chunk_seen r o) (chunk_alike m ds es alike (asked_by q) limit source i) h
 
   block_refused : (e : Fault) → OwnFault e (file_chunk m ds source (rising_by q) limit i ≡ None) → OwnFault e (file_chunk m es source (asked_by q) limit i ≡ None)
   block_refused e h = moved (Err e) (refused_in_order q m ds source limit i e same h)
 
-  block_given : (read : List AnyArray) (r : Result (List AnyArray) Fault) → AreReadBy q read → IfOk r (λ given. AreGivenBy q read given) → IfErr r (λ e. e ≡ faults.Memory)
+  block_given : (read : List AnyArray) (r : Result (List AnyArray) Fault) → AreAsMany q (length read) → IfOk r (λ given. AreOrdered q read given) → IfErr r (λ e. e ≡ faults.Memory)
       → file_chunk m ds source (rising_by q) limit i ≡ Some (chunk_seen read) → GivesPart chunk_seen r (file_chunk m es source (asked_by q) limit i)
   block_given read (Ok given) long order only e = moved (Ok given) (given_in_order q m ds source limit i read given same long order e)
   block_given read (Err f) long order only e = memory_own f (file_chunk m es source (asked_by q) limit i ≡ None) only
@@ -83,8 +84,8 @@ pub known_already : {D : Type 0} (view : D → Dictionaries) (o : Option D) (kno
 known_already view None known file e = absurd cc
 known_already view (Some d) known file e = (view d, refl, refl)
 
-module _ (known : Bool) (q : Option Projection) (m : FileMetadata) (limit : Limit) (i : ℕ) (d ds : Dictionaries) (source : List ℕ) (old new : ℕ) (o : Option (List ℕ))
-    (same : ArePermuted q) (rising : o ≡ rising_by q) (held : d ≡ ds) where
+module _ (known : Bool) (q : Option ChosenColumns) (m : FileMetadata) (limit : Limit) (i : ℕ) (d ds : Dictionaries) (source : List ℕ) (old new : ℕ) (o : Option (List ℕ))
+    (same : AreShuffled q) (rising : o ≡ rising_by q) (held : d ≡ ds) where
   abbrev N : ℕ
   N = length m.schema.fields.items
 
@@ -102,7 +103,7 @@ module _ (known : Bool) (q : Option Projection) (m : FileMetadata) (limit : Limi
 
   -- it was read
   pub read_chunk : (read : List AnyArray) (r : Result (List AnyArray) Fault) (metadata : List ℕ) → length read ≡ length (chosen o N)
-      → IfOk r (λ given. AreGivenBy q read given) → IfErr r (λ e. e ≡ faults.Memory)
+      → IfOk r (λ given. AreOrdered q read given) → IfErr r (λ e. e ≡ faults.Memory)
       → (IsTrue known → block_metadata source (slice_get m.blocks.items i) ≡ Some metadata) → new ≤ old + needed_bytes (kinds (file_seen m).schema) (chosen o N) metadata
       → (IsTrue known → file_chunk (file_seen m) d source o limit i ≡ Some (chunk_seen read))
       → (IsTrue known → HaveMeaning d (all_ids_view m.ipc_schema.fields.items) (chosen o N) (chunk_seen read) (map layout_of read)) → WasChunk known m (asked_by q) limit i ds source old new r
@@ -118,11 +119,11 @@ module _ (known : Bool) (q : Option Projection) (m : FileMetadata) (limit : Limi
           message = message;
           most = subst (λ (n : ℕ). new ≤ old + n) (bytes_asked q N (kinds (file_seen m).schema) metadata same) bound;
         });
-        meaning = λ k es alike. block_given q same (file_seen m) d es (subst (λ (x : Dictionaries). KnowAlike x es) (sym held) alike) source limit i read r (read_by q N read many) order only
+        meaning = λ k es alike. block_given q same (file_seen m) d es (subst (λ (x : Dictionaries). KnowAlike x es) (sym held) alike) source limit i read r (as_many_read N q (length read) many) order only
             (subst (λ (p : Option (List ℕ)). file_chunk (file_seen m) d source p limit i ≡ Some (chunk_seen read)) rising (means k));
         values = λ k.
             let is = all_ids_view m.ipc_schema.fields.items in
-            values_asked ds is q N read r same order
+            values_given ds is q N read r same (as_many_read N q (length read) many) order
             (subst (λ (x : Dictionaries). HaveMeaning x is (chosen (rising_by q) N) (chunk_seen read) (map layout_of read)) held
             (subst (λ (p : Option (List ℕ)). HaveMeaning d is (chosen p N) (chunk_seen read) (map layout_of read)) rising (vals k)));
       }

@@ -1,5 +1,5 @@
 -- The chunk of a block, by the columns that are asked for, and by dictionaries that are known alike.
-use Rattle.std.proofs.Common.{◌≡◌, ℕ, List, Bool, true, false, cond, nat_eq, Option, None, Some, Ok, refl, sym, ap, ◌∙◌, subst}
+use Rattle.std.proofs.Common.{◌≡◌, ℕ, List, length, Bool, true, false, cond, nat_eq, Option, None, Some, Ok, refl, sym, ap, ◌∙◌, subst}
 use Rattle.std.specs.Option.{option_and_then}
 use Rattle.std.specs.Prelude.{slice_get}
 use Rattle.std.specs.List.Sorted.{IsPermutation}
@@ -16,12 +16,12 @@ use Rattle.ipc_model.specs.Schemas.{given}
 use Rattle.ipc_laws.specs.Agreement.{KnowAlike}
 use Rattle.ipc_laws.proofs.Agreeing.{agree_chosen, alike_record_law}
 use Rattle.ipc_projections.specs.AskedOrder.{Asked, IsInAskedOrder, AreInAskedOrder}
-use Rattle.ipc_projections.proofs.AskedOrder.{asked_images, asked_once, asked_record_law, then_asked}
+use Rattle.ipc_projections.specs.ChosenColumns.{AreAsMany, AreOrdered, AreShuffled, asked_by, rising_by}
+use Rattle.ipc_projections.specs.declared.read.chosen.ChosenColumns.{ChosenColumns}
+use Rattle.ipc_projections.proofs.AskedOrder.{asked_images, asked_record_law, given_as_asked, then_asked}
 use Rattle.ipc_read.specs.Chunks.{chunk_seen, column_seen}
 use Rattle.ipc_files.specs.Footers.{GivesPart}
 use Rattle.ipc_files.proofs.Openings.{own-weaker}
-use Rattle.ipc_file_readers.specs.Columns.{AreGivenBy, ArePermuted, AreReadBy, asked_by, rising_by}
-use Rattle.ipc_file_readers.specs.declared.read.reader.columns.Projection.{Projection}
 
 given_same : {X : Type 0} (o : Option X) (f g : X → Option Chunk) → ((x : X) → f x ≡ g x) → given o f ≡ given o g
 given_same None f g h = refl
@@ -68,27 +68,21 @@ module _ (a : Asked) (same : IsPermutation a.columns a.rising) (m : FileMetadata
   chunk_asked : (source : List ℕ) (i : ℕ) → AreInAskedOrder a (file_chunk m ds source (Some a.rising) limit i) (file_chunk m ds source (Some a.columns) limit i)
   chunk_asked source i = then_asked a (slice_get m.blocks i) _ _ (λ b. block_asked source b)
 
-some_asked : (a : Asked) (o p : Option Chunk) (c : Chunk) → AreInAskedOrder a o p → o ≡ Some c → (d : Chunk) × (p ≡ Some d) × IsInAskedOrder a c d
-some_asked a None p c h e = absurd cc
-some_asked a (Some x) None c h e = absurd h
-some_asked a (Some x) (Some d) c h e = (d, refl, subst (λ (y : Chunk). IsInAskedOrder a y d) (let is : x ≡ c = cc in is) h)
-
 none_asked : (a : Asked) (o p : Option Chunk) → AreInAskedOrder a o p → o ≡ None → p ≡ None
 none_asked a None None h e = refl
 none_asked a None (Some d) h e = absurd h
 none_asked a (Some x) p h e = absurd cc
 
 -- what was read in rising order, and is given as it was asked for
-pub given_in_order : (q : Option Projection) (m : FileMetadata) (ds : Dictionaries) (source : List ℕ) (limit : Limit) (i : ℕ) (read given : List AnyArray) → ArePermuted q → AreReadBy q read
-    → AreGivenBy q read given → GivesPart chunk_seen (Ok read) (file_chunk m ds source (rising_by q) limit i) → GivesPart chunk_seen (Ok given) (file_chunk m ds source (asked_by q) limit i)
+pub given_in_order : (q : Option ChosenColumns) (m : FileMetadata) (ds : Dictionaries) (source : List ℕ) (limit : Limit) (i : ℕ) (read given : List AnyArray) → AreShuffled q → AreAsMany q (length read)
+    → AreOrdered q read given → GivesPart chunk_seen (Ok read) (file_chunk m ds source (rising_by q) limit i) → GivesPart chunk_seen (Ok given) (file_chunk m ds source (asked_by q) limit i)
 given_in_order None m ds source limit i read given same long order e = e ∙ ap (λ (xs : List AnyArray). Some (chunk_seen xs)) (sym order)
 given_in_order (Some q) m ds source limit i read given same long order e =
     let a = q.columns in
-    let found = some_asked a _ _ (chunk_seen read) (chunk_asked a same m ds limit source i) e in
-    found.1 ∙ ap Some (asked_once a (chunk_seen read) found.0 (chunk_seen given) same (length-map read column_seen ∙ long) found.2 (asked_images a column_seen read given order))
+    given_as_asked a _ _ (chunk_seen read) (chunk_seen given) same.0 (chunk_asked a same.0 m ds limit source i) e (length-map read column_seen ∙ long) (asked_images a column_seen read given order)
 
 -- and what was refused
-pub refused_in_order : (q : Option Projection) (m : FileMetadata) (ds : Dictionaries) (source : List ℕ) (limit : Limit) (i : ℕ) (e : Fault) → ArePermuted q
+pub refused_in_order : (q : Option ChosenColumns) (m : FileMetadata) (ds : Dictionaries) (source : List ℕ) (limit : Limit) (i : ℕ) (e : Fault) → AreShuffled q
     → OwnFault e (file_chunk m ds source (rising_by q) limit i ≡ None) → OwnFault e (file_chunk m ds source (asked_by q) limit i ≡ None)
 refused_in_order None m ds source limit i e same h = h
-refused_in_order (Some q) m ds source limit i e same h = own-weaker e _ _ (none_asked q.columns _ _ (chunk_asked q.columns same m ds limit source i)) h
+refused_in_order (Some q) m ds source limit i e same h = own-weaker e _ _ (none_asked q.columns _ _ (chunk_asked q.columns same.0 m ds limit source i)) h

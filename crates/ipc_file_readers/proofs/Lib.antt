@@ -4,4 +4,3 @@ pub mod Chunks
 pub mod Nexts
 pub mod Rows
 pub mod Runs
-pub mod Values

@@ -237,7 +237,7 @@ module _ {R : Type 0} (known still : Bool) (memory : R → Memory) (failures giv
       let n = length (metadata_of a).schema.fields.items in
       let many : count (kinds (file_of a).schema) ≡ n = field_count (metadata_of a).schema.fields.items (all_ids_view (metadata_of a).ipc_schema.fields.items) in
       let is : IsProjection (asked_of a) (count (kinds (file_of a).schema)) =
-      subst (λ (c : ℕ). IsProjection (asked_of a) c) (sym many) ((projection_decides (asked_of a) n).0 a.projected) in
+      subst (λ (c : ℕ). IsProjection (asked_of a) c) (sym many) ((projection_decides (asked_of a) n).0 a.there) in
       let column : slice_get (chosen (asked_of a) (count (kinds (file_of a).schema))) p ≡ Some j = ap (λ (c : ℕ). slice_get (chosen (asked_of a) c) p) many ∙ at in
       elim (items_law known still memory failures given stays a rs ds k holds calls) [
         | inl items ↦ rows_joined (file_of a) ds (memory (device_of a)).whole (asked_of a) is p j column (blocks_left a) rs cs gs (remaining_of a) (block_of a) items mean are long

@@ -1,4 +1,3 @@
-pub mod Columns
 pub mod Readers
 pub mod Rows
 pub mod Runs

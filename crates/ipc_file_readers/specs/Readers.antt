@@ -17,12 +17,12 @@ use Rattle.ipc_model.specs.ReadChunks.{HaveMeaning}
 use Rattle.ipc_base.specs.IdTrees.{all_ids_view}
 use Rattle.ipc_laws.specs.Agreement.{AreAlike, KnowAlike}
 use Rattle.ipc_columns.specs.Bodies.{known_dictionaries}
+use Rattle.ipc_projections.specs.ChosenColumns.{ShowsColumns, asked_by, shown_by}
 use Rattle.ipc_read.specs.Chunks.{chunk_seen}
 use Rattle.ipc_files.specs.Batches.{IsRecordFault, block_metadata, needed_bytes}
 use Rattle.ipc_files.specs.Dictionaries.{IsDictionaryBlockFault}
 use Rattle.ipc_files.specs.Footers.{GivesPart, file_seen}
 use Rattle.ipc_files.specs.declared.read.file.metadata.FileMetadata.{FileMetadata}
-use Rattle.ipc_file_readers.specs.Columns.{asked_by, shown_by, IsSchemaOf}
 use Rattle.ipc_file_readers.specs.declared.read.reader.state.FileReader.{FileReader}
 
 -- ---- what a reader holds
@@ -78,7 +78,7 @@ pub record Begins {R : Type 0} (reader : R) (metadata : FileMetadata) (asked : O
   pub device : device_of x ≡ reader
   pub described : metadata_of x ≡ metadata
   pub asked_for : asked_of x ≡ asked
-  pub shown : IsSchemaOf metadata.schema asked (schema_of x)
+  pub shown : ShowsColumns asked metadata.schema (schema_of x)
   pub unread : known_of x ≡ None
   pub block : block_of x ≡ 0
   pub remaining : remaining_of x ≡ limit

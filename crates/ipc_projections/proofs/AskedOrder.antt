@@ -1,7 +1,6 @@
 -- Columns that are read in rising order and given in the order in which they were asked for.
-use Rattle.std.proofs.Common.{◌≡◌, ℕ, ◌<◌, ◌==◌, nat_eq, List, map, length, get_or, Option, None, Some, IsSome, IfOk, Result, Ok, Err, IsTrue, slice_get, option_map, arith, refl, sym, ◌∙◌, ap, subst}
+use Rattle.std.proofs.Common.{◌≡◌, ℕ, ◌<◌, ◌==◌, nat_eq, List, map, length, get_or, Option, None, Some, IfOk, Result, Ok, Err, IsTrue, slice_get, option_map, arith, refl, sym, ◌∙◌, ap, subst}
 use Rattle.std.specs.HashMap.{HashMap, get}
-use Rattle.std.specs.List.{IsDistinct}
 use Rattle.std.specs.List.Sorted.{IsPermutation}
 use Rattle.std.specs.Option.{option_and_then}
 use Rattle.std.proofs.lemmas.List.{length-map, get_or_default}
@@ -9,7 +8,7 @@ use Rattle.std.proofs.lemmas.List.Sorted.{All-permutation, Contains-permutation,
 use Rattle.std.proofs.lemmas.Map.Keys.{IsDistinct-IsPermutation}
 use Rattle.std.proofs.lemmas.Option.{slice_get-map, slice_get-get_or, slice_get_read, slice_get_within}
 use Rattle.ipc_model.specs.Entries.{Entries, Limit}
-use Rattle.ipc_model.specs.Batches.{Schema, Lists, kinds, Column, Chunk, chunk_of, batch, entries_of, is_projection, lists_of, record_meaning, slots_of_column, type_at}
+use Rattle.ipc_model.specs.Batches.{Schema, kinds, Column, Chunk, chunk_of, batch, entries_of, IsProjection, is_projection, lists_of, record_meaning, slots_of_column, type_at}
 use Rattle.ipc_model.proofs.Pruned.{projection_decides}
 use Rattle.ipc_projections.proofs.Prepared.{distinct}
 use Rattle.ipc_projections.proofs.Preparing.{all_of, each_of, eqb_flips, same_place}
@@ -70,7 +69,20 @@ rising_prepared a n same up h =
     let is = (projection_decides (Some a.columns) n).0 h in
     (all_of n a.rising (All-permutation (λ j. j < n) a.columns a.rising same (each_of n a.columns is.0)), up)
 
+-- the columns of a projection are there
+pub are_there : (js ks : List ℕ) (n : ℕ) → js ≡ ks → IsProjection (Some ks) n → IsTrue (is_projection (Some js) n)
+are_there js ks n e is = subst (λ (xs : List ℕ). IsTrue (is_projection (Some xs) n)) (sym e) ((projection_decides (Some ks) n).1 is)
+
 -- ---- what they mean
+
+-- what has a meaning in rising order has this one as it is asked for
+pub given_as_asked : (a : Asked) (o p : Option Chunk) (read given : Chunk) → IsPermutation a.columns a.rising → AreInAskedOrder a o p → o ≡ Some read
+    → length read ≡ length a.rising → IsInAskedOrder a read given → p ≡ Some given
+given_as_asked a None p read given same h e long order = absurd cc
+given_as_asked a (Some c) None read given same h e long order = absurd h
+given_as_asked a (Some c) (Some found) read given same h e long order =
+    let is : c ≡ read = cc in
+    ap Some (asked_once a read found given same long (subst (λ (d : Chunk). IsInAskedOrder a d found) is h) order)
 
 asked_meanings : (a : Asked) (s : Entries) (most : ℕ) (schema : Schema) (limit : Limit) (o p : Option Chunk) → IsPermutation a.columns a.rising
     → batch s most schema (Some a.rising) limit ≡ o → batch s most schema (Some a.columns) limit ≡ p → AreInAskedOrder a o p

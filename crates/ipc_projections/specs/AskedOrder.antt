@@ -4,7 +4,7 @@ use Rattle.std.specs.List.Sorted.{IsPermutation}
 use Rattle.std.specs.HashMap.{HashMap}
 use Rattle.ipc_views.specs.Spot.{Spot}
 use Rattle.ipc_model.specs.Entries.{Entries, Dictionaries, Limit}
-use Rattle.ipc_model.specs.Batches.{Schema, Body, Chunk, batch, record_meaning}
+use Rattle.ipc_model.specs.Batches.{Schema, Body, batch, record_meaning}
 use Rattle.ipc_projections.specs.Projections.{IsIncreasing, IsReordering, Moved}
 
 -- the numbers of some columns: as they were asked for, and in rising order

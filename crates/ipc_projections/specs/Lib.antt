@@ -1,4 +1,5 @@
 pub mod AskedOrder
+pub mod ChosenColumns
 pub mod Marks
 pub mod Placing
 pub mod Preparing

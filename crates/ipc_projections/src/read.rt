@@ -1,4 +1,5 @@
 //! Reading.
 pub mod asked;
+pub mod chosen;
 pub mod prepare;
 pub mod projection;

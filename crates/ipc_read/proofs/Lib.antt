@@ -14,3 +14,4 @@ pub mod ValueReads
 pub mod PlaceLists
 pub mod KnownDictionaries
 pub mod DictionaryMeanings
+pub mod AskedColumns

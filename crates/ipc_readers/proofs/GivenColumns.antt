@@ -15,45 +15,45 @@ use Rattle.ipc_model.specs.Batches.{chosen, extra_of}
 use Rattle.ipc_model.specs.Kinds.{count}
 use Rattle.ipc_model.specs.Streams.{Known}
 use Rattle.ipc_model.specs.TypeKinds.{kinds_of}
+use Rattle.ipc_projections.specs.ChosenColumns.{AreAsMany, AreOrdered, AreShuffled, asked_by, rising_by}
+use Rattle.ipc_projections.specs.declared.read.chosen.ChosenColumns.{ChosenColumns}
+use Rattle.ipc_read.proofs.AskedColumns.{faults_in_order}
 use Rattle.ipc_read.proofs.Fields.{field_count}
 use Rattle.ipc_read.specs.Chunks.{GivesBatch}
 use Rattle.ipc_read.specs.Refusals.{IsFaultOfBatch}
 use Rattle.ipc_readers.proofs.AskedBatches.{given_in_order, refused_in_order}
-use Rattle.ipc_readers.proofs.AskedColumns.{faults_in_order}
 use Rattle.ipc_readers.proofs.Bodies.{asks, bare, batch_faults, columns_give, first}
-use Rattle.ipc_readers.specs.ChosenColumns.{AreAsMany, AreOrdered, AreShuffled, asked_of, rising_of}
 use Rattle.ipc_readers.specs.ChosenStreams.{Request}
 use Rattle.ipc_readers.specs.Refusals.{IsStreamFault}
 use Rattle.ipc_readers.specs.Streams.{GivesHeld}
-use Rattle.ipc_readers.specs.declared.read.stream.chosen.Chosen.{Chosen}
 
-module _ (c : Option Chosen) (ds : List Field) (ms : Pairs) (is : IdTrees) (o : Endianness) (version : MetadataVersion) (same : AreShuffled c) where
+module _ (c : Option ChosenColumns) (ds : List Field) (ms : Pairs) (is : IdTrees) (o : Endianness) (version : MetadataVersion) (same : AreShuffled c) where
   -- which faults the columns in rising order can have
   abbrev pub Blames : Fault → Type 0
-  Blames e = OwnFault e (IsFaultOfBatch (kinds_of (fields_view ds) is) (chosen (rising_of c) (length ds)) e)
+  Blames e = OwnFault e (IsFaultOfBatch (kinds_of (fields_view ds) is) (chosen (rising_by c) (length ds)) e)
 
-  asked_faults : (e : Fault) → Blames e → OwnFault e (IsFaultOfBatch (kinds_of (fields_view ds) is) (chosen (asked_of c) (count (kinds_of (fields_view ds) is))) e)
+  asked_faults : (e : Fault) → Blames e → OwnFault e (IsFaultOfBatch (kinds_of (fields_view ds) is) (chosen (asked_by c) (count (kinds_of (fields_view ds) is))) e)
   asked_faults e only =
       let ts = kinds_of (fields_view ds) is in
       faults_in_order ts e (count ts) c same
-      (subst (λ (n : ℕ). OwnFault e (IsFaultOfBatch ts (chosen (rising_of c) n) e)) (sym (field_count ds is)) only)
+      (subst (λ (n : ℕ). OwnFault e (IsFaultOfBatch ts (chosen (rising_by c) n) e)) (sym (field_count ds is)) only)
 
-  pub stream_faults : (e : Fault) → Blames e → OwnFault e (IsStreamFault (asks (fields_view ds) ms is o version (asked_of c)) e)
-  stream_faults e only = batch_faults (fields_view ds) ms is o version (asked_of c) e (asked_faults e only)
+  pub stream_faults : (e : Fault) → Blames e → OwnFault e (IsStreamFault (asks (fields_view ds) ms is o version (asked_by c)) e)
+  stream_faults e only = batch_faults (fields_view ds) ms is o version (asked_by c) e (asked_faults e only)
 
   module _ (k : Known) (t : Spot) (body : List ℕ) where
     pub given_columns : (read given : List AnyArray) → AreAsMany c (length read) → AreOrdered c read given
-        → GivesBatch (bare (fields_view ds) is o) (extra_of version) k.dictionaries (first body (length body)) t (rising_of c) None (Ok read)
-        → GivesHeld (asks (fields_view ds) ms is o version (asked_of c)) k 3 t body (Ok (Some given)) (record { dictionaries = k.dictionaries; count = 0 })
+        → GivesBatch (bare (fields_view ds) is o) (extra_of version) k.dictionaries (first body (length body)) t (rising_by c) None (Ok read)
+        → GivesHeld (asks (fields_view ds) ms is o version (asked_by c)) k 3 t body (Ok (Some given)) (record { dictionaries = k.dictionaries; count = 0 })
     given_columns read given many moved g =
-        columns_give (fields_view ds) ms is o version (asked_of c) k t body (Ok given) (record { dictionaries = k.dictionaries; count = 0 }) (refl, refl) tt
+        columns_give (fields_view ds) ms is o version (asked_by c) k t body (Ok given) (record { dictionaries = k.dictionaries; count = 0 }) (refl, refl) tt
         (given_in_order c (bare (fields_view ds) is o) (extra_of version) k.dictionaries (first body (length body)) t read given same many moved g)
 
     pub refused_columns : (e : Fault) → Blames e
-        → GivesBatch (bare (fields_view ds) is o) (extra_of version) k.dictionaries (first body (length body)) t (rising_of c) None (Err e)
-        → GivesHeld (asks (fields_view ds) ms is o version (asked_of c)) k 3 t body (Err e) k
+        → GivesBatch (bare (fields_view ds) is o) (extra_of version) k.dictionaries (first body (length body)) t (rising_by c) None (Err e)
+        → GivesHeld (asks (fields_view ds) ms is o version (asked_by c)) k 3 t body (Err e) k
     refused_columns e only g =
-        columns_give (fields_view ds) ms is o version (asked_of c) k t body (Err e) k tt (asked_faults e only)
+        columns_give (fields_view ds) ms is o version (asked_by c) k t body (Err e) k tt (asked_faults e only)
         (refused_in_order c (bare (fields_view ds) is o) (extra_of version) k.dictionaries (first body (length body)) t e same g)
 
 -- a refusal of memory says nothing of the body

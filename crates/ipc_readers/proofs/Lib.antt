@@ -4,7 +4,6 @@ pub mod Sized
 pub mod Prefixes
 pub mod Bodies
 pub mod AskedBatches
-pub mod AskedColumns
 pub mod GivenColumns
 pub mod ChosenStreams
 pub mod PrunedStreams

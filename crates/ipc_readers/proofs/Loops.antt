@@ -4,7 +4,7 @@ use Rattle.ipc_devices.specs.Gives.{Gives}
 use Rattle.ipc_devices.specs.declared.fault.Fault.{Fault}
 use Rattle.ipc_laws.specs.Agreement.{AreAt}
 use Rattle.ipc_model.specs.Streams.{Known}
-use Rattle.ipc_readers.specs.ChosenColumns.{asked_of}
+use Rattle.ipc_projections.specs.ChosenColumns.{asked_by}
 use Rattle.ipc_readers.specs.ChosenStreams.{Request}
 use Rattle.ipc_readers.specs.Streams.{ItemGave, NextGave, request_of, begun_of, chosen_of, device_of, head_of, known_of, last_found, metadata_of}
 use Rattle.ipc_readers.specs.declared.read.stream.reader.Found.TheVariants as fronts
@@ -21,7 +21,7 @@ pub record GoesOn {R : Type 0} (gives : Gives R) (a b : StreamReader R) : Type 0
 
 -- what is asked of a reader stays
 pub same_request : {R : Type 0} (a b : StreamReader R) → metadata_of b ≡ metadata_of a → chosen_of b ≡ chosen_of a → request_of b ≡ request_of a
-same_request a b described projected = λ i. record { head = head_of (described i); projection = asked_of (projected i) }
+same_request a b described projected = λ i. record { head = head_of (described i); projection = asked_by (projected i) }
 
 module _ {R : Type 0} (gives : Gives R) where
   pub goes_same : (a : StreamReader R) → GoesOn gives a a

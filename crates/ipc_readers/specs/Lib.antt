@@ -1,7 +1,6 @@
 pub mod Frames
 pub mod Messages
 pub mod Metadata
-pub mod ChosenColumns
 pub mod ChosenStreams
 pub mod Streams
 pub mod Refusals

@@ -19,13 +19,13 @@ use Rattle.ipc_model.specs.Batches.{chosen}
 use Rattle.ipc_model.specs.ReadChunks.{HaveMeaning}
 use Rattle.ipc_model.specs.Frame.{Frame, broken, frame, message, mark}
 use Rattle.ipc_model.specs.Streams.{Head, Header, Known, header_of, more, done, faulty, marked, most_dictionaries, with_chunks, nothing_known, waits}
+use Rattle.ipc_projections.specs.ChosenColumns.{asked_by, shown_by}
+use Rattle.ipc_projections.specs.declared.read.chosen.ChosenColumns.{ChosenColumns}
 use Rattle.ipc_read.specs.Chunks.{chunk_seen, order_of}
-use Rattle.ipc_readers.specs.ChosenColumns.{asked_of, shown_by}
 use Rattle.ipc_readers.specs.ChosenStreams.{Request, chosen_body, chosen_item, chosen_meaning}
 use Rattle.ipc_readers.specs.Frames.{IsFramingFault, begun_bytes, due}
 use Rattle.ipc_readers.specs.Messages.{opened}
 use Rattle.ipc_readers.specs.Refusals.{IsDictionaryMessageFault, IsRecordFault, IsStreamFault}
-use Rattle.ipc_readers.specs.declared.read.stream.chosen.Chosen.{Chosen}
 use Rattle.ipc_readers.specs.declared.read.stream.metadata.StreamMetadata.{StreamMetadata}
 use Rattle.ipc_readers.specs.declared.read.stream.reader.Batches.{Batches}
 use Rattle.ipc_readers.specs.declared.read.stream.reader.Found.{Found}
@@ -52,12 +52,12 @@ abbrev pub metadata_of : {R : Type 0} → StreamReader R → StreamMetadata
 metadata_of r = r.batches.metadata
 
 -- the columns that are asked for, prepared: none where all are read
-abbrev pub chosen_of : {R : Type 0} → StreamReader R → Option Chosen
+abbrev pub chosen_of : {R : Type 0} → StreamReader R → Option ChosenColumns
 chosen_of r = r.batches.projection
 
 -- their numbers
 abbrev pub projection_of : {R : Type 0} → StreamReader R → Option (List ℕ)
-projection_of r = asked_of (chosen_of r)
+projection_of r = asked_by (chosen_of r)
 
 -- the schema of the chunks
 abbrev pub schema_of : {R : Type 0} → StreamReader R → schemas.Schema
@@ -105,7 +105,7 @@ head_of m = record {
 
 -- what is asked of a stream
 abbrev pub request_in : Batches → Request
-request_in b = record { head = head_of b.metadata; projection = asked_of b.projection }
+request_in b = record { head = head_of b.metadata; projection = asked_by b.projection }
 
 abbrev pub request_of : {R : Type 0} → StreamReader R → Request
 request_of r = request_in r.batches
@@ -115,7 +115,7 @@ request_of r = request_in r.batches
 -- At each dictionary place of a chunk's columns, those inside the values of others aside, stand the values that are known.
 abbrev pub HasKnownValues : Batches → List AnyArray → Type 0
 HasKnownValues b chunk =
-    HaveMeaning (known_in b).dictionaries (all_ids_view b.metadata.ipc_schema.fields.items) (chosen (asked_of b.projection) (length b.metadata.schema.fields.items)) (chunk_seen chunk) (map layout_of chunk)
+    HaveMeaning (known_in b).dictionaries (all_ids_view b.metadata.ipc_schema.fields.items) (chosen (asked_by b.projection) (length b.metadata.schema.fields.items)) (chunk_seen chunk) (map layout_of chunk)
 
 abbrev pub BodyHasValues : Batches → Option (List AnyArray) → Type 0
 BodyHasValues b None = Unit {0}

@@ -1,5 +1,4 @@
 //! Reads the chunks of a file, one after the other: the Arrow columnar format, "IPC File Format".
-mod columns;
 mod next;
 mod runs;
 mod state;

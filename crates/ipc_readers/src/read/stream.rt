@@ -1,6 +1,4 @@
 //! Reads streams: the Arrow columnar format, "IPC Streaming Format".
-mod choosing;
-mod chosen;
 mod metadata;
 mod next;
 mod reader;

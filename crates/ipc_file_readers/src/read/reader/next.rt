@@ -3,16 +3,16 @@ ghost use Rattle.std.specs.Prelude.{◌≡◌, ◌<◌, false, [], length, IsSom
 ghost use Rattle.std.specs.Iterator.{at_most};
 ghost use Rattle.ipc_devices.specs.declared.fault.Fault.TheVariants.{Memory};
 ghost use Rattle.ipc_model.specs.Batches.{IsProjection};
-ghost use Rattle.ipc_file_readers.specs.Columns.{numbers_of};
+ghost use Rattle.ipc_projections.specs.ChosenColumns.{items_of};
 ghost use Rattle.ipc_file_readers.specs.Readers.{Begins, DiffersInScratches, NextStep, blocks_left, device_of, is_over, known_of, less, metadata_of, schema_of, scratches_of};
 ghost use Rattle.ipc_file_readers.specs.Steps.{BlockGave, DictionariesGave, NextGave};
 
-use crate::read::reader::columns::{in_order, projection_of, rising_of};
 use crate::read::reader::state::FileReader;
 use ipc_base::chunk::Chunk;
 use ipc_devices::fault::Fault;
 use ipc_devices::{Reads, Seeks};
 use ipc_files::read::file::{FileMetadata, read_batch, read_file_dictionaries};
+use ipc_projections::read::chosen::{choose, in_order, rising, shown};
 use lower::datatypes::Schema;
 use lower_arrays::array::AnyArray;
 use std::alloc::Global;
@@ -39,11 +39,11 @@ impl<R: Reads + Seeks + Drop> FileReader<R> {
         projection: Option<Vec<usize>>,
         limit: Option<usize>,
     ) -> Result<FileReader<R>, Fault>
-        requires { IsProjection (numbers_of projection) (length metadata.schema.fields.items) }
-        ensures ok { IfOk result (λ made. Begins reader metadata (numbers_of projection) limit made) }
+        requires { IsProjection (items_of projection) (length metadata.schema.fields.items) }
+        ensures ok { IfOk result (λ made. Begins reader metadata (items_of projection) limit made) }
         ensures only { IfErr result (λ e. (e ≡ Memory) × IsSome projection) }
     {
-        let projection = projection_of(alloc, &metadata.schema, projection)?;
+        let projection = choose(alloc, &metadata.schema, projection)?;
         Ok(FileReader {
             alloc,
             reader,
@@ -61,10 +61,7 @@ impl<R: Reads + Seeks + Drop> FileReader<R> {
     pub fn schema(&self) -> &Schema
         ensures { result.now ≡ schema_of self.now }
     {
-        match &self.projection {
-            Some(projection) => &projection.schema,
-            None => &self.metadata.schema,
-        }
+        shown(&self.projection, &self.metadata.schema)
     }
 
     /// What the footer said.
@@ -139,7 +136,7 @@ impl<R: Reads + Seeks + Drop> FileReader<R> {
             &mut self.reader,
             dictionaries,
             &self.metadata,
-            rising_of(&self.projection),
+            rising(&self.projection),
             self.remaining,
             block,
             &mut self.message_scratch,

@@ -1,9 +1,10 @@
 //! What a reader of a file holds.
 ghost use Rattle.std.specs.Prelude.{IsTrue, length};
-ghost use Rattle.ipc_file_readers.specs.Columns.{are_projected};
+ghost use Rattle.ipc_model.specs.Batches.{is_projection};
+ghost use Rattle.ipc_projections.specs.ChosenColumns.{asked_by};
 
-use crate::read::reader::columns::Projection;
 use ipc_files::read::file::FileMetadata;
+use ipc_projections::read::chosen::ChosenColumns;
 use ipc_read::read::Dictionaries;
 use std::alloc::Global;
 
@@ -31,10 +32,10 @@ pub struct FileReader<R> {
     pub(crate) dictionaries: Option<Dictionaries>,
     // the number of the next block
     pub(crate) current_block: usize,
-    pub(crate) projection: Option<Projection>,
+    pub(crate) projection: Option<ChosenColumns>,
     // how many rows are still to be given, where there is a limit
     pub(crate) remaining: Option<usize>,
     pub(crate) message_scratch: Vec<u8>,
     pub(crate) data_scratch: Vec<u8>,
-    ghost projected: { IsTrue (are_projected projection (length metadata.schema.fields.items)) },
+    ghost there: { IsTrue (is_projection (asked_by projection) (length metadata.schema.fields.items)) },
 }

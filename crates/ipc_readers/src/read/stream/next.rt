@@ -10,7 +10,7 @@ ghost use Rattle.ipc_model.specs.Batches.{IsProjection};
 ghost use Rattle.ipc_model.specs.Streams.{most_dictionaries};
 ghost use Rattle.ipc_views.specs.Unions.{header_parts};
 ghost use Rattle.lower.specs.TypeViews.{fields_view};
-ghost use Rattle.ipc_readers.specs.ChosenColumns.{ShowsColumns, items_of};
+ghost use Rattle.ipc_projections.specs.ChosenColumns.{ShowsColumns, items_of};
 ghost use Rattle.ipc_readers.specs.Messages.{header_seen};
 ghost use Rattle.ipc_readers.specs.Refusals.{IsStreamFault};
 ghost use Rattle.ipc_readers.specs.Streams.{NextStep, IsWaiting, HasChunk, Begins, BodyGave, BodyHasValues, Counted, CountsOn, FrontHasValues, GivesHeld, HasKnownValues, IsAdmitted, ItemGave, NextGave, RefusesBody, StateHasValues, request_of, request_in, begun_of, chosen_of, device_of, is_over, known_in, known_of, metadata_of, of_dictionary, of_record, projection_of, schema_of};
@@ -18,12 +18,12 @@ ghost use Rattle.ipc_readers.specs.Streams.{NextStep, IsWaiting, HasChunk, Begin
 use crate::read::begun::{Begun, Frame};
 use crate::read::frame::read_frame;
 use crate::read::message::{Message, open_message};
-use crate::read::stream::choosing::{choose, ordered, rising};
 use crate::read::stream::metadata::StreamMetadata;
 use crate::read::stream::reader::{Batches, Found, StreamReader, StreamState};
 use ipc_base::chunk::Chunk;
 use ipc_devices::fault::{Fault, OutOfSpecKind};
 use ipc_devices::{MemFile, Reads, read_into};
+use ipc_projections::read::chosen::{choose, in_order, rising, shown};
 use ipc_read::read::common::read_record_batch;
 use ipc_read::read::dictionaries::read_dictionary;
 use ipc_views::{DictionaryBatchRef, MessageHeaderRef, RecordBatchRef};
@@ -86,7 +86,7 @@ impl Batches {
             body.len() as u64,
             &mut self.scratch,
         )?;
-        let chunk = ordered(self.alloc, &self.projection, read)?;
+        let chunk = in_order(self.alloc, &self.projection, read)?;
         self.count = 0;
         Ok(chunk)
     }
@@ -256,10 +256,7 @@ impl<R: Reads + Drop> StreamReader<R> {
     pub fn schema(&self) -> &Schema
         ensures { result.now ≡ schema_of self.now }
     {
-        match &self.batches.projection {
-            Some(chosen) => &chosen.schema,
-            None => &self.batches.metadata.schema,
-        }
+        shown(&self.batches.projection, &self.batches.metadata.schema)
     }
 
     /// Whether `next` gives None from now on: after the mark, and after a fault.

@@ -4,13 +4,13 @@ ghost use Rattle.ipc_base.specs.Fitting.{all_fit};
 ghost use Rattle.ipc_base.specs.IdTrees.{all_ids_view};
 ghost use Rattle.ipc_model.specs.Batches.{is_projection};
 ghost use Rattle.ipc_model.specs.Streams.{most_dictionaries};
-ghost use Rattle.ipc_readers.specs.ChosenColumns.{asked_of};
+ghost use Rattle.ipc_projections.specs.ChosenColumns.{asked_by};
 ghost use Rattle.lower.specs.TypeViews.{fields_view};
 
 use crate::read::begun::Begun;
-use crate::read::stream::chosen::Chosen;
 use crate::read::stream::metadata::StreamMetadata;
 use ipc_base::chunk::Chunk;
+use ipc_projections::read::chosen::ChosenColumns;
 use ipc_read::read::Dictionaries;
 use lower_arrays::array::AnyArray;
 use std::alloc::Global;
@@ -52,7 +52,7 @@ pub(crate) struct Batches {
     pub(crate) alloc: Global,
     pub(crate) metadata: StreamMetadata,
     // the columns that are asked for, if not all
-    pub(crate) projection: Option<Chosen>,
+    pub(crate) projection: Option<ChosenColumns>,
     // the values that are known, by their ids
     pub(crate) dictionaries: Dictionaries,
     // how many dictionary batches came since the last record batch
@@ -60,7 +60,7 @@ pub(crate) struct Batches {
     // room for parts of a body
     pub(crate) scratch: Vec<u8>,
     ghost few: { count ≤ most_dictionaries },
-    ghost there: { IsTrue (is_projection (asked_of projection) (length metadata.schema.fields.items)) },
+    ghost there: { IsTrue (is_projection (asked_by projection) (length metadata.schema.fields.items)) },
     ghost fits: { IsTrue (all_fit (fields_view metadata.schema.fields.items)
         (all_ids_view metadata.ipc_schema.fields.items)) },
 }

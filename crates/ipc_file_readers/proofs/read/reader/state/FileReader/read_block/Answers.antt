@@ -1,7 +1,18 @@
-use Rattle.std.proofs.Common.{rules, ◌≡◌, Err, refl}
+use Rattle.std.proofs.Common.{rules, ◌≡◌, ℕ, List, length, Option, Err, refl, sym, subst}
 use Rattle.ipc_columns.specs.Bodies.{known_dictionaries}
+use Rattle.ipc_read.proofs.AskedColumns.{are_prepared}
+use Rattle.ipc_read.specs.Columns.{ArePrepared}
 use Rattle.ipc_file_readers.proofs.Blocks.{no_io, read_chunk, refused_chunk, same_known}
 use Rattle.ipc_file_readers.proofs.read.reader.state.FileReader.read_block.Goals as goal
+
+pub read_batch-requires : goal.read_batch-requires
+read_batch-requires g c =
+    let old = c.args.self.now in
+    let n = length old.metadata.schema.fields.items in
+    record {
+      index = c.requires.within;
+      prepared = subst (λ (p : Option (List ℕ)). ArePrepared p n) (sym c.rising.ensures.columns) (are_prepared n old.projection old.there c.rising.ensures.same);
+    }
 
 pub returns-in_err-chunk : goal.returns-in_err-chunk
 returns-in_err-chunk g c =
@@ -20,7 +31,7 @@ returns-in_err-chunk g c =
         };
         chunk = λ ds e.
             refused_chunk g.R.Failures.known c.args.self.now.projection c.args.self.now.metadata c.args.self.now.remaining c.args.block
-            (known_dictionaries c.in-Some.dictionaries) ds (g.R.Failures.memory c.args.self.now.reader).whole _ _ _ c.rising_of.ensures.same c.rising_of.ensures.value
+            (known_dictionaries c.in-Some.dictionaries) ds (g.R.Failures.memory c.args.self.now.reader).whole _ _ _ c.rising.ensures.same c.rising.ensures.columns
             (same_known known_dictionaries c.args.self.now.dictionaries c.in-Some.dictionaries ds c.in-Some.is e) c.from_residual.result fault is
             c.in_err-chunk.ensures.only c.in_err-chunk.ensures.memory;
       };
@@ -40,9 +51,9 @@ returns g c = record {
     };
     chunk = λ ds e.
         read_chunk g.R.Failures.known c.args.self.now.projection c.args.self.now.metadata c.args.self.now.remaining c.args.block
-        (known_dictionaries c.in-Some.dictionaries) ds (g.R.Failures.memory c.args.self.now.reader).whole _ _ _ c.rising_of.ensures.same c.rising_of.ensures.value
+        (known_dictionaries c.in-Some.dictionaries) ds (g.R.Failures.memory c.args.self.now.reader).whole _ _ _ c.rising.ensures.same c.rising.ensures.columns
         (same_known known_dictionaries c.args.self.now.dictionaries c.in-Some.dictionaries ds c.in-Some.is e) c.in_ok-chunk.chunk c.in_order.result
-        c.read_batch.new.message_scratch.items c.in_ok-chunk.ensures.many c.in_order.ensures.order c.in_order.ensures.only c.in_ok-chunk.ensures.message
+        c.read_batch.new.message_scratch.items c.in_ok-chunk.ensures.many c.in_order.ensures.ordered c.in_order.ensures.only c.in_ok-chunk.ensures.message
         c.in_ok-chunk.ensures.given c.in_ok-chunk.ensures.memory c.in_ok-chunk.ensures.values;
   };
 }

@@ -13,10 +13,9 @@ use Rattle.ipc_model.specs.ReadChunks.{HaveMeaning}
 use Rattle.ipc_read.specs.Chunks.{GivesBatch, batch_schema, chunk_seen, order_of}
 use Rattle.ipc_read.specs.Columns.{ArePrepared}
 use Rattle.ipc_read.specs.Refusals.{IsFaultOfBatch}
-use Rattle.ipc_readers.proofs.AskedBatches.{are_prepared}
-use Rattle.ipc_readers.proofs.AskedColumns.{as_many_read, values_in_order}
+use Rattle.ipc_read.proofs.AskedColumns.{are_prepared, as_many_read, values_in_order}
 use Rattle.ipc_readers.proofs.GivenColumns.{given_columns, no_memory, refused_columns, stream_faults}
-use Rattle.ipc_readers.specs.ChosenColumns.{rising_of}
+use Rattle.ipc_projections.specs.ChosenColumns.{rising_by}
 use Rattle.ipc_readers.specs.Streams.{known_in, request_in}
 use Rattle.ipc_readers.proofs.read.stream.reader.Batches.columns.Goals as goal
 
@@ -27,18 +26,18 @@ read_record_batch-requires c =
     let fields_are : c.deref.result.now ≡ fs = search rules in
     record {
       prepared = subst (λ (p : Option (List ℕ)). ArePrepared p (length c.deref.result.now)) (sym c.rising.ensures.columns)
-          (subst (λ (ds : List Field). ArePrepared (rising_of old.projection) (length ds)) (sym fields_are) (are_prepared (length fs) old.projection old.there c.rising.ensures.same));
+          (subst (λ (ds : List Field). ArePrepared (rising_by old.projection) (length ds)) (sym fields_are) (are_prepared (length fs) old.projection old.there c.rising.ensures.same));
     }
 
-pub ordered-requires : goal.ordered-requires
-ordered-requires c =
+pub in_order-requires : goal.in_order-requires
+in_order-requires c =
     let old = c.args.self.now in
     let fs : List Field = old.metadata.schema.fields.items in
     let fields_are : c.deref.result.now ≡ fs = search rules in
     let read : List AnyArray = c.in_ok-read.read in
     let Many : Option (List ℕ) → List Field → Type 0 = λ p ds. length read ≡ length (chosen p (length ds)) in
     as_many_read (length fs) old.projection (length read)
-    (subst (λ ds. Many (rising_of old.projection) ds) fields_are (subst (λ p. Many p c.deref.result.now) c.rising.ensures.columns c.in_ok-read.ensures.many))
+    (subst (λ ds. Many (rising_by old.projection) ds) fields_are (subst (λ p. Many p c.deref.result.now) c.rising.ensures.columns c.in_ok-read.ensures.many))
 
 pub returns-clause-memory : goal.returns-clause-memory
 returns-clause-memory c =
@@ -55,9 +54,9 @@ returns-clause-memory c =
     let Many : Option (List ℕ) → List Field → Type 0 = λ p ds. length read ≡ length (chosen p (length ds)) in
     given_columns old.projection fs (pairs_of m.schema.metadata.entries) (all_ids_view m.ipc_schema.fields.items) (order_of m.ipc_schema.is_little_endian) m.version c.rising.ensures.same
     (known_in old) c.args.batch body read c.in_ok-chunk.chunk
-    (as_many_read (length fs) old.projection (length read) (subst (λ ds. Many (rising_of old.projection) ds) fields_are (subst (λ p. Many p c.deref.result.now) c.rising.ensures.columns c.in_ok-read.ensures.many)))
+    (as_many_read (length fs) old.projection (length read) (subst (λ ds. Many (rising_by old.projection) ds) fields_are (subst (λ p. Many p c.deref.result.now) c.rising.ensures.columns c.in_ok-read.ensures.many)))
     c.in_ok-chunk.ensures.ordered
-    (subst (λ bs. Read (rising_of old.projection) fs bs) bytes_are (subst (λ ds. Read (rising_of old.projection) ds bytes) fields_are (subst (λ p. Read p c.deref.result.now bytes) c.rising.ensures.columns given)))
+    (subst (λ bs. Read (rising_by old.projection) fs bs) bytes_are (subst (λ ds. Read (rising_by old.projection) ds bytes) fields_are (subst (λ p. Read p c.deref.result.now bytes) c.rising.ensures.columns given)))
 
 pub returns-in_err-read-clause-memory : goal.returns-in_err-read-clause-memory
 returns-in_err-read-clause-memory c =
@@ -77,8 +76,8 @@ returns-in_err-read-clause-memory c =
     let blamed : Blames (option_copied c.rising.result) c.deref.result.now = c.in_err-read.ensures.only in
     rw e (refused_columns old.projection fs (pairs_of m.schema.metadata.entries) is (order_of m.ipc_schema.is_little_endian) m.version c.rising.ensures.same
     (known_in old) c.args.batch body fault
-    (subst (λ ds. Blames (rising_of old.projection) ds) fields_are (subst (λ p. Blames p c.deref.result.now) c.rising.ensures.columns blamed))
-    (subst (λ bs. Read (rising_of old.projection) fs bs) bytes_are (subst (λ ds. Read (rising_of old.projection) ds bytes) fields_are (subst (λ p. Read p c.deref.result.now bytes) c.rising.ensures.columns given))))
+    (subst (λ ds. Blames (rising_by old.projection) ds) fields_are (subst (λ p. Blames p c.deref.result.now) c.rising.ensures.columns blamed))
+    (subst (λ bs. Read (rising_by old.projection) fs bs) bytes_are (subst (λ ds. Read (rising_by old.projection) ds bytes) fields_are (subst (λ p. Read p c.deref.result.now bytes) c.rising.ensures.columns given))))
 
 pub returns-in_err-chunk-clause-memory : goal.returns-in_err-chunk-clause-memory
 returns-in_err-chunk-clause-memory c =
@@ -98,7 +97,7 @@ returns-in_err-read-clause-only c =
     let Blames : Option (List ℕ) → List Field → Type 0 = λ p ds. OwnFault fault (IsFaultOfBatch (kinds (batch_schema ds m.ipc_schema)) (chosen p (length ds)) fault) in
     let blamed : Blames (option_copied c.rising.result) c.deref.result.now = c.in_err-read.ensures.only in
     rw e (stream_faults old.projection fs (pairs_of m.schema.metadata.entries) (all_ids_view m.ipc_schema.fields.items) (order_of m.ipc_schema.is_little_endian) m.version c.rising.ensures.same fault
-    (subst (λ ds. Blames (rising_of old.projection) ds) fields_are (subst (λ p. Blames p c.deref.result.now) c.rising.ensures.columns blamed)))
+    (subst (λ ds. Blames (rising_by old.projection) ds) fields_are (subst (λ p. Blames p c.deref.result.now) c.rising.ensures.columns blamed)))
 
 pub returns-clause-values : goal.returns-clause-values
 returns-clause-values c =
@@ -113,6 +112,6 @@ returns-clause-values c =
     let have : Have (option_copied c.rising.result) c.deref.result.now = c.in_ok-read.ensures.values refl in
     let Many : Option (List ℕ) → List Field → Type 0 = λ p ds. length read ≡ length (chosen p (length ds)) in
     values_in_order known is (length fs) old.projection read c.in_ok-chunk.chunk c.rising.ensures.same
-    (as_many_read (length fs) old.projection (length read) (subst (λ ds. Many (rising_of old.projection) ds) fields_are (subst (λ p. Many p c.deref.result.now) c.rising.ensures.columns c.in_ok-read.ensures.many)))
+    (as_many_read (length fs) old.projection (length read) (subst (λ ds. Many (rising_by old.projection) ds) fields_are (subst (λ p. Many p c.deref.result.now) c.rising.ensures.columns c.in_ok-read.ensures.many)))
     c.in_ok-chunk.ensures.ordered
-    (subst (λ ds. Have (rising_of old.projection) ds) fields_are (subst (λ p. Have p c.deref.result.now) c.rising.ensures.columns have))
+    (subst (λ ds. Have (rising_by old.projection) ds) fields_are (subst (λ p. Have p c.deref.result.now) c.rising.ensures.columns have))

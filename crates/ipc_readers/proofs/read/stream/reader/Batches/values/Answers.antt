@@ -8,7 +8,7 @@ use Rattle.ipc_model.specs.Batches.{extra_of}
 use Rattle.ipc_read.specs.Chunks.{batch_schema, order_of}
 use Rattle.ipc_read.specs.DictionaryBatches.{GivesDictionary}
 use Rattle.ipc_readers.proofs.Bodies.{values_give}
-use Rattle.ipc_readers.specs.ChosenColumns.{asked_of}
+use Rattle.ipc_projections.specs.ChosenColumns.{asked_by}
 use Rattle.ipc_readers.specs.Streams.{known_in}
 use Rattle.ipc_readers.proofs.read.stream.reader.Batches.values.Goals as goal
 
@@ -25,7 +25,7 @@ returns-clause-memory c =
     let after = known_dictionaries c.read_dictionary.new.dictionaries in
     let Read : List Field → List ℕ → Type 0 = λ ds bs. GivesDictionary (batch_schema ds m.ipc_schema) (extra_of m.version) (known_dictionaries old.dictionaries) (record { source = bs; base = 0; size = length body }) c.args.batch r after in
     let given : Read c.deref.result.now bytes = c.in_ok-read_dictionary.ensures.memory refl in
-    values_give (fields_view fs) (pairs_of m.schema.metadata.entries) (all_ids_view m.ipc_schema.fields.items) (order_of m.ipc_schema.is_little_endian) m.version (asked_of old.projection) (known_in old)
+    values_give (fields_view fs) (pairs_of m.schema.metadata.entries) (all_ids_view m.ipc_schema.fields.items) (order_of m.ipc_schema.is_little_endian) m.version (asked_by old.projection) (known_in old)
     c.args.batch body r (record { dictionaries = after; count = old.count + 1 }) c.requires refl tt
     (subst (λ bs. Read fs bs) bytes_are (subst (λ ds. Read ds bytes) fields_are given))
 
@@ -44,6 +44,6 @@ returns-in_err-read_dictionary-clause-memory c =
     let after = known_dictionaries c.read_dictionary.new.dictionaries in
     let Read : List Field → List ℕ → Type 0 = λ ds bs. GivesDictionary (batch_schema ds m.ipc_schema) (extra_of m.version) (known_dictionaries old.dictionaries) (record { source = bs; base = 0; size = length body }) c.args.batch r after in
     let given : Read c.deref.result.now bytes = c.in_err-read_dictionary.ensures.memory refl in
-    rw e (values_give (fields_view fs) (pairs_of m.schema.metadata.entries) (all_ids_view m.ipc_schema.fields.items) (order_of m.ipc_schema.is_little_endian) m.version (asked_of old.projection) (known_in old)
+    rw e (values_give (fields_view fs) (pairs_of m.schema.metadata.entries) (all_ids_view m.ipc_schema.fields.items) (order_of m.ipc_schema.is_little_endian) m.version (asked_by old.projection) (known_in old)
     c.args.batch body r (record { dictionaries = after; count = old.count }) c.requires tt c.in_err-read_dictionary.ensures.only
     (subst (λ bs. Read fs bs) bytes_are (subst (λ ds. Read ds bytes) fields_are given)))

@@ -13,12 +13,14 @@ use Rattle.ipc_model.specs.Batches.{chosen, kind_at}
 use Rattle.ipc_model.specs.Entries.{Dictionaries}
 use Rattle.ipc_model.specs.Kinds.{Kinds}
 use Rattle.ipc_model.specs.ReadChunks.{HaveMeaning, IsArrayOf, ids_at}
+use Rattle.ipc_projections.proofs.AskedOrder.{rising_prepared}
 use Rattle.ipc_projections.proofs.Reorderings.{some_same}
+use Rattle.ipc_projections.specs.ChosenColumns.{AreAsMany, AreOrdered, AreShuffled, AreThere, asked_by, rising_by}
+use Rattle.ipc_projections.specs.declared.read.chosen.ChosenColumns.{ChosenColumns}
 use Rattle.ipc_read.specs.Chunks.{chunk_seen, column_seen}
 use Rattle.ipc_read.specs.Refusals.{IsFaultOfBatch, IsFaultOfSome}
-use Rattle.ipc_readers.proofs.Bodies.{claims_through}
-use Rattle.ipc_readers.specs.ChosenColumns.{AreAsMany, AreOrdered, AreShuffled, asked_of, rising_of}
-use Rattle.ipc_readers.specs.declared.read.stream.chosen.Chosen.{Chosen}
+use Rattle.ipc_read.proofs.Refusals.{claims_through}
+use Rattle.ipc_read.specs.Columns.{ArePrepared}
 
 -- where a column stands in another order
 stands_in : (xs ys : List ℕ) → IsPermutation xs ys → (i j : ℕ) → slice_get xs i ≡ Some j → (k : ℕ) × (slice_get ys k ≡ Some j)
@@ -26,8 +28,13 @@ stands_in xs ys same i j e =
     let w = Contains-permutation xs ys j same (i, slice_get_within xs i j e, get_or_from_slice_get xs i j j e) in
     (w.0, slice_get_read ys (length ys) w.0 j refl w.1 (sym w.2))
 
+-- columns that are there are read in rising order
+pub are_prepared : (n : ℕ) (c : Option ChosenColumns) → AreThere c n → AreShuffled c → ArePrepared (rising_by c) n
+are_prepared n None there same = tt
+are_prepared n (Some c) there same = rising_prepared c.columns n same.0 same.1 there
+
 -- there are as many columns as are asked for
-pub as_many_read : (n : ℕ) (c : Option Chosen) (k : ℕ) → k ≡ length (chosen (rising_of c) n) → AreAsMany c k
+pub as_many_read : (n : ℕ) (c : Option ChosenColumns) (k : ℕ) → k ≡ length (chosen (rising_by c) n) → AreAsMany c k
 as_many_read n None k e = tt
 as_many_read n (Some c) k e = e
 
@@ -52,8 +59,8 @@ module _ (known : Dictionaries) (is : IdTrees) where
   are_arrays (j ∷ js) [] long each = absurd (omega (arith, long))
   are_arrays (j ∷ js) (x ∷ xs) long each = (each 0 j x refl refl, are_arrays js xs (omega (arith, long)) (λ i k y e f. each (suc i) k y e f))
 
-  pub values_in_order : (n : ℕ) (c : Option Chosen) (read given : List AnyArray) → AreShuffled c → AreAsMany c (length read) → AreOrdered c read given
-      → AreArrays (chosen (rising_of c) n) read → AreArrays (chosen (asked_of c) n) given
+  pub values_in_order : (n : ℕ) (c : Option ChosenColumns) (read given : List AnyArray) → AreShuffled c → AreAsMany c (length read) → AreOrdered c read given
+      → AreArrays (chosen (rising_by c) n) read → AreArrays (chosen (asked_by c) n) given
   values_in_order n None read given same many moved a = subst (λ (xs : List AnyArray). AreArrays (chosen None n) xs) (sym moved) a
   values_in_order n (Some c) read given same many moved a =
       let long = length_permutation c.columns.columns c.columns.rising same.0 in
@@ -75,13 +82,13 @@ module _ (ts : Kinds) (e : Fault) where
   some_fault (j ∷ js) ks each (inl f) = let w = each 0 j refl in fault_at ks w.0 j w.1 f
   some_fault (j ∷ js) ks each (inr f) = some_fault js ks (λ i x s. each (suc i) x s) f
 
-  batch_fault : (js ks : List ℕ) → IsPermutation js ks → IsFaultOfBatch ts js e → IsFaultOfBatch ts ks e
+  pub batch_fault : (js ks : List ℕ) → IsPermutation js ks → IsFaultOfBatch ts js e → IsFaultOfBatch ts ks e
   batch_fault js ks same (inl f) = inl f
   batch_fault js ks same (inr (inl f)) = inr (inl (some_fault js ks (stands_in js ks same) f))
   batch_fault js ks same (inr (inr f)) = inr (inr f)
 
   -- a fault of a column in rising order is one of a column that is asked for
-  pub faults_in_order : (n : ℕ) (c : Option Chosen) → AreShuffled c → OwnFault e (IsFaultOfBatch ts (chosen (rising_of c) n) e) → OwnFault e (IsFaultOfBatch ts (chosen (asked_of c) n) e)
+  pub faults_in_order : (n : ℕ) (c : Option ChosenColumns) → AreShuffled c → OwnFault e (IsFaultOfBatch ts (chosen (rising_by c) n) e) → OwnFault e (IsFaultOfBatch ts (chosen (asked_by c) n) e)
   faults_in_order n None same f = f
   faults_in_order n (Some c) same f =
       claims_through e (IsFaultOfBatch ts c.columns.rising e) (IsFaultOfBatch ts c.columns.columns e)

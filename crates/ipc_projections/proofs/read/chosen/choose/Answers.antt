@@ -1,7 +1,7 @@
 use Rattle.std.proofs.Common.{length, Some}
 use Rattle.ipc_model.specs.Batches.{IsProjection}
-use Rattle.ipc_readers.proofs.AskedBatches.{are_there}
-use Rattle.ipc_readers.proofs.read.stream.choosing.choose.Goals as goal
+use Rattle.ipc_projections.proofs.AskedOrder.{are_there}
+use Rattle.ipc_projections.proofs.read.chosen.choose.Goals as goal
 
 pub returns-clause-there : goal.returns-clause-there
 returns-clause-there c =
