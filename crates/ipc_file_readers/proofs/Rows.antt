@@ -10,7 +10,7 @@ use Rattle.std.proofs.Math.Seq.{take-append-add}
 use Rattle.lower.specs.TypeTrees.{FieldTrees}
 use Rattle.lower_arrays.specs.AnyLayouts.{layout_of}
 use Rattle.lower_arrays.specs.Layouts.{len_of}
-use Rattle.lower_arrays.specs.Slots.{Slot, slots_from}
+use Rattle.lower_arrays.specs.Slots.{Slot}
 use Rattle.lower_arrays.specs.declared.array.AnyArray.{AnyArray}
 use Rattle.ipc_views.specs.declared.file.Block.{Block}
 use Rattle.ipc_model.proofs.Pruned.{batch_some, projection_decides, prune_law}
@@ -24,6 +24,7 @@ use Rattle.ipc_read.specs.Chunks.{chunk_seen, column_seen}
 use Rattle.ipc_base.specs.IdTrees.{all_ids_view}
 use Rattle.ipc_devices.specs.Device.{Memory}
 use Rattle.ipc_read.proofs.Fields.{field_count}
+use Rattle.ipc_read.proofs.Meanings.{length-slots_from}
 use Rattle.ipc_file_readers.specs.Readers.{Answer, asked_of, block_of, blocks_left, device_of, file_of, less, metadata_of, remaining_of, rows_given}
 use Rattle.ipc_file_readers.specs.Rows.{AreChunks, Mean, RowsLaw, first_of, joined}
 use Rattle.ipc_file_readers.specs.declared.read.reader.state.FileReader.{FileReader}
@@ -113,10 +114,6 @@ even_batch s most schema asked limit c e =
     let here : (q : ℕ) → q < length js → length (column_at c q).slots ≡ k =
     λ q inside. ap (λ (d : Chunk). length (column_at d q).slots) (sym found.1) ∙ even_columns s schema.fields ts limit k js found.0.columns q inside in
     here p (omega (arith, l, long)) ∙ sym (here 0 (omega (arith, l, long)))
-
-length-slots_from : (f : ℕ → Slot) (a n : ℕ) → length (slots_from f a n) ≡ n
-length-slots_from f a zero = refl
-length-slots_from f a (suc n) = ap suc (length-slots_from f (a + 1) n)
 
 rows_first : (xs : List AnyArray) → 0 < length xs → rows_given (Ok xs) ≡ length (column_at (chunk_seen xs) 0).slots
 rows_first [] l = absurd (omega (arith, l))

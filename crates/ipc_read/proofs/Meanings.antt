@@ -49,7 +49,7 @@ column_rows s ts limit j =
     ∙ (let place : nodes_before ts j + 0 ≡ nodes_before ts j = omega arith in ap (node s) place))
 
 -- as many slots as rows
-length-slots_from : (f : ℕ → Slot) (a n : ℕ) → length (slots_from f a n) ≡ n
+pub length-slots_from : (f : ℕ → Slot) (a n : ℕ) → length (slots_from f a n) ≡ n
 length-slots_from f a zero = refl
 length-slots_from f a (suc n) = ap suc (length-slots_from f (a + 1) n)
 
