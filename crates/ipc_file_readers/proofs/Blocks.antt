@@ -19,7 +19,7 @@ use Rattle.ipc_read.specs.Chunks.{chunk_seen}
 use Rattle.ipc_files.specs.Batches.{IsRecordFault, block_metadata, needed_bytes}
 use Rattle.ipc_files.specs.Footers.{GivesPart, file_seen}
 use Rattle.ipc_files.specs.declared.read.file.metadata.FileMetadata.{FileMetadata}
-use Rattle.ipc_files.proofs.Openings.{own-weaker}
+use Rattle.ipc_read.proofs.Refusals.{claims_through}
 use Rattle.ipc_file_readers.proofs.AskedFaults.{bytes_asked, fault_asked, many_asked}
 use Rattle.ipc_file_readers.proofs.Chunks.{chunk_alike, given_in_order, refused_in_order}
 use Rattle.ipc_file_readers.specs.Readers.{AreKnown}
@@ -94,7 +94,7 @@ module _ (known : Bool) (q : Option ChosenColumns) (m : FileMetadata) (limit : L
       → (IsTrue known → OwnFault e (file_chunk (file_seen m) d source o limit i ≡ None)) → WasChunk known m (asked_by q) limit i ds source old new r
   refused_chunk r e is only means = rw is (record {
     many = tt;
-    only = own-weaker e _ _ (fault_asked q N (kinds (file_seen m).schema) e same) (subst (λ (p : Option (List ℕ)). OwnFault e (IsRecordFault (kinds (file_seen m).schema) (chosen p N) e)) rising only);
+    only = claims_through e _ _ (fault_asked q N (kinds (file_seen m).schema) e same) (subst (λ (p : Option (List ℕ)). OwnFault e (IsRecordFault (kinds (file_seen m).schema) (chosen p N) e)) rising only);
     bytes = tt;
     meaning = λ k es alike. block_refused q same (file_seen m) d es (subst (λ (x : Dictionaries). KnowAlike x es) (sym held) alike) source limit i e
         (subst (λ (p : Option (List ℕ)). OwnFault e (file_chunk (file_seen m) d source p limit i ≡ None)) rising (means k));

@@ -21,7 +21,7 @@ use Rattle.ipc_projections.specs.declared.read.chosen.ChosenColumns.{ChosenColum
 use Rattle.ipc_projections.proofs.AskedOrder.{asked_images, asked_record_law, given_as_asked, then_asked}
 use Rattle.ipc_read.specs.Chunks.{chunk_seen, column_seen}
 use Rattle.ipc_files.specs.Footers.{GivesPart}
-use Rattle.ipc_files.proofs.Openings.{own-weaker}
+use Rattle.ipc_read.proofs.Refusals.{claims_through}
 
 given_same : {X : Type 0} (o : Option X) (f g : X → Option Chunk) → ((x : X) → f x ≡ g x) → given o f ≡ given o g
 given_same None f g h = refl
@@ -85,4 +85,4 @@ given_in_order (Some q) m ds source limit i read given same long order e =
 pub refused_in_order : (q : Option ChosenColumns) (m : FileMetadata) (ds : Dictionaries) (source : List ℕ) (limit : Limit) (i : ℕ) (e : Fault) → AreShuffled q
     → OwnFault e (file_chunk m ds source (rising_by q) limit i ≡ None) → OwnFault e (file_chunk m ds source (asked_by q) limit i ≡ None)
 refused_in_order None m ds source limit i e same h = h
-refused_in_order (Some q) m ds source limit i e same h = own-weaker e _ _ (none_asked q.columns _ _ (chunk_asked q.columns same.0 m ds limit source i)) h
+refused_in_order (Some q) m ds source limit i e same h = claims_through e _ _ (none_asked q.columns _ _ (chunk_asked q.columns same.0 m ds limit source i)) h

@@ -9,7 +9,7 @@ use Rattle.ipc_model.specs.Entries.{Dictionaries, Limit}
 use Rattle.ipc_model.specs.Files.{FileMetadata as Meaning, file_dictionaries}
 use Rattle.ipc_laws.specs.Agreement.{AreAlike, KnowAlike}
 use Rattle.ipc_files.specs.Footers.{file_seen}
-use Rattle.ipc_files.proofs.Openings.{own-weaker}
+use Rattle.ipc_read.proofs.Refusals.{claims_through}
 use Rattle.ipc_file_readers.specs.Readers.{Answer, AreKnown, NextStep, WasNext, WereRefused, asked_of, block_of, blocks_left, device_of, file_of, is_over, known_of, metadata_of, remaining_of}
 use Rattle.ipc_file_readers.specs.Runs.{AreItems, AreNone, Calls, HoldsDictionaries, IsToldOnce, ItemsLaw, OverLaw, ToldOnceLaw}
 use Rattle.ipc_file_readers.specs.declared.read.reader.state.FileReader.{FileReader}
@@ -111,7 +111,7 @@ module _ {R : Type 0} (known still : Bool) (memory : R → Memory) (failures giv
 
   told : (a b : FileReader R) (e : Fault) (rs : List Answer) (P : Type 0) → (file_dictionaries (file_of a) (whole_of a) ≡ None → P) → IsTrue known → WereRefused known memory a e b → Run b rs
       → IsToldOnce P (Some (Err e) ∷ rs)
-  told a b e rs P f k w others = (own-weaker e _ _ f (w.meaning k), ends rs b w.over others)
+  told a b e rs P f k w others = (claims_through e _ _ f (w.meaning k), ends rs b w.over others)
 
   first : (rs : List Answer) (a : FileReader R) (ds : Dictionaries) → IsTrue known → is_over a ≡ false → known_of a ≡ None
       → file_dictionaries (file_of a) (whole_of a) ≡ Some ds → Run a rs → Items a ds (blocks_left a) rs ⊎ IsToldOnce ⊥ rs

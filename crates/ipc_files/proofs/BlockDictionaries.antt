@@ -22,7 +22,7 @@ use Rattle.ipc_read.specs.Chunks.{batch_schema}
 use Rattle.ipc_read.specs.DictionaryBatches.{GivesDictionary}
 use Rattle.ipc_files.proofs.BlockMeanings.{at-block, refused-place, refused-message, refused-header, opened-is}
 use Rattle.ipc_files.proofs.KnownAlike.{gives-known}
-use Rattle.ipc_files.proofs.Openings.{own-weaker}
+use Rattle.ipc_read.proofs.Refusals.{claims_through}
 
 -- the metadata of a schema say nothing of a dictionary
 same-dictionary : (s : Schema) (extra : ℕ) (known : Dictionaries) (b : Body) (t : Spot)
@@ -68,7 +68,7 @@ module _ (m : FileMetadata) (known : Dictionaries) (source : List ℕ) where
 
   module _ (b : Block) where
     block-none : (e : Fault) → OwnFault e (at-block dictionary-at source b ≡ None) → OwnFault e (dictionaries_at (file_seen m) known source b ≡ None)
-    block-none e h = own-weaker e _ _ (λ none. block-is b ∙ none) h
+    block-none e h = claims_through e _ _ (λ none. block-is b ∙ none) h
 
     pub refused-dictionary-place : (e : Fault) → OwnFault e (placed b ≡ None) → OwnFault e (dictionaries_at (file_seen m) known source b ≡ None)
     refused-dictionary-place e h = block-none e (refused-place dictionary-at source b e h)

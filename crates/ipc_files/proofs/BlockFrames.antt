@@ -6,7 +6,7 @@ use Rattle.ipc_devices.specs.Faults.{OwnFault, Answers}
 use Rattle.ipc_devices.specs.declared.fault.Fault.{Fault}
 use Rattle.ipc_model.specs.Frame.{Frame, message, mark, broken, frame, marked, sized, word}
 use Rattle.ipc_model.proofs.Frames.{frame_newer, marked_is}
-use Rattle.ipc_files.proofs.Openings.{own-weaker}
+use Rattle.ipc_read.proofs.Refusals.{claims_through}
 use Rattle.ipc_files.specs.Blocks.{GivesPrefix, prefix_of, stated_metadata}
 use Rattle.ipc_files.specs.Footers.{GivesPart}
 
@@ -34,12 +34,12 @@ unfolding marked
 short-marked xs short = rw (lt-ltb (length xs) 4 short) refl
 
 pub refused-prefix : (xs : List ℕ) (e : Fault) → OwnFault e (4 ≤ length xs → ⊥) → OwnFault e (stated_metadata (frame xs) ≡ None)
-refused-prefix xs e h = own-weaker e _ _ (λ short. short-frame xs (is-not 4 (length xs) short)) h
+refused-prefix xs e h = claims_through e _ _ (λ short. short-frame xs (is-not 4 (length xs) short)) h
 
 pub refused-length : (xs ys : List ℕ) (e : Fault) → ys ≡ drop 4 xs → 4 ≤ length xs → word xs ≡ 0xFFFF_FFFF → OwnFault e (4 ≤ length ys → ⊥)
     → OwnFault e (stated_metadata (frame xs) ≡ None)
 refused-length xs ys e behind long is h =
-    own-weaker e _ _ (λ short. ap stated_metadata (frame_newer xs long is) ∙ short-marked (drop 4 xs) (is-not 4 (length (drop 4 xs)) (λ far. short (rw behind far)))) h
+    claims_through e _ _ (λ short. ap stated_metadata (frame_newer xs long is) ∙ short-marked (drop 4 xs) (is-not 4 (length (drop 4 xs)) (λ far. short (rw behind far)))) h
 
 pub second-word : (xs ys zs : List ℕ) (r : Result ℕ Fault) → ys ≡ drop 4 xs → 4 ≤ length xs → word xs ≡ 0xFFFF_FFFF
     → Answers r (4 ≤ length ys) (λ n. n ≡ word ys) → OnOk r (zs ≡ drop 4 ys) → GivesPrefix (frame xs) r zs
@@ -67,17 +67,17 @@ unfolding prefix_of
 no-newer-number xs long is short = rw (le-ltb (length xs) 4 long, eq-eqb (word xs) 0xFFFF_FFFF is, lt-ltb (length (drop 4 xs)) 4 short) refl
 
 pub refused-number : (xs : List ℕ) (e : Fault) → OwnFault e (4 ≤ length xs → ⊥) → OwnFault e (prefix_of xs ≡ None)
-refused-number xs e h = own-weaker e _ _ (λ short. no-number xs (is-not 4 (length xs) short)) h
+refused-number xs e h = claims_through e _ _ (λ short. no-number xs (is-not 4 (length xs) short)) h
 
 pub second-number : (xs ys : List ℕ) (r : Result ℕ Fault) → ys ≡ drop 4 xs → 4 ≤ length xs → word xs ≡ 0xFFFF_FFFF
     → Answers r (4 ≤ length ys) (λ n. n ≡ word ys) → GivesPart (λ (n : ℕ). n) r (prefix_of xs)
 second-number xs ys (Ok n) behind long is read = newer-number xs n long is (rw (← behind) read.0) (read.1 ∙ ap word behind)
 second-number xs ys (Err e) behind long is read =
-    own-weaker e _ _ (λ short. no-newer-number xs long is (is-not 4 (length (drop 4 xs)) (λ far. short (rw behind far)))) read
+    claims_through e _ _ (λ short. no-newer-number xs long is (is-not 4 (length (drop 4 xs)) (λ far. short (rw behind far)))) read
 
 -- no number was read where one is stated
 pub unstated : (e f : Fault) (o : Option ℕ) (n : ℕ) → OwnFault e (o ≡ None) → o ≡ Some n → OwnFault e (e ≡ f)
-unstated e f o n h is = own-weaker e _ _ (λ none. let no : None ≡ Some n = sym none ∙ is in absurd cc) h
+unstated e f o n h is = claims_through e _ _ (λ none. let no : None ≡ Some n = sym none ∙ is in absurd cc) h
 
 pub stated-once : (o : Option ℕ) (m n : ℕ) → o ≡ Some m → o ≡ Some n → m ≡ n
 stated-once o m n e f = let both : Some m ≡ Some n = sym e ∙ f in cc
@@ -108,7 +108,7 @@ short-sized n xs small short = rw (lt-ltb n (2 ^ 31) small) (short-where (n == 0
 
 pub refused-sized : (f : Frame) (n : ℕ) (xs : List ℕ) (e : Fault) → f ≡ sized n xs → n < 2 ^ 31 → OwnFault e (n ≤ length xs → ⊥)
     → OwnFault e (stated_metadata f ≡ None)
-refused-sized f n xs e is small h = own-weaker e _ _ (λ short. ap stated_metadata is ∙ short-sized n xs small (is-not n (length xs) short)) h
+refused-sized f n xs e is small h = claims_through e _ _ (λ short. ap stated_metadata is ∙ short-sized n xs small (is-not n (length xs) short)) h
 
 pub negative-sized : (f : Frame) (n : ℕ) (xs : List ℕ) → f ≡ sized n xs → 2 ^ 31 ≤ n → stated_metadata f ≡ None
 unfolding sized

@@ -9,7 +9,7 @@ use Rattle.ipc_model.specs.Schemas.{given}
 use Rattle.ipc_files.specs.Blocks.{stated_metadata}
 use Rattle.ipc_files.specs.Footers.{GivesPart}
 use Rattle.ipc_files.proofs.BlockHeaders.{no-header}
-use Rattle.ipc_files.proofs.Openings.{own-weaker}
+use Rattle.ipc_read.proofs.Refusals.{claims_through}
 
 module _ {X : Type 0} where
   -- what is read of a block, by its message
@@ -29,7 +29,7 @@ module _ {X : Type 0} where
 
   module _ (k : Placed → BlockHeader → Option X) (source : List ℕ) (b : Block) where
     pub refused-place : (e : Fault) → OwnFault e (placed b ≡ None) → OwnFault e (at-block k source b ≡ None)
-    refused-place e h = own-weaker e _ _ (ap (λ (o : Option Placed). given o (at-place k source))) h
+    refused-place e h = claims_through e _ _ (ap (λ (o : Option Placed). given o (at-place k source))) h
 
     module _ (p : Placed) (stands : placed b ≡ Some p) where
       placed-is : at-block k source b ≡ given (stated_metadata (frame (drop p.message source))) (λ metadata. given (block_header metadata) (k p))
@@ -37,14 +37,14 @@ module _ {X : Type 0} where
 
       pub refused-message : (e : Fault) → OwnFault e (stated_metadata (frame (drop p.message source)) ≡ None) → OwnFault e (at-block k source b ≡ None)
       refused-message e h =
-          own-weaker e _ _ (λ none. placed-is ∙ ap (λ (o : Option (List ℕ)). given o (λ metadata. given (block_header metadata) (k p))) none) h
+          claims_through e _ _ (λ none. placed-is ∙ ap (λ (o : Option (List ℕ)). given o (λ metadata. given (block_header metadata) (k p))) none) h
 
       module _ (metadata : List ℕ) (framed : stated_metadata (frame (drop p.message source)) ≡ Some metadata) where
         framed-is : at-block k source b ≡ given (block_header metadata) (k p)
         framed-is = placed-is ∙ ap (λ (o : Option (List ℕ)). given o (λ metadata. given (block_header metadata) (k p))) framed
 
         pub refused-header : (e : Fault) → OwnFault e (block_header metadata ≡ None) → OwnFault e (at-block k source b ≡ None)
-        refused-header e h = own-weaker e _ _ (λ none. framed-is ∙ ap (λ (o : Option BlockHeader). given o (k p)) none) h
+        refused-header e h = claims_through e _ _ (λ none. framed-is ∙ ap (λ (o : Option BlockHeader). given o (k p)) none) h
 
         pub opened-is : (h : BlockHeader) → block_header metadata ≡ Some h → at-block k source b ≡ k p h
         opened-is h e = framed-is ∙ ap (λ (o : Option BlockHeader). given o (k p)) e
@@ -57,4 +57,4 @@ none-there (Some x) h = absurd (h refl)
 
 pub gives-part : {X Y : Type 0} (view : X → Y) (r : Result X Fault) (o : Option Y) → Answers r (IsSome o) (λ x. o ≡ Some (view x)) → GivesPart view r o
 gives-part view (Ok x) o h = h.1
-gives-part view (Err e) o h = own-weaker e _ _ (none-there o) h
+gives-part view (Err e) o h = claims_through e _ _ (none-there o) h

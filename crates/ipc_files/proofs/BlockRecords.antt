@@ -25,7 +25,7 @@ use Rattle.ipc_files.specs.Footers.{GivesPart, file_seen}
 use Rattle.ipc_read.specs.Chunks.{GivesBatch, batch_schema, chunk_seen}
 use Rattle.ipc_files.proofs.BlockHeaders.{no-header}
 use Rattle.ipc_files.proofs.BlockMeanings.{at-block, refused-place, refused-message, refused-header, opened-is, gives-part}
-use Rattle.ipc_files.proofs.Openings.{own-weaker}
+use Rattle.ipc_read.proofs.Refusals.{claims_through}
 
 -- the metadata of a schema say nothing of a batch
 same-meaning : (s : Schema) (extra : ℕ) (known : Dictionaries) (b : Body) (t : Spot) (projection : Option (List ℕ)) (limit : Limit)
@@ -75,7 +75,7 @@ module _ (m : FileMetadata) (known : Dictionaries) (source : List ℕ) (projecti
     block-is = ap (λ (o : Option Block). option_and_then (λ x. chunk_at (file_seen m) known source x projection limit) o) listed ∙ chunk-is b
 
     block-none : (e : Fault) → OwnFault e (at-block record-at source b ≡ None) → OwnFault e (file_chunk (file_seen m) known source projection limit i ≡ None)
-    block-none e h = own-weaker e _ _ (λ none. block-is ∙ none) h
+    block-none e h = claims_through e _ _ (λ none. block-is ∙ none) h
 
     pub refused-record-place : (e : Fault) → OwnFault e (placed b ≡ None) → OwnFault e (file_chunk (file_seen m) known source projection limit i ≡ None)
     refused-record-place e h = block-none e (refused-place record-at source b e h)
@@ -134,7 +134,7 @@ module _ (blocks : List Block) (i : ℕ) (b : Block) (listed : slice_get blocks 
   -- a block without a place states nothing
   pub refused-unplaced : (source : List ℕ) (e f : Fault) → OwnFault e (placed b ≡ None) → HasNegativeLength source (slice_get blocks i) → OwnFault e (e ≡ f)
   refused-unplaced source e f h n =
-      own-weaker e _ _ (λ none.
+      claims_through e _ _ (λ none.
       let same : b ≡ n.block = let e : Some b ≡ Some n.block = sym listed ∙ n.listed in cc in
       let no : None ≡ Some n.place = sym none ∙ ap placed same ∙ n.stands in absurd cc) h
 

@@ -12,7 +12,7 @@ use Rattle.ipc_model.specs.Entries.{Dictionaries}
 use Rattle.ipc_model.specs.Files.{FileMetadata, BlockHeader, placed, metadata_at, block_header, body_at, dictionaries_at, dictionaries_after, all_of}
 use Rattle.ipc_model.specs.Schemas.{given}
 use Rattle.ipc_files.specs.Dictionaries.{GivesKnown}
-use Rattle.ipc_files.proofs.Openings.{own-weaker}
+use Rattle.ipc_read.proofs.Refusals.{claims_through}
 
 pub alike-self : (o : Option Dictionaries) → AreAlike o o
 alike-self None = tt
@@ -49,7 +49,7 @@ known-there (Some ds) after s h = h
 pub gives-known : {X : Type 0} (r : Result X Fault) (o : Option Dictionaries) (after : Dictionaries)
     → Answers r (IsSome o) (λ _. IfSome o (λ ds. KnowAlike ds after)) → GivesKnown (λ (x : X). after) r o
 gives-known (Ok x) o after h = known-there o after h.0 h.1
-gives-known (Err e) o after h = own-weaker e _ _ (none-there o) h
+gives-known (Err e) o after h = claims_through e _ _ (none-there o) h
 
 -- ---- blocks
 
@@ -111,7 +111,7 @@ module _ (m : FileMetadata) (source : List ℕ) (bs : List Block) (i : ℕ) (d :
 
   pub next-refused : (e : Fault) (bytes : List ℕ) → bytes ≡ source → OwnFault e (dictionaries_at m ds bytes (get_or bs i d) ≡ None) → OwnFault e (all ≡ None)
   next-refused e bytes same h =
-      own-weaker e _ _ (λ none. alike-none _ all so-far (left-is ∙ block-refused m (all_of source) (get_or bs i d) (drop (suc i) bs) ds
+      claims_through e _ _ (λ none. alike-none _ all so-far (left-is ∙ block-refused m (all_of source) (get_or bs i d) (drop (suc i) bs) ds
       (ap (λ (xs : List ℕ). dictionaries_at m ds xs (get_or bs i d)) (sym same) ∙ none))) h
 
 -- behind the last block

@@ -4,19 +4,14 @@ use Rattle.std.proofs.lemmas.List.{length-drop}
 use Rattle.ipc_devices.specs.Device.{Memory, after}
 use Rattle.ipc_devices.specs.Faults.{OwnFault}
 use Rattle.ipc_devices.specs.declared.fault.Fault.{Fault}
-use Rattle.ipc_devices.specs.declared.fault.Fault.TheVariants as faults
 use Rattle.ipc_views.specs.Tables.{root_at}
 use Rattle.ipc_model.specs.Files.{FileMetadata as Meaning, footer_at, last, magic, metadata_of}
 use Rattle.ipc_model.specs.Schemas.{made, given}
 use Rattle.ipc_files.specs.declared.read.file.metadata.FileMetadata.{FileMetadata}
 use Rattle.ipc_files.specs.Files.{GivesTail, footer_length, metadata_from}
 use Rattle.ipc_files.specs.Footers.{GivesPart, file_seen}
+use Rattle.ipc_read.proofs.Refusals.{claims_through}
 use Rattle.ipc_files.proofs.Tails.{beginning_law, metadata-is, other-head, other-tail}
-
-pub own-weaker : (e : Fault) (P Q : Type 0) → (P → Q) → OwnFault e P → OwnFault e Q
-own-weaker faults.Memory P Q f h = tt
-own-weaker (faults.Io e) P Q f h = tt
-own-weaker _ P Q f h = f h
 
 pub from-place : (m m' : Memory) → m' ≡ m → after m' ≡ drop m.place m.whole
 from-place m m' same = ap after same
@@ -24,10 +19,10 @@ from-place m m' same = ap after same
 pub refused-head : (m m' : Memory) (e : Fault) → m' ≡ m → OwnFault e (take 6 (after m') ≡ magic → ⊥)
     → OwnFault e (metadata_from m.place m.whole ≡ None)
 refused-head m m' e same h =
-    own-weaker e _ _ (λ other. other-head m.place m.whole (λ front. other (ap (λ xs. take 6 xs) (from-place m m' same) ∙ front))) h
+    claims_through e _ _ (λ other. other-head m.place m.whole (λ front. other (ap (λ xs. take 6 xs) (from-place m m' same) ∙ front))) h
 
 pub refused-tail : (start : ℕ) (whole whole' : List ℕ) (e : Fault) → whole' ≡ whole → GivesTail whole' (Err e) → OwnFault e (metadata_from start whole ≡ None)
-refused-tail start whole whole' e same h = own-weaker e _ _ (other-tail start whole) (subst (λ w. GivesTail w (Err e)) same h)
+refused-tail start whole whole' e same h = claims_through e _ _ (other-tail start whole) (subst (λ w. GivesTail w (Err e)) same h)
 
 -- where the footer begins
 pub sits : (whole : List ℕ) (m : Memory) (end n : ℕ) → m.whole ≡ whole → m.place ≡ end - 10 - n → end ≡ length whole → n + 10 ≤ length whole
@@ -40,7 +35,7 @@ pub refused-footer : (start : ℕ) (whole : List ℕ) (m : Memory) (end n : ℕ)
     → OwnFault e (n ≤ length (after m) → ⊥) → OwnFault e (metadata_from start whole ≡ None)
 refused-footer start whole m end n e same at is fits h =
     let long : n ≤ length (after m) = omega (arith, ap length (sits whole m end n same at is fits), length-drop (length whole - (n + 10)) whole, fits) in
-    own-weaker e _ _ (λ short. absurd (short long)) h
+    claims_through e _ _ (λ short. absurd (short long)) h
 
 pub read-footer : (r : Result FileMetadata Fault) (start : ℕ) (whole footer : List ℕ) (m : Memory) (end n size : ℕ) → take 6 (drop start whole) ≡ magic
     → m.whole ≡ whole → m.place ≡ end - 10 - n → end ≡ length whole → n + 10 ≤ length whole → footer_length (last 10 whole) ≡ Ok n

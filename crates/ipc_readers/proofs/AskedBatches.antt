@@ -12,7 +12,7 @@ use Rattle.ipc_projections.specs.AskedOrder.{Asked, AreInAskedOrder, IsInAskedOr
 use Rattle.ipc_projections.specs.ChosenColumns.{AreAsMany, AreOrdered, AreShuffled, asked_by, rising_by}
 use Rattle.ipc_projections.specs.declared.read.chosen.ChosenColumns.{ChosenColumns}
 use Rattle.ipc_read.specs.Chunks.{GivesBatch, chunk_seen, column_seen}
-use Rattle.ipc_readers.proofs.Bodies.{claims_through}
+use Rattle.ipc_read.proofs.Refusals.{claims_through}
 
 -- what has no meaning in rising order has none as it is asked for
 asked_none : (a : Asked) (o p : Option Chunk) → AreInAskedOrder a o p → (IsSome o → ⊥) → IsSome p → ⊥

@@ -20,6 +20,7 @@ use Rattle.ipc_model.specs.Entries.{Dictionaries}
 use Rattle.ipc_model.specs.Kinds.{count}
 use Rattle.ipc_model.specs.TypeKinds.{kinds_of}
 use Rattle.ipc_model.specs.Streams.{Header, Known, done, faulty, whole, with_chunk, with_dictionaries, most_dictionaries}
+use Rattle.ipc_read.proofs.Refusals.{claims_through}
 use Rattle.ipc_read.specs.DictionaryBatches.{GivesDictionary, IsDictionaryFault}
 use Rattle.ipc_read.specs.Refusals.{IsFaultOfBatch}
 use Rattle.ipc_read.specs.Chunks.{chunk_seen, GivesBatch}
@@ -28,19 +29,6 @@ use Rattle.ipc_readers.proofs.Knowing.{AlsoGives, alike_then, dictionary_alike, 
 use Rattle.ipc_readers.specs.Refusals.{IsStreamFault}
 use Rattle.ipc_readers.specs.Streams.{BlamesBody, GivesBody, GivesHeld, ReadsBody, RefusesBody, of_dictionary, of_record}
 use Rattle.ipc_views.specs.declared.schema.MetadataVersion.{MetadataVersion}
-
--- a claim of a fault by which another one holds
-pub claims_through : (e : Fault) (P Q : Type 0) → (P → Q) → OwnFault e P → OwnFault e Q
-claims_through (Faults.OutOfSpec k) P Q f h = f h
-claims_through Faults.Ended P Q f h = f h
-claims_through (Faults.NotYetImplemented n) P Q f h = f h
-claims_through (Faults.Schema s) P Q f h = f h
-claims_through (Faults.Argument a) P Q f h = f h
-claims_through (Faults.State s) P Q f h = f h
-claims_through Faults.TooManyDictionaries P Q f h = f h
-claims_through (Faults.Io e) P Q f h = tt
-claims_through Faults.Memory P Q f h = tt
-claims_through (Faults.Lower e) P Q f h = f h
 
 -- two claims of a fault
 pub both_claims : (e : Fault) (P Q : Type 0) → OwnFault e P → OwnFault e Q → OwnFault e (P × Q)

@@ -6,7 +6,8 @@ use Rattle.ipc_devices.specs.declared.fault.Fault.{Fault}
 use Rattle.ipc_devices.specs.declared.fault.Fault.TheVariants.{Ended}
 use Rattle.ipc_views.specs.Spot.{Spot}
 use Rattle.ipc_model.specs.Streams.{Header, Known}
-use Rattle.ipc_readers.proofs.Bodies.{claims_through, cut_body, header}
+use Rattle.ipc_read.proofs.Refusals.{claims_through}
+use Rattle.ipc_readers.proofs.Bodies.{cut_body, header}
 use Rattle.ipc_readers.specs.ChosenStreams.{Request}
 use Rattle.ipc_readers.specs.Streams.{BodyGave, GivesBody, GivesHeld, RefusesBody}
 use Rattle.ipc_devices.specs.Gives.{going, stop_of, Follows, Gives, GivesInOrder, GivesNothing, StopsBefore}

@@ -6,7 +6,8 @@ use Rattle.ipc_devices.specs.declared.fault.Fault.{Fault}
 use Rattle.ipc_model.specs.Frame.{Frame, message, mark, waiting, broken, frame}
 use Rattle.ipc_model.specs.Streams.{Header, Known, header_of, more, done, faulty}
 use Rattle.ipc_read.specs.Chunks.{chunk_seen}
-use Rattle.ipc_readers.proofs.Bodies.{both_claims, claims_through}
+use Rattle.ipc_read.proofs.Refusals.{claims_through}
+use Rattle.ipc_readers.proofs.Bodies.{both_claims}
 use Rattle.ipc_readers.specs.ChosenStreams.{Request, chosen_body, chosen_frame, chosen_item, chosen_message}
 use Rattle.ipc_readers.specs.Messages.{opened}
 use Rattle.ipc_readers.specs.Streams.{BlamesBody, BlamesFront, BlamesOpened, GivesBody, GivesItem, BodyGave, ItemGave, ItemStop, IsWithinMessage, ReadsBody, ReadsItem}

@@ -8,7 +8,7 @@ use Rattle.ipc_devices.specs.declared.fault.SchemaFault.TheVariants.{NotASchema}
 use Rattle.ipc_devices.proofs.Gave.{gave_as}
 use Rattle.ipc_devices.proofs.Stops.{fault_stop}
 use Rattle.ipc_model.specs.Frame.{Frame, message, mark, waiting, broken, frame}
-use Rattle.ipc_readers.proofs.Bodies.{claims_through}
+use Rattle.ipc_read.proofs.Refusals.{claims_through}
 use Rattle.ipc_readers.specs.Frames.{FrameGave, GivesFrame, IsFrame, IsFramingFault, begun_bytes, due, frame_stop}
 use Rattle.ipc_readers.specs.Metadata.{GivesMetadata, MetadataGave, metadata_at, metadata_seen}
 use Rattle.ipc_readers.specs.declared.read.begun.Begun.{Begun}

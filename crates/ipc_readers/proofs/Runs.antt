@@ -5,7 +5,7 @@ use Rattle.ipc_devices.specs.Gives.{Gives}
 use Rattle.ipc_model.specs.Batches.{Chunk}
 use Rattle.ipc_model.specs.Streams.{Known, End, marked, waits, faulty, Meant}
 use Rattle.ipc_read.specs.Chunks.{chunk_seen}
-use Rattle.ipc_readers.proofs.Bodies.{claims_through}
+use Rattle.ipc_read.proofs.Refusals.{claims_through}
 use Rattle.ipc_readers.proofs.Loops.{same_request}
 use Rattle.ipc_readers.specs.ChosenStreams.{Request, chosen_meaning}
 use Rattle.ipc_readers.specs.Runs.{Answer, Calls, AreNone, AreAnswers}

@@ -6,7 +6,7 @@ use Rattle.ipc_devices.specs.declared.fault.Fault.{Fault}
 use Rattle.ipc_model.specs.Frame.{frame}
 use Rattle.ipc_model.specs.Streams.{Known, done, faulty, marked, waits}
 use Rattle.ipc_read.specs.Chunks.{chunk_seen}
-use Rattle.ipc_readers.proofs.Bodies.{claims_through}
+use Rattle.ipc_read.proofs.Refusals.{claims_through}
 use Rattle.ipc_readers.proofs.ChosenStreams.{chosen_done, chosen_more}
 use Rattle.ipc_readers.proofs.OfMemory.{item_ahead}
 use Rattle.ipc_readers.specs.ChosenStreams.{Request, chosen_item, chosen_meaning}

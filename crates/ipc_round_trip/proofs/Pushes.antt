@@ -9,7 +9,7 @@ use Rattle.ipc_devices.specs.declared.fault.Fault.{Fault}
 use Rattle.ipc_devices.specs.declared.fault.Fault.TheVariants as faults
 use Rattle.ipc_model.specs.Batches.{Chunk}
 use Rattle.ipc_model.specs.Streams.{Known, Meant, faulty, marked, waits, with_chunks}
-use Rattle.ipc_readers.proofs.Bodies.{claims_through}
+use Rattle.ipc_read.proofs.Refusals.{claims_through}
 use Rattle.ipc_readers.proofs.Loops.{same_request}
 use Rattle.ipc_readers.proofs.OfMemory.{next_fails, other_answer}
 use Rattle.ipc_readers.specs.ChosenStreams.{Request, chosen_meaning}

@@ -28,7 +28,7 @@ use Rattle.ipc_model.specs.Streams.{End, Head, marked, waits, faulty, Known, Mea
 use Rattle.ipc_model.specs.WholeStreams.{Stream, stream_from, stream_of}
 use Rattle.ipc_read.specs.Chunks.{order_of}
 use Rattle.ipc_readers.specs.Metadata.{GivesMetadata, MetadataGave, MetadataSeen, metadata_at, metadata_seen, table_version, version_at, version_slot}
-use Rattle.ipc_readers.proofs.Bodies.{claims_through}
+use Rattle.ipc_read.proofs.Refusals.{claims_through}
 use Rattle.ipc_readers.proofs.OfMemory.{metadata_ahead, metadata_fails, no_failure}
 use Rattle.ipc_readers.proofs.ChosenStreams.{whole_law}
 use Rattle.ipc_readers.specs.ChosenStreams.{Request, chosen_meaning}
