@@ -19,6 +19,7 @@ use ipc_chunks::messages::{Messages, encode_messages};
 use ipc_devices::{Fault, Writes};
 use ipc_plan::sending::{send_bytes, zeros};
 use ipc_tracker::NewDictionary;
+use ipc_write::checks::note_failure;
 use ipc_write::common_sync::write_messages;
 use ipc_write::stream::WriterState;
 use lower_arrays::array::AnyArray;
@@ -54,13 +55,8 @@ pub(crate) fn send<W: Writes>(
     ensures stays { OnOk result (state.new ≡ state.old) }
     ensures failed { OnErr result (state.new ≡ Failed) }
 {
-    match send_bytes(writer, bytes) {
-        Ok(()) => Ok(()),
-        Err(fault) => {
-            *state = WriterState::Failed;
-            Err(fault)
-        }
-    }
+    let sent = send_bytes(writer, bytes);
+    note_failure(state, sent)
 }
 
 // Sends so many bytes 0.
@@ -108,13 +104,8 @@ pub(crate) fn send_last<W: Writes>(
     ensures stays { OnOk result (state.new ≡ state.old) }
     ensures failed { OnErr result (state.new ≡ Failed) }
 {
-    match send_and_flush(writer, ending) {
-        Ok(()) => Ok(()),
-        Err(fault) => {
-            *state = WriterState::Failed;
-            Err(fault)
-        }
-    }
+    let sent = send_and_flush(writer, ending);
+    note_failure(state, sent)
 }
 
 // What a file begins with whose schema message has these metadata.
@@ -154,13 +145,8 @@ fn send_messages<W: Writes>(
     ensures stays { OnOk result (state.new ≡ state.old) }
     ensures failed { OnErr result (state.new ≡ Failed) }
 {
-    match write_messages(writer, messages) {
-        Ok(()) => Ok(()),
-        Err(fault) => {
-            *state = WriterState::Failed;
-            Err(fault)
-        }
-    }
+    let sent = write_messages(writer, messages);
+    note_failure(state, sent)
 }
 
 // Encodes a chunk, of which these dictionaries are to be written, sends its messages to this place of a file, and answers where they stand.

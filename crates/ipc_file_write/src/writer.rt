@@ -1,15 +1,14 @@
 //! Writes files: Arrow columnar format, "IPC File Format".
-ghost use Rattle.std.specs.Prelude.{◌≡◌, ◌↔◌, [], All, IfErr, IfOk, IfSome, IsOkAnd, IsSomeAnd, IsTrue, None, OnErr, OnOk, map, not, ◌≤◌, ◌-◌, ◌+◌, ◌^◌};
+ghost use Rattle.std.specs.Prelude.{◌≡◌, [], All, IfErr, IfOk, IfSome, IsOkAnd, IsTrue, None, OnErr, OnOk, map, not, ◌≤◌, ◌-◌, ◌+◌, ◌^◌};
 ghost use Rattle.lower.specs.TypeViews.{fields_view, pairs_of, schema_view};
 ghost use Rattle.ipc_devices.specs.Device.{before};
-ghost use Rattle.ipc_devices.specs.declared.fault.ArgFault.TheVariants.{FieldsDiffer};
-ghost use Rattle.ipc_devices.specs.declared.fault.Fault.TheVariants.{Argument, State};
+ghost use Rattle.ipc_devices.specs.declared.fault.Fault.TheVariants.{State};
 ghost use Rattle.lower_arrays.specs.AnyLayouts.{layout_of};
 ghost use Rattle.lower_arrays.specs.Slots.{IsArray};
 ghost use Rattle.ipc_schema_write.specs.WriterAnswers.{byte_order};
 ghost use Rattle.ipc_tracker.specs.Listings.{listed};
 ghost use Rattle.ipc_write.specs.Meaning.{chunk_written};
-ghost use Rattle.ipc_write.specs.Writers.{HasType, HaveTypes, RefusesState, RefusesTypes, chosen_ids, seen_ids, fault_unless_new, fault_unless_started};
+ghost use Rattle.ipc_write.specs.Writers.{HaveTypes, RefusesState, RefusesTypes, chosen_ids, seen_ids, fault_unless_new, fault_unless_started};
 ghost use Rattle.ipc_write.specs.declared.stream.WriterState.TheVariants.{New, Started};
 ghost use Rattle.ipc_file_write.specs.Writes.{Appends, MayList, RefusesChunk, SendsColumns, WritesExactly, field_normal};
 ghost use Rattle.ipc_file_write.specs.FileWriters.{Agrees, AnswersFinish, AnswersStart, EndsWith, HasNothing, IsFileOf, MayFinish, MayStart, OrFails, ReachesEnd, RefusesFinish, RefusesPairs, RefusesStart, Remains, SendsBytes, StartsWith, StateComesFirst, TakesPairs, fault_if_over, scratches_of, seen};
@@ -26,11 +25,11 @@ use ipc_encode::common::{EncodedData, WriteOptions};
 use ipc_footers::footer::footer_to_bytes;
 use ipc_footers::weights::is_light;
 use ipc_schema_write::defaults::writable_ipc_fields;
-use ipc_schema_write::dictionaries::are_same_ids;
 use ipc_schema_write::schema::schema_to_bytes_as;
 use ipc_tracker::{DictionaryTracker, NewDictionary};
+use ipc_write::checks::{check_ids, check_new, check_started, has_type};
 use ipc_write::stream::WriterState;
-use lower::datatypes::{Field, Metadata, Schema, is_same_normal_type};
+use lower::datatypes::{Field, Metadata, Schema};
 use lower_arrays::array::AnyArray;
 use std::alloc::Global;
 use std::collections::BTreeMap;
@@ -43,14 +42,6 @@ pub(crate) struct Starting {
     pub(crate) bytes: Vec<u8>,
 }
 
-// Whether a column has the type of a field, both in their normal form.
-fn has_type(column: &AnyArray, field: &Field) -> bool
-    ensures same { IsTrue result ↔ HasType column.now (field_normal field.now) }
-    ensures array { IsArray (layout_of column.now) }
-{
-    is_same_normal_type(column.data_type(), &field.data_type)
-}
-
 // Refuses columns that have not the types of these fields, one each, both in their normal form.
 fn check_types(columns: &[AnyArray], fields: &[Field]) -> Result<(), Fault>
     ensures ok { OnOk result (HaveTypes columns.now (map field_normal fields.now)) }
@@ -61,7 +52,7 @@ fn check_types(columns: &[AnyArray], fields: &[Field]) -> Result<(), Fault>
         return Err(Fault::Argument(ArgFault::ColumnCount));
     }
     for (i, column) in columns.iter().enumerate() {
-        if !has_type(column, &fields[i]) {
+        if !has_type(column, &fields[i].data_type) {
             return Err(Fault::Argument(ArgFault::ColumnType));
         }
     }
@@ -69,32 +60,6 @@ fn check_types(columns: &[AnyArray], fields: &[Field]) -> Result<(), Fault>
 }
 
 impl<W: Writes + Drop> FileWriter<W> {
-    // Refuses a writer that isn't started.
-    fn check_started(&self) -> Result<(), Fault>
-        ensures ok { OnOk result (self.now.state ≡ Started) }
-        ensures only { IfErr result (RefusesState (fault_unless_started self.now.state)) }
-    {
-        match self.state {
-            WriterState::New => Err(Fault::State(StateFault::NotStarted)),
-            WriterState::Started => Ok(()),
-            WriterState::Finished => Err(Fault::State(StateFault::Finished)),
-            WriterState::Failed => Err(Fault::State(StateFault::Failed)),
-        }
-    }
-
-    // Refuses a writer that was started before.
-    fn check_new(&self) -> Result<(), Fault>
-        ensures ok { OnOk result (self.now.state ≡ New) }
-        ensures only { IfErr result (RefusesState (fault_unless_new self.now.state)) }
-    {
-        match self.state {
-            WriterState::New => Ok(()),
-            WriterState::Started => Err(Fault::State(StateFault::AlreadyStarted)),
-            WriterState::Finished => Err(Fault::State(StateFault::Finished)),
-            WriterState::Failed => Err(Fault::State(StateFault::Failed)),
-        }
-    }
-
     // Refuses a writer that takes no pairs any more.
     fn check_open(&self) -> Result<(), Fault>
         ensures ok { OnOk result (fault_if_over self.now.state ≡ None) }
@@ -221,7 +186,7 @@ impl<W: Writes + Drop> FileWriter<W> {
         ensures ok { IfOk result (MayStart (seen self.now)) }
         ensures only { IfErr result (RefusesStart (seen self.now)) }
     {
-        self.check_new()?;
+        check_new(self.state)?;
         let ipc_fields = match &self.given {
             Some(given) => clone_ipc_fields(given)?,
             None => writable_ipc_fields(self.alloc, &self.schema.fields)?,
@@ -259,20 +224,6 @@ impl<W: Writes + Drop> FileWriter<W> {
         Ok(())
     }
 
-    // Refuses ids that aren't those of the start.
-    fn check_ids(&self, ipc_fields: Option<&[IpcField]>) -> Result<(), Fault>
-        ensures ok { OnOk result (IfSome (seen_ids ipc_fields.entry) (λ given. given ≡ (seen self.now).ids)) }
-        ensures only { IfErr result (λ e. (e ≡ Argument FieldsDiffer)
-            × IsSomeAnd (seen_ids ipc_fields.entry) (λ given. ¬ (given ≡ (seen self.now).ids))) }
-    {
-        match ipc_fields {
-            Some(given) if !are_same_ids(given, &self.ipc_fields) => {
-                Err(Fault::Argument(ArgFault::FieldsDiffer))
-            }
-            _ => Ok(()),
-        }
-    }
-
     // Judges all of a chunk but the lengths of its columns and the places of its messages, and lists the dictionaries that are to be
     // written.
     fn check_write(
@@ -284,8 +235,8 @@ impl<W: Writes + Drop> FileWriter<W> {
         ensures ok { IfOk result (λ list. MayList (seen self.now) columns.now (seen_ids ipc_fields.entry) (map listed list.items)) }
         ensures only { IfErr result (RefusesChunk (seen self.now) columns.now (seen_ids ipc_fields.entry)) }
     {
-        self.check_started()?;
-        self.check_ids(ipc_fields)?;
+        check_started(self.state)?;
+        check_ids(ipc_fields, &self.ipc_fields)?;
         check_types(columns, &self.schema.fields)?;
         let list = list_messages(
             self.alloc,
@@ -345,7 +296,7 @@ impl<W: Writes + Drop> FileWriter<W> {
         ensures ok { IfOk result (λ ending. MayFinish (seen self.now) ending) }
         ensures only { IfErr result (RefusesFinish (seen self.now)) }
     {
-        self.check_started()?;
+        check_started(self.state)?;
         let footer = footer_to_bytes(
             self.alloc,
             &self.schema,

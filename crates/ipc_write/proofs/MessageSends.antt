@@ -1,5 +1,5 @@
 -- Messages that are sent, whole or in part.
-use Rattle.std.proofs.Common.{arith, ◌≡◌, ℕ, ◌^◌, ◌<◌, ◌≤◌, ◌%◌, Bool, true, false, List, [], ◌∷◌, ◌++◌, length, Result, Ok, Err, IfErr, MatchResult, refl, sym, ◌∙◌, subst, append-nil}
+use Rattle.std.proofs.Common.{arith, ◌≡◌, ℕ, ◌^◌, ◌<◌, ◌≤◌, ◌%◌, Bool, true, false, List, [], ◌∷◌, ◌++◌, length, Result, Ok, Err, IfErr, OnErr, OnOk, MatchResult, refl, sym, ◌∙◌, subst, append-nil}
 use Rattle.std.specs.Int.{next_multiple_of}
 use Rattle.lower_types.specs.declared.Endianness.{Endianness}
 use Rattle.lower_arrays.specs.Layouts.{Layout}
@@ -96,10 +96,10 @@ handing_sent list columns (Ok x) P only p = p
 handing_sent list columns (Err (Io x)) P only p = tt
 handing_sent list columns (Err _) P only p = absurd only
 
-pub leaves_sent : (s s' : WriterState) (r : Result (Unit {0}) Fault) → IfErr r (λ e. IsIo e) → MatchResult r (λ _. s' ≡ s) (λ _. s' ≡ Failed) → LeavesState r s s'
-leaves_sent s s' (Ok x) only h = h
-leaves_sent s s' (Err (Io x)) only h = h
-leaves_sent s s' (Err _) only h = absurd only
+pub leaves_sent : (s s' : WriterState) (r : Result (Unit {0}) Fault) → IfErr r (λ e. IsIo e) → OnOk r (s' ≡ s) → OnErr r (s' ≡ Failed) → LeavesState r s s'
+leaves_sent s s' (Ok x) only stays failed = stays
+leaves_sent s s' (Err (Io x)) only stays failed = failed
+leaves_sent s s' (Err _) only stays failed = absurd only
 
 -- both orders of bytes
 pub same_order : (b : Bool) → order_of b ≡ byte_order b

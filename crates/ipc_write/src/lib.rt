@@ -2,6 +2,7 @@
 #![tactic(auto)]
 
 pub mod calls;
+pub mod checks;
 pub mod common;
 pub mod common_sync;
 pub mod stream;

@@ -1,13 +1,12 @@
 //! Writes streams: Arrow columnar format, "IPC Streaming Format".
-ghost use Rattle.std.specs.Prelude.{◌≡◌, ◌↔◌, ◌≤◌, ◌^◌, All, [], pos, length, map, IfErr, IfOk, IfSome, IsSomeAnd, IsTrue, MatchResult, OnOk};
+ghost use Rattle.std.specs.Prelude.{◌≡◌, ◌≤◌, ◌^◌, All, [], pos, length, map, IfErr, IfOk, IfSome, MatchResult, OnOk};
 ghost use Rattle.std.specs.Int.{next_multiple_of};
 ghost use Rattle.lower.specs.TypeViews.{fields_view, pairs_of};
 ghost use Rattle.lower_arrays.specs.AnyLayouts.{layout_of};
 ghost use Rattle.lower_arrays.specs.Layouts.{len_of};
 ghost use Rattle.lower_arrays.specs.Slots.{IsArray};
 ghost use Rattle.ipc_base.specs.Chunks.{row_count};
-ghost use Rattle.ipc_devices.specs.declared.fault.Fault.TheVariants.{Argument, State};
-ghost use Rattle.ipc_devices.specs.declared.fault.ArgFault.TheVariants.{FieldsDiffer, TooLarge};
+ghost use Rattle.ipc_devices.specs.declared.fault.Fault.TheVariants.{State};
 ghost use Rattle.ipc_encode.specs.Encoding.{IsEncodable, levels_of};
 ghost use Rattle.ipc_encode.specs.declared.batches.BatchKind.TheVariants.{Record};
 ghost use Rattle.ipc_schema_write.specs.WriterAnswers.{byte_order, written_head_as};
@@ -18,21 +17,21 @@ ghost use Rattle.ipc_write.specs.Framing.{message_bytes, prefix_bytes};
 ghost use Rattle.ipc_write.specs.Meaning.{chunk_written, normal_types};
 ghost use Rattle.ipc_write.specs.Messages.{RefusesHanding};
 ghost use Rattle.ipc_write.specs.Sending.{HandsMessages, SendsOrRefuses};
-ghost use Rattle.ipc_write.specs.Writers.{HasType, HaveTypes, LeavesState, MayList, RefusesChunk, RefusesFinish, RefusesStart, RefusesState, RefusesTypes, RefusesWrite, SendStep, SendsChunk, SendsSchema, StartsWith, StateComesFirst, TakesChunk, WritesExactly, chosen_ids, fault_unless_new, fault_unless_started, normal_view, order_of, seen, seen_ids};
+ghost use Rattle.ipc_write.specs.Writers.{HaveTypes, LeavesState, MayList, RefusesChunk, RefusesFinish, RefusesStart, RefusesTypes, RefusesWrite, SendStep, SendsChunk, SendsSchema, StartsWith, StateComesFirst, TakesChunk, WritesExactly, chosen_ids, fault_unless_new, fault_unless_started, normal_view, order_of, seen, seen_ids};
 
 mod writer;
 
+use crate::checks::{check_ids, check_new, check_started, has_type, note_failure};
 use crate::common::{WriteOptions, byte_order};
 use crate::common_sync::{write_continuation, write_head, write_messages};
 use ipc_base::chunk::Chunk;
 use ipc_base::ipc::IpcField;
 use ipc_chunks::messages::{encode_messages, list_messages};
-use ipc_devices::{ArgFault, Fault, StateFault, Writes};
+use ipc_devices::{ArgFault, Fault, Writes};
 use ipc_schema_write::defaults::writable_ipc_fields;
-use ipc_schema_write::dictionaries::are_same_ids;
 use ipc_schema_write::schema::schema_to_bytes_as;
 use ipc_tracker::{DictionaryTracker, NewDictionary};
-use lower::datatypes::{DataType, Field, Schema, is_same_normal_type};
+use lower::datatypes::{DataType, Field, Schema};
 use lower::types::Endianness;
 use lower_arrays::array::AnyArray;
 use std::alloc::{AllocError, Global};
@@ -49,14 +48,6 @@ pub enum WriterState {
     Finished,
     /// A device failed.
     Failed,
-}
-
-// Whether a column has this type, both in their normal form.
-fn has_type(column: &AnyArray, data_type: &DataType) -> bool
-    ensures same { IsTrue result ↔ HasType column.now (normal_view data_type.now) }
-    ensures array { IsArray (layout_of column.now) }
-{
-    is_same_normal_type(column.data_type(), data_type)
 }
 
 // Refuses columns that have not these types, one each.
@@ -94,17 +85,6 @@ fn send_schema<W: Writes>(
         }
         Err(fault) => Err(fault),
     }
-}
-
-// What a device answered to a writer, which has failed where the device has.
-fn note_failure(state: &mut WriterState, sent: Result<(), Fault>) -> Result<(), Fault>
-    ensures same { result ≡ sent }
-    ensures state { MatchResult sent (λ _. state.new ≡ state.old) (λ _. state.new ≡ Failed) }
-{
-    if sent.is_err() {
-        *state = WriterState::Failed;
-    }
-    sent
 }
 
 // Encodes a chunk, of which these dictionaries are to be written, and sends its messages. All memory is taken before the first byte.
@@ -150,46 +130,6 @@ fn is_little_endian(order: Endianness) -> bool
 }
 
 impl<W: Writes + Drop> StreamWriter<W> {
-    // Refuses a writer that isn't started.
-    fn check_started(&self) -> Result<(), Fault>
-        ensures ok { OnOk result (self.now.state ≡ Started) }
-        ensures only { IfErr result (RefusesState (fault_unless_started self.now.state)) }
-    {
-        match self.state {
-            WriterState::New => Err(Fault::State(StateFault::NotStarted)),
-            WriterState::Started => Ok(()),
-            WriterState::Finished => Err(Fault::State(StateFault::Finished)),
-            WriterState::Failed => Err(Fault::State(StateFault::Failed)),
-        }
-    }
-
-    // Refuses a writer that was started before.
-    fn check_new(&self) -> Result<(), Fault>
-        ensures ok { OnOk result (self.now.state ≡ New) }
-        ensures only { IfErr result (RefusesState (fault_unless_new self.now.state)) }
-    {
-        match self.state {
-            WriterState::New => Ok(()),
-            WriterState::Started => Err(Fault::State(StateFault::AlreadyStarted)),
-            WriterState::Finished => Err(Fault::State(StateFault::Finished)),
-            WriterState::Failed => Err(Fault::State(StateFault::Failed)),
-        }
-    }
-
-    // Refuses ids that aren't those of the start.
-    fn check_ids(&self, ipc_fields: Option<&[IpcField]>) -> Result<(), Fault>
-        ensures ok { OnOk result (IfSome (seen_ids ipc_fields.entry) (λ given. given ≡ (seen self.now).ids)) }
-        ensures only { IfErr result (λ e. (e ≡ Argument FieldsDiffer)
-            × IsSomeAnd (seen_ids ipc_fields.entry) (λ given. ¬ (given ≡ (seen self.now).ids))) }
-    {
-        match ipc_fields {
-            Some(given) if !are_same_ids(given, &self.ipc_fields) => {
-                Err(Fault::Argument(ArgFault::FieldsDiffer))
-            }
-            _ => Ok(()),
-        }
-    }
-
     /// A writer of a stream, which writes nothing yet. It takes no memory.
     pub fn new(alloc: Global, writer: W, write_options: WriteOptions) -> StreamWriter<W>
         ensures device { (seen result).device ≡ writer }
@@ -246,7 +186,7 @@ impl<W: Writes + Drop> StreamWriter<W> {
             Begins W.known W.memory (seen self.old) result (seen self.new)
             (written_head_as (seen self.old).order fields (pairs_of schema.now.metadata.entries) (chosen_ids ipc_fields fields)) }
     {
-        self.check_new()?;
+        check_new(self.state)?;
         let ipc_fields = match ipc_fields {
             Some(given) => given,
             None => writable_ipc_fields(self.alloc, &schema.fields)?,
@@ -271,8 +211,8 @@ impl<W: Writes + Drop> StreamWriter<W> {
         ensures ok { IfOk result (λ list. MayList (seen self.now) columns.now (seen_ids ipc_fields.entry) (map listed list.items)) }
         ensures only { IfErr result (RefusesChunk (seen self.now) columns.now (seen_ids ipc_fields.entry)) }
     {
-        self.check_started()?;
-        self.check_ids(ipc_fields)?;
+        check_started(self.state)?;
+        check_ids(ipc_fields, &self.ipc_fields)?;
         check_types(columns, &self.types)?;
         let list = list_messages(
             self.alloc,
@@ -336,7 +276,7 @@ impl<W: Writes + Drop> StreamWriter<W> {
         ensures only { IfErr result (RefusesFinish (seen self.old).state) }
         ensures means { Remains W.known W.memory (seen self.old) (seen self.new) }
     {
-        self.check_started()?;
+        check_started(self.state)?;
         match write_continuation(&mut self.writer, 0) {
             Ok(_) => {
                 self.state = WriterState::Finished;

@@ -52,4 +52,4 @@ returns-clause-takes g c =
 
 pub returns-clause-state : goal.returns-clause-state
 returns-clause-state g c =
-    rw c.note_failure.ensures.same (leaves_sent c.args.state.now c.note_failure.new.state c.write_messages-sent.result c.write_messages-sent.ensures.only c.note_failure.ensures.state)
+    rw c.note_failure.ensures.same (leaves_sent c.args.state.now c.note_failure.new.state c.write_messages-sent.result c.write_messages-sent.ensures.only c.note_failure.ensures.stays c.note_failure.ensures.failed)

@@ -23,13 +23,13 @@ pub returns-in_err-check_ids-clause-only : goal.returns-in_err-check_ids-clause-
 returns-in_err-check_ids-clause-only g c =
     let fault = c.in_err-check_ids.field-0.0 in
     let e : c.from_residual-in_err-check_ids.result ≡ Err fault = search rules in
-    rw e (refuses_ids (seen c.args.self.now) c.args.columns.now _ fault c.in_err-check_ids.ensures.only)
+    rw e (refuses_ids (seen c.args.self.now) c.args.columns.now _ fault (rw c.deref.ensures.value at c.in_err-check_ids.ensures.only))
 
 pub returns-in_err-check_types-clause-only : goal.returns-in_err-check_types-clause-only
 returns-in_err-check_types-clause-only g c =
     let fault = c.in_err-check_types.field-0.0 in
     let e : c.from_residual-in_err-check_types.result ≡ Err fault = search rules in
-    rw e (refuses_types (seen c.args.self.now) c.args.columns.now _ fault (rw c.deref.ensures.value at c.in_err-check_types.ensures.only))
+    rw e (refuses_types (seen c.args.self.now) c.args.columns.now _ fault (rw c.deref-2.ensures.value at c.in_err-check_types.ensures.only))
 
 pub returns-in_err-list-clause-only : goal.returns-in_err-list-clause-only
 returns-in_err-list-clause-only g c =
@@ -37,8 +37,8 @@ returns-in_err-list-clause-only g c =
     let columns = c.args.columns.now in
     let fault = c.in_err-list.field-0.0 in
     let e : c.from_residual-in_err-list.result ≡ Err fault = search rules in
-    let fits : FitTypes w columns = record { have = rw c.deref.ensures.value at c.in_ok-check_types.ensures.ok; arrays = are_arrays columns c.in_ok-check_types.ensures.arrays } in
-    let refused : RefusesPlaces w.dictionaries c.args.self.now.dictionary_tracker.cannot_replace (map layout_of columns) w.ids fault = rw c.deref-2.ensures.value at c.in_err-list.ensures.refused in
+    let fits : FitTypes w columns = record { have = rw c.deref-2.ensures.value at c.in_ok-check_types.ensures.ok; arrays = are_arrays columns c.in_ok-check_types.ensures.arrays } in
+    let refused : RefusesPlaces w.dictionaries c.args.self.now.dictionary_tracker.cannot_replace (map layout_of columns) w.ids fault = rw c.deref-3.ensures.value at c.in_err-list.ensures.refused in
     rw e (refuses_places w columns (seen_ids c.args.ipc_fields) c.args.self.now.dictionary_tracker.cannot_replace fault c.args.self.now.replaces fits refused)
 
 pub returns-clause-ok : goal.returns-clause-ok
@@ -46,11 +46,11 @@ returns-clause-ok g c =
     let w = seen c.args.self.now in
     let columns = c.args.columns.now in
     let list = map listed c.in_ok-list.list.items in
-    let lists : ListsAll w.dictionaries c.args.self.now.dictionary_tracker.cannot_replace (map layout_of columns) w.ids list = rw c.deref-2.ensures.value at c.in_ok-list.ensures.lists in
+    let lists : ListsAll w.dictionaries c.args.self.now.dictionary_tracker.cannot_replace (map layout_of columns) w.ids list = rw c.deref-3.ensures.value at c.in_ok-list.ensures.lists in
     record {
       was = c.in_ok-check_started.ensures.ok;
-      ids_same = c.in_ok-check_ids.ensures.ok;
-      fits = record { have = rw c.deref.ensures.value at c.in_ok-check_types.ensures.ok; arrays = are_arrays columns c.in_ok-check_types.ensures.arrays };
+      ids_same = rw c.deref.ensures.value at c.in_ok-check_ids.ensures.ok;
+      fits = record { have = rw c.deref-2.ensures.value at c.in_ok-check_types.ensures.ok; arrays = are_arrays columns c.in_ok-check_types.ensures.arrays };
       lists = subst (λ (fixed : Bool). ListsAll w.dictionaries fixed (map layout_of columns) w.ids list) c.args.self.now.replaces lists;
-      lengths = rw c.deref-2.ensures.value at c.in_ok-list.ensures.lengths;
+      lengths = rw c.deref-3.ensures.value at c.in_ok-list.ensures.lengths;
     }

@@ -1,0 +1,80 @@
+//! What writers refuse, of streams and of files: by their state, and by what they were started with.
+ghost use Rattle.std.specs.Prelude.{◌≡◌, ◌↔◌, IfErr, IfSome, IsSomeAnd, IsTrue, OnErr, OnOk};
+ghost use Rattle.lower_arrays.specs.AnyLayouts.{layout_of};
+ghost use Rattle.lower_arrays.specs.Slots.{IsArray};
+ghost use Rattle.ipc_base.specs.IdTrees.{all_ids_view};
+ghost use Rattle.ipc_devices.specs.declared.fault.ArgFault.TheVariants.{FieldsDiffer};
+ghost use Rattle.ipc_devices.specs.declared.fault.Fault.TheVariants.{Argument};
+ghost use Rattle.ipc_write.specs.Writers.{HasType, RefusesState, fault_unless_new, fault_unless_started, normal_view, seen_ids};
+ghost use Rattle.ipc_write.specs.declared.stream.WriterState.TheVariants.{Failed, New, Started};
+
+use crate::stream::WriterState;
+use ipc_base::ipc::IpcField;
+use ipc_devices::{ArgFault, Fault, StateFault};
+use ipc_schema_write::dictionaries::are_same_ids;
+use lower::datatypes::{DataType, is_same_normal_type};
+use lower_arrays::array::AnyArray;
+
+/// Refuses the states in which a writer takes no chunk and no end.
+///
+/// Faults: `State(NotStarted)`, `State(Finished)`, `State(Failed)`.
+pub fn check_started(state: WriterState) -> Result<(), Fault>
+    ensures ok { OnOk result (state ≡ Started) }
+    ensures only { IfErr result (RefusesState (fault_unless_started state)) }
+{
+    match state {
+        WriterState::New => Err(Fault::State(StateFault::NotStarted)),
+        WriterState::Started => Ok(()),
+        WriterState::Finished => Err(Fault::State(StateFault::Finished)),
+        WriterState::Failed => Err(Fault::State(StateFault::Failed)),
+    }
+}
+
+/// Refuses the states in which it takes no schema.
+///
+/// Faults: `State(AlreadyStarted)`, `State(Finished)`, `State(Failed)`.
+pub fn check_new(state: WriterState) -> Result<(), Fault>
+    ensures ok { OnOk result (state ≡ New) }
+    ensures only { IfErr result (RefusesState (fault_unless_new state)) }
+{
+    match state {
+        WriterState::New => Ok(()),
+        WriterState::Started => Err(Fault::State(StateFault::AlreadyStarted)),
+        WriterState::Finished => Err(Fault::State(StateFault::Finished)),
+        WriterState::Failed => Err(Fault::State(StateFault::Failed)),
+    }
+}
+
+/// Refuses ids that are handed in with a chunk and aren't those that the writer was started with.
+///
+/// Fault: `Argument(FieldsDiffer)`.
+pub fn check_ids(ipc_fields: Option<&[IpcField]>, own: &[IpcField]) -> Result<(), Fault>
+    ensures ok { OnOk result (IfSome (seen_ids ipc_fields.entry) (λ given. given ≡ all_ids_view own.now)) }
+    ensures only { IfErr result (λ e. (e ≡ Argument FieldsDiffer)
+        × IsSomeAnd (seen_ids ipc_fields.entry) (λ given. ¬ (given ≡ all_ids_view own.now))) }
+{
+    match ipc_fields {
+        Some(given) if !are_same_ids(given, own) => Err(Fault::Argument(ArgFault::FieldsDiffer)),
+        _ => Ok(()),
+    }
+}
+
+/// Whether a column has this type, both in their normal form.
+pub fn has_type(column: &AnyArray, data_type: &DataType) -> bool
+    ensures same { IsTrue result ↔ HasType column.now (normal_view data_type.now) }
+    ensures array { IsArray (layout_of column.now) }
+{
+    is_same_normal_type(column.data_type(), data_type)
+}
+
+/// What a device answered to a writer, which has failed from then on where the device has.
+pub fn note_failure(state: &mut WriterState, sent: Result<(), Fault>) -> Result<(), Fault>
+    ensures same { result ≡ sent }
+    ensures stays { OnOk sent (state.new ≡ state.old) }
+    ensures failed { OnErr sent (state.new ≡ Failed) }
+{
+    if sent.is_err() {
+        *state = WriterState::Failed;
+    }
+    sent
+}
