@@ -21,3 +21,6 @@ pub mod LimitLevels
 pub mod FixedReads
 pub mod MapReads
 pub mod VariantKinds
+pub mod HeldLevels
+pub mod HeldOffsets
+pub mod HeldListedRows

@@ -11,3 +11,5 @@ pub mod Limits
 pub mod FixedLevels
 pub mod KeyLevels
 pub mod ReadColumns
+pub mod HeldListed
+pub mod HeldListedRows

@@ -18,6 +18,7 @@ ghost use Rattle.ipc_model.specs.Columns.{IsWell, AllHaveRows, AllWell};
 ghost use Rattle.ipc_model.specs.ReadArrays.{array_at, arrays_at, offset_type};
 ghost use Rattle.ipc_columns.specs.Bodies.{Stands, HasRoom, entries, known};
 ghost use Rattle.ipc_columns.specs.FlatKinds.{IsPlain, IsFlat, flat_kind};
+ghost use Rattle.ipc_columns.specs.HeldListed.{HoldsListed, HoldAllListed};
 ghost use Rattle.ipc_columns.specs.Kinds.{IsStored, Follows, AllFollow, form_of, listed_in, all_listed};
 ghost use Rattle.ipc_columns.specs.ReadColumns.{IsColumn};
 ghost use Rattle.ipc_columns.specs.Refusals.{IsColumnFault, IsFaultOf};
@@ -63,6 +64,8 @@ fn read_flat<R: Reads + Seeks>(
     ensures only { let t = flat_kind physical_type (byte_size (type_view data_type.now)) in IfErr result (λ e. OwnFault e (IsFaultOf t e)) }
     ensures step { let t = flat_kind physical_type (byte_size (type_view data_type.now)) in
         Step R.still R.memory R.failures R.given body.now (listed_in (entries R.memory body.now) body.now.extra t place.buffer) reader.old result reader.new }
+    ensures held { let t = flat_kind physical_type (byte_size (type_view data_type.now)) in
+        IfOk result (λ array. HoldsListed (entries R.memory body.now) body.now.extra t place.buffer (layout_of array)) }
     ensures memory { IsTrue R.known → let s = entries R.memory body.now in
         let t = flat_kind physical_type (byte_size (type_view data_type.now)) in
         Answers result (IsWell s t place.node place.buffer limit)
@@ -157,6 +160,8 @@ fn read_plain<R: Reads + Seeks>(
     ensures step { let t = kind_of (type_view data_type.now) id (all_ids_view ids.now) in
         Step R.still R.memory R.failures R.given body.now (listed_in (entries R.memory body.now) body.now.extra t place.buffer) reader.old result reader.new }
     ensures next { IfOk result (λ r. Follows body.now.extra (kind_of (type_view data_type.now) id (all_ids_view ids.now)) place r.1) }
+    ensures held { let t = kind_of (type_view data_type.now) id (all_ids_view ids.now) in
+        IfOk result (λ r. HoldsListed (entries R.memory body.now) body.now.extra t place.buffer (layout_of r.0)) }
     ensures memory { IsTrue R.known → let s = entries R.memory body.now in let t = kind_of (type_view data_type.now) id (all_ids_view ids.now) in
         Answers result (IsWell s t place.node place.buffer limit)
         (λ r. layout_of r.0 ≡ array_at s (known body.now) t (type_view own.now) place.node place.buffer limit) }
@@ -189,6 +194,8 @@ fn read_as<R: Reads + Seeks>(
     ensures step { let t = kind_of (type_view data_type.now) id (all_ids_view ids.now) in
         Step R.still R.memory R.failures R.given body.now (listed_in (entries R.memory body.now) body.now.extra t place.buffer) reader.old result reader.new }
     ensures next { IfOk result (λ r. Follows body.now.extra (kind_of (type_view data_type.now) id (all_ids_view ids.now)) place r.1) }
+    ensures held { let t = kind_of (type_view data_type.now) id (all_ids_view ids.now) in
+        IfOk result (λ r. HoldsListed (entries R.memory body.now) body.now.extra t place.buffer (layout_of r.0)) }
     ensures memory { IsTrue R.known → let s = entries R.memory body.now in let t = kind_of (type_view data_type.now) id (all_ids_view ids.now) in
         Answers result (IsWell s t place.node place.buffer limit)
         (λ r. layout_of r.0 ≡ array_at s (known body.now) t (type_view own.now) place.node place.buffer limit) }
@@ -246,6 +253,8 @@ fn read_list<R: Reads + Seeks>(
     ensures step { let t = list_kind (form_of is_large) (field_kind (field_view field.now) (first_ids (all_ids_view ids.now))) in
         Step R.still R.memory R.failures R.given body.now (listed_in (entries R.memory body.now) body.now.extra t place.buffer) reader.old result reader.new }
     ensures next { IfOk result (λ r. Follows body.now.extra (list_kind (form_of is_large) (field_kind (field_view field.now) (first_ids (all_ids_view ids.now)))) place r.1) }
+    ensures held { let t = list_kind (form_of is_large) (field_kind (field_view field.now) (first_ids (all_ids_view ids.now))) in
+        IfOk result (λ r. HoldsListed (entries R.memory body.now) body.now.extra t place.buffer (layout_of r.0)) }
     ensures memory { IsTrue R.known → let s = entries R.memory body.now in
         let t = list_kind (form_of is_large) (field_kind (field_view field.now) (first_ids (all_ids_view ids.now))) in
         Answers result (IsWell s t place.node place.buffer limit)
@@ -295,6 +304,8 @@ fn read_fixed_size_list<R: Reads + Seeks>(
     ensures step { let t = fixed_list_kind size (field_kind (field_view field.now) (first_ids (all_ids_view ids.now))) in
         Step R.still R.memory R.failures R.given body.now (listed_in (entries R.memory body.now) body.now.extra t start.buffer) reader.old result reader.new }
     ensures next { IfOk result (λ r. Follows body.now.extra (fixed_list_kind size (field_kind (field_view field.now) (first_ids (all_ids_view ids.now)))) start r.1) }
+    ensures held { let t = fixed_list_kind size (field_kind (field_view field.now) (first_ids (all_ids_view ids.now))) in
+        IfOk result (λ r. HoldsListed (entries R.memory body.now) body.now.extra t start.buffer (layout_of r.0)) }
     ensures memory { IsTrue R.known → let s = entries R.memory body.now in let t = fixed_list_kind size (field_kind (field_view field.now) (first_ids (all_ids_view ids.now))) in
         Answers result (IsWell s t start.node start.buffer limit)
         (λ r. layout_of r.0 ≡ array_at s (known body.now) t (type_view own.now) start.node start.buffer limit) }
@@ -345,6 +356,8 @@ fn read_map<R: Reads + Seeks>(
     ensures step { let t = map_kind (field_kind (field_view field.now) (first_ids (all_ids_view ids.now))) in
         Step R.still R.memory R.failures R.given body.now (listed_in (entries R.memory body.now) body.now.extra t start.buffer) reader.old result reader.new }
     ensures next { IfOk result (λ r. Follows body.now.extra (map_kind (field_kind (field_view field.now) (first_ids (all_ids_view ids.now)))) start r.1) }
+    ensures held { let t = map_kind (field_kind (field_view field.now) (first_ids (all_ids_view ids.now))) in
+        IfOk result (λ r. HoldsListed (entries R.memory body.now) body.now.extra t start.buffer (layout_of r.0)) }
     ensures memory { IsTrue R.known → let s = entries R.memory body.now in let t = map_kind (field_kind (field_view field.now) (first_ids (all_ids_view ids.now))) in
         Answers result (IsWell s t start.node start.buffer limit)
         (λ r. layout_of r.0 ≡ array_at s (known body.now) t (type_view own.now) start.node start.buffer limit) }
@@ -392,6 +405,8 @@ fn read_struct<R: Reads + Seeks>(
     ensures step { let t = struct_kind (kinds_of (fields_view fields.now) (all_ids_view ids.now)) in
         Step R.still R.memory R.failures R.given body.now (listed_in (entries R.memory body.now) body.now.extra t place.buffer) reader.old result reader.new }
     ensures next { IfOk result (λ r. Follows body.now.extra (struct_kind (kinds_of (fields_view fields.now) (all_ids_view ids.now))) place r.1) }
+    ensures held { let t = struct_kind (kinds_of (fields_view fields.now) (all_ids_view ids.now)) in
+        IfOk result (λ r. HoldsListed (entries R.memory body.now) body.now.extra t place.buffer (layout_of r.0)) }
     ensures memory { IsTrue R.known → let s = entries R.memory body.now in let t = struct_kind (kinds_of (fields_view fields.now) (all_ids_view ids.now)) in
         Answers result (IsWell s t place.node place.buffer limit)
         (λ r. layout_of r.0 ≡ array_at s (known body.now) t (type_view own.now) place.node place.buffer limit) }
@@ -425,6 +440,8 @@ fn read_fields<R: Reads + Seeks>(
     ensures step { let ts = kinds_of (fields_view fields.now) (all_ids_view ids.now) in
         Step R.still R.memory R.failures R.given body.now (all_listed (entries R.memory body.now) body.now.extra ts start.buffer) reader.old result reader.new }
     ensures next { IfOk result (λ r. AllFollow body.now.extra (kinds_of (fields_view fields.now) (all_ids_view ids.now)) start r.1) }
+    ensures held { let ts = kinds_of (fields_view fields.now) (all_ids_view ids.now) in
+        IfOk result (λ r. HoldAllListed (entries R.memory body.now) body.now.extra ts start.buffer (layouts (map layout_of r.0.items))) }
     ensures memory { IsTrue R.known → let s = entries R.memory body.now in let ts = kinds_of (fields_view fields.now) (all_ids_view ids.now) in
         Answers result (AllHaveRows s ts start.node start.buffer limit rows)
         (λ r. layouts (map layout_of r.0.items) ≡ arrays_at s (known body.now) ts (fields_view fields.now) start.node start.buffer limit) }
@@ -481,6 +498,8 @@ fn read_union<R: Reads + Seeks>(
     ensures step { let t = union_kind mode (ids_of type_ids.now) (kinds_of (fields_view fields.now) (all_ids_view ids.now)) in
         Step R.still R.memory R.failures R.given body.now (listed_in (entries R.memory body.now) body.now.extra t place.buffer) reader.old result reader.new }
     ensures next { IfOk result (λ r. Follows body.now.extra (union_kind mode (ids_of type_ids.now) (kinds_of (fields_view fields.now) (all_ids_view ids.now))) place r.1) }
+    ensures held { let t = union_kind mode (ids_of type_ids.now) (kinds_of (fields_view fields.now) (all_ids_view ids.now)) in
+        IfOk result (λ r. HoldsListed (entries R.memory body.now) body.now.extra t place.buffer (layout_of r.0)) }
     ensures memory { IsTrue R.known → let s = entries R.memory body.now in
         let t = union_kind mode (ids_of type_ids.now) (kinds_of (fields_view fields.now) (all_ids_view ids.now)) in
         Answers result (IsWell s t place.node place.buffer limit)
@@ -531,6 +550,8 @@ fn read_whole_fields<R: Reads + Seeks>(
     ensures step { let ts = kinds_of (fields_view fields.now) (all_ids_view ids.now) in
         Step R.still R.memory R.failures R.given body.now (all_listed (entries R.memory body.now) body.now.extra ts start.buffer) reader.old result reader.new }
     ensures next { IfOk result (λ r. AllFollow body.now.extra (kinds_of (fields_view fields.now) (all_ids_view ids.now)) start r.1) }
+    ensures held { let ts = kinds_of (fields_view fields.now) (all_ids_view ids.now) in
+        IfOk result (λ r. HoldAllListed (entries R.memory body.now) body.now.extra ts start.buffer (layouts (map layout_of r.0.items))) }
     ensures memory { IsTrue R.known → let s = entries R.memory body.now in let ts = kinds_of (fields_view fields.now) (all_ids_view ids.now) in
         Answers result (AllWell s ts start.node start.buffer)
         (λ r. layouts (map layout_of r.0.items) ≡ arrays_at s (known body.now) ts (fields_view fields.now) start.node start.buffer None) }
@@ -560,7 +581,9 @@ fn read_whole_fields<R: Reads + Seeks>(
 
 /// The column of a type at a place, and the place behind it (Arrow columnar format, "RecordBatch message": nodes
 /// and buffers stand in pre-order). The id is that of the field whose type this is, and the others are those of
-/// its child fields. At most `limit` slots are read. Its entries have to be there, by the counts of its type.
+/// its child fields. At most `limit` slots are read. Its entries have to be there, by the counts of its type. Whatever the
+/// bytes are, the array holds no more of them than the column's buffers list, and one offset for each buffer of offsets
+/// that lists nothing; the values of dictionaries aside, which are shared.
 ///
 /// `Float` for floats; `InvalidId` where no dictionary is known under the id of a column of keys, `InvalidIdDataType` where
 /// its values have another type; `NegativeFooterLength` where a length, or the offset of a buffer that is used, is below 0,
@@ -585,6 +608,8 @@ pub fn read<R: Reads + Seeks>(
     ensures step { let t = kind_of (type_view data_type.now) id (all_ids_view ids.now) in
         Step R.still R.memory R.failures R.given body.now (listed_in (entries R.memory body.now) body.now.extra t place.buffer) reader.old result reader.new }
     ensures next { IfOk result (λ r. Follows body.now.extra (kind_of (type_view data_type.now) id (all_ids_view ids.now)) place r.1) }
+    ensures held { let t = kind_of (type_view data_type.now) id (all_ids_view ids.now) in
+        IfOk result (λ r. HoldsListed (entries R.memory body.now) body.now.extra t place.buffer (layout_of r.0)) }
     ensures memory { IsTrue R.known → let s = entries R.memory body.now in let t = kind_of (type_view data_type.now) id (all_ids_view ids.now) in
         Answers result (IsWell s t place.node place.buffer limit)
         (λ r. IsColumn s (known body.now) t (type_view data_type.now) place.node place.buffer limit (layout_of r.0)) }

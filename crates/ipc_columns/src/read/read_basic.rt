@@ -16,6 +16,8 @@ ghost use Rattle.ipc_model.specs.ReadArrays.{bits_of, validity_of, offset_type, 
 ghost use Rattle.lower_types.specs.declared.Endianness.{Endianness};
 ghost use Rattle.ipc_model.specs.Kinds.{OffsetWidth, offsets_32, offsets_64, offset_width};
 ghost use Rattle.ipc_columns.specs.OffsetForms.{signed_of};
+ghost use Rattle.lower_arrays.specs.Held.{bytes_of_bits, validity_held};
+ghost use Rattle.ipc_columns.specs.HeldListed.{HoldsOffsets};
 
 use crate::read::body::{Body, Place};
 use ipc_devices::fault::{Fault, OutOfSpecKind};
@@ -256,6 +258,7 @@ pub fn fetch_numbers<T: NativeType, R: Reads + Seeks>(
     ensures only { IfErr result (λ e. OwnFault e (IsBufferFault e)) }
     ensures step { Step R.still R.memory R.failures R.given body.now (listed (entries R.memory body.now) index) reader.old result reader.new }
     ensures count { IfOk result (λ v. vec_len v ≡ count) }
+    ensures held { IfOk result (λ v. T.width * vec_len v ≤ listed (entries R.memory body.now) index) }
     ensures memory { IsTrue R.known → let s = entries R.memory body.now in
         Answers result (Need s index (T.width * count))
         (λ v. v.items ≡ values_of (T.value body.now.order) T.width (take (T.width * count) (bytes s index))) }
@@ -288,6 +291,7 @@ pub fn fetch_bytes<R: Reads + Seeks>(
     ensures only { IfErr result (λ e. OwnFault e (IsBufferFault e)) }
     ensures step { Step R.still R.memory R.failures R.given body.now (listed (entries R.memory body.now) index) reader.old result reader.new }
     ensures count { IfOk result (λ v. length v.items ≡ count) }
+    ensures held { IfOk result (λ v. length v.items ≤ listed (entries R.memory body.now) index) }
     ensures memory { IsTrue R.known → let s = entries R.memory body.now in
         Answers result (Need s index count) (λ v. v.items ≡ take count (bytes s index)) }
 {
@@ -320,6 +324,7 @@ pub fn fetch_pieces<R: Reads + Seeks>(
     ensures only { IfErr result (λ e. OwnFault e (IsBufferFault e)) }
     ensures step { Step R.still R.memory R.failures R.given body.now (listed (entries R.memory body.now) index) reader.old result reader.new }
     ensures count { IfOk result (λ v. length v.items ≡ width * count) }
+    ensures held { IfOk result (λ v. length v.items ≤ listed (entries R.memory body.now) index) }
     ensures memory { IsTrue R.known → let s = entries R.memory body.now in
         Answers result (Need s index (width * count)) (λ v. v.items ≡ take (width * count) (bytes s index)) }
 {
@@ -435,6 +440,7 @@ pub fn read_bits<R: Reads + Seeks>(
     ensures only { IfErr result (λ e. OwnFault e (IsBufferFault e)) }
     ensures step { Step R.still R.memory R.failures R.given body.now (listed (entries R.memory body.now) index) reader.old result reader.new }
     ensures count { IfOk result (λ bits. length bits ≡ count) }
+    ensures held { IfOk result (λ bits. bytes_of_bits (length bits) ≤ listed (entries R.memory body.now) index) }
     ensures memory { IsTrue R.known → let s = entries R.memory body.now in
         Answers result (Need s index (bytes_for count)) (λ bits. bits ≡ bits_of s index count) }
 {
@@ -463,6 +469,7 @@ pub fn read_head<R: Reads + Seeks>(
     ensures step { Step R.still R.memory R.failures R.given body.now (listed (entries R.memory body.now) place.buffer) reader.old result reader.new }
     ensures small { IfOk result (λ h. h.rows < 2 ^ 63) }
     ensures fits { IfOk result (λ h. ValidityFits h.validity h.rows) }
+    ensures held { IfOk result (λ h. validity_held h.validity ≤ listed (entries R.memory body.now) place.buffer) }
     ensures memory { IsTrue R.known → let s = entries R.memory body.now in
         Answers result (Begins s place.node place.buffer (rows s place.node limit))
         (λ h. (h.rows ≡ rows s place.node limit) × (h.validity ≡ validity_of s place.node place.buffer (rows s place.node limit))) }
@@ -579,6 +586,7 @@ pub fn read_offsets<O: StoredOffset, R: Reads + Seeks>(
     ensures only { IfErr result (λ e. OwnFault e (IsColumnFault e)) }
     ensures step { Step R.still R.memory R.failures R.given body.now (listed (entries R.memory body.now) index) reader.old result reader.new }
     ensures count { IfOk result (λ o. length o ≡ count + 1) }
+    ensures held { IfOk result (λ o. HoldsOffsets (entries R.memory body.now) O.form index O.primitive o) }
     ensures memory { IsTrue R.known → let s = entries R.memory body.now in
         Answers result (Offsets s index (offset_width O.form) count) (λ o. o ≡ offsets_of s index (offset_width O.form) count) }
 {

@@ -1,5 +1,5 @@
 //! Reads columns of bytes of any length.
-ghost use Rattle.std.specs.Prelude.{◌≡◌, ◌+◌, ◌<◌, IsTrue, IfErr};
+ghost use Rattle.std.specs.Prelude.{◌≡◌, ◌+◌, ◌<◌, IsTrue, IfOk, IfErr};
 ghost use Rattle.ipc_devices.specs.Faults.{OwnFault, Answers};
 ghost use Rattle.lower.specs.TypeViews.{type_view};
 ghost use Rattle.lower.specs.Physical.{physical};
@@ -10,6 +10,7 @@ ghost use Rattle.ipc_model.specs.Entries.{listed};
 ghost use Rattle.ipc_model.specs.Columns.{IsWell};
 ghost use Rattle.ipc_model.specs.ReadArrays.{array_at};
 ghost use Rattle.ipc_columns.specs.Bodies.{Stands, HasRoom, entries, known};
+ghost use Rattle.ipc_columns.specs.HeldListed.{HoldsListed};
 ghost use Rattle.ipc_columns.specs.Refusals.{IsColumnFault};
 ghost use Rattle.ipc_columns.specs.Steps.{Step};
 
@@ -46,6 +47,7 @@ pub fn read_binary<O: StoredOffset, R: Reads + Seeks>(
     ensures step { let s = entries R.memory body.now in
         Step R.still R.memory R.failures R.given body.now
         (listed s place.buffer + listed s (place.buffer + 1) + listed s (place.buffer + 1 + 1)) reader.old result reader.new }
+    ensures held { IfOk result (λ array. HoldsListed (entries R.memory body.now) body.now.extra (binary_kind O.form) place.buffer (bytes_layout O.primitive array)) }
     ensures memory { IsTrue R.known → let s = entries R.memory body.now in
         Answers result (IsWell s (binary_kind O.form) place.node place.buffer limit)
         (λ array. bytes_layout O.primitive array ≡ array_at s (known body.now) (binary_kind O.form) (type_view data_type.now) place.node place.buffer limit) }

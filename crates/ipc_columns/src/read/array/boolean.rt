@@ -1,5 +1,5 @@
 //! Reads columns of truth values.
-ghost use Rattle.std.specs.Prelude.{◌≡◌, ◌+◌, ◌<◌, IsTrue, IfErr};
+ghost use Rattle.std.specs.Prelude.{◌≡◌, ◌+◌, ◌<◌, IsTrue, IfOk, IfErr};
 ghost use Rattle.ipc_devices.specs.Faults.{OwnFault, Answers};
 ghost use Rattle.lower.specs.TypeViews.{type_view};
 ghost use Rattle.lower.specs.Physical.{physical};
@@ -10,6 +10,7 @@ ghost use Rattle.ipc_model.specs.Entries.{listed};
 ghost use Rattle.ipc_model.specs.Columns.{IsWell};
 ghost use Rattle.ipc_model.specs.ReadArrays.{array_at};
 ghost use Rattle.ipc_columns.specs.Bodies.{Stands, HasRoom, entries, known};
+ghost use Rattle.ipc_columns.specs.HeldListed.{HoldsListed};
 ghost use Rattle.ipc_columns.specs.Refusals.{IsColumnFault};
 ghost use Rattle.ipc_columns.specs.Steps.{Step};
 
@@ -42,6 +43,7 @@ pub fn read_boolean<R: Reads + Seeks>(
     ensures only { IfErr result (λ e. OwnFault e (IsColumnFault e)) }
     ensures step { let s = entries R.memory body.now in
         Step R.still R.memory R.failures R.given body.now (listed s place.buffer + listed s (place.buffer + 1)) reader.old result reader.new }
+    ensures held { IfOk result (λ array. HoldsListed (entries R.memory body.now) body.now.extra boolean_kind place.buffer (boolean_layout array)) }
     ensures memory { IsTrue R.known → let s = entries R.memory body.now in
         Answers result (IsWell s boolean_kind place.node place.buffer limit)
         (λ array. boolean_layout array ≡ array_at s (known body.now) boolean_kind (type_view data_type.now) place.node place.buffer limit) }

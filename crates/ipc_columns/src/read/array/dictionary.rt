@@ -1,5 +1,5 @@
 //! Reads columns of dictionary keys, over the values that are known.
-ghost use Rattle.std.specs.Prelude.{◌≡◌, ◌+◌, Some, IsTrue, IfOk, IfErr};
+ghost use Rattle.std.specs.Prelude.{◌≡◌, ◌+◌, ◌≤◌, Some, IsTrue, IfOk, IfErr};
 ghost use Rattle.ipc_devices.specs.Faults.{OnIo, OwnFault, Answers};
 ghost use Rattle.lower.specs.Normal.{norm};
 ghost use Rattle.lower.specs.Physical.{integer, physical};
@@ -18,6 +18,7 @@ ghost use Rattle.ipc_model.specs.Kinds.{number_kind, dictionary_kind};
 ghost use Rattle.ipc_model.specs.ReadArrays.{array_at};
 ghost use Rattle.ipc_model.specs.TypeKinds.{key_form};
 ghost use Rattle.ipc_columns.specs.Bodies.{Stands, HasRoom, entries, known};
+ghost use Rattle.ipc_columns.specs.HeldListed.{HoldsListed, keys_held};
 ghost use Rattle.ipc_columns.specs.KeyLevels.{keys_at};
 ghost use Rattle.ipc_columns.specs.Kinds.{Follows, listed_in};
 ghost use Rattle.ipc_columns.specs.Refusals.{IsBufferFault, IsColumnFault};
@@ -81,6 +82,7 @@ pub fn read_keys<R: Reads + Seeks>(
     ensures only { IfErr result (λ e. OwnFault e (IsBufferFault e)) }
     ensures step { let s = entries R.memory body.now in
         Step R.still R.memory R.failures R.given body.now (listed s place.buffer + listed s (place.buffer + 1)) reader.old result reader.new }
+    ensures held { let s = entries R.memory body.now in IfOk result (λ read. keys_held (keys_seen read) ≤ listed s place.buffer + listed s (place.buffer + 1)) }
     ensures memory { IsTrue R.known → let s = entries R.memory body.now in
         Answers result (IsWell s (number_kind (key_form keys)) place.node place.buffer limit)
         (λ read. keys_seen read ≡ keys_at s keys place.node place.buffer (rows s place.node limit)) }
@@ -168,6 +170,8 @@ pub fn read_dictionary<R: Reads + Seeks>(
     ensures step { let t = dictionary_kind (key_form keys) id (norm (type_view value_type.now)) in
         Step R.still R.memory R.failures R.given body.now (listed_in (entries R.memory body.now) body.now.extra t place.buffer) reader.old result reader.new }
     ensures next { IfOk result (λ r. Follows body.now.extra (dictionary_kind (key_form keys) id (norm (type_view value_type.now))) place r.1) }
+    ensures held { let t = dictionary_kind (key_form keys) id (norm (type_view value_type.now)) in
+        IfOk result (λ r. HoldsListed (entries R.memory body.now) body.now.extra t place.buffer (layout_of r.0)) }
     ensures memory { IsTrue R.known → let s = entries R.memory body.now in
         let t = dictionary_kind (key_form keys) id (norm (type_view value_type.now)) in
         Answers result (IsWell s t place.node place.buffer limit)

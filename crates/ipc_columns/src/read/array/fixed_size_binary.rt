@@ -1,5 +1,5 @@
 //! Reads columns of bytes, as many in each slot.
-ghost use Rattle.std.specs.Prelude.{◌≡◌, ◌+◌, ◌<◌, IsTrue, IfErr};
+ghost use Rattle.std.specs.Prelude.{◌≡◌, ◌+◌, ◌<◌, IsTrue, IfOk, IfErr};
 ghost use Rattle.ipc_devices.specs.Faults.{OwnFault, Answers};
 ghost use Rattle.lower.specs.TypeViews.{type_view};
 ghost use Rattle.lower.specs.Physical.{physical};
@@ -11,6 +11,7 @@ ghost use Rattle.ipc_model.specs.Entries.{listed};
 ghost use Rattle.ipc_model.specs.Columns.{IsWell};
 ghost use Rattle.ipc_model.specs.ReadArrays.{array_at};
 ghost use Rattle.ipc_columns.specs.Bodies.{Stands, HasRoom, entries, known};
+ghost use Rattle.ipc_columns.specs.HeldListed.{HoldsListed};
 ghost use Rattle.ipc_columns.specs.Refusals.{IsColumnFault};
 ghost use Rattle.ipc_columns.specs.Steps.{Step};
 
@@ -57,6 +58,7 @@ pub fn read_fixed_size_binary<R: Reads + Seeks>(
     ensures only { IfErr result (λ e. OwnFault e (IsColumnFault e)) }
     ensures step { let s = entries R.memory body.now in
         Step R.still R.memory R.failures R.given body.now (listed s place.buffer + listed s (place.buffer + 1)) reader.old result reader.new }
+    ensures held { IfOk result (λ array. HoldsListed (entries R.memory body.now) body.now.extra (fixed_binary_kind size) place.buffer (fixed_layout array)) }
     ensures memory { IsTrue R.known → let s = entries R.memory body.now in
         Answers result (IsWell s (fixed_binary_kind size) place.node place.buffer limit)
         (λ array. fixed_layout array

@@ -1,5 +1,5 @@
 //! Reads what columns of lists have beside their child, and makes their arrays.
-ghost use Rattle.std.specs.Prelude.{◌≡◌, [], ◌∷◌, ◌+◌, IsTrue, IfOk, IfErr};
+ghost use Rattle.std.specs.Prelude.{◌≡◌, [], ◌∷◌, ◌+◌, ◌≤◌, IsTrue, IfOk, IfErr};
 ghost use Rattle.ipc_devices.specs.Faults.{OnIo, OwnFault, Answers};
 ghost use Rattle.lower.specs.TypeViews.{type_view};
 ghost use Rattle.lower.specs.Physical.{physical};
@@ -14,6 +14,8 @@ ghost use Rattle.ipc_model.specs.Entries.{listed, rows};
 ghost use Rattle.ipc_model.specs.Columns.{Begins, Offsets};
 ghost use Rattle.ipc_model.specs.ReadArrays.{offset_type};
 ghost use Rattle.ipc_columns.specs.Bodies.{Stands, HasRoom, entries};
+ghost use Rattle.lower_arrays.specs.Held.{validity_held};
+ghost use Rattle.ipc_columns.specs.HeldListed.{HoldsOffsets};
 ghost use Rattle.ipc_columns.specs.Kinds.{form_of};
 ghost use Rattle.ipc_columns.specs.ListHeads.{AreLists, AreListsAt};
 ghost use Rattle.ipc_columns.specs.Refusals.{IsColumnFault};
@@ -63,6 +65,8 @@ pub fn read_list_head<R: Reads + Seeks>(
         Step R.still R.memory R.failures R.given body.now (listed s place.buffer + listed s (place.buffer + 1)) reader.old result reader.new }
     ensures width { IfOk result (λ h. list_width h.offsets ≡ offset_type (form_of is_large)) }
     ensures made { IfOk result (λ h. AreLists (list_places h.offsets) h.validity h.last) }
+    ensures held { let s = entries R.memory body.now in IfOk result (λ h. (validity_held h.validity ≤ listed s place.buffer)
+        × HoldsOffsets s (form_of is_large) (place.buffer + 1) (list_width h.offsets) (list_places h.offsets)) }
     ensures memory { IsTrue R.known → let s = entries R.memory body.now in let k = rows s place.node limit in
         Answers result (Begins s place.node place.buffer k × Offsets s (place.buffer + 1) (offset_width (form_of is_large)) k)
         (λ h. AreListsAt s (form_of is_large) place.node place.buffer k (list_places h.offsets) h.validity h.last) }

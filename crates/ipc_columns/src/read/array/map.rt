@@ -1,5 +1,5 @@
 //! Reads what columns of maps have beside their child, and makes their arrays.
-ghost use Rattle.std.specs.Prelude.{◌≡◌, [], ◌∷◌, ◌+◌, IsTrue, IfOk, IfErr};
+ghost use Rattle.std.specs.Prelude.{◌≡◌, [], ◌∷◌, ◌+◌, ◌≤◌, IsTrue, IfOk, IfErr};
 ghost use Rattle.ipc_devices.specs.Faults.{OnIo, OwnFault, Answers};
 ghost use Rattle.lower.specs.TypeViews.{type_view};
 ghost use Rattle.lower.specs.Physical.{physical};
@@ -12,6 +12,9 @@ ghost use Rattle.ipc_model.specs.Kinds.{offsets_32, offset_width};
 ghost use Rattle.ipc_model.specs.Entries.{listed, rows};
 ghost use Rattle.ipc_model.specs.Columns.{Begins, Offsets};
 ghost use Rattle.ipc_columns.specs.Bodies.{Stands, HasRoom, entries};
+ghost use Rattle.lower_arrays.specs.Held.{validity_held};
+ghost use Rattle.lower_types.specs.declared.PrimitiveType.TheVariants.{Int32};
+ghost use Rattle.ipc_columns.specs.HeldListed.{HoldsOffsets};
 ghost use Rattle.ipc_columns.specs.ListHeads.{AreLists, AreListsAt};
 ghost use Rattle.ipc_columns.specs.Refusals.{IsColumnFault};
 ghost use Rattle.ipc_columns.specs.Steps.{Step};
@@ -59,6 +62,8 @@ pub fn read_map_head<R: Reads + Seeks>(
     ensures step { let s = entries R.memory body.now in
         Step R.still R.memory R.failures R.given body.now (listed s place.buffer + listed s (place.buffer + 1)) reader.old result reader.new }
     ensures made { IfOk result (λ h. AreLists h.offsets h.validity h.last) }
+    ensures held { let s = entries R.memory body.now in IfOk result (λ h. (validity_held h.validity ≤ listed s place.buffer)
+        × HoldsOffsets s offsets_32 (place.buffer + 1) Int32 h.offsets) }
     ensures memory { IsTrue R.known → let s = entries R.memory body.now in let k = rows s place.node limit in
         Answers result (Begins s place.node place.buffer k × Offsets s (place.buffer + 1) (offset_width offsets_32) k)
         (λ h. AreListsAt s offsets_32 place.node place.buffer k h.offsets h.validity h.last) }

@@ -1,5 +1,5 @@
 //! Reads columns of numbers.
-ghost use Rattle.std.specs.Prelude.{◌≡◌, ◌+◌, ◌<◌, IsTrue, IfErr};
+ghost use Rattle.std.specs.Prelude.{◌≡◌, ◌+◌, ◌<◌, IsTrue, IfOk, IfErr};
 ghost use Rattle.ipc_devices.specs.Faults.{OwnFault, Answers};
 ghost use Rattle.lower.specs.TypeViews.{type_view};
 ghost use Rattle.lower.specs.Physical.{physical};
@@ -11,6 +11,7 @@ ghost use Rattle.ipc_model.specs.Entries.{listed};
 ghost use Rattle.ipc_model.specs.Columns.{IsWell};
 ghost use Rattle.ipc_model.specs.ReadArrays.{array_at};
 ghost use Rattle.ipc_columns.specs.Bodies.{Stands, HasRoom, entries, known};
+ghost use Rattle.ipc_columns.specs.HeldListed.{HoldsListed};
 ghost use Rattle.ipc_columns.specs.FlatKinds.{IsExact};
 ghost use Rattle.ipc_columns.specs.Refusals.{IsBufferFault};
 ghost use Rattle.ipc_columns.specs.Steps.{Step};
@@ -46,6 +47,7 @@ pub fn read_primitive<T: NativeType, R: Reads + Seeks>(
     ensures only { IfErr result (λ e. OwnFault e (IsBufferFault e)) }
     ensures step { let s = entries R.memory body.now in
         Step R.still R.memory R.failures R.given body.now (listed s place.buffer + listed s (place.buffer + 1)) reader.old result reader.new }
+    ensures held { IfOk result (λ array. HoldsListed (entries R.memory body.now) body.now.extra (number_kind T.primitive) place.buffer (primitive_layout T.primitive T.number array)) }
     ensures memory { IsTrue R.known → let s = entries R.memory body.now in
         Answers result (IsWell s (number_kind T.primitive) place.node place.buffer limit)
         (λ array. primitive_layout T.primitive T.number array
@@ -77,6 +79,7 @@ pub fn read_any_primitive<R: Reads + Seeks>(
     ensures only { IfErr result (λ e. OwnFault e (IsBufferFault e)) }
     ensures step { let s = entries R.memory body.now in
         Step R.still R.memory R.failures R.given body.now (listed s place.buffer + listed s (place.buffer + 1)) reader.old result reader.new }
+    ensures held { IfOk result (λ array. HoldsListed (entries R.memory body.now) body.now.extra (number_kind primitive) place.buffer (any_primitive_layout array)) }
     ensures memory { IsTrue R.known → let s = entries R.memory body.now in
         Answers result (IsWell s (number_kind primitive) place.node place.buffer limit)
         (λ array. any_primitive_layout array

@@ -1,5 +1,5 @@
 //! Reads what columns of unions have beside their children, and makes their arrays.
-ghost use Rattle.std.specs.Prelude.{◌≡◌, ◌+◌, ◌*◌, ◌<◌, length, map, IsTrue, IfOk, IfErr};
+ghost use Rattle.std.specs.Prelude.{◌≡◌, ◌+◌, ◌≤◌, ◌*◌, ◌<◌, length, map, IsTrue, IfOk, IfErr};
 ghost use Rattle.ipc_devices.specs.Faults.{OnIo, OwnFault, Answers};
 ghost use Rattle.lower.specs.TypeViews.{type_view};
 ghost use Rattle.lower_types.specs.declared.PrimitiveType.TheVariants.{Int8, Int32};
@@ -36,6 +36,7 @@ fn fetch_types<R: Reads + Seeks>(
     ensures only { IfErr result (λ e. OwnFault e (IsBufferFault e)) }
     ensures step { Step R.still R.memory R.failures R.given body.now (listed (entries R.memory body.now) index) reader.old result reader.new }
     ensures count { IfOk result (λ types. length types ≡ count) }
+    ensures held { IfOk result (λ types. length types ≤ listed (entries R.memory body.now) index) }
     ensures memory { IsTrue R.known → let s = entries R.memory body.now in
         Answers result (Need s index count) (λ types. types ≡ integers_of s index Int8 count) }
 {
@@ -57,6 +58,7 @@ pub fn read_places<R: Reads + Seeks>(
     ensures only { IfErr result (λ e. OwnFault e (IsBufferFault e)) }
     ensures step { Step R.still R.memory R.failures R.given body.now (listed (entries R.memory body.now) index) reader.old result reader.new }
     ensures count { IfOk result (λ places. length places ≡ count) }
+    ensures held { IfOk result (λ places. 4 * length places ≤ listed (entries R.memory body.now) index) }
     ensures memory { IsTrue R.known → let s = entries R.memory body.now in
         Answers result (Need s index (4 * count)) (λ places. places ≡ integers_of s index Int32 count) }
 {
@@ -81,6 +83,7 @@ pub fn read_types<R: Reads + Seeks>(
     requires stands { Stands R.still R.memory reader.old body.now }
     ensures only { IfErr result (λ e. OwnFault e (IsBufferFault e)) }
     ensures step { Step R.still R.memory R.failures R.given body.now (listed (entries R.memory body.now) (place.buffer + body.now.extra)) reader.old result reader.new }
+    ensures held { IfOk result (λ types. length types ≤ listed (entries R.memory body.now) (place.buffer + body.now.extra)) }
     ensures memory { IsTrue R.known → let s = entries R.memory body.now in
         let k = rows s place.node limit in
         Answers result (IsSize (node s place.node).length × Need s (place.buffer + body.now.extra) k)

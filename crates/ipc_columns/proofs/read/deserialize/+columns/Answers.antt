@@ -55,6 +55,10 @@ use Rattle.ipc_model.specs.Entries.{IsSize, node, Need, rows}
 use Rattle.ipc_model.specs.Columns.{AllWell}
 use Rattle.ipc_model.specs.ReadArrays.{integers_of}
 use Rattle.ipc_columns.proofs.UnionReads.{union_kind_is, union_stored, union_types, sparse_children, dense_places, dense_children, sparse_rules, sparse_union, dense_rules, dense_union}
+use Rattle.std.proofs.Common.{IfOk}
+use Rattle.lower_arrays.specs.Held.{all_held}
+use Rattle.ipc_columns.specs.HeldListed.{HoldsListed, all_most_held}
+use Rattle.ipc_columns.proofs.HeldLevels.{list_held, map_held, sized_held, records_held, sparse_held, dense_held, one_more_held}
 use Rattle.ipc_columns.proofs.read.deserialize.+columns.Goals as goal
 
 pub read_list-returns-in_err-array-clause-memory : goal.read_list-returns-in_err-array-clause-memory
@@ -184,11 +188,18 @@ read_fields-loop-field-preserved g t c =
     let e1 = ap (λ (z : Kinds). all_listed s x z p.buffer) more in
     let e2 = ap (λ (n : ℕ). all_listed s x rest' n) next.buffer in
     let e3 = ap (λ (z : Kind). listed_in s x z p.buffer) same_kind in
+    let h1 = ap (λ (z : Kinds). all_most_held s x z p.buffer) more in
+    let h2 = ap (λ (n : ℕ). all_most_held s x rest' n) next.buffer in
+    let h3 : HoldsListed s x kind p.buffer (layout_of c.in_ok-column.column) =
+    subst (λ (z : Kind). HoldsListed s x z p.buffer (layout_of c.in_ok-column.column)) (sym same_kind) c.in_ok-column.ensures.held in
+    let h4 = ap (λ (ys : List Layout). all_held (layouts ys)) (ap (map layout_of) c.in_ok-push.ensures.items ∙ map-append layout_of c.loop-field.columns.items (c.in_ok-column.column ∷ [])) in
+    let h5 = one_more_held xs (layout_of c.in_ok-column.column) in
     record {
       places = left_more x all rest rest' kind c.args.start p q more c.loop-field.invariant.places next;
       stands = c.in_ok-column.ensures.step.stands;
       monotone = omega (arith, c.in_ok-column.ensures.step.monotone);
       given = omega (arith, e1, e2, e3, c.in_ok-column.ensures.step.bounded, c.loop-field.invariant.given);
+      held = omega (arith, h1, h2, h3, h4, h5, c.loop-field.invariant.held);
       content = λ k.
           let y = layout_of c.in_ok-column.column in
           let read : IsWell s kind p.node p.buffer limit × (y ≡ array_at s vs kind (field_type (field_view f)) p.node p.buffer limit) =
@@ -511,11 +522,18 @@ read_whole_fields-loop-field-preserved g t c =
     let e1 = ap (λ (z : Kinds). all_listed s x z p.buffer) more in
     let e2 = ap (λ (n : ℕ). all_listed s x rest' n) next.buffer in
     let e3 = ap (λ (z : Kind). listed_in s x z p.buffer) same_kind in
+    let h1 = ap (λ (z : Kinds). all_most_held s x z p.buffer) more in
+    let h2 = ap (λ (n : ℕ). all_most_held s x rest' n) next.buffer in
+    let h3 : HoldsListed s x kind p.buffer (layout_of c.in_ok-column.column) =
+    subst (λ (z : Kind). HoldsListed s x z p.buffer (layout_of c.in_ok-column.column)) (sym same_kind) c.in_ok-column.ensures.held in
+    let h4 = ap (λ (ys : List Layout). all_held (layouts ys)) (ap (map layout_of) c.in_ok-push.ensures.items ∙ map-append layout_of c.loop-field.columns.items (c.in_ok-column.column ∷ [])) in
+    let h5 = one_more_held xs (layout_of c.in_ok-column.column) in
     record {
       places = left_more x all rest rest' kind c.args.start p q more c.loop-field.invariant.places next;
       stands = c.in_ok-column.ensures.step.stands;
       monotone = omega (arith, c.in_ok-column.ensures.step.monotone);
       given = omega (arith, e1, e2, e3, c.in_ok-column.ensures.step.bounded, c.loop-field.invariant.given);
+      held = omega (arith, h1, h2, h3, h4, h5, c.loop-field.invariant.held);
       content = λ k.
           let y = layout_of c.in_ok-column.column in
           let read : IsWell s kind p.node p.buffer None × (y ≡ array_at s vs kind (field_type (field_view f)) p.node p.buffer None) =
@@ -775,3 +793,137 @@ read_as-read_union-requires g t c =
     in
     let room = subst (λ (z : Kind). HasRoom body c.args.place (nodes z) (buffers body.extra z)) same c.requires.room in
     λ κs within. (search (rules, the_lemmas), (within, (stored.0, (stored.1 ∙ ap fields_view (sym slice), (stored.2, (stored.3, (room, c.requires.stands)))))))
+
+pub read_list-returns-clause-held : goal.read_list-returns-clause-held
+read_list-returns-clause-held g t c =
+    let s = entries g.R.Failures.memory c.args.body.now in
+    let extra = c.args.body.now.extra in
+    let b = c.args.place.buffer in
+    let u = type_view c.args.own.now in
+    let head = c.in_ok-head.head in
+    let made = c.in_ok-array.ensures.exact in
+    let kind = field_kind (field_view c.args.field.now) (first_ids (all_ids_view c.args.ids.now)) in
+    let x = layout_of c.in_ok-child.child in
+    let child : HoldsListed s extra kind (b + 2) x = subst (λ (z : Kind). HoldsListed s extra z (b + 2) x) (sym c.child_of-child_id.ensures.kind) c.in_ok-child.ensures.held in
+    list_held s extra b u head.validity (layout_of c.in_ok-array.array) c.in_ok-head.ensures.held.0 (form_of c.args.is_large) kind (list_width head.offsets) (list_places head.offsets) x made.1
+    c.in_ok-head.ensures.held.1 child
+
+pub read_map-returns-clause-held : goal.read_map-returns-clause-held
+read_map-returns-clause-held g t c =
+    let s = entries g.R.Failures.memory c.args.body.now in
+    let extra = c.args.body.now.extra in
+    let b = c.args.start.buffer in
+    let u = type_view c.args.own.now in
+    let head = c.in_ok-head.head in
+    let made = c.in_ok-array.ensures.exact in
+    let kind = field_kind (field_view c.args.field.now) (first_ids (all_ids_view c.args.ids.now)) in
+    let x = layout_of c.in_ok-child.child in
+    let child : HoldsListed s extra kind (b + 2) x = subst (λ (z : Kind). HoldsListed s extra z (b + 2) x) (sym c.child_of-child_id.ensures.kind) c.in_ok-child.ensures.held in
+    map_held s extra b u head.validity (layout_of c.in_ok-array.array) c.in_ok-head.ensures.held.0 kind head.offsets x made.1 c.in_ok-head.ensures.held.1 child
+
+pub read_fixed_size_list-returns-clause-held : goal.read_fixed_size_list-returns-clause-held
+read_fixed_size_list-returns-clause-held g t c =
+    let s = entries g.R.Failures.memory c.args.body.now in
+    let extra = c.args.body.now.extra in
+    let b = c.args.start.buffer in
+    let u = type_view c.args.own.now in
+    let head = c.in_ok-head.head in
+    let made = c.in_ok-array.ensures.exact in
+    let kind = field_kind (field_view c.args.field.now) (first_ids (all_ids_view c.args.ids.now)) in
+    let x = layout_of c.in_ok-child.child in
+    let child : HoldsListed s extra kind (b + 1) x = subst (λ (z : Kind). HoldsListed s extra z (b + 1) x) (sym c.child_of-child_id.ensures.kind) c.in_ok-child.ensures.held in
+    sized_held s extra b u head.validity (layout_of c.in_ok-array.array) c.in_ok-head.ensures.held c.args.size head.rows kind x made.1 child
+
+pub read_struct-returns-clause-held : goal.read_struct-returns-clause-held
+read_struct-returns-clause-held g t c =
+    let s = entries g.R.Failures.memory c.args.body.now in
+    let extra = c.args.body.now.extra in
+    let b = c.args.place.buffer in
+    let u = type_view c.args.own.now in
+    let head = c.in_ok-head.head in
+    let made = c.in_ok-array.ensures.exact in
+    records_held s extra b u head.validity (layout_of c.in_ok-array.array) c.in_ok-head.ensures.held head.rows (kinds_of (fields_view c.args.fields.now) (all_ids_view c.args.ids.now))
+    (map layout_of c.in_ok-columns.columns.items) made.1 c.in_ok-columns.ensures.held
+
+pub read_union-returns-in_ok-array-in-Sparse-clause-held : goal.read_union-returns-in_ok-array-in-Sparse-clause-held
+read_union-returns-in_ok-array-in-Sparse-clause-held g t c =
+    let s = entries g.R.Failures.memory c.args.body.now in
+    let extra = c.args.body.now.extra in
+    let b = c.args.place.buffer in
+    let u = type_view c.args.own.now in
+    let ids = ids_of c.args.type_ids.now in
+    let ts = kinds_of (fields_view c.args.fields.now) (all_ids_view c.args.ids.now) in
+    let x = layout_of c.in_ok-array-in-Sparse.array in
+    let cs = map layout_of c.in_ok-columns-in-Sparse.columns.items in
+    subst (λ (m : UnionMode). HoldsListed s extra (union_kind m ids ts) b x) (sym c.in-Sparse.is)
+    (sparse_held s extra b u ids ts c.in_ok-types.types cs x c.in_ok-types.ensures.held c.in_ok-array-in-Sparse.ensures.exact.1 c.in_ok-columns-in-Sparse.ensures.held)
+
+pub read_union-returns-in_ok-array-in-Dense-clause-held : goal.read_union-returns-in_ok-array-in-Dense-clause-held
+read_union-returns-in_ok-array-in-Dense-clause-held g t c =
+    let s = entries g.R.Failures.memory c.args.body.now in
+    let extra = c.args.body.now.extra in
+    let b = c.args.place.buffer in
+    let u = type_view c.args.own.now in
+    let ids = ids_of c.args.type_ids.now in
+    let ts = kinds_of (fields_view c.args.fields.now) (all_ids_view c.args.ids.now) in
+    let x = layout_of c.in_ok-array-in-Dense.array in
+    let cs = map layout_of c.in_ok-columns-in-Dense.columns.items in
+    subst (λ (m : UnionMode). HoldsListed s extra (union_kind m ids ts) b x) (sym c.in-Dense.is)
+    (dense_held s extra b u ids ts c.in_ok-types.types cs x c.in_ok-types.ensures.held c.in_ok-places-in-Dense.places c.in_ok-array-in-Dense.ensures.exact.1
+    c.in_ok-places-in-Dense.ensures.held c.in_ok-columns-in-Dense.ensures.held)
+
+pub read_as-returns-in-Map-clause-held : goal.read_as-returns-in-Map-clause-held
+read_as-returns-in-Map-clause-held g t c =
+    let s = entries g.R.Failures.memory c.args.body.now in
+    let d = c.args.data_type.now in
+    let is = all_ids_view c.args.ids.now in
+    let b = c.args.place.buffer in
+    let same : kind_of (type_view d) c.args.id is ≡ map_kind (field_kind (field_view c.deref-in-Map.result.now) (first_ids is)) =
+    map_kind_is d c.in-Map.field _ c.args.id is c.in-Map.is ∙ ap (λ (f : Field). map_kind (field_kind (field_view f) (first_ids is))) (sym c.deref-in-Map.ensures)
+    in
+    subst (λ (z : Kind). IfOk c.read_map.result (λ r. HoldsListed s c.args.body.now.extra z b (layout_of r.0))) (sym same) c.read_map.ensures.held
+
+pub read_as-returns-in-List-clause-held : goal.read_as-returns-in-List-clause-held
+read_as-returns-in-List-clause-held g t c =
+    let s = entries g.R.Failures.memory c.args.body.now in
+    let d = c.args.data_type.now in
+    let is = all_ids_view c.args.ids.now in
+    let b = c.args.place.buffer in
+    let same : kind_of (type_view d) c.args.id is ≡ list_kind offsets_32 (field_kind (field_view c.deref-in-List.result.now) (first_ids is)) =
+    list_kind_is d c.in-List.field c.args.id is c.in-List.is ∙ ap (λ (f : Field). list_kind offsets_32 (field_kind (field_view f) (first_ids is))) (sym c.deref-in-List.ensures)
+    in
+    subst (λ (z : Kind). IfOk c.read_list.result (λ r. HoldsListed s c.args.body.now.extra z b (layout_of r.0))) (sym same) c.read_list.ensures.held
+
+pub read_as-returns-in-LargeList-clause-held : goal.read_as-returns-in-LargeList-clause-held
+read_as-returns-in-LargeList-clause-held g t c =
+    let s = entries g.R.Failures.memory c.args.body.now in
+    let d = c.args.data_type.now in
+    let is = all_ids_view c.args.ids.now in
+    let b = c.args.place.buffer in
+    let same : kind_of (type_view d) c.args.id is ≡ list_kind offsets_64 (field_kind (field_view c.deref-in-LargeList.result.now) (first_ids is)) =
+    large_list_kind_is d c.in-LargeList.field c.args.id is c.in-LargeList.is ∙ ap (λ (f : Field). list_kind offsets_64 (field_kind (field_view f) (first_ids is))) (sym c.deref-in-LargeList.ensures)
+    in
+    subst (λ (z : Kind). IfOk c.read_list-in-LargeList.result (λ r. HoldsListed s c.args.body.now.extra z b (layout_of r.0))) (sym same) c.read_list-in-LargeList.ensures.held
+
+pub read_as-returns-in-FixedSizeList-clause-held : goal.read_as-returns-in-FixedSizeList-clause-held
+read_as-returns-in-FixedSizeList-clause-held g t c =
+    let s = entries g.R.Failures.memory c.args.body.now in
+    let d = c.args.data_type.now in
+    let is = all_ids_view c.args.ids.now in
+    let b = c.args.place.buffer in
+    let same : kind_of (type_view d) c.args.id is ≡ fixed_list_kind c.in-FixedSizeList.size (field_kind (field_view c.deref-in-FixedSizeList.result.now) (first_ids is)) =
+    fixed_list_kind_is d c.in-FixedSizeList.field c.in-FixedSizeList.size c.args.id is c.in-FixedSizeList.is ∙ ap (λ (f : Field). fixed_list_kind c.in-FixedSizeList.size (field_kind (field_view f) (first_ids is))) (sym c.deref-in-FixedSizeList.ensures)
+    in
+    subst (λ (z : Kind). IfOk c.read_fixed_size_list.result (λ r. HoldsListed s c.args.body.now.extra z b (layout_of r.0))) (sym same) c.read_fixed_size_list.ensures.held
+
+pub read_as-returns-in-Extension-clause-held : goal.read_as-returns-in-Extension-clause-held
+read_as-returns-in-Extension-clause-held g t c =
+    let s = entries g.R.Failures.memory c.args.body.now in
+    let d = c.args.data_type.now in
+    let is = all_ids_view c.args.ids.now in
+    let b = c.args.place.buffer in
+    let same : kind_of (type_view d) c.args.id is ≡ extension_kind (kind_of (type_view c.deref.result.now) c.args.id is) =
+    extension_kind_is d c.in-Extension.field-0 c.in-Extension.inner c.in-Extension.field-2 c.args.id is c.in-Extension.is
+    ∙ ap (λ (e : DataType). extension_kind (kind_of (type_view e) c.args.id is)) (sym c.deref.ensures)
+    in
+    subst (λ (z : Kind). IfOk c.read_as.result (λ r. HoldsListed s c.args.body.now.extra z b (layout_of r.0))) (sym same) c.read_as.ensures.held

@@ -16,6 +16,7 @@ use Rattle.ipc_columns.proofs.Fetches.{denies_through, refused, failing}
 use Rattle.ipc_columns.specs.Refusals.{IsFaultOf}
 use Rattle.ipc_columns.proofs.Plain.{stored_kind}
 use Rattle.ipc_columns.proofs.Refusals.{same_kind}
+use Rattle.ipc_columns.specs.HeldListed.{HoldsListed}
 use Rattle.ipc_columns.proofs.read.deserialize.read_plain.Goals as goal
 
 pub returns-in_err-array-clause-only : goal.returns-in_err-array-clause-only
@@ -80,3 +81,14 @@ returns-clause-memory g c = λ k.
       subst (λ (z : Kind). IsWell s z a b c.args.limit) (sym same) read.0,
       subst (λ (z : Kind). x ≡ array_at s (known c.args.body.now) z own a b c.args.limit) (sym same) read.1,
     )
+
+pub returns-clause-held : goal.returns-clause-held
+returns-clause-held g c =
+    let s = entries g.R.Failures.memory c.args.body.now in
+    let own = type_view c.args.own.now in
+    let t = type_view c.args.data_type.now in
+    let same : kind_of t c.args.id (all_ids_view c.args.ids.now) ≡ flat_kind c.to_physical_type-physical_type.result (byte_size own) =
+    stored_kind own t c.args.id (all_ids_view c.args.ids.now) c.requires.plain c.requires.stored
+    ∙ ap (λ (p : PhysicalType). flat_kind p (byte_size own)) (sym c.to_physical_type-physical_type.ensures)
+    in
+    subst (λ (z : Kind). HoldsListed s c.args.body.now.extra z c.args.place.buffer (layout_of c.in_ok-array.array)) (sym same) c.in_ok-array.ensures.held

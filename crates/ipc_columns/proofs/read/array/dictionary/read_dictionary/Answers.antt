@@ -15,6 +15,7 @@ use Rattle.ipc_columns.specs.Bodies.{entries, known}
 use Rattle.ipc_columns.proofs.Fetches.{denies_through, refused}
 use Rattle.ipc_columns.proofs.KeyReads.{keys_rules, keys_well, keys_array}
 use Rattle.ipc_columns.proofs.KnownValues.{values_count}
+use Rattle.ipc_columns.proofs.HeldLevels.{dictionary_held}
 use Rattle.ipc_columns.proofs.read.array.dictionary.read_dictionary.Goals as goal
 
 pub returns-in_err-values-clause-memory : goal.returns-in_err-values-clause-memory
@@ -83,3 +84,8 @@ returns-clause-memory g c = λ k.
       keys_well s vs c.args.keys u v id a b c.args.limit ks l c.requires.lies c.requires.named c.in_ok-values.ensures.named many read.1 read.0 found.0 made.0,
       keys_array s vs c.args.keys u v id a b c.args.limit ks l c.requires.lies c.requires.named c.in_ok-values.ensures.named many read.1 found.1 (layout_of c.in_ok-array.array) made.1,
     )
+
+pub returns-clause-held : goal.returns-clause-held
+returns-clause-held g c =
+    dictionary_held (entries g.R.Failures.memory c.args.body.now) c.args.body.now.extra c.args.place.buffer (key_form c.args.keys) c.args.id (norm (type_view c.args.value_type.now)) (type_view c.args.own.now)
+    (keys_seen c.in_ok-read.read) (layout_of c.in_ok-values.values.value) (layout_of c.in_ok-array.array) c.in_ok-array.ensures.exact.1 c.in_ok-read.ensures.held

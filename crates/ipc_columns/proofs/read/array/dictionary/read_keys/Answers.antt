@@ -4,6 +4,7 @@ use Rattle.lower.specs.declared.datatypes.IntegerType.TheVariants.{Int8, Int16, 
 use Rattle.lower_types.specs.NumberTypes.{whole}
 use Rattle.ipc_columns.specs.Bodies.{entries, known}
 use Rattle.ipc_columns.proofs.KeyReads.{keys_answered}
+use Rattle.ipc_columns.proofs.HeldLevels.{keys_hold}
 use Rattle.ipc_columns.proofs.read.array.dictionary.read_keys.Goals as goal
 
 pub returns-in_ok-read-in-Int8-clause-memory : goal.returns-in_ok-read-in-Int8-clause-memory
@@ -45,3 +46,35 @@ pub returns-in_ok-read-in-UInt64-clause-memory : goal.returns-in_ok-read-in-UInt
 returns-in_ok-read-in-UInt64-clause-memory g c = λ k.
     keys_answered c.args.keys UInt64 (λ (x : ℕ). whole (pos x)) (λ x. pos x) (entries g.R.Failures.memory c.args.body.now) (known c.args.body.now) (type_view c.args.data_type.now) c.args.place.node c.args.place.buffer c.args.limit
     c.in_ok-read-in-UInt64.read c.in-UInt64.is (λ y. refl) c.requires.typed (c.in_ok-read-in-UInt64.ensures.memory k)
+
+pub returns-in_ok-read-in-Int8-clause-held : goal.returns-in_ok-read-in-Int8-clause-held
+returns-in_ok-read-in-Int8-clause-held g c =
+    keys_hold (entries g.R.Failures.memory c.args.body.now) c.args.body.now.extra c.args.place.buffer Int8 (λ (x : ℤ). whole x) (λ x. x) c.in_ok-read-in-Int8.read c.in_ok-read-in-Int8.ensures.held
+
+pub returns-in_ok-read-in-Int16-clause-held : goal.returns-in_ok-read-in-Int16-clause-held
+returns-in_ok-read-in-Int16-clause-held g c =
+    keys_hold (entries g.R.Failures.memory c.args.body.now) c.args.body.now.extra c.args.place.buffer Int16 (λ (x : ℤ). whole x) (λ x. x) c.in_ok-read-in-Int16.read c.in_ok-read-in-Int16.ensures.held
+
+pub returns-in_ok-read-in-Int32-clause-held : goal.returns-in_ok-read-in-Int32-clause-held
+returns-in_ok-read-in-Int32-clause-held g c =
+    keys_hold (entries g.R.Failures.memory c.args.body.now) c.args.body.now.extra c.args.place.buffer Int32 (λ (x : ℤ). whole x) (λ x. x) c.in_ok-read-in-Int32.read c.in_ok-read-in-Int32.ensures.held
+
+pub returns-in_ok-read-in-Int64-clause-held : goal.returns-in_ok-read-in-Int64-clause-held
+returns-in_ok-read-in-Int64-clause-held g c =
+    keys_hold (entries g.R.Failures.memory c.args.body.now) c.args.body.now.extra c.args.place.buffer Int64 (λ (x : ℤ). whole x) (λ x. x) c.in_ok-read-in-Int64.read c.in_ok-read-in-Int64.ensures.held
+
+pub returns-in_ok-read-in-UInt8-clause-held : goal.returns-in_ok-read-in-UInt8-clause-held
+returns-in_ok-read-in-UInt8-clause-held g c =
+    keys_hold (entries g.R.Failures.memory c.args.body.now) c.args.body.now.extra c.args.place.buffer UInt8 (λ (x : ℕ). whole (pos x)) (λ x. pos x) c.in_ok-read-in-UInt8.read c.in_ok-read-in-UInt8.ensures.held
+
+pub returns-in_ok-read-in-UInt16-clause-held : goal.returns-in_ok-read-in-UInt16-clause-held
+returns-in_ok-read-in-UInt16-clause-held g c =
+    keys_hold (entries g.R.Failures.memory c.args.body.now) c.args.body.now.extra c.args.place.buffer UInt16 (λ (x : ℕ). whole (pos x)) (λ x. pos x) c.in_ok-read-in-UInt16.read c.in_ok-read-in-UInt16.ensures.held
+
+pub returns-in_ok-read-in-UInt32-clause-held : goal.returns-in_ok-read-in-UInt32-clause-held
+returns-in_ok-read-in-UInt32-clause-held g c =
+    keys_hold (entries g.R.Failures.memory c.args.body.now) c.args.body.now.extra c.args.place.buffer UInt32 (λ (x : ℕ). whole (pos x)) (λ x. pos x) c.in_ok-read-in-UInt32.read c.in_ok-read-in-UInt32.ensures.held
+
+pub returns-in_ok-read-in-UInt64-clause-held : goal.returns-in_ok-read-in-UInt64-clause-held
+returns-in_ok-read-in-UInt64-clause-held g c =
+    keys_hold (entries g.R.Failures.memory c.args.body.now) c.args.body.now.extra c.args.place.buffer UInt64 (λ (x : ℕ). whole (pos x)) (λ x. pos x) c.in_ok-read-in-UInt64.read c.in_ok-read-in-UInt64.ensures.held

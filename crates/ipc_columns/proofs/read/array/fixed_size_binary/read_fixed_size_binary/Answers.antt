@@ -5,6 +5,7 @@ use Rattle.lower_arrays.specs.Flat.{fixed_layout}
 use Rattle.ipc_model.specs.Entries.{rows, Need}
 use Rattle.ipc_columns.specs.Bodies.{entries}
 use Rattle.ipc_columns.proofs.FlatLevels.{fixed_is, fixed_keeps}
+use Rattle.ipc_columns.proofs.HeldLevels.{fixed_held}
 use Rattle.ipc_columns.proofs.read.array.fixed_size_binary.read_fixed_size_binary.Goals as goal
 
 pub returns-in_err-try_new-clause-memory : goal.returns-in_err-try_new-clause-memory
@@ -32,3 +33,14 @@ returns-clause-memory g c = λ k.
           ∙ fixed_is s u z n a b c.args.limit c.in_ok-values.values.items c.in_ok-head.head.validity c.requires.named some head.1.0 head.1.1
           c.in_ok-values.ensures.count read.1,
     )
+
+pub returns-clause-held : goal.returns-clause-held
+returns-clause-held g c =
+    let s = entries g.R.Failures.memory c.args.body.now in
+    let extra = c.args.body.now.extra in
+    let b = c.args.place.buffer in
+    let u = type_view c.args.data_type.now in
+    let v = c.in_ok-head.head.validity in
+    let xs = c.in_ok-values.values.items in
+    let same : c.in_ok-try_new.field-0 ≡ fixed_seen u xs v = search rules in
+    fixed_held s extra b u v c.in_ok-head.ensures.held c.args.size xs c.in_ok-try_new.field-0 same c.in_ok-values.ensures.held

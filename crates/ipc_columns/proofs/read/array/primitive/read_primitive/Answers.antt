@@ -1,11 +1,12 @@
-use Rattle.std.proofs.Common.{arith, rules, ◌≡◌, ℕ, ◌+◌, ◌*◌, ◌<◌, ap, ap₂, subst, ◌∙◌}
+use Rattle.std.proofs.Common.{arith, rules, ◌≡◌, ℕ, ◌+◌, ◌*◌, ◌<◌, ◌≤◌, length, vec_len, ap, ap₂, subst, ◌∙◌}
 use Rattle.lower.specs.TypeViews.{type_view}
 use Rattle.lower_types.specs.NumberTypes.{width_of}
 use Rattle.lower_flat.specs.Primitives.{primitive_seen}
 use Rattle.lower_arrays.specs.Primitives.{primitive_layout}
-use Rattle.ipc_model.specs.Entries.{rows, Need}
+use Rattle.ipc_model.specs.Entries.{listed, rows, Need}
 use Rattle.ipc_columns.specs.Bodies.{entries}
 use Rattle.ipc_columns.proofs.FlatLevels.{order_is, some_width, primitive_is}
+use Rattle.ipc_columns.proofs.HeldLevels.{number_held}
 use Rattle.ipc_columns.proofs.read.array.primitive.read_primitive.Goals as goal
 
 pub returns-clause-memory : goal.returns-clause-memory
@@ -29,3 +30,17 @@ returns-clause-memory g c = λ k.
           (λ ys. g.met.T.NativeType.number_is order ys) (λ ys. g.met.T.NativeType.reads_first order ys) g.met.T.NativeType.width_is some
           (order_is g.R.Failures.memory c.args.body.now) head.1.0 head.1.1 read.0.2 read.1,
     )
+
+pub returns-clause-held : goal.returns-clause-held
+returns-clause-held g c =
+    let s = entries g.R.Failures.memory c.args.body.now in
+    let extra = c.args.body.now.extra in
+    let b = c.args.place.buffer in
+    let u = type_view c.args.data_type.now in
+    let v = c.in_ok-head.head.validity in
+    let xs = c.in_ok-values.values.items in
+    let w = g.T.NativeType.width in
+    let same : c.in_ok-try_new.field-0 ≡ primitive_seen u xs v = search rules in
+    let many : length xs ≡ vec_len c.in_ok-values.values = omega arith in
+    let few : w * length xs ≤ listed s (b + 1) = omega (arith, ap (λ n. w * n) many, c.in_ok-values.ensures.held) in
+    number_held s extra b u v c.in_ok-head.ensures.held g.T.NativeType.primitive g.T.NativeType.number w xs c.in_ok-try_new.field-0 same g.met.T.NativeType.width_is few

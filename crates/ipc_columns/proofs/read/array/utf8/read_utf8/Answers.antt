@@ -12,6 +12,7 @@ use Rattle.ipc_model.specs.Columns.{last_offset, HasBytes, IsWell, AreTexts as H
 use Rattle.ipc_columns.specs.Bodies.{entries}
 use Rattle.ipc_columns.proofs.Fetches.{denies_through, refused}
 use Rattle.ipc_columns.proofs.SpanLevels.{last_read, texts_are, texts_were, text_keeps, utf8_is}
+use Rattle.ipc_columns.proofs.HeldLevels.{texts_held}
 use Rattle.ipc_columns.proofs.read.array.utf8.read_utf8.Goals as goal
 
 pub returns-in_err-values-clause-memory : goal.returns-in_err-values-clause-memory
@@ -89,3 +90,15 @@ returns-clause-memory g c = λ k.
       ap (λ x. texts_layout g.O.NativeType.primitive x) same
           ∙ utf8_is g.O.NativeType.primitive form s u a b n c.last.result c.args.limit os xs m g.met.O.StoredOffset.form_is head.1.0 stored.1 long head.1.1 end read.1,
     )
+
+pub returns-clause-held : goal.returns-clause-held
+returns-clause-held g c =
+    let s = entries g.R.Failures.memory c.args.body.now in
+    let extra = c.args.body.now.extra in
+    let b = c.args.place.buffer in
+    let u = type_view c.args.data_type.now in
+    let v = c.in_ok-head.head.validity in
+    let os = c.in_ok-offsets.offsets in
+    let xs = c.in_ok-values.values.items in
+    let same : c.in_ok-try_new.field-0 ≡ spans_seen u os xs v = search rules in
+    texts_held s extra b u v c.in_ok-head.ensures.held g.O.StoredOffset.form g.O.NativeType.primitive os xs c.in_ok-try_new.field-0 same c.in_ok-offsets.ensures.held c.in_ok-values.ensures.held
