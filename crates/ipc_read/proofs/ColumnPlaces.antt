@@ -17,6 +17,7 @@ use Rattle.ipc_devices.specs.Faults.{OwnFault}
 use Rattle.ipc_devices.specs.declared.fault.Fault.{Fault}
 use Rattle.ipc_columns.specs.Refusals.{IsFaultOf}
 use Rattle.ipc_columns.specs.Bodies.{HasRoom}
+use Rattle.ipc_columns.specs.HeldListed.{HoldsListed}
 use Rattle.ipc_columns.specs.Kinds.{Follows, listed_in}
 use Rattle.ipc_columns.specs.ReadColumns.{IsColumn}
 use Rattle.ipc_columns.specs.declared.read.body.Body.{Body}
@@ -136,6 +137,10 @@ module _ (extra : ℕ) (ts : Kinds) (is left : IdTrees) (j : ℕ) (p : Place) (t
   -- its buffers list the same there
   pub listed_there : (s : Entries) → listed_in s extra t p.buffer ≡ listed_in s extra (kind_at ts j) (buffers_before extra ts j)
   listed_there s = ap (λ (k : Kind). listed_in s extra k p.buffer) same ∙ ap (listed_in s extra (kind_at ts j)) at.buffer
+
+  -- an array that is within what they list is so there
+  pub held_there : (s : Entries) (x : Layout) → HoldsListed s extra t p.buffer x → HoldsListed s extra (kind_at ts j) (buffers_before extra ts j) x
+  held_there s x h = subst (λ (b : ℕ). HoldsListed s extra (kind_at ts j) b x) at.buffer (subst (λ (k : Kind). HoldsListed s extra k p.buffer x) same h)
 
   -- its faults are those of the kind there
   pub faults_there : (e : Fault) → OwnFault e (IsFaultOf t e) → OwnFault e (IsFaultOf (kind_at ts j) e)

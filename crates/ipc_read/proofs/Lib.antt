@@ -15,3 +15,4 @@ pub mod PlaceLists
 pub mod KnownDictionaries
 pub mod DictionaryMeanings
 pub mod AskedColumns
+pub mod HeldLists

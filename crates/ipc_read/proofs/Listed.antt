@@ -79,12 +79,12 @@ total_more bs b n d h =
     ∙ sum_by-cons (λ (r : Buffer). size r.length) (get_or bs b d) (take n (drop (b + 1) bs))
 
 module _ (w : List ℕ) (base : ℕ) (bs : List Buffer) (s : Entries) (same : s.parts ≡ map (part_at w base) bs) where
-  listed_inside : (b : ℕ) (d : Buffer) → b < length bs → listed s b ≡ size (get_or bs b d).length
+  pub listed_inside : (b : ℕ) (d : Buffer) → b < length bs → listed s b ≡ size (get_or bs b d).length
   listed_inside b d h =
       ap (λ (ps : List Part). size (get_or ps b (record { offset = pos 0; length = pos 0; bytes = [] })).length) same
       ∙ ap (λ (p : Part). size p.length) (get_or-map (part_at w base) bs b d (record { offset = pos 0; length = pos 0; bytes = [] }) h)
 
-  listed_outside : (b : ℕ) → length bs ≤ b → listed s b ≡ 0
+  pub listed_outside : (b : ℕ) → length bs ≤ b → listed s b ≡ 0
   listed_outside b h =
       ap (λ (ps : List Part). size (get_or ps b (record { offset = pos 0; length = pos 0; bytes = [] })).length) same
       ∙ ap (λ (p : Part). size p.length)

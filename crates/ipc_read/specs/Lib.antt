@@ -3,3 +3,4 @@ pub mod Columns
 pub mod Chunks
 pub mod DictionaryBatches
 pub mod Refusals
+pub mod HeldChunks

@@ -16,6 +16,7 @@ ghost use Rattle.ipc_columns.specs.Bodies.{Stands, HasRoom, entries, known, know
 ghost use Rattle.ipc_columns.specs.Steps.{Step};
 ghost use Rattle.ipc_read.specs.Chunks.{GivesBatch, batch_schema, chunk_seen, order_of};
 ghost use Rattle.ipc_read.specs.Columns.{ArePrepared, AreColumns, HasColumns, IsChosen, columns_listed};
+ghost use Rattle.ipc_read.specs.HeldChunks.{columns_most, arrays_held, HoldChosen};
 ghost use Rattle.ipc_read.specs.Refusals.{IsListFault, IsFaultOfSome, IsFaultOfBatch};
 ghost use Rattle.ipc_read.specs.Sizes.{AreSizes, total_of, chosen_listed};
 
@@ -185,6 +186,9 @@ pub fn read_columns<R: Reads + Seeks>(
     ensures step { let js = chosen (option_copied projection.entry) (length fields.now) in
         let ts = kinds_of (fields_view fields.now) (all_ids_view ids.now) in
         Step R.still R.memory R.failures R.given body.now (columns_listed (entries R.memory body.now) body.now.extra ts js) reader.old result reader.new }
+    ensures held { let js = chosen (option_copied projection.entry) (length fields.now) in
+        let ts = kinds_of (fields_view fields.now) (all_ids_view ids.now) in
+        IfOk result (λ v. arrays_held v.items ≤ columns_most (entries R.memory body.now) body.now.extra ts js) }
     ensures memory { IsTrue R.known → let s = entries R.memory body.now in
         let js = chosen (option_copied projection.entry) (length fields.now) in
         let ts = kinds_of (fields_view fields.now) (all_ids_view ids.now) in
@@ -223,7 +227,8 @@ pub fn read_columns<R: Reads + Seeks>(
 /// column, those inside the values of others aside, stand the values that the dictionaries have under
 /// its id. A column that isn't chosen is gone past by its type: no byte of it is read, and it isn't
 /// judged. An empty projection gives a chunk without columns. No more bytes are taken of the device
-/// than the buffers of the chosen columns list.
+/// than the buffers of the chosen columns list, and the arrays hold together no more than these and one
+/// offset for each buffer of offsets that lists nothing, the values of dictionaries aside.
 ///
 /// Faults: `InvalidFlatbufferCompression`, `InvalidFlatbufferBuffers`, `InvalidFlatbufferNodes` where
 /// these slots are ill-made, `MissingMessageBuffers`, `MissingMessageNodes` where they are absent or
@@ -256,6 +261,8 @@ pub fn read_record_batch<R: Reads + Seeks>(
     ensures given { let js = chosen (option_copied projection.entry) (length fields.now) in
         R.given reader.new ≤ R.given reader.old
         + chosen_listed (lists_of batch.entry) (extra_of version) (kinds (batch_schema fields.now ipc_schema.now)) js }
+    ensures held { let js = chosen (option_copied projection.entry) (length fields.now) in
+        IfOk result (λ xs. HoldChosen (lists_of batch.entry) (extra_of version) (kinds (batch_schema fields.now ipc_schema.now)) js xs) }
     ensures memory { IsTrue R.known → GivesBatch (batch_schema fields.now ipc_schema.now) (extra_of version) (known_dictionaries dictionaries.now)
         (record { source = (R.memory reader.old).whole; base = block_offset; size = file_size }) batch.entry
         (option_copied projection.entry) limit result }

@@ -1,5 +1,5 @@
 //! Reads dictionary batches.
-ghost use Rattle.std.specs.Prelude.{◌≡◌, ◌+◌, ◌++◌, ◌≤◌, [], ◌∷◌, None, Some, IsSome, IfErr, IsTrue, MatchOption, OnErr, OnOk};
+ghost use Rattle.std.specs.Prelude.{◌≡◌, ◌+◌, ◌++◌, ◌≤◌, [], ◌∷◌, None, Some, IsSome, IfErr, IfOk, IsTrue, MatchOption, OnErr, OnOk};
 ghost use Rattle.std.specs.HashMap.{IsUnchanged};
 ghost use Rattle.ipc_devices.specs.Device.{Rises};
 ghost use Rattle.ipc_devices.specs.Faults.{OnIo, OwnFault, Answers};
@@ -8,9 +8,10 @@ ghost use Rattle.lower.specs.TypeViews.{type_view, fields_view};
 ghost use Rattle.ipc_base.specs.IdTrees.{all_ids_view};
 ghost use Rattle.ipc_model.specs.Batches.{kinds, extra_of, lists_of, own_place, inner_places, places, place_of, values_schema};
 ghost use Rattle.ipc_model.specs.TypeKinds.{kind_of};
-ghost use Rattle.ipc_columns.specs.Bodies.{known_dictionaries};
+ghost use Rattle.ipc_columns.specs.Bodies.{array_under, known_dictionaries};
 ghost use Rattle.ipc_read.specs.Chunks.{batch_schema, order_of};
 ghost use Rattle.ipc_read.specs.DictionaryBatches.{GivesColumn, GivesDictionary, PutsValues, dictionary_head, values_listed, IsHeadFault, IsValuesFault, IsDictionaryFault};
+ghost use Rattle.ipc_read.specs.HeldChunks.{HoldChosen, HoldsValues};
 ghost use Rattle.ipc_read.specs.Refusals.{IsListFault};
 ghost use Rattle.ipc_read.specs.Sizes.{chosen_listed};
 
@@ -132,6 +133,8 @@ fn read_values<R: Reads + Seeks>(
     ensures failed { OnIo result (Rises (R.failures reader.old) (R.failures reader.new)) }
     ensures given { let schema = values_schema (record { id = None; type = type_view value_type.now; ids = all_ids_view ids.now }) (order_of is_little_endian) in
         R.given reader.new ≤ R.given reader.old + chosen_listed (lists_of batch.entry) (extra_of version) (kinds schema) (0 ∷ []) }
+    ensures held { let schema = values_schema (record { id = None; type = type_view value_type.now; ids = all_ids_view ids.now }) (order_of is_little_endian) in
+        IfOk result (λ x. HoldChosen (lists_of batch.entry) (extra_of version) (kinds schema) (0 ∷ []) (x ∷ [])) }
     ensures memory { IsTrue R.known → let u = type_view value_type.now in
         let schema = values_schema (record { id = None; type = u; ids = all_ids_view ids.now }) (order_of is_little_endian) in
         GivesColumn schema (extra_of version) (known_dictionaries dictionaries.now)
@@ -182,7 +185,8 @@ fn head_of<'a>(batch: &DictionaryBatchRef<'a>) -> Result<(i64, RecordBatchRef<'a
 /// long, and puts its values under its id, in place of those that it had (Arrow columnar format, "Dictionary messages").
 /// Their type is that of the first field with this id, in pre-order, and the dictionaries in them are those that are
 /// known before. It is done exactly where the batch has a meaning, and there is memory for it; on a fault the
-/// dictionaries stay as they were. No more bytes are taken of the device than the buffers of the values list.
+/// dictionaries stay as they were. No more bytes are taken of the device than the buffers of the values list, and the array
+/// of the values holds no more than these and one offset for each buffer of offsets that lists nothing.
 ///
 /// Faults: `InvalidFlatbufferIsDelta`, `InvalidFlatbufferId`, `InvalidFlatbufferData` where these slots are ill-made,
 /// `Delta` where the values are to follow others, `InvalidId` where no field has the id, `MissingData` where there are
@@ -210,6 +214,8 @@ pub fn read_dictionary<R: Reads + Seeks>(
     ensures given { R.given reader.new ≤ R.given reader.old + values_listed (batch_schema fields.now ipc_schema.now) (extra_of version) batch.entry }
     ensures memory { IsTrue R.known → GivesDictionary (batch_schema fields.now ipc_schema.now) (extra_of version) (known_dictionaries dictionaries.old)
         (record { source = (R.memory reader.old).whole; base = block_offset; size = file_size }) batch.entry result (known_dictionaries dictionaries.new) }
+    ensures held { OnOk result (HoldsValues (batch_schema fields.now ipc_schema.now) (extra_of version) batch.entry
+        (λ id. array_under dictionaries.old id) (λ id. array_under dictionaries.new id)) }
     ensures put { OnOk result (PutsValues R.known (batch_schema fields.now ipc_schema.now) batch.entry (known_dictionaries dictionaries.old) (known_dictionaries dictionaries.new)) }
     ensures kept { OnErr result (IsUnchanged dictionaries.old dictionaries.new) }
     ensures whole { IsTrue R.still → (R.memory reader.new).whole ≡ (R.memory reader.old).whole }

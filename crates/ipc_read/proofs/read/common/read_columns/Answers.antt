@@ -1,7 +1,9 @@
 use Rattle.std.proofs.Common.{arith, rules, ◌≡◌, ℕ, ◌+◌, ◌<◌, ◌≤◌, List, [], ◌∷◌, length, Option, true, false, refl, sym, ap, subst, ◌∙◌, length-append}
+use Rattle.std.proofs.lemmas.List.Sums.{sum_by_push}
 use Rattle.std.specs.Option.{option_copied}
 use Rattle.lower.specs.TypeViews.{type_view, fields_view}
 use Rattle.lower_arrays.specs.AnyLayouts.{layout_of}
+use Rattle.lower_arrays.specs.Held.{held}
 use Rattle.lower_arrays.specs.declared.array.AnyArray.{AnyArray}
 use Rattle.ipc_base.specs.IdTrees.{all_ids_view}
 use Rattle.ipc_devices.specs.Faults.{OwnFault}
@@ -15,10 +17,11 @@ use Rattle.ipc_columns.specs.Refusals.{IsFaultOf}
 use Rattle.ipc_columns.proofs.Fetches.{denies_through, refused, failing}
 use Rattle.ipc_columns.proofs.StructReads.{extra_is}
 use Rattle.ipc_read.specs.Columns.{IsChosen, HasColumns, columns_listed}
+use Rattle.ipc_read.specs.HeldChunks.{arrays_held, columns_most}
 use Rattle.ipc_read.specs.Refusals.{IsFaultOfSome}
 use Rattle.ipc_read.proofs.Chosen.{AreLeft, left_of, left_start, left_all, left_more, left_chosen, left_passed, left_same, left_none}
 use Rattle.ipc_read.proofs.ColumnLists.{Among, all_among, among_same, among_more, fault_among, SoFar, so_start, so_same, one_on, so_more, so_end}
-use Rattle.ipc_read.proofs.ColumnPlaces.{first_place, room_there, kind_there, type_there, next_place, well_there, well_here, column_there, listed_there, faults_there, skipped}
+use Rattle.ipc_read.proofs.ColumnPlaces.{first_place, room_there, kind_there, type_there, next_place, well_there, well_here, column_there, listed_there, held_there, faults_there, skipped}
 use Rattle.ipc_read.proofs.Fields.{field_count}
 use Rattle.ipc_read.proofs.Refusals.{claims_through}
 use Rattle.ipc_read.proofs.Steps.{step_err}
@@ -37,6 +40,8 @@ loop-index-init g c =
     let empty : length c.new-columns.result.items ≡ 0 = ap length none in
     let left : left_of p n (length c.new-columns.result.items) 0 ≡ js = ap (λ (m : ℕ). left_of p n m 0) empty ∙ left_all p n in
     let e = ap (columns_listed s c.args.body.now.extra ts) left in
+    let h1 = ap (columns_most s c.args.body.now.extra ts) left in
+    let h2 = ap arrays_held none in
     record {
       at = first_place c.args.body.now.extra ts (all_ids_view c.args.ids.now);
       rest = subst (λ (m : ℕ). AreLeft p n m 0) (sym empty) (left_start p n c.requires.prepared);
@@ -45,6 +50,7 @@ loop-index-init g c =
       monotone = omega arith;
       stands = c.requires.stands;
       given = omega (arith, e);
+      held = omega (arith, h1, h2);
       content = λ k.
           subst (λ (xs : List AnyArray). SoFar s vs (fields_view fs) ts c.args.limit js (left_of p n (length xs) 0) xs) (sym none)
           (so_start s vs (fields_view fs) ts c.args.limit js (left_of p n 0 0) (left_all p n));
@@ -114,6 +120,7 @@ loop-index-preserved-then-not-is_chosen g c =
     let other : IsChosen p m i → ⊥ = λ h. let yes : c.is_chosen.result ≡ true = c.is_chosen.ensures.1 (subst (λ (k : ℕ). IsChosen p k i) (sym count_is) h) in absurd cc in
     let stays = left_same p n m i other in
     let e = ap (columns_listed s extra ts) stays in
+    let h = ap (columns_most s extra ts) stays in
     record {
       at = next_place extra ts is left i place t at (omega (arith, inside, field_count fs is)) same (all_ids_view c.others_of-left.result.now) c.skip-place.result c.others_of-left.ensures
           (skipped extra (type_view f.data_type) id ids place c.skip-place.result c.skip-place.ensures.nodes c.skip-place.ensures.buffers);
@@ -123,6 +130,7 @@ loop-index-preserved-then-not-is_chosen g c =
       monotone = c.loop-index.invariant.monotone;
       stands = c.loop-index.invariant.stands;
       given = omega (arith, e, c.loop-index.invariant.given);
+      held = omega (arith, h, c.loop-index.invariant.held);
       content = λ k. so_same s vs (fields_view fs) ts c.args.limit (chosen p n) _ _ c.loop-index.columns.items stays (c.loop-index.invariant.content k);
     }
 
@@ -289,6 +297,10 @@ loop-index-preserved g c =
     let e1 = ap (columns_listed s extra ts) more in
     let e2 = listed_there extra ts is left i place t at listed same s in
     let e3 = ap (λ (k : ℕ). columns_listed s extra ts (left_of p n k (i + 1))) grown in
+    let h1 = ap (columns_most s extra ts) more in
+    let h2 = held_there extra ts is left i place t at listed same s (layout_of x) c.in_ok-column.ensures.held in
+    let h3 = ap (λ (k : ℕ). columns_most s extra ts (left_of p n k (i + 1))) grown in
+    let h4 = ap arrays_held pushed ∙ sum_by_push (λ (y : AnyArray). held (layout_of y)) c.loop-index.columns.items x in
     let fronted = sym (extra_is g.R.Failures.memory c.args.body.now) in
     record {
       at = next_place extra ts is left i place t at listed same (all_ids_view c.others_of-left.result.now) c.in_ok-column.next c.others_of-left.ensures c.in_ok-column.ensures.next;
@@ -298,6 +310,7 @@ loop-index-preserved g c =
       monotone = omega (arith, c.loop-index.invariant.monotone, c.in_ok-column.ensures.step.monotone);
       stands = c.in_ok-column.ensures.step.stands;
       given = omega (arith, e1, e2, e3, c.loop-index.invariant.given, c.in_ok-column.ensures.step.bounded);
+      held = omega (arith, h1, h2, h3, h4, c.loop-index.invariant.held);
       content = λ k.
           subst (λ (l : ℕ). SoFar s vs (fields_view fs) ts limit (chosen p n) (left_of p n l (i + 1)) c.push.new.self.items) grown
           (so_more s vs (fields_view fs) ts limit (chosen p n) _ (left_of p n (m + 1) (i + 1)) c.loop-index.columns.items c.push.new.self.items i x more
@@ -322,3 +335,6 @@ returns-clause-many g c =
     let n = length c.args.fields.now in
     let past : n ≤ c.loop-index.index = search rules in
     omega (arith, ap length (left_none p n (length c.loop-index.columns.items) c.loop-index.index past c.loop-index.invariant.rest), c.loop-index.invariant.many)
+
+pub returns-clause-held : goal.returns-clause-held
+returns-clause-held g c = omega (arith, c.loop-index.invariant.held)

@@ -6,6 +6,7 @@ use Rattle.ipc_model.specs.Batches.{chosen}
 use Rattle.ipc_model.specs.TypeKinds.{kinds_of}
 use Rattle.ipc_columns.specs.Bodies.{Stands, entries, known}
 use Rattle.ipc_read.specs.Columns.{columns_listed}
+use Rattle.ipc_read.specs.HeldChunks.{arrays_held, columns_most}
 use Rattle.ipc_read.proofs.Chosen.{AreLeft, left_of}
 use Rattle.ipc_read.proofs.ColumnLists.{Among, SoFar}
 use Rattle.ipc_read.proofs.ColumnPlaces.{IsPlace}
@@ -26,6 +27,10 @@ invariant-loop-index g l = record {
       (left_of (option_copied l.projection) (length l.fields) (length l.columns.items) l.index)
       ≤ g.R.Failures.given l.fn.reader
       + columns_listed (entries g.R.Failures.memory l.body) l.body.extra (kinds_of (fields_view l.fields) (all_ids_view l.ids)) (chosen (option_copied l.projection) (length l.fields));
+  held : arrays_held l.columns.items
+      + columns_most (entries g.R.Failures.memory l.body) l.body.extra (kinds_of (fields_view l.fields) (all_ids_view l.ids))
+      (left_of (option_copied l.projection) (length l.fields) (length l.columns.items) l.index)
+      ≤ columns_most (entries g.R.Failures.memory l.body) l.body.extra (kinds_of (fields_view l.fields) (all_ids_view l.ids)) (chosen (option_copied l.projection) (length l.fields));
   content : IsTrue g.R.Failures.known
       → SoFar (entries g.R.Failures.memory l.body) (known l.body) (fields_view l.fields) (kinds_of (fields_view l.fields) (all_ids_view l.ids)) l.limit (chosen (option_copied l.projection) (length l.fields))
       (left_of (option_copied l.projection) (length l.fields) (length l.columns.items) l.index) l.columns.items;

@@ -15,10 +15,12 @@ use Rattle.ipc_model.proofs.TypeKinds.{node_count_law, buffer_count_law}
 use Rattle.ipc_columns.specs.Bodies.{entries, known_dictionaries, array_under}
 use Rattle.ipc_read.specs.Chunks.{batch_schema, order_of}
 use Rattle.ipc_read.specs.Columns.{ArePrepared, HasColumns, AreColumns}
+use Rattle.ipc_read.specs.HeldChunks.{arrays_held, HoldChosen}
 use Rattle.ipc_read.specs.Sizes.{AreSizes, total_of, chosen_listed}
 use Rattle.ipc_read.proofs.Batches.{same_entries}
 use Rattle.ipc_read.proofs.Fields.{field_count}
 use Rattle.ipc_read.proofs.KnownArrays.{have_meaning, dictionaries_are, chunk_has_meaning}
+use Rattle.ipc_read.proofs.HeldLists.{held_total, chunk_holds}
 use Rattle.ipc_read.proofs.Listed.{given_total}
 use Rattle.ipc_read.proofs.Meanings.{listed_of, refused, judged, gives_batch}
 use Rattle.ipc_read.proofs.read.common.read_record_batch.Goals as goal
@@ -190,6 +192,24 @@ returns-clause-given g c =
     subst (λ (l : List IpcField). new ≤ old + chosen_listed (lists_of c.args.batch) extra (kinds_of (fields_view fs) (all_ids_view l)) js) ids_are
     (given_total g.R.Failures.memory _ lists body order extra ds (lists_of c.args.batch) (kinds_of (fields_view fs) (all_ids_view c.as_slice-ids.result.now)) js old new same
     c.count_extra-extra.ensures.extra c.in_ok-nodes.ensures.exact.1 c.in_ok-columns.ensures.step.bounded)
+
+pub returns-clause-held : goal.returns-clause-held
+returns-clause-held g c =
+    let ds = known_dictionaries c.args.dictionaries.now in
+    let fs = c.args.fields.now in
+    let lists : Lists = record { nodes = c.in_ok-nodes.nodes; buffers = c.in_ok-nodes.buffers } in
+    let body : model.Body = record { source = (g.R.Failures.memory c.args.reader.now).whole; base = c.args.block_offset; size = c.args.file_size } in
+    let order = order_of c.args.ipc_schema.now.is_little_endian in
+    let extra = extra_of c.args.version in
+    let same : entries g.R.Failures.memory _ ≡ entries_of lists body order extra ds =
+    same_entries g.R.Failures.memory _ lists body order extra refl refl (ap (λ r. (g.R.Failures.memory r).whole) c.of.ensures) refl c.byte_order.ensures c.count_extra-extra.ensures.extra in
+    let js = chosen (option_copied c.args.projection) (length fs) in
+    let ids_are : c.as_slice-ids.result.now ≡ c.args.ipc_schema.now.fields.items = search rules in
+    let xs = c.in_ok-columns.columns.items in
+    chunk_holds (lists_of c.args.batch) extra (kinds (batch_schema c.args.fields.now c.args.ipc_schema.now)) js xs c.try_new.result c.try_new.ensures.value
+    (subst (λ (l : List IpcField). HoldChosen (lists_of c.args.batch) extra (kinds_of (fields_view fs) (all_ids_view l)) js xs) ids_are
+    (held_total g.R.Failures.memory _ lists body order extra ds (lists_of c.args.batch) (kinds_of (fields_view fs) (all_ids_view c.as_slice-ids.result.now)) js (arrays_held xs) same
+    c.count_extra-extra.ensures.extra c.in_ok-nodes.ensures.exact.1 c.in_ok-columns.ensures.held))
 
 pub returns-clause-values : goal.returns-clause-values
 returns-clause-values g c = λ k.

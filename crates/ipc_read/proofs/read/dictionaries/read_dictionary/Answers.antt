@@ -1,9 +1,11 @@
-use Rattle.std.proofs.Common.{rules, ◌≡◌, ℤ, List, ◌∷◌, None, Some, IsSome, Err, to_z, of_z, ap, subst, ◌∙◌}
+use Rattle.std.proofs.Common.{arith, rules, ◌≡◌, ℤ, List, [], ◌∷◌, None, Some, IsSome, Err, to_z, of_z, ap, subst, ◌∙◌}
+use Rattle.std.proofs.lemmas.List.Sums.{sum_by-cons}
 use Rattle.std.specs.HashMap.{Updates}
 use Rattle.std.specs.Int.{w64}
 use Rattle.std.specs.Ordering.{int_eq}
 use Rattle.lower.specs.TypeViews.{type_view, fields_view}
 use Rattle.lower_arrays.specs.AnyLayouts.{layout_of}
+use Rattle.lower_arrays.specs.Held.{held}
 use Rattle.lower_arrays.specs.Layouts.{type_of}
 use Rattle.lower_arrays.specs.declared.array.AnyArray.{AnyArray}
 use Rattle.ipc_base.specs.IdTrees.{all_ids_view}
@@ -17,6 +19,7 @@ use Rattle.ipc_laws.specs.Agreement.{KnowAlike}
 use Rattle.ipc_read.specs.Chunks.{batch_schema, HasMeaning}
 use Rattle.ipc_read.specs.DictionaryBatches.{dictionary_head}
 use Rattle.ipc_read.proofs.DictionaryMeanings.{head_there, no_place, values_there, dictionary_given}
+use Rattle.ipc_read.proofs.HeldLists.{values_held}
 use Rattle.ipc_read.proofs.KnownDictionaries.{known_put, puts_values}
 use Rattle.ipc_read.proofs.Refusals.{own_any}
 use Rattle.ipc_read.proofs.read.dictionaries.read_dictionary.Goals as goal
@@ -124,3 +127,28 @@ returns-clause-put g c =
     subst (λ (j : ℤ). Updates int_eq c.args.dictionaries.now c.insert.new.self j (Some shared)) same_id c.in_ok-insert.ensures.updates in
     puts_values c.args.dictionaries.now c.insert.new.self id shared put g.R.Failures.known schema c.args.batch v p headed placed
     (λ k. ap (λ (y : AnyArray). type_of (layout_of y)) same_value ∙ (c.in_ok-values.ensures.memory k).1.1)
+
+pub returns-clause-held : goal.returns-clause-held
+returns-clause-held g c =
+    let schema : Schema = batch_schema c.args.fields.now c.args.ipc_schema.now in
+    let extra = extra_of c.args.version in
+    let id = c.in_ok-id.id in
+    let v = c.in_ok-id.values in
+    let headed : dictionary_head c.args.batch ≡ Some (id, v) = c.in_ok-id.ensures.exact.1 in
+    let ids_are : c.as_slice-schema_ids.result.now ≡ c.args.ipc_schema.now.fields.items = search rules in
+    let same_id : to_z w64 (of_z w64 id) ≡ id = search rules in
+    let u = type_view c.in-Some.value_type.now in
+    let is = all_ids_view c.in-Some.ids.now in
+    let p : Place = record { id = Some id; type = u; ids = is } in
+    let placed : place_of (places schema.fields schema.ids) id ≡ Some p =
+    subst (λ (j : ℤ). place_of (places (fields_view c.args.fields.now) (all_ids_view c.args.ipc_schema.now.fields.items)) j ≡ Some (record { id = Some j; type = u; ids = is })) same_id
+    (subst (λ (l : List IpcField). place_of (places (fields_view c.args.fields.now) (all_ids_view l)) (to_z w64 (of_z w64 id)) ≡ Some (record { id = Some (to_z w64 (of_z w64 id)); type = u; ids = is })) ids_are
+    c.in-Some.ensures) in
+    let x = c.in_ok-values.values in
+    let shared = c.in_ok-values-2.values in
+    let same_value : shared.value ≡ x = c.in_ok-values-2.ensures.ok in
+    let put : Updates int_eq c.args.dictionaries.now c.insert.new.self id (Some shared) =
+    subst (λ (j : ℤ). Updates int_eq c.args.dictionaries.now c.insert.new.self j (Some shared)) same_id c.in_ok-insert.ensures.updates in
+    let one = sum_by-cons (λ (y : AnyArray). held (layout_of y)) x [] in
+    let e = ap (λ (y : AnyArray). held (layout_of y)) same_value in
+    values_held c.args.dictionaries.now c.insert.new.self id shared put schema extra c.args.batch v p headed placed (omega (arith, one, e, c.in_ok-values.ensures.held))

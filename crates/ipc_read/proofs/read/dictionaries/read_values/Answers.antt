@@ -15,6 +15,7 @@ use Rattle.ipc_columns.specs.ReadColumns.{IsColumn}
 use Rattle.ipc_read.specs.Chunks.{order_of}
 use Rattle.ipc_read.specs.Sizes.{AreSizes, total_of}
 use Rattle.ipc_read.proofs.Batches.{same_entries}
+use Rattle.ipc_read.proofs.HeldLists.{column_held}
 use Rattle.ipc_read.proofs.Meanings.{listed_of}
 use Rattle.ipc_read.proofs.ValueReads.{schema_of, column_refused, column_judged, column_given, values_given}
 use Rattle.ipc_read.proofs.read.dictionaries.read_values.Goals as goal
@@ -157,3 +158,17 @@ returns-clause-given g c =
     values_given g.R.Failures.memory _ lists body order extra ds (lists_of c.args.batch) u is
     (g.R.Failures.given c.args.reader.now) (g.R.Failures.given c.read.new.reader) same c.count_extra-extra.ensures.extra c.in_ok-nodes.ensures.exact.1
     c.in_ok-values.ensures.step.bounded
+
+pub returns-clause-held : goal.returns-clause-held
+returns-clause-held g c =
+    let lists : Lists = record { nodes = c.in_ok-nodes.nodes; buffers = c.in_ok-nodes.buffers } in
+    let extra = extra_of c.args.version in
+    let u = type_view c.args.value_type.now in
+    let is = all_ids_view c.args.ids.now in
+    let order = order_of c.args.is_little_endian in
+    let ds = known_dictionaries c.args.dictionaries.now in
+    let body : model.Body = record { source = (g.R.Failures.memory c.args.reader.now).whole; base = c.args.block_offset; size = c.args.file_size } in
+    let same : entries g.R.Failures.memory _ ≡ entries_of lists body order extra ds =
+    same_entries g.R.Failures.memory _ lists body order extra refl refl (ap (λ r. (g.R.Failures.memory r).whole) c.of.ensures) refl c.byte_order.ensures c.count_extra-extra.ensures.extra in
+    column_held g.R.Failures.memory _ lists body order extra ds (lists_of c.args.batch) u is c.in_ok-values.values same c.count_extra-extra.ensures.extra c.in_ok-nodes.ensures.exact.1
+    c.in_ok-values.ensures.held
