@@ -1,0 +1,125 @@
+-- What the end of a session leaves.
+use Rattle.std.proofs.Common.{◌≡◌, ℕ, ◌-◌, ◌≤◌, Bool, IsTrue, List, [], ◌++◌, length, take, Result, Ok, Err, OnOk, refl, sym, ap, ◌∙◌, subst, arith, append-nil, length-drop, length-take-le}
+use Rattle.std.proofs.lemmas.List.{take_all}
+use Rattle.lower_arrays.specs.declared.array.AnyArray.{AnyArray}
+use Rattle.ipc_devices.specs.Device.{Memory, before}
+use Rattle.ipc_devices.specs.declared.fault.Fault.{Fault}
+use Rattle.ipc_model.specs.Batches.{Chunk}
+use Rattle.ipc_model.specs.Streams.{Head}
+use Rattle.ipc_write.specs.declared.stream.WriterState.TheVariants.{Finished, Started}
+use Rattle.ipc_file_write.specs.AppendLaws.{NoMore, Onward}
+use Rattle.ipc_file_write.specs.FileWriters.{AnswersFinish, EndsWith, FileSeen, HoldsBytes, IsOpenFile, IsWholeFile, ReachesEnd, Remains, SendsBytes, head_of_file}
+use Rattle.ipc_file_write.proofs.FileStates.{at_state}
+use Rattle.ipc_file_write.proofs.Onward.{onward_both}
+use Rattle.ipc_sessions.specs.Sessions.{IsEndedFile, taken_of}
+use Rattle.ipc_sessions.specs.Steps.{AreWritten, EndsSession, Leaves, TakesChunks}
+use Rattle.ipc_sessions.proofs.Writes.{no_more_step, onward_step, takes_all}
+
+-- ---- writers without a device
+
+abbrev pub without_device : {W : Type 0} → FileSeen W → FileSeen (Unit {0})
+without_device w = record {
+  device = tt;
+  state = w.state;
+  order = w.order;
+  fields = w.fields;
+  metadata = w.metadata;
+  chosen = w.chosen;
+  ids = w.ids;
+  pairs = w.pairs;
+  remembers = w.remembers;
+  dictionaries = w.dictionaries;
+  blocks = w.blocks;
+  place = w.place;
+  size = w.size;
+}
+
+open-without : {W : Type 0} (is_stream : Bool) (w : FileSeen W) (bytes : List ℕ) (cs : List Chunk) → IsOpenFile is_stream w bytes cs → IsOpenFile is_stream (without_device w) bytes cs
+open-without is_stream w bytes cs h = record {
+  writable = h.writable;
+  light = h.light;
+  begun = h.begun;
+  long = h.long;
+  file = h.file;
+  stream = h.stream;
+  place = h.place;
+  natural = h.natural;
+  reached = h.reached;
+  last = h.last;
+}
+
+pub whole_without : {W : Type 0} (is_stream : Bool) (w : FileSeen W) (bytes : List ℕ) (cs : List Chunk) → IsWholeFile is_stream w bytes cs → IsWholeFile is_stream (without_device w) bytes cs
+whole_without is_stream w bytes cs h = record {
+  file = h.file;
+  stream = h.stream;
+  front = h.front;
+  behind = h.behind;
+  bytes_are = h.bytes_are;
+  open_front = open-without is_stream w h.front cs h.open_front;
+  long = h.long;
+}
+
+-- ---- nothing stands behind the end
+
+-- what stands before a place that is inside
+pub front_before : (m : Memory) → m.place ≤ length m.whole → before m ≡ take m.place m.whole
+front_before m inside =
+    let none : m.place - length m.whole ≡ 0 = omega (arith, inside) in
+    rw none (append-nil (take m.place m.whole))
+
+all-before : (m : Memory) (bytes : List ℕ) (size : ℕ) → m.place ≤ length m.whole → before m ≡ bytes → NoMore m size → size ≤ m.place → m.whole ≡ bytes
+all-before m bytes size inside held more reached =
+    let all : length m.whole ≤ m.place = omega (arith, more, reached, length-drop m.place m.whole) in
+    sym (take_all m.place m.whole all) ∙ sym (front_before m inside) ∙ held
+
+length-before : (m : Memory) (bytes : List ℕ) → m.place ≤ length m.whole → before m ≡ bytes → m.place ≡ length bytes
+length-before m bytes inside held = omega (arith, ap length (sym (front_before m inside) ∙ held), length-take-le m.place m.whole inside)
+
+-- ---- a session
+
+module _ {W : Type 0} (known grows : Bool) (failures room : W → ℕ) (memory : W → Memory) (a b c : FileSeen W) (cs : List Chunk) (took : TakesChunks known memory a b cs) where
+  onward-all : (r : Result (Unit {0}) Fault) → SendsBytes known grows failures room memory b r c → IsTrue known → (memory a.device).place ≤ length (memory a.device).whole → Onward (memory a.device) (memory c.device)
+  onward-all r sent k inside =
+      let first = took.onward k inside in
+      onward_both (memory a.device) (memory b.device) (memory c.device) first (onward_step known grows failures room memory b c r sent.bytes sent.step k first.there)
+
+  module _ (r : Result (Unit {0}) Fault) (sent : SendsBytes known grows failures room memory b r c) (ends : EndsWith b c) (reaches : ReachesEnd known memory b c) (remains : Remains known memory b c) (k : IsTrue known) (is_stream : Bool) (then : List Chunk)
+      (h : HoldsBytes is_stream (memory a.device) a [] then) (inside : (memory a.device).place ≤ length (memory a.device).whole) (more : NoMore (memory a.device) a.size) where
+    ended : IsEndedFile is_stream (memory c.device).whole (head_of_file a).schema a.pairs (then ++ cs)
+    ended =
+        let first = took.onward k inside in
+        let second = onward_step known grows failures room memory b c r sent.bytes sent.step k first.there in
+        let held = took.holds k is_stream [] then h in
+        let kept = remains.kept k is_stream [] (then ++ cs) held in
+        let opened : IsOpenFile is_stream b held.bytes (then ++ cs) = at_state is_stream b.state Started b held.bytes (then ++ cs) ends.was held.file in
+        let whole : IsWholeFile is_stream c kept.bytes (then ++ cs) = at_state is_stream c.state Finished c kept.bytes (then ++ cs) ends.is kept.file in
+        let at : b.place ≤ (memory b.device).place = omega (arith, opened.place, length-before (memory b.device) held.bytes first.there held.held) in
+        let reached = reaches.reaches k at in
+        let left = no_more_step known grows failures room memory b c r sent.bytes sent.step k a.size (took.more k a.size more) in
+        let all : (memory c.device).whole ≡ kept.bytes = all-before (memory c.device) kept.bytes a.size second.there kept.held left (omega (arith, reached, took.same.size)) in
+        let same = sent.step.same in
+        let head : head_of_file c ≡ head_of_file b = rw (same.order, same.fields, same.metadata, ends.ids) refl in
+        let head_then : head_of_file b ≡ head_of_file a = rw (took.same.order, took.same.fields, took.same.metadata, took.ids ends.was) refl in
+        record {
+          writer = without_device c;
+          whole = whole_without is_stream c (memory c.device).whole (then ++ cs) (subst (λ (xs : List ℕ). IsWholeFile is_stream c xs (then ++ cs)) (sym all) whole);
+          schema_is = ap (λ (x : Head). x.schema) (head ∙ head_then);
+          pairs_are = ends.pairs ∙ took.same.pairs;
+        }
+
+  session-leaves : (r : Result (Unit {0}) Fault) → SendsBytes known grows failures room memory b r c → OnOk r (EndsWith b c) → OnOk r (ReachesEnd known memory b c) → Remains known memory b c → Leaves known memory a c.device r cs
+  session-leaves (Ok x) sent ends reaches remains = record {
+    onward = λ k inside. onward-all (Ok x) sent k inside;
+    ended = λ k is_stream then h inside more. ended (Ok x) sent ends reaches remains k is_stream then h inside more;
+  }
+  session-leaves (Err e) sent ends reaches remains = record { onward = λ k inside. onward-all (Err e) sent k inside; ended = λ k. tt }
+
+pub ends_session : {W : Type 0} (known grows : Bool) (failures room : W → ℕ) (memory : W → Memory) (a b c : FileSeen W) (chunks : List (List AnyArray)) (answers : List (Result (Unit {0}) Fault)) (r : Result (Unit {0}) Fault)
+    → AreWritten known memory a chunks answers b → SendsBytes known grows failures room memory b r c → OnOk r (EndsWith b c) → OnOk r (ReachesEnd known memory b c) → Remains known memory b c → AnswersFinish b r
+    → EndsSession known memory a chunks answers r c.device
+ends_session known grows failures room memory a b c chunks answers r writes sent ends reaches remains exact = record {
+  last = b;
+  writes = writes;
+  ends = exact;
+  leaves = session-leaves known grows failures room memory a b c (taken_of chunks answers) (takes_all known memory a b chunks answers writes) r sent ends reaches remains;
+}

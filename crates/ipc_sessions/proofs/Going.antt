@@ -1,0 +1,199 @@
+-- What a session does that goes on with a file.
+use Rattle.std.proofs.Common.{◌≡◌, ◌⊎◌, inl, inr, ℕ, ◌+◌, ◌≤◌, Bool, false, IsTrue, List, [], ◌∷◌, ◌++◌, length, map, take, Some, None, Result, Ok, Err, OnOk, refl, sym, ap, ◌∙◌, subst, arith, append_assoc, append-nil, length-drop}
+use Rattle.std.specs.Prelude.{Vec}
+use Rattle.std.specs.declared.alloc.Global.{Global}
+use Rattle.lower.specs.TypeTrees.{Pairs}
+use Rattle.lower_arrays.specs.declared.array.AnyArray.{AnyArray}
+use Rattle.ipc_devices.specs.Device.{Memory}
+use Rattle.ipc_devices.specs.Faults.{OwnFault}
+use Rattle.ipc_devices.specs.declared.fault.ArgFault.TheVariants.{FieldsShape, NoRecordBlocks, NotWritable, TooLarge}
+use Rattle.ipc_devices.specs.declared.fault.Fault.{Fault}
+use Rattle.ipc_devices.specs.declared.fault.Fault.TheVariants.{Argument, Io, Memory as NoMemory, OutOfSpec}
+use Rattle.ipc_devices.specs.declared.fault.OutOfSpecKind.TheVariants.{UnexpectedNegativeInteger}
+use Rattle.ipc_model.specs.Batches.{Chunk, Schema}
+use Rattle.ipc_model.specs.Entries.{Dictionaries}
+use Rattle.ipc_model.specs.Files.{FileMetadata, file_dictionaries, metadata_of}
+use Rattle.ipc_model.specs.Streams.{Head}
+use Rattle.ipc_model.proofs.Given.{some-same}
+use Rattle.ipc_file_laws.proofs.Appending.{stay_law}
+use Rattle.ipc_file_laws.specs.Appending.{MeansBefore, goes_on, normal_chunk, normal_schema}
+use Rattle.ipc_file_write.specs.AppendLaws.{NoMore}
+use Rattle.ipc_file_write.specs.Appends.{GoesOn, GoesOnAgain, GoesOnWith, HasNoDictionaries, MayGoOn, RefusesFile, RefusesToGoOn}
+use Rattle.ipc_file_write.specs.FileWriters.{FileSeen, HoldsBytes, head_of_file}
+use Rattle.ipc_file_write.proofs.Appends.{inside_file, same_head, schema_same}
+use Rattle.ipc_file_write.proofs.FileHeads.{is_headed}
+use Rattle.ipc_sessions.specs.Sessions.{Adds, AddsInTurn, IsEndedFile, IsForeignFile, IsOldFile, KeepsOld, RefusesNoOld}
+use Rattle.ipc_sessions.specs.Steps.{AreSessions, IsSessionOn, Leaves}
+
+-- ---- the file that it makes
+
+module _ (is_stream : Bool) (bytes : List ℕ) where
+  ended-as : (s t : Schema) (ps qs : Pairs) (cs ds : List Chunk) → s ≡ t → ps ≡ qs → cs ≡ ds → IsEndedFile is_stream bytes s ps cs → IsEndedFile is_stream bytes t qs ds
+  ended-as s t ps qs cs ds e f g h =
+      subst (λ (x : List Chunk). IsEndedFile is_stream bytes t qs x) g (subst (λ (x : Pairs). IsEndedFile is_stream bytes t x cs) f (subst (λ (x : Schema). IsEndedFile is_stream bytes x ps cs) e h))
+
+module _ {W : Type 0} (known : Bool) (memory : W → Memory) (m : FileMetadata) (device : W) (w : FileSeen W) (c : W) (cs : List Chunk) (g : GoesOn known memory m device w) (k : IsTrue known) (is : metadata_of (memory device).whole ≡ Some m) where
+  stands-inside : (memory w.device).place ≤ length (memory w.device).whole
+  stands-inside =
+      let at = g.stands k in
+      let inside = inside_file m (memory device).whole (is_headed (memory device).whole m is) in
+      omega (arith, at.place, ap length at.whole, inside)
+
+  no-more-there : NoMore (memory w.device) w.size
+  no-more-there =
+      let at = g.stands k in
+      let headed = is_headed (memory device).whole m is in
+      omega (arith, at.place, ap length at.whole, length-drop (memory w.device).place (memory w.device).whole, g.size, headed.size)
+
+  module _ (ended : (is_stream : Bool) (before : List Chunk) → HoldsBytes is_stream (memory w.device) w [] before → (memory w.device).place ≤ length (memory w.device).whole → NoMore (memory w.device) w.size
+      → IsEndedFile is_stream (memory c).whole (head_of_file w).schema w.pairs (before ++ cs)) where
+    -- behind a file that another session left
+    from-ended : GoesOnAgain known memory m device w → (is_stream : Bool) (schema : Schema) (pairs : Pairs) (before : List Chunk) → IsEndedFile is_stream (memory device).whole schema pairs before
+        → IsEndedFile is_stream (memory c).whole schema pairs (before ++ cs)
+    from-ended again is_stream schema pairs before h =
+        let head = same_head known memory m device w h.writer is_stream before g k is h.whole in
+        let metadata = some-same _ m (sym h.whole.file.means.metadata ∙ is) in
+        let same : w.pairs ≡ pairs = g.pairs ∙ sym (ap (λ (x : FileMetadata). x.pairs) metadata) ∙ h.pairs_are in
+        ended-as is_stream (memory c).whole (head_of_file w).schema schema w.pairs pairs (before ++ cs) (before ++ cs) (ap (λ (x : Head). x.schema) (sym head) ∙ h.schema_is) same refl
+        (ended is_stream before (again k is is_stream h.writer before h.whole) stands-inside no-more-there)
+
+    -- behind one of others
+    from-foreign : GoesOnWith known memory m device w → (schema : Schema) (pairs : Pairs) (before : List Chunk) → IsForeignFile false (memory device).whole schema pairs before
+        → IsEndedFile false (memory c).whole schema pairs (before ++ cs)
+    from-foreign gives schema pairs before h =
+        let metadata : h.metadata ≡ m = some-same h.metadata m (sym h.metadata_is ∙ is) in
+        let means : MeansBefore m (memory device).whole h.known h.chunks = subst (λ (x : FileMetadata). MeansBefore x (memory device).whole h.known h.chunks) metadata h.means in
+        let schema_is : (head_of_file w).schema ≡ schema = schema_same m w g.order g.fields g.metadata g.ids ∙ sym (ap (λ (x : FileMetadata). normal_schema x.schema) metadata) ∙ h.schema_is in
+        let same : w.pairs ≡ pairs = g.pairs ∙ sym (ap (λ (x : FileMetadata). x.pairs) metadata) ∙ h.pairs_are in
+        ended-as false (memory c).whole (head_of_file w).schema schema w.pairs pairs (map normal_chunk h.chunks ++ cs) (before ++ cs) schema_is same (ap (λ (xs : List Chunk). xs ++ cs) h.chunks_are)
+        (ended false (map normal_chunk h.chunks) (gives k is h.known h.chunks means) stands-inside no-more-there)
+
+    foreign-alone : (is_stream : Bool) (schema : Schema) (pairs : Pairs) (before : List Chunk) → is_stream ≡ false → IsForeignFile is_stream (memory device).whole schema pairs before
+        → GoesOnWith known memory m device w → IsEndedFile is_stream (memory c).whole schema pairs (before ++ cs)
+    foreign-alone is_stream schema pairs before e h gives =
+        subst (λ (b : Bool). IsEndedFile b (memory c).whole schema pairs (before ++ cs)) (sym e)
+        (from-foreign gives schema pairs before (subst (λ (b : Bool). IsForeignFile b (memory device).whole schema pairs before) e h))
+
+    one-more : GoesOnAgain known memory m device w → GoesOnWith known memory m device w → Adds (memory device).whole (memory c).whole cs
+    one-more again gives is_stream schema pairs before old =
+        elim old [
+          | inl h ↦ from-ended again is_stream schema pairs before h
+          | inr h ↦ foreign-alone is_stream schema pairs before h.no_stream h gives
+        ]
+
+  pub adds_ok : (r : Result (Unit {0}) Fault) → Leaves known memory w c r cs → GoesOnAgain known memory m device w → GoesOnWith known memory m device w → OnOk r (Adds (memory device).whole (memory c).whole cs)
+  adds_ok (Ok x) l again gives = one-more (l.ended k) again gives
+  adds_ok (Err e) l again gives = tt
+
+  -- what stays whatever is answered
+  pub keeps_old : (r : Result (Unit {0}) Fault) → Leaves known memory w c r cs → KeepsOld m (memory device).whole (memory c).whole
+  keeps_old r l =
+      let p = goes_on m in
+      let at = g.stands k in
+      let onward = l.onward k stands-inside in
+      let same : take p (memory c).whole ≡ take p (memory device).whole =
+      ap (λ (n : ℕ). take n (memory c).whole) (sym at.place) ∙ onward.kept ∙ ap (λ (n : ℕ). take n (memory w.device).whole) at.place ∙ ap (take p) at.whole in
+      record {
+        longer = omega (arith, ap length at.whole, onward.longer);
+        kept = same;
+        gives = λ found before means. stay_law m (memory device).whole (memory c).whole found before same means;
+      }
+
+-- ---- which are refused
+
+-- nothing refuses one of itself that may be gone on with
+refuses-not : (m : FileMetadata) (e : Fault) → OwnFault e (MayGoOn m → RefusesToGoOn m e → ⊥)
+refuses-not m (Argument NoRecordBlocks) = λ may h. may.some_blocks h
+refuses-not m (OutOfSpec UnexpectedNegativeInteger) = λ may h. may.natural h
+refuses-not m (Argument TooLarge) = λ may h. elim h [ inl long ↦ absurd (let short = may.short in omega (arith, long, short)) | inr heavy ↦ heavy may.light ]
+refuses-not m (Argument FieldsShape) = λ may h. h may.writable.fits
+refuses-not m (Argument NotWritable) = λ may h. h may.writable
+refuses-not m NoMemory = tt
+refuses-not m (Io x) = tt
+refuses-not m _ = λ may h. absurd h
+
+own-two : (e : Fault) (P Q R : Type 0) → (P → Q → R) → OwnFault e P → OwnFault e Q → OwnFault e R
+own-two NoMemory P Q R f p q = tt
+own-two (Io x) P Q R f p q = tt
+own-two _ P Q R f p q = f p q
+
+-- its dictionaries have a meaning
+old-dictionaries : (m : FileMetadata) (bytes : List ℕ) (is_stream : Bool) (schema : Schema) (pairs : Pairs) (before : List Chunk) → metadata_of bytes ≡ Some m → IsOldFile is_stream bytes schema pairs before
+    → (known : Dictionaries) × (file_dictionaries m bytes ≡ Some known)
+old-dictionaries m bytes is_stream schema pairs before is old =
+    elim old [
+      | inl h ↦
+          let metadata = some-same _ m (sym h.whole.file.means.metadata ∙ is) in
+          (h.whole.file.known, subst (λ (x : FileMetadata). file_dictionaries x bytes ≡ Some h.whole.file.known) metadata h.whole.file.means.dictionaries)
+      | inr h ↦
+          let metadata = some-same h.metadata m (sym h.metadata_is ∙ is) in
+          let whole = stay_law h.metadata bytes bytes h.known h.chunks refl h.means in
+          (h.known, subst (λ (x : FileMetadata). file_dictionaries x bytes ≡ Some h.known) metadata whole.dictionaries)
+    ]
+
+pub refuses_no_old : (m : FileMetadata) (bytes : List ℕ) (known : Bool) (e : Fault) → IsTrue known → metadata_of bytes ≡ Some m → RefusesFile known m bytes e → RefusesNoOld m bytes e
+refuses_no_old m bytes known e k is refused =
+    own-two e (RefusesToGoOn m e ⊎ HasNoDictionaries known m bytes e) (MayGoOn m → RefusesToGoOn m e → ⊥) _
+    (λ reason not may is_stream schema pairs before old.
+    elim reason [
+      | inl own ↦ not may own
+      | inr lacks ↦
+          let there = old-dictionaries m bytes is_stream schema pairs before is old in
+          let both : None ≡ Some there.0 = sym (lacks.none k) ∙ there.1 in
+          absurd cc
+    ])
+    refused (refuses-not m e)
+
+own-one : (e : Fault) (P Q : Type 0) → (P → Q) → OwnFault e P → OwnFault e Q
+own-one NoMemory P Q f p = tt
+own-one (Io x) P Q f p = tt
+own-one _ P Q f p = f p
+
+-- ---- metadata that a session reads
+
+-- What holds of the bytes that were read holds of those that were there before.
+pub as_read : (P : FileMetadata → List ℕ → Type 0) (old mid read : List ℕ) (m : FileMetadata) → mid ≡ old → read ≡ mid → metadata_of mid ≡ Some m → (metadata_of read ≡ Some m → P m read)
+    → (m' : FileMetadata) → metadata_of old ≡ Some m' → P m' old
+as_read P old mid read m e f is h m' is' =
+    let there : metadata_of old ≡ Some m = ap metadata_of (sym e) ∙ is in
+    let same : m ≡ m' = some-same m m' (sym there ∙ is') in
+    subst (λ (x : FileMetadata). P x old) same (subst (λ (xs : List ℕ). P m xs) (f ∙ e) (h (ap metadata_of f ∙ is)))
+
+-- a file that has none
+pub none_read : (old mid : List ℕ) (e : Fault) → mid ≡ old → OwnFault e (metadata_of mid ≡ None) → (m : FileMetadata) → metadata_of old ≡ Some m → RefusesNoOld m old e
+none_read old mid e same none m is =
+    own-one e (metadata_of mid ≡ None) _
+    (λ no may is_stream schema pairs before h.
+    let both : None ≡ Some m = sym no ∙ ap metadata_of same ∙ is in
+    absurd cc)
+    none
+
+-- ---- one after the other
+
+pub in_turn_none : (bytes : List ℕ) → AddsInTurn 0 bytes bytes []
+in_turn_none bytes = record {
+  some = λ h. absurd (omega (arith, h));
+  any = λ is_stream schema pairs before old. subst (λ (cs : List Chunk). IsOldFile is_stream bytes schema pairs cs) (sym (append-nil before)) old;
+  ended = λ is_stream schema pairs before h. subst (λ (cs : List Chunk). IsEndedFile is_stream bytes schema pairs cs) (sym (append-nil before)) h;
+}
+
+pub in_turn_more : (n n' : ℕ) → n' ≡ n + 1 → (old mid new : List ℕ) (cs ds : List Chunk) → AddsInTurn n old mid cs → Adds mid new ds → AddsInTurn n' old new (cs ++ ds)
+in_turn_more n n' one old mid new cs ds f g =
+    let next : (is_stream : Bool) (schema : Schema) (pairs : Pairs) (before : List Chunk) → IsOldFile is_stream mid schema pairs (before ++ cs) → IsEndedFile is_stream new schema pairs (before ++ (cs ++ ds)) =
+    λ is_stream schema pairs before h. subst (λ (xs : List Chunk). IsEndedFile is_stream new schema pairs xs) (append_assoc before cs ds) (g is_stream schema pairs (before ++ cs) h) in
+    record {
+      some = λ h is_stream schema pairs before o. next is_stream schema pairs before (f.any is_stream schema pairs before o);
+      any = λ is_stream schema pairs before o. inl (next is_stream schema pairs before (f.any is_stream schema pairs before o));
+      ended = λ is_stream schema pairs before h. next is_stream schema pairs before (inl (f.ended is_stream schema pairs before h));
+    }
+
+-- ---- lists of sessions
+
+module _ {W : Type 0} (known : Bool) (memory : W → Memory) where
+  -- one session more
+  pub sessions_more : (a m b : W) (cs : List (Vec (List AnyArray) Global)) (rs : List (Vec (Result (Unit {0}) Fault) Global)) (c : Vec (List AnyArray) Global) (r : Vec (Result (Unit {0}) Fault) Global) → AreSessions known memory a cs rs m
+      → IsSessionOn known memory m c.items r.items (Ok tt) b → AreSessions known memory a (cs ++ c ∷ []) (rs ++ r ∷ []) b
+  sessions_more a m b [] [] c r h last = (b, (subst (λ (d : W). IsSessionOn known memory d c.items r.items (Ok tt) b) h last, refl))
+  sessions_more a m b [] (x ∷ rs) c r h last = absurd h
+  sessions_more a m b (d ∷ cs) [] c r h last = absurd h
+  sessions_more a m b (d ∷ cs) (x ∷ rs) c r h last = (h.0, (h.1.0, sessions_more h.0 m b cs rs c r h.1.1 last))

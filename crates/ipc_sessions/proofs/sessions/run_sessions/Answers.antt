@@ -1,0 +1,37 @@
+use Rattle.std.proofs.Common.{◌≡◌, ◌+◌, ◌∷◌, [], ◌++◌, List, arith, length, length-append, take, sym, ap, ◌∙◌, subst, refl}
+use Rattle.std.proofs.lemmas.List.{take_all, take_more}
+use Rattle.ipc_model.specs.Batches.{Chunk}
+use Rattle.ipc_sessions.specs.Sessions.{AddsInTurn}
+use Rattle.ipc_sessions.proofs.Going.{in_turn_more, in_turn_none, sessions_more}
+use Rattle.ipc_sessions.proofs.Taken.{all_taken_more}
+use Rattle.ipc_sessions.proofs.sessions.run_sessions.Goals as goal
+
+pub loop-chunks-init : goal.loop-chunks-init
+loop-chunks-init g c = rw c.new-answers.ensures.items (refl, refl, λ k. in_turn_none _)
+
+pub loop-chunks-preserved : goal.loop-chunks-preserved
+loop-chunks-preserved g c =
+    let known = g.W.Failures.known in
+    let memory = g.W.Failures.memory in
+    let sessions = c.args.sessions.now in
+    let i = c.loop-chunks.chunks-index in
+    let chunks = c.chunks-item.result in
+    let next : take (i + 1) sessions ≡ take i sessions ++ chunks ∷ [] =
+    take_more sessions i chunks c.loop-chunks-test.true ∙ sym (ap (λ x. take i sessions ++ x ∷ []) c.chunks-item.is) in
+    let answers = c.loop-chunks.answers.items in
+    let inv = c.loop-chunks.invariant in
+    let one = c.in_ok-ended.ended.1 in
+    let left = c.in_ok-ended.ended.0 in
+    rw (next, c.in_ok-push.ensures.items) (
+      sessions_more known memory _ _ _ (take i sessions) answers chunks one inv.0 (rw c.deref.ensures.value at c.in_ok-ended.ensures.made),
+      omega (arith, inv.1, length-append (take i sessions) (chunks ∷ []), length-append answers (one ∷ [])),
+      λ k.
+          subst (λ (xs : List Chunk). AddsInTurn (length (take i sessions ++ chunks ∷ [])) (memory c.args.device).whole (memory left).whole xs) (sym (all_taken_more (take i sessions) chunks answers one inv.1))
+          (in_turn_more (length (take i sessions)) (length (take i sessions ++ chunks ∷ [])) (omega (arith, length-append (take i sessions) (chunks ∷ []))) _ _ _ _ _ (inv.2 k) (rw c.deref.ensures.value at (c.in_ok-ended.ensures.adds k))),
+    )
+
+pub returns-clause-made : goal.returns-clause-made
+returns-clause-made g c = rw (take_all c.loop-chunks.chunks-index c.args.sessions.now c.loop-chunks-test.false) at c.loop-chunks.invariant.0
+
+pub returns-clause-adds : goal.returns-clause-adds
+returns-clause-adds g c = rw (take_all c.loop-chunks.chunks-index c.args.sessions.now c.loop-chunks-test.false) at c.loop-chunks.invariant.2

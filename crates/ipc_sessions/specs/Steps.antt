@@ -1,0 +1,109 @@
+-- The calls of a session: what its writes do, what its end leaves, and which calls are made of which writers.
+-- (Arrow columnar format, "IPC File Format".)
+use Rattle.std.specs.Prelude.{◌≡◌, ℕ, ◌≤◌, Bool, IsTrue, true, List, [], ◌∷◌, ◌++◌, length, Some, None, Result, Ok, OnOk, Vec}
+use Rattle.std.specs.declared.alloc.Global.{Global}
+use Rattle.lower.specs.TypeTrees.{FieldTrees, Pairs}
+use Rattle.lower_types.specs.declared.Endianness.{Endianness}
+use Rattle.lower_arrays.specs.declared.array.AnyArray.{AnyArray}
+use Rattle.ipc_base.specs.IdTrees.{IdTrees}
+use Rattle.ipc_devices.specs.Device.{Memory}
+use Rattle.ipc_devices.specs.declared.fault.Fault.{Fault}
+use Rattle.ipc_devices.specs.declared.memory.MemFile.{MemFile}
+use Rattle.ipc_model.specs.Batches.{Chunk}
+use Rattle.ipc_model.specs.Files.{FileMetadata, metadata_of}
+use Rattle.ipc_model.specs.WriterStates.{state_after}
+use Rattle.ipc_model.specs.Writers.{write_call}
+use Rattle.ipc_schema_write.specs.WriterAnswers.{written_as}
+use Rattle.ipc_write.specs.Calls.{outcome, state_seen}
+use Rattle.ipc_write.specs.Meaning.{chunk_written}
+use Rattle.ipc_write.specs.declared.stream.WriterState.TheVariants.{Started}
+use Rattle.ipc_file_write.specs.AppendLaws.{NoMore, Onward}
+use Rattle.ipc_file_write.specs.Appends.{GoesOn}
+use Rattle.ipc_file_write.specs.Calls.{vector}
+use Rattle.ipc_file_write.specs.FileWriters.{AnswersFinish, FileSeen, HoldsBytes, IsFileOf, IsSameFile, head_of_file}
+use Rattle.ipc_file_write.specs.Writes.{WritesExactly}
+use Rattle.ipc_sessions.specs.Sessions.{IsEndedFile, taken_of}
+
+-- ---- what they do
+
+-- Some writes took these chunks, one behind the other: the file has just these more, and nothing before the place changed.
+pub record TakesChunks {W : Type 0} (known : Bool) (memory : W → Memory) (a b : FileSeen W) (cs : List Chunk) : Type 0 where
+  pub same : IsSameFile a b
+  pub was : b.state ≡ Started → a.state ≡ Started
+  pub ids : b.state ≡ Started → b.ids ≡ a.ids
+  pub onward : IsTrue known → (memory a.device).place ≤ length (memory a.device).whole → Onward (memory a.device) (memory b.device)
+  pub more : IsTrue known → (size : ℕ) → NoMore (memory a.device) size → NoMore (memory b.device) size
+  pub holds : IsTrue known → (is_stream : Bool) (base : List ℕ) (before : List Chunk) → HoldsBytes is_stream (memory a.device) a base before
+      → HoldsBytes is_stream (memory b.device) b base (before ++ cs)
+
+-- A writer took these chunks more, and then its `finish` answered this: nothing before its place changed. Where it was Ok, and no more stood
+-- behind the place than the file has that is gone on with, all of the device is a file that a session left.
+pub record Leaves {W : Type 0} (known : Bool) (memory : W → Memory) (a : FileSeen W) (device : W) (end : Result Unit Fault) (cs : List Chunk) : Type 0 where
+  pub onward : IsTrue known → (memory a.device).place ≤ length (memory a.device).whole → Onward (memory a.device) (memory device)
+  pub ended : IsTrue known → OnOk end ((is_stream : Bool) (before : List Chunk) → HoldsBytes is_stream (memory a.device) a [] before
+      → (memory a.device).place ≤ length (memory a.device).whole → NoMore (memory a.device) a.size
+      → IsEndedFile is_stream (memory device).whole (head_of_file a).schema a.pairs (before ++ cs))
+
+-- ---- which calls are made
+
+-- A write of these columns answers this: it is Ok exactly where the writer may take them, memory and devices aside. The writer fails where its
+-- device did, and is started as before where it was refused.
+pub record WritesChunk {W : Type 0} (known : Bool) (memory : W → Memory) (a : FileSeen W) (columns : List AnyArray) (r : Result Unit Fault) (b : FileSeen W) : Type 0 where
+  pub exact : WritesExactly a columns None r
+  pub state : state_seen b.state ≡ state_after (write_call (chunk_written columns)) (outcome r) (state_seen a.state)
+  pub takes : TakesChunks known memory a b (taken_of (columns ∷ []) (r ∷ []))
+
+-- writes one after the other, each of the writer that the one before it left
+abbrev pub AreWritten : {W : Type 0} → Bool → (W → Memory) → FileSeen W → List (List AnyArray) → List (Result Unit Fault) → FileSeen W → Type 0
+AreWritten known memory a [] [] b = b ≡ a
+AreWritten {W = W} known memory a (c ∷ cs) (r ∷ rs) b = (m : FileSeen W) × (WritesChunk known memory a c r m × AreWritten known memory m cs rs b)
+AreWritten known memory a _ _ b = ⊥
+
+-- A session that creates a file in memory: its writer was started, with this schema, these ids and these pairs, and each chunk was written.
+pub record IsCreation (fields : FieldTrees) (metadata : Pairs) (ids : IdTrees) (order : Endianness) (pairs : Pairs) (chunks : List (List AnyArray)) (answers : List (Result Unit Fault)) : Type 0 where
+  pub opened : FileSeen (Vec ℕ Global)
+  pub started : opened.state ≡ Started
+  pub file : IsFileOf opened fields metadata ids order pairs
+  pub last : FileSeen (Vec ℕ Global)
+  pub writes : AreWritten true vector opened chunks answers last
+
+-- The calls of a started writer: each chunk is written, and `finish` is called last, which answers `end`.
+pub record EndsSession {W : Type 0} (known : Bool) (memory : W → Memory) (opened : FileSeen W) (chunks : List (List AnyArray)) (answers : List (Result Unit Fault)) (end : Result Unit Fault) (left : W) : Type 0 where
+  pub last : FileSeen W
+  pub writes : AreWritten known memory opened chunks answers last
+  pub ends : AnswersFinish last end
+  pub leaves : Leaves known memory opened left end (taken_of chunks answers)
+
+-- A session by metadata that were read before: a writer goes on with the file, and these are its calls.
+pub record IsSession {W : Type 0} (known : Bool) (memory : W → Memory) (m : FileMetadata) (device : W) (chunks : List (List AnyArray)) (answers : List (Result Unit Fault)) (end : Result Unit Fault) (left : W) : Type 0 where
+  pub opened : FileSeen W
+  pub goes_on : GoesOn known memory m device opened
+  pub calls : EndsSession known memory opened chunks answers end left
+
+-- one by the metadata that the file has
+pub record IsSessionOn {W : Type 0} (known : Bool) (memory : W → Memory) (device : W) (chunks : List (List AnyArray)) (answers : List (Result Unit Fault)) (end : Result Unit Fault) (left : W) : Type 0 where
+  pub read : W
+  pub same : IsTrue known → (memory read).whole ≡ (memory device).whole
+  pub metadata : FileMetadata
+  pub metadata_is : IsTrue known → metadata_of (memory device).whole ≡ Some metadata
+  pub session : IsSession known memory metadata read chunks answers end left
+
+-- the bytes of a file in memory, and the place in it
+abbrev pub in_memory : MemFile (Vec ℕ Global) → Memory
+in_memory f = record { whole = f.inner.items; place = f.position }
+
+-- sessions one after the other, each on the file that the one before it ended
+abbrev pub AreSessions : {W : Type 0} → Bool → (W → Memory) → W → List (Vec (List AnyArray) Global) → List (Vec (Result Unit Fault) Global) → W → Type 0
+AreSessions known memory device [] [] left = left ≡ device
+AreSessions {W = W} known memory device (cs ∷ rest) (rs ∷ answers) left = (next : W) × (IsSessionOn known memory device cs.items rs.items (Ok tt) next × AreSessions known memory next rest answers left)
+AreSessions known memory device _ _ left = ⊥
+
+-- All sessions on a file in memory: the first created it, and each later one went on with it; these bytes are what the last one left.
+pub record AreAllSessions (fields : FieldTrees) (metadata : Pairs) (ids : IdTrees) (order : Endianness) (pairs : Pairs) (first : List (List AnyArray)) (answers : List (Result Unit Fault))
+    (later : List (Vec (List AnyArray) Global)) (others : List (Vec (Result Unit Fault) Global)) (bytes : List ℕ) : Type 0 where
+  pub creation : IsCreation fields metadata ids order pairs first answers
+  pub created : MemFile (Vec ℕ Global)
+  pub file : IsEndedFile true created.inner.items (written_as order fields metadata ids) pairs (taken_of first answers)
+  pub left : MemFile (Vec ℕ Global)
+  pub sessions : AreSessions true in_memory created later others left
+  pub bytes_are : left.inner.items ≡ bytes

@@ -1,0 +1,96 @@
+//! Files in memory that sessions write: the first one creates the file, each later one goes on with it.
+ghost use Rattle.std.specs.Prelude.{◌++◌, IfOk, not, true};
+ghost use Rattle.lower.specs.TypeViews.{fields_view, pairs_of};
+ghost use Rattle.ipc_schema_write.specs.WriterAnswers.{byte_order, written_as};
+ghost use Rattle.ipc_write.specs.Writers.{chosen_ids};
+ghost use Rattle.ipc_file_write.specs.Calls.{IsWrittenFile};
+ghost use Rattle.ipc_sessions.specs.Sessions.{IsEndedFile, all_taken_of, taken_of};
+ghost use Rattle.ipc_sessions.specs.Steps.{AreAllSessions, IsCreation};
+
+use crate::sessions::{Sessions, run_sessions, write_chunks};
+use ipc_base::chunk::Chunk;
+use ipc_base::ipc::IpcField;
+use ipc_devices::{Fault, MemFile};
+use ipc_encode::common::WriteOptions;
+use ipc_file_write::calls::WrittenFile;
+use ipc_file_write::writer::FileWriter;
+use lower::datatypes::{Metadata, Schema};
+use lower_arrays::array::AnyArray;
+use std::alloc::Global;
+
+/// A file in memory that sessions wrote, and what their writes answered.
+#[derive(Drop)]
+pub struct WrittenSessions {
+    /// Its bytes.
+    pub bytes: Vec<u8>,
+    /// What the write of each chunk of the first session answered, in order.
+    pub first: Vec<Result<(), Fault>>,
+    /// The same of each later session.
+    pub later: Vec<Vec<Result<(), Fault>>>,
+}
+
+/// Creates a file in memory, writes these chunks, also those behind a refused one, and ends it: it has the schema in its normal form, with
+/// the ids that are handed in, or 0, 1, 2 and on, these pairs, and exactly the chunks of the writes that were Ok. The answers are those of
+/// the writes. Sessions can go on with it.
+///
+/// Faults: `Argument(TooLarge)` where the weight of the schema and the pairs is above `2^30`; those of [`FileWriter::start`] and
+/// [`FileWriter::finish`]; `Memory`.
+pub fn create_file(
+    alloc: Global,
+    schema: Schema,
+    ipc_fields: Option<Vec<IpcField>>,
+    custom_metadata: Metadata,
+    options: WriteOptions,
+    chunks: &[Chunk<AnyArray>],
+) -> Result<WrittenFile, Fault>
+    ensures made { let fields = fields_view schema.fields.items in
+        IfOk result (λ f. IsCreation fields (pairs_of schema.metadata.entries) (chosen_ids ipc_fields fields) (byte_order (not options.big_endian)) (pairs_of custom_metadata.entries) chunks.now f.answers.items) }
+    ensures file { let fields = fields_view schema.fields.items in
+        IfOk result (λ f. IsEndedFile true f.bytes.items (written_as (byte_order (not options.big_endian)) fields (pairs_of schema.metadata.entries) (chosen_ids ipc_fields fields))
+        (pairs_of custom_metadata.entries) (taken_of chunks.now f.answers.items)) }
+{
+    let mut writer = FileWriter::new(alloc, Vec::new(alloc), schema, ipc_fields, options)?;
+    writer.set_custom_metadata(custom_metadata)?;
+    writer.start()?;
+    let answers = write_chunks(alloc, &mut writer, chunks)?;
+    writer.finish()?;
+    let bytes = writer.into_inner();
+    Ok(WrittenFile { bytes, answers })
+}
+
+/// Sessions on a file in memory: the first creates it, and each later one goes on with it, by the metadata that it reads from it, and ends
+/// it again. Then the file has the schema in its normal form, with the ids that are handed in, or 0, 1, 2 and on, these pairs, and exactly
+/// the chunks of the writes that were Ok, of all sessions in order; and without its first eight bytes it is a stream of the same.
+///
+/// Faults: those of [`create_file`] and of [`run_sessions`]: `Argument(NoRecordBlocks)` where a session goes on with a file that has no
+/// chunk; `Argument(TooLarge)` where one has more than `2^63 - 1` bytes or `2^25` blocks; `Io` where the memory that is written to was
+/// refused its growth, and `State(Failed)` behind a write that was refused so; `Memory`.
+pub fn write_sessions(
+    alloc: Global,
+    schema: Schema,
+    ipc_fields: Option<Vec<IpcField>>,
+    custom_metadata: Metadata,
+    options: WriteOptions,
+    first: &[Chunk<AnyArray>],
+    later: &[Vec<Chunk<AnyArray>>],
+) -> Result<WrittenSessions, Fault>
+    ensures made { let fields = fields_view schema.fields.items in
+        IfOk result (λ f. AreAllSessions fields (pairs_of schema.metadata.entries) (chosen_ids ipc_fields fields) (byte_order (not options.big_endian)) (pairs_of custom_metadata.entries)
+        first.now f.first.items later.now f.later.items f.bytes.items) }
+    ensures reads { let fields = fields_view schema.fields.items in
+        IfOk result (λ f. IsWrittenFile f.bytes.items (byte_order (not options.big_endian)) fields (pairs_of schema.metadata.entries) (chosen_ids ipc_fields fields)
+        (pairs_of custom_metadata.entries) (taken_of first.now f.first.items ++ all_taken_of later.now f.later.items)) }
+{
+    let created = create_file(alloc, schema, ipc_fields, custom_metadata, options, first)?;
+    let WrittenFile { bytes, answers } = created;
+    let left = run_sessions(alloc, MemFile::new(bytes), later)?;
+    let Sessions {
+        device,
+        answers: others,
+    } = left;
+    Ok(WrittenSessions {
+        bytes: device.into_inner(),
+        first: answers,
+        later: others,
+    })
+}
