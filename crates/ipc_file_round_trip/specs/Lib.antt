@@ -1,0 +1,5 @@
+pub mod Calls
+pub mod Laws
+pub mod Reading
+pub mod RoundTrip
+pub mod Steps

@@ -1,0 +1,100 @@
+-- What is read of a whole file.
+-- (Arrow columnar format, "IPC File Format".)
+use Rattle.std.specs.Prelude.{◌≡◌, ℕ, List, [], ◌∷◌, map, length, Option, None, Some, slice_get, Result, Ok, Err}
+use Rattle.std.specs.Option.{option_map}
+use Rattle.lower_arrays.specs.declared.array.AnyArray.{AnyArray}
+use Rattle.ipc_base.specs.Chunks.{row_count}
+use Rattle.ipc_devices.specs.Faults.{OwnFault}
+use Rattle.ipc_devices.specs.declared.fault.Fault.{Fault}
+use Rattle.ipc_views.specs.declared.file.Block.{Block}
+use Rattle.ipc_model.specs.BatchLaws.{pruned}
+use Rattle.ipc_model.specs.Batches.{Chunk, IsProjection, chosen, kinds}
+use Rattle.ipc_model.specs.Entries.{Dictionaries, Limit}
+use Rattle.ipc_model.specs.Files.{FileMetadata as Meaning, all_of, chunk_at, chunks_at, file_dictionaries, metadata_of}
+use Rattle.ipc_model.specs.Kinds.{count}
+use Rattle.ipc_model.specs.Schemas.{given}
+use Rattle.ipc_read.specs.Chunks.{chunk_seen}
+use Rattle.ipc_files.specs.Footers.{file_seen}
+use Rattle.ipc_file_readers.specs.Readers.{less}
+use Rattle.ipc_file_readers.specs.Rows.{first_of, joined}
+use Rattle.ipc_file_round_trip.specs.declared.read.WholeFile.{WholeFile}
+
+-- ---- what a file means, from its first record to its last
+
+-- how many rows a chunk has
+abbrev pub rows_of : Chunk → ℕ
+rows_of c = row_count (λ x. length x.slots) c
+
+-- the chunks of some blocks, by the columns that are asked for and one limit: each has at most the rows that those before it leave
+abbrev pub chunks_by : Meaning → Dictionaries → List ℕ → Option (List ℕ) → Limit → List Block → Option (List Chunk)
+chunks_by m ds source p limit [] = Some []
+chunks_by m ds source p limit (b ∷ bs) =
+    given (chunk_at m ds source b p limit) (λ c. option_map (λ cs. c ∷ cs) (chunks_by m ds source p (less limit (rows_of c)) bs))
+
+-- the dictionaries of a file with these records: without a record nothing asks for them
+abbrev pub dictionaries_for : List Block → Meaning → List ℕ → Option Dictionaries
+dictionaries_for [] m source = Some []
+dictionaries_for (b ∷ bs) m source = file_dictionaries m source
+
+-- the chunks of a file
+abbrev pub file_chunks : Meaning → List ℕ → Option (List ℕ) → Limit → Option (List Chunk)
+file_chunks m source p limit = given (dictionaries_for m.blocks m source) (λ ds. chunks_by m ds source p limit m.blocks)
+
+-- all of a file: its metadata, and its chunks
+pub record FileMeant : Type 0 where
+  pub metadata : Meaning
+  pub chunks : List Chunk
+
+-- by the columns that are asked for and one limit
+unfoldable pub file_by : Option (List ℕ) → Limit → List ℕ → Option FileMeant
+file_by p limit bytes =
+    given (metadata_of bytes) (λ m. option_map (λ cs. record { metadata = m; chunks = cs }) (file_chunks m bytes p limit))
+
+-- the chosen columns of some chunks, and of each at most the rows that those before it leave of one limit
+abbrev pub all_pruned : Option (List ℕ) → Limit → List Chunk → List Chunk
+all_pruned p limit [] = []
+all_pruned p limit (c ∷ cs) = pruned p limit c ∷ all_pruned p (less limit (rows_of (pruned p limit c))) cs
+
+-- ---- what was read
+
+-- the chunks that are seen, in order
+abbrev pub chunks_seen : List (List AnyArray) → List Chunk
+chunks_seen xs = map chunk_seen xs
+
+abbrev pub chunks_of : WholeFile → List Chunk
+chunks_of f = chunks_seen f.chunks.items
+
+abbrev pub file_read : WholeFile → FileMeant
+file_read f = record { metadata = file_seen f.metadata; chunks = chunks_of f }
+
+-- Where a file has a meaning, the rows of these chunks, joined, are the first rows of the columns that are asked for.
+pub record HasRows (m : Meaning) (source : List ℕ) (p : Option (List ℕ)) (limit : Limit) (gs : List Chunk) : Type 0 where
+  pub rows : (ds : Dictionaries) (cs : List Chunk) → file_dictionaries m source ≡ Some ds → chunks_at m ds (all_of source) None None m.blocks ≡ map Some cs
+      → (q j : ℕ) → slice_get (chosen p (count (kinds m.schema))) q ≡ Some j → joined gs q ≡ first_of limit (joined cs j)
+
+-- so do those of what was read, where something was
+abbrev pub HaveRows : Option (List ℕ) → Limit → List ℕ → Option WholeFile → Type 0
+HaveRows p limit bytes None = Unit {0}
+HaveRows p limit bytes (Some f) = HasRows (file_seen f.metadata) bytes p limit (chunks_of f)
+
+-- All of a file was read by columns that it has, each asked for once.
+pub record IsReadBy (p : Option (List ℕ)) (limit : Limit) (bytes : List ℕ) (f : WholeFile) : Type 0 where
+  pub asked : IsProjection p (count (kinds (file_seen f.metadata).schema))
+  pub means : file_by p limit bytes ≡ Some (file_read f)
+
+-- a file has a schema that hasn't these columns, or one of them is named twice
+pub record NamesOthers (p : Option (List ℕ)) (bytes : List ℕ) : Type 0 where
+  pub metadata : Meaning
+  pub there : metadata_of bytes ≡ Some metadata
+  pub others : ¬ IsProjection p (count (kinds metadata.schema))
+
+-- A file can't be read, by columns that it has.
+pub record IsUnreadable (p : Option (List ℕ)) (limit : Limit) (bytes : List ℕ) : Type 0 where
+  pub asked : (m : Meaning) → metadata_of bytes ≡ Some m → IsProjection p (count (kinds m.schema))
+  pub none : file_by p limit bytes ≡ None
+
+-- All of a file was read, of these columns and up to the limit; or they aren't those of its schema; or, memory aside, it can't be read.
+abbrev pub ReadsColumns : Option (List ℕ) → Limit → List ℕ → Result (Option WholeFile) Fault → Type 0
+ReadsColumns p limit bytes (Ok None) = NamesOthers p bytes
+ReadsColumns p limit bytes (Ok (Some f)) = IsReadBy p limit bytes f
+ReadsColumns p limit bytes (Err e) = OwnFault e (IsUnreadable p limit bytes)

@@ -1,0 +1,133 @@
+//! Reads whole files.
+ghost use Rattle.std.specs.Prelude.{◌≡◌, ◌<◌, ◌≤◌, ◌↔◌, IsTrue, IfErr, IfOk, length, vec_len};
+ghost use Rattle.ipc_devices.specs.Device.{Rises};
+ghost use Rattle.ipc_devices.specs.Faults.{OnIo};
+ghost use Rattle.ipc_model.specs.Batches.{IsProjection};
+ghost use Rattle.ipc_files.specs.Footers.{GivesPart, file_seen};
+ghost use Rattle.ipc_projections.specs.ChosenColumns.{items_of};
+ghost use Rattle.ipc_file_readers.specs.Readers.{device_of};
+ghost use Rattle.ipc_file_round_trip.specs.Reading.{HasRows, HaveRows, ReadsColumns, chunks_of, file_by, file_chunks, file_read};
+ghost use Rattle.ipc_file_round_trip.specs.Steps.{GivesAll, PushesNext, RefusesAll};
+
+use ipc_base::chunk::Chunk;
+use ipc_devices::{Fault, MemFile, Reads, Seeks};
+use ipc_file_readers::read::reader::FileReader;
+use ipc_files::read::file::{FileMetadata, read_file_metadata};
+use ipc_projections::read::projection::is_projection;
+use lower_arrays::array::AnyArray;
+use std::alloc::Global;
+
+/// All of a file.
+#[derive(Drop)]
+pub struct WholeFile {
+    /// What its footer says.
+    pub metadata: FileMetadata,
+    /// Its chunks, in the order of the footer.
+    pub chunks: Vec<Chunk<AnyArray>>,
+}
+
+// Adds the chunk of the next block, and answers whether there was one.
+fn push_next<R: Reads + Seeks + Drop>(
+    reader: &mut FileReader<R>,
+    chunks: &mut Vec<Chunk<AnyArray>>,
+) -> Result<bool, Fault>
+    ensures more { IfOk result (λ b. IsTrue b → vec_len chunks.old < vec_len chunks.new) }
+    ensures step { PushesNext R.known R.still R.memory R.failures R.given reader.old chunks.old.items result reader.new chunks.new.items }
+{
+    match reader.next() {
+        Some(Ok(chunk)) => {
+            chunks.push(chunk)?;
+            Ok(true)
+        }
+        Some(Err(fault)) => Err(fault),
+        None => Ok(false),
+    }
+}
+
+// The chunks of all blocks, up to the first fault.
+fn read_chunks<R: Reads + Seeks + Drop>(
+    alloc: Global,
+    reader: &mut FileReader<R>,
+) -> Result<Vec<Chunk<AnyArray>>, Fault>
+    ensures monotone { R.failures (device_of reader.old) ≤ R.failures (device_of reader.new) }
+    ensures failed { OnIo result (Rises (R.failures (device_of reader.old)) (R.failures (device_of reader.new))) }
+    ensures all { IfOk result (λ chunks. GivesAll R.known R.still R.memory R.failures R.given reader.old chunks.items) }
+    ensures refused { IfErr result (RefusesAll R.known R.still R.memory R.failures R.given reader.old) }
+{
+    let mut chunks = Vec::new(alloc);
+    while push_next(reader, &mut chunks)? {}
+    Ok(chunks)
+}
+
+// All of a file in memory whose metadata were read, by the columns that are asked for and one limit.
+fn read_by(
+    alloc: Global,
+    bytes: &[u8],
+    metadata: FileMetadata,
+    projection: Option<Vec<usize>>,
+    limit: Option<usize>,
+) -> Result<WholeFile, Fault>
+    requires { IsProjection (items_of projection) (length metadata.schema.fields.items) }
+    ensures described { IfOk result (λ f. file_seen f.metadata ≡ file_seen metadata) }
+    ensures chunks { GivesPart chunks_of result (file_chunks (file_seen metadata) bytes.now (items_of projection) limit) }
+    ensures rows { IfOk result (λ f. HasRows (file_seen metadata) bytes.now (items_of projection) limit (chunks_of f)) }
+    ensures device { OnIo result ⊥ }
+{
+    let copy = metadata.clone()?;
+    let input = MemFile::new(bytes);
+    let mut reader = FileReader::new(alloc, input, metadata, projection, limit)?;
+    let chunks = read_chunks(alloc, &mut reader)?;
+    Ok(WholeFile {
+        metadata: copy,
+        chunks,
+    })
+}
+
+/// Reads a file, from its first block to its last.
+///
+/// Ok exactly where the file has a meaning, and each of its blocks has, memory aside; then these are its metadata and its chunks. As
+/// [`FileReader`] reads the dictionaries with the first block, those of a file without one aren't judged. Faults: those of
+/// [`read_file_metadata`], and of the calls of [`FileReader`], the first that comes; `Io` never comes.
+pub fn read_file(alloc: Global, bytes: &[u8]) -> Result<WholeFile, Fault>
+    ensures meaning { GivesPart file_read result (file_by None None bytes.now) }
+    ensures device { OnIo result ⊥ }
+{
+    let mut input = MemFile::new(bytes);
+    let metadata = read_file_metadata(alloc, &mut input)?;
+    read_by(alloc, bytes, metadata, None, None)
+}
+
+// Whether the columns that are asked for are among so many, each asked for once.
+fn are_there(projection: &Option<Vec<usize>>, count: usize) -> bool
+    ensures { IsTrue result ↔ IsProjection (items_of projection.now) count }
+{
+    match projection {
+        Some(asked) => is_projection(asked, count),
+        None => true,
+    }
+}
+
+/// Reads some columns of a file, or all where there is no projection, and at most `limit` rows of it. The chunks have the columns in the
+/// order in which they are asked for; one comes for each block, of no rows behind the last of the limit. None where the schema hasn't
+/// one of them, or one is named twice; then no chunk was read.
+///
+/// Ok exactly where the metadata and, by these columns and the limit, each block have a meaning, memory aside. The rows, joined, are the
+/// first rows of these columns. Faults: those of [`read_file`].
+pub fn read_file_columns(
+    alloc: Global,
+    bytes: &[u8],
+    projection: Option<Vec<usize>>,
+    limit: Option<usize>,
+) -> Result<Option<WholeFile>, Fault>
+    ensures columns { ReadsColumns (items_of projection) limit bytes.now result }
+    ensures rows { IfOk result (HaveRows (items_of projection) limit bytes.now) }
+    ensures device { OnIo result ⊥ }
+{
+    let mut input = MemFile::new(bytes);
+    let metadata = read_file_metadata(alloc, &mut input)?;
+    if !are_there(&projection, metadata.schema.fields.len()) {
+        return Ok(None);
+    }
+    let file = read_by(alloc, bytes, metadata, projection, limit)?;
+    Ok(Some(file))
+}
