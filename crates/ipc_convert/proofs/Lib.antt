@@ -1,0 +1,5 @@
+pub mod Conversions
+pub mod Handing
+pub mod ReadFiles
+pub mod ReadStreams
+pub mod Taken

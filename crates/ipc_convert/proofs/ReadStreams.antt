@@ -1,0 +1,214 @@
+-- A stream that was read to its end, or to where it waits.
+use Rattle.std.proofs.Common.{◌≡◌, ℕ, List, [], ◌∷◌, ◌++◌, Option, None, Some, Result, Ok, Bool, true, false, refl, sym, ap, subst, ◌∙◌, append-nil, append_assoc, zero, suc}
+use Rattle.ipc_devices.specs.Device.{Memory}
+use Rattle.ipc_devices.specs.Gives.{Stop, going, ended, Follows, Gives, GivesInOrder}
+use Rattle.ipc_devices.specs.declared.fault.Fault.{Fault}
+use Rattle.lower_arrays.specs.declared.array.AnyArray.{AnyArray}
+use Rattle.ipc_model.specs.Batches.{Chunk}
+use Rattle.ipc_model.specs.Frame.{frame}
+use Rattle.ipc_model.specs.Streams.{End, Known, Meant, faulty, marked, meaning, nothing_known, waits, with_chunks}
+use Rattle.ipc_model.specs.WholeStreams.{stream_of}
+use Rattle.ipc_read.specs.Chunks.{chunk_seen}
+use Rattle.ipc_readers.proofs.ChosenStreams.{chosen_done, chosen_more, whole_law}
+use Rattle.ipc_readers.proofs.Loops.{same_request}
+use Rattle.ipc_readers.specs.ChosenStreams.{Request, chosen_meaning}
+use Rattle.ipc_readers.specs.Metadata.{GivesMetadata, MetadataGave}
+use Rattle.ipc_readers.specs.Streams.{Begins, GivesNext, ItemStop, ItemsGave, Knows, NextStep, ReadsItem, ReadsNext, begun_of, device_of, head_of, is_over, known_of, last_found, next_result, projection_of, request_of}
+use Rattle.ipc_readers.specs.declared.read.stream.metadata.StreamMetadata.{StreamMetadata}
+use Rattle.ipc_readers.specs.declared.read.stream.reader.StreamReader.{StreamReader}
+use Rattle.ipc_readers.specs.declared.read.stream.reader.StreamState.{StreamState}
+use Rattle.ipc_readers.specs.declared.read.stream.reader.StreamState.TheVariants as states
+use Rattle.ipc_round_trip.proofs.Streams.{whole_stream}
+use Rattle.ipc_round_trip.specs.Reading.{EndsAs, EndsNow}
+use Rattle.ipc_convert.specs.Copies.{CopiesStream, IsSound}
+use Rattle.ipc_convert.specs.Sources.{GaveChunks, GaveNoMore, StreamCame, StreamStopped, is_end, meant_by}
+use Rattle.ipc_convert.specs.declared.chunks.Ending.{Ending}
+
+-- ---- what a device gave
+
+follows_going : (s : Stop) (ys : List ℕ) → s ≡ going → Follows s ys
+follows_going s ys e = subst (λ (x : Stop). Follows x ys) (sym e) tt
+
+follows_end : (s : Stop) → s ≡ ended → Follows s []
+follows_end s e = subst (λ (x : Stop). Follows x []) (sym e) refl
+
+front_says : (h : Request) (s : Known) (xs : List ℕ) (x : Option StreamState) (l : Known) (begun ys : List ℕ) → ReadsItem h s xs (last_found (Ok x)) l begun ys → ReadsNext h s xs (Ok x) l begun ys
+front_says h s xs (Some (states.Some chunk)) l begun ys g = (g.0, g.1, chosen_more h s xs (Some (chunk_seen chunk)) g.0 ys g.2)
+front_says h s xs (Some states.Waiting) l begun ys g = (s, g.0, chosen_done h s xs (waits s begun) g.1)
+front_says h s xs None l begun ys g = chosen_done h s xs marked g.0
+
+passed_says : (h : Request) (s t : Known) (xs zs : List ℕ) (x : Option StreamState) (l : Known) (begun ys : List ℕ) → chosen_meaning h s xs ≡ chosen_meaning h t zs → ReadsNext h t zs (Ok x) l begun ys → ReadsNext h s xs (Ok x) l begun ys
+passed_says h s t xs zs (Some (states.Some chunk)) l begun ys e g = (g.0, g.1, e ∙ g.2)
+passed_says h s t xs zs (Some states.Waiting) l begun ys e g = (g.0, g.1, e ∙ g.2)
+passed_says h s t xs zs None l begun ys e g = e ∙ g
+
+-- What was given before an answer: whatever may follow it, it means what the answer says.
+record GaveNext {S : Type 0} (gives : Gives S) (h : Request) (k : Known) (p : List ℕ) (a : S) (x : Option StreamState) (l : Known) (q : List ℕ) (b : S) : Type 0 where
+  bytes : List ℕ
+  stop : Stop
+  stops : ItemStop (last_found (Ok x)) stop
+  gave : gives a bytes stop b
+  next : (ys : List ℕ) → Follows stop ys → GivesNext h k (p ++ (bytes ++ ys)) (Ok x) l q (q ++ ys)
+
+module _ {S : Type 0} (gives : Gives S) (law : GivesInOrder gives) (h : Request) (x : Option StreamState) where
+  items_gave : (n : ℕ) (k l : Known) (p q : List ℕ) (a b : S) → ItemsGave gives h n k p a (Ok x) l q b → GaveNext gives h k p a x l q b
+  items_gave zero k l p q a b g =
+      let run = g.0.run in
+      record {
+        bytes = run.bytes;
+        stop = g.0.stop;
+        stops = g.0.stops;
+        gave = run.gave;
+        next = λ ys f. record { each = λ s at. front_says h s (p ++ (run.bytes ++ ys)) x l q (q ++ ys) ((run.holds ys f).each s at) };
+      }
+  items_gave (suc n) k l p q a b g =
+      let u = g.0 in
+      let v = g.1 in
+      let c = g.2 in
+      let run = g.3.run in
+      let rest = items_gave n u l v q c b g.4 in
+      record {
+        bytes = run.bytes ++ rest.bytes;
+        stop = rest.stop;
+        stops = rest.stops;
+        gave = law a run.bytes c rest.bytes rest.stop b (subst (λ (y : Stop). gives a run.bytes y c) g.3.stops run.gave) rest.gave;
+        next = λ ys f. record {
+          each = λ s at.
+              let read = (run.holds (rest.bytes ++ ys) (follows_going g.3.stop (rest.bytes ++ ys) g.3.stops)).each s at in
+              let more = (rest.next ys f).each read.0 read.1 in
+              subst (λ (zs : List ℕ). ReadsNext h s (p ++ zs) (Ok x) l q (q ++ ys)) (sym (append_assoc run.bytes rest.bytes ys))
+              (passed_says h s read.0 (p ++ (run.bytes ++ (rest.bytes ++ ys))) (v ++ (rest.bytes ++ ys)) x l q (q ++ ys)
+              (chosen_more h s (p ++ (run.bytes ++ (rest.bytes ++ ys))) None read.0 (v ++ (rest.bytes ++ ys)) read.2) more);
+        };
+      }
+
+step_gave : {R : Type 0} (gives : Gives R) (known : Bool) (memory : R → Memory) → GivesInOrder gives → (a b : StreamReader R) (x : Option StreamState) (r : Option (Result StreamState Fault)) → next_result r ≡ Ok x
+    → NextStep gives known memory a r b → is_over a ≡ false
+    → GaveNext gives (request_of a) (known_of a) (begun_of a) (device_of a) x (known_of b) (begun_of b) (device_of b)
+step_gave gives known memory law a b x r is step unfinished =
+    let g = step.gave unfinished in
+    items_gave gives law (request_of a) x g.passed (known_of a) (known_of b) (begun_of a) (begun_of b) (device_of a) (device_of b)
+    (subst (λ (y : Result (Option StreamState) Fault). ItemsGave gives (request_of a) g.passed (known_of a) (begun_of a) (device_of a) y (known_of b) (begun_of b) (device_of b)) is g.items)
+
+-- ---- one chunk
+
+same_reader : {R : Type 0} (a b : StreamReader R) (t : Known) (ys : List ℕ) → request_of b ≡ request_of a → chosen_meaning (request_of a) t (begun_of b ++ ys) ≡ meant_by b t ys
+same_reader a b t ys asked = ap (λ (h : Request). chosen_meaning h t (begun_of b ++ ys)) (sym asked)
+
+pub one_gave : {R : Type 0} (gives : Gives R) (known : Bool) (memory : R → Memory) → GivesInOrder gives → (a b : StreamReader R) (chunk : List AnyArray)
+    → NextStep gives known memory a (Some (Ok (states.Some chunk))) b → is_over a ≡ false → GaveChunks gives a (chunk_seen chunk ∷ []) b
+one_gave gives known memory law a b chunk step unfinished =
+    let g = step_gave gives known memory law a b (Some (states.Some chunk)) (Some (Ok (states.Some chunk))) refl step unfinished in
+    let asked = same_request a b step.described step.projected in
+    record {
+      unfinished = step.finished unfinished;
+      asked = asked;
+      bytes = g.bytes;
+      gave = subst (λ (y : Stop). gives (device_of a) g.bytes y (device_of b)) g.stops g.gave;
+      rest = λ s ys at.
+          let read = (g.next ys (follows_going g.stop ys g.stops)).each s at in
+          (read.0, read.1, read.2 ∙ ap (with_chunks (chunk_seen chunk ∷ [])) (same_reader a b read.0 ys asked));
+    }
+
+-- ---- no chunk more
+
+ends_now : (over : Bool) (e : End) (m : Meant) → m ≡ record { chunks = []; end = e } → EndsAs over e → EndsNow over m
+ends_now over e m is ends = subst (λ (x : Meant). EndsNow over x) (sym is) (refl, ends)
+
+pub none_waits : {R : Type 0} (gives : Gives R) (known : Bool) (memory : R → Memory) → GivesInOrder gives → (a b : StreamReader R)
+    → NextStep gives known memory a (Some (Ok states.Waiting)) b → is_over a ≡ false → GaveNoMore gives a false b
+none_waits gives known memory law a b step unfinished =
+    let g = step_gave gives known memory law a b (Some states.Waiting) (Some (Ok states.Waiting)) refl step unfinished in
+    record {
+      bytes = g.bytes;
+      stop = g.stop;
+      gave = g.gave;
+      ends = λ s at.
+          let read = (g.next [] (follows_end g.stop g.stops)).each s at in
+          ends_now false (waits read.0 (begun_of b)) (meant_by a s g.bytes) (ap (meant_by a s) (sym (append-nil g.bytes)) ∙ read.2) tt;
+    }
+
+pub none_over : {R : Type 0} (gives : Gives R) (known : Bool) (memory : R → Memory) → GivesInOrder gives → (a b : StreamReader R)
+    → NextStep gives known memory a None b → is_over a ≡ false → GaveNoMore gives a true b
+none_over gives known memory law a b step unfinished =
+    let g = step_gave gives known memory law a b None None refl step unfinished in
+    record {
+      bytes = g.bytes;
+      stop = g.stop;
+      gave = g.gave;
+      ends = λ s at. ends_now true marked (meant_by a s g.bytes) (ap (meant_by a s) (sym (append-nil g.bytes)) ∙ (g.next [] (follows_going g.stop [] g.stops)).each s at) refl;
+    }
+
+-- ---- all chunks
+
+-- what was given means just the chunks that came, and ends so
+all_given : {R : Type 0} (gives : Gives R) (a b c : StreamReader R) (cs : List Chunk) (over : Bool) → (one : GaveChunks gives a cs b) → (none : GaveNoMore gives b over c)
+    → (s : Known) → Knows a s → ((meant_by a s (one.bytes ++ none.bytes)).chunks ≡ cs) × EndsAs over (meant_by a s (one.bytes ++ none.bytes)).end
+all_given gives a b c cs over one none s at =
+    let p = one.rest s none.bytes at in
+    let now = none.ends p.0 p.1 in (
+      ap (λ (x : Meant). x.chunks) p.2 ∙ ap (λ (ds : List Chunk). cs ++ ds) now.0 ∙ append-nil cs,
+      subst (λ (x : End). EndsAs over x) (sym (ap (λ (x : Meant). x.end) p.2)) now.1,
+    )
+
+-- a new reader that all columns are asked of means what its device has ahead
+new_meant : {R : Type 0} (device : R) (m : StreamMetadata) (r : StreamReader R) (bytes : List ℕ) → Begins device m r → projection_of r ≡ None
+    → meant_by r nothing_known bytes ≡ meaning (head_of m) nothing_known bytes
+new_meant device m r bytes begins all =
+    let asked : request_of r ≡ record { head = head_of m; projection = None } = λ i. record { head = head_of (begins.described i); projection = all i } in
+    ap (λ (h : Request). chosen_meaning h nothing_known (begun_of r ++ bytes)) asked
+    ∙ ap (λ (xs : List ℕ). chosen_meaning (record { head = head_of m; projection = None }) nothing_known (xs ++ bytes)) begins.begun
+    ∙ whole_law (head_of m) nothing_known bytes
+
+-- A device gave a stream of the schema of these metadata and of these chunks, which ends so.
+pub record WasRead {R : Type 0} (gives : Gives R) (a b : R) (m : StreamMetadata) (cs : List Chunk) (over : Bool) : Type 0 where
+  pub bytes : List ℕ
+  pub stop : Stop
+  pub gave : gives a bytes stop b
+  pub meant : Meant
+  pub read : stream_of bytes ≡ Some (record { head = head_of m; meant = meant })
+  pub chunks : meant.chunks ≡ cs
+  pub ends : EndsAs over meant.end
+
+pub was_read : {R : Type 0} (gives : Gives R) → GivesInOrder gives → (input device : R) (m : StreamMetadata) (r b c : StreamReader R) (cs : List Chunk) (ending : Ending)
+    → MetadataGave gives input (Ok m) device → Begins device m r → projection_of r ≡ None → StreamCame gives r cs b → StreamStopped gives b ending c
+    → WasRead gives input (device_of c) m cs (is_end ending)
+was_read {R = R} gives law input device m r b c cs ending front begins whole came stopped =
+    let one = came begins.unfinished in
+    let none = stopped one.unfinished in
+    let from = front.run.bytes in
+    let behind = one.bytes ++ none.bytes in
+    let said : GivesMetadata (frame (from ++ behind)) (Ok m) behind = front.run.holds behind (follows_going front.stop behind front.stops) in
+    let read = new_meant device m r behind begins whole in
+    let all = all_given gives r b c cs (is_end ending) one none nothing_known begins.knows in
+    let first : gives input from going (device_of r) =
+    subst (λ (x : R). gives input from going x) (sym begins.reader) (subst (λ (y : Stop). gives input from y device) front.stops front.run.gave) in
+    let then = law (device_of r) one.bytes (device_of b) none.bytes none.stop (device_of c) one.gave none.gave in
+    record {
+      bytes = from ++ behind;
+      stop = none.stop;
+      gave = law input from (device_of r) behind none.stop (device_of c) first then;
+      meant = meaning (head_of m) nothing_known behind;
+      read = whole_stream (from ++ behind) (from ++ behind) behind m refl said;
+      chunks = sym (ap (λ (x : Meant). x.chunks) read) ∙ all.0;
+      ends = subst (λ (x : Meant). EndsAs (is_end ending) x.end) read all.1;
+    }
+
+ends_sound : (over : Bool) (e : End) → EndsAs over e → IsSound e
+ends_sound over marked h = tt
+ends_sound over (waits known begun) h = tt
+ends_sound true faulty h = (let no : faulty ≡ marked = h in absurd cc)
+ends_sound false faulty h = absurd h
+
+-- what was written of it was written of what the device gave
+pub was_copied : {R : Type 0} (gives : Gives R) (a b c : R) (m : StreamMetadata) (cs : List Chunk) (over : Bool) (Writes : _ → List Chunk → End → Type 0) → c ≡ b → WasRead gives a b m cs over
+    → ((e : End) → EndsAs over e → Writes (head_of m).schema cs e) → CopiesStream gives a c Writes
+was_copied {R = R} gives a b c m cs over Writes same read writes = record {
+  bytes = read.bytes;
+  stop = read.stop;
+  gave = subst (λ (x : R). gives a read.bytes read.stop x) (sym same) read.gave;
+  stream = record { head = head_of m; meant = read.meant };
+  read = read.read;
+  sound = ends_sound over read.meant.end read.ends;
+  written = subst (λ (ds : List Chunk). Writes (head_of m).schema ds read.meant.end) (sym read.chunks) (writes read.meant.end read.ends);
+}

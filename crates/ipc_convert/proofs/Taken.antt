@@ -1,0 +1,181 @@
+-- What a writer takes is written in the normal form.
+use Rattle.std.proofs.Common.{◌≡◌, ℕ, List, [], ◌∷◌, ◌++◌, length, Option, Result, Ok, Err, OnOk, Bool, true, false, not, IsTrue, if◌then◌else◌, refl, sym, ap, subst, ◌∙◌}
+use Rattle.lower.specs.TypeTrees.{FieldTrees, Pairs}
+use Rattle.lower_types.specs.declared.Endianness.{Endianness}
+use Rattle.lower_types.specs.declared.Endianness.TheVariants.{Big, Little}
+use Rattle.lower_arrays.specs.AnyLayouts.{layout_of}
+use Rattle.lower_arrays.specs.declared.array.AnyArray.{AnyArray}
+use Rattle.ipc_base.specs.IdTrees.{IdTrees}
+use Rattle.ipc_devices.specs.Device.{Memory, before}
+use Rattle.ipc_devices.specs.declared.fault.Fault.{Fault}
+use Rattle.ipc_laws.specs.Messages.{column_written}
+use Rattle.ipc_model.specs.Batches.{Chunk, Schema}
+use Rattle.ipc_model.specs.Files.{FileMetadata}
+use Rattle.ipc_model.specs.Streams.{End, Head, faulty, marked, waits}
+use Rattle.ipc_read.specs.Chunks.{chunk_seen}
+use Rattle.ipc_schema_write.specs.WriterAnswers.{byte_order, written_head_as}
+use Rattle.ipc_write.specs.Agreement as streams
+use Rattle.ipc_write.specs.Agreement.{Agrees, Begins, IsClosed, IsFresh, IsOpen, StreamIs}
+use Rattle.ipc_write.specs.Meaning.{chunk_written}
+use Rattle.ipc_write.specs.Writers.{TakesChunk, WriterSeen}
+use Rattle.ipc_write.specs.declared.stream.WriterState.{WriterState}
+use Rattle.ipc_write.specs.declared.stream.WriterState.TheVariants.{Started, Finished}
+use Rattle.ipc_footers.specs.Footers.{file_written}
+use Rattle.ipc_file_laws.specs.Appending.{normal_chunk}
+use Rattle.ipc_file_laws.specs.FileBytes.{EndsStream, IsFile}
+use Rattle.ipc_file_write.specs.Calls.{IsWrittenFile}
+use Rattle.ipc_file_write.specs.FileWriters as files
+use Rattle.ipc_file_write.specs.FileWriters.{EndsWith, FileIs, FileSeen, HoldsBytes, IsSameFile, IsWholeFile}
+use Rattle.ipc_file_write.specs.Writes as writes
+use Rattle.ipc_round_trip.specs.Reading.{EndsAs}
+use Rattle.ipc_convert.specs.Copies.{EndsSo, WritesFile, WritesStream, normal_chunks, normal_head}
+use Rattle.ipc_convert.specs.Sources.{is_end}
+use Rattle.ipc_convert.specs.Steps.{BeginsFile, EndsAsSource, EndsCopy}
+use Rattle.ipc_convert.specs.Sinks.{TookBlocks, TookChunks}
+use Rattle.ipc_convert.specs.declared.chunks.Ending.{Ending}
+use Rattle.ipc_convert.specs.declared.chunks.Ending.TheVariants.{Over, Waits}
+
+-- ---- one chunk
+
+-- columns are written as they are seen, with their types in the normal form
+written_seen : (xs : List AnyArray) → chunk_written xs ≡ normal_chunk (chunk_seen xs)
+written_seen [] = refl
+written_seen (x ∷ xs) = ap (λ (cs : Chunk). column_written (layout_of x) ∷ cs) (written_seen xs)
+
+one_took : {W : Type 0} (known : Bool) (memory : W → Memory) (v w : WriterSeen W) (columns : List AnyArray) (ids : Option IdTrees) (x : Unit {0})
+    → streams.Appends known memory v (Ok x) w (chunk_written columns) → TakesChunk v w columns ids → IsTrue known → TookChunks memory v (chunk_seen columns ∷ []) w
+one_took known memory v w columns ids x appends takes k = record {
+  state = takes.is ∙ sym takes.was;
+  stream = λ base head so_far agrees.
+      subst (λ (c : Chunk). Agrees memory w base head (so_far ++ c ∷ [])) (written_seen columns) (appends.appended k base head so_far agrees);
+}
+
+one_block_took : {W : Type 0} (known grows : Bool) (failures room : W → ℕ) (memory : W → Memory) (v w : FileSeen W) (columns : List AnyArray) (x : Unit {0})
+    → writes.Appends known memory v (Ok x) w (chunk_written columns) → writes.SendsColumns known grows failures room memory v (Ok x) w columns → IsTrue known
+    → TookBlocks memory v (chunk_seen columns ∷ []) w
+one_block_took known grows failures room memory v w columns x appends sends k = record {
+  state = sends.takes.is ∙ sym sends.takes.was;
+  same = sends.step.same;
+  ids = sends.takes.ids;
+  file = λ is_stream base so_far holds.
+      subst (λ (c : Chunk). HoldsBytes is_stream (memory w.device) w base (so_far ++ c ∷ [])) (written_seen columns) (appends.appended k is_stream base so_far holds);
+}
+
+pub stream_took : {W : Type 0} (known : Bool) (memory : W → Memory) (v w : WriterSeen W) (columns : List AnyArray) (ids : Option IdTrees) (r : Result (Unit {0}) Fault)
+    → streams.Appends known memory v r w (chunk_written columns) → OnOk r (TakesChunk v w columns ids) → OnOk r (IsTrue known → TookChunks memory v (chunk_seen columns ∷ []) w)
+stream_took known memory v w columns ids (Ok x) appends takes = one_took known memory v w columns ids x appends takes
+stream_took known memory v w columns ids (Err e) appends takes = tt
+
+pub file_took : {W : Type 0} (known grows : Bool) (failures room : W → ℕ) (memory : W → Memory) (v w : FileSeen W) (columns : List AnyArray) (r : Result (Unit {0}) Fault)
+    → writes.Appends known memory v r w (chunk_written columns) → writes.SendsColumns known grows failures room memory v r w columns → OnOk r (IsTrue known → TookBlocks memory v (chunk_seen columns ∷ []) w)
+file_took known grows failures room memory v w columns (Ok x) appends sends = one_block_took known grows failures room memory v w columns x appends sends
+file_took known grows failures room memory v w columns (Err e) appends sends = tt
+
+-- ---- a stream
+
+-- what was written of a stream that was begun and took these chunks
+abbrev pub Holds : {W : Type 0} → (W → Memory) → Endianness → W → Schema → List Chunk → WriterSeen W → Type 0
+Holds memory order out schema cs w = Agrees memory w (before (memory out)) (normal_head order schema) (normal_chunks cs)
+
+pub begun_stream : {W : Type 0} (known : Bool) (memory : W → Memory) (order : Endianness) (out : W) (schema : Schema) (ids : IdTrees) (u v w : WriterSeen W) (cs : List Chunk) (x : Unit {0})
+    → IsTrue known → ids ≡ schema.ids → u.device ≡ out → IsFresh memory u → Begins known memory u (Ok x) v (written_head_as order schema.fields schema.metadata ids)
+    → TookChunks memory v cs w → Holds memory order out schema cs w
+begun_stream {W = W} known memory order out schema ids u v w cs x k same at fresh begun took =
+    let head_with : IdTrees → Head = λ is. written_head_as order schema.fields schema.metadata is in
+    let new : Agrees memory u (before (memory out)) (head_with ids) [] =
+    subst (λ (y : W). Agrees memory u (before (memory y)) (head_with ids) []) at (fresh.agrees (head_with ids)) in
+    let started : Agrees memory v (before (memory out)) (head_with ids) [] = begun.begun k (before (memory out)) [] new in
+    took.stream (before (memory out)) (normal_head order schema) [] (subst (λ (is : IdTrees). Agrees memory v (before (memory out)) (head_with is) []) same started)
+
+-- how a started writer is left where what was read ends so
+abbrev pub LeftAt : Bool → WriterState → Type 0
+LeftAt true s = s ≡ Finished
+LeftAt false s = s ≡ Started
+
+ends_so : {W : Type 0} (over : Bool) (e : End) (w : WriterSeen W) (bytes : List ℕ) (head : Head) (cs : List Chunk) → EndsAs over e → LeftAt over w.state → StreamIs w.state w bytes head cs → EndsSo e bytes head cs
+ends_so true marked w bytes head cs is left h = let closed : IsClosed bytes head cs = subst (λ (s : WriterState). StreamIs s w bytes head cs) left h in closed.stream
+ends_so true (waits known begun) w bytes head cs is left h = (let no : waits known begun ≡ marked = is in absurd cc)
+ends_so true faulty w bytes head cs is left h = (let no : faulty ≡ marked = is in absurd cc)
+ends_so false (waits known begun) w bytes head cs is left h =
+    let open_ : IsOpen w bytes head cs = subst (λ (s : WriterState). StreamIs s w bytes head cs) left h in
+    record { known = open_.stream.known; stream = open_.stream.stream }
+ends_so false marked w bytes head cs is left h = absurd is
+ends_so false faulty w bytes head cs is left h = absurd is
+
+-- a stream that took its chunks and was ended as its source was
+pub ended_stream : {W : Type 0} (known : Bool) (memory : W → Memory) (order : Endianness) (out : W) (schema : Schema) (cs : List Chunk) (ending : Ending) (v w x : WriterSeen W) → IsTrue known → v.state ≡ Started
+    → w.state ≡ v.state → EndsAsSource known memory ending w x → Holds memory order out schema cs w → LeftAt (is_end ending) x.state × Holds memory order out schema cs x
+ended_stream {W = W} known memory order out schema cs Waits v w x k started same is holds =
+    (ap (λ (y : WriterSeen W). y.state) is ∙ same ∙ started, subst (λ (y : WriterSeen W). Holds memory order out schema cs y) (sym is) holds)
+ended_stream known memory order out schema cs Over v w x k started same ends holds =
+    (ends.0, ends.1.kept k (before (memory out)) (normal_head order schema) (normal_chunks cs) holds)
+
+pub stream_written : {W : Type 0} (memory : W → Memory) (order : Endianness) (out last : W) (schema : Schema) (cs : List Chunk) (w : WriterSeen W) (over : Bool) (e : End) → last ≡ w.device
+    → LeftAt over w.state → Holds memory order out schema cs w → EndsAs over e → WritesStream order (memory out) (memory last) schema cs e
+stream_written {W = W} memory order out last schema cs w over e at left holds is = record {
+  bytes = holds.bytes;
+  written = subst (λ (y : W). before (memory y) ≡ before (memory out) ++ holds.bytes) (sym at) holds.held;
+  same = ends_so over e w holds.bytes (normal_head order schema) (normal_chunks cs) is left holds.stream;
+}
+
+-- ---- a file
+
+-- the order that is chosen is that of a file
+pub same_order : (big : Bool) → byte_order (not big) ≡ (if big then Big else Little)
+same_order true = refl
+same_order false = refl
+
+-- a whole file of a writer is one of what the writer has
+whole_file : {W : Type 0} (w : FileSeen W) (order : Endianness) (fields : FieldTrees) (metadata : Pairs) (ids : IdTrees) (pairs : Pairs) (bytes : List ℕ) (cs : List Chunk)
+    → w.order ≡ order → w.fields ≡ fields → w.metadata ≡ metadata → w.ids ≡ ids → w.pairs ≡ pairs → IsWholeFile true w bytes cs → IsWrittenFile bytes order fields metadata ids pairs cs
+whole_file w order fs es ids pairs bytes cs o f m i p whole =
+    let said : file_written w.order w.fields w.metadata w.ids w.pairs w.dictionaries w.blocks (length bytes) ≡ file_written order fs es ids pairs w.dictionaries w.blocks (length bytes) =
+    λ j. file_written (o j) (f j) (m j) (i j) (p j) w.dictionaries w.blocks (length bytes) in
+    let begun : written_head_as w.order w.fields w.metadata w.ids ≡ written_head_as order fs es ids = λ j. written_head_as (o j) (f j) (m j) (i j) in
+    record {
+      dictionaries = w.dictionaries;
+      blocks = w.blocks;
+      file = subst (λ (x : FileMetadata). IsFile bytes x cs) said whole.file;
+      stream = subst (λ (x : Head). EndsStream bytes x cs) begun (whole.stream refl);
+    }
+
+-- a writer that was made, took its pairs and was started
+pub file_begun : {W : Type 0} (known grows : Bool) (failures room : W → ℕ) (memory : W → Memory) (out : W) (big : Bool) (fields : FieldTrees) (metadata : Pairs) (ids : IdTrees) (pairs : Pairs) (u t v : FileSeen W) (x : Unit {0})
+    → u.device ≡ out → files.HasNothing memory u → files.IsFileOf u fields metadata ids (byte_order (not big)) [] → files.TakesPairs u t pairs → files.Remains known memory u t
+    → files.SendsBytes known grows failures room memory t (Ok x) v → files.StartsWith t v → files.Remains known memory t v
+    → BeginsFile known memory out (if big then Big else Little) fields metadata ids pairs v
+file_begun {W = W} known grows failures room memory out big fs es ids pairs u t v x at nothing is takes kept sends starts remains =
+    let same = sends.step.same in
+    record {
+      state = starts.is;
+      order_is = same.order ∙ takes.order ∙ is.order_is ∙ same_order big;
+      fields_are = same.fields ∙ takes.fields ∙ is.fields_are;
+      metadata_are = same.metadata ∙ takes.metadata ∙ is.metadata_are;
+      ids_are = starts.ids ∙ takes.chosen ∙ is.chosen_are;
+      pairs_are = same.pairs ∙ takes.are;
+      agrees = λ k.
+          let base = before (memory out) in
+          let first : HoldsBytes true (memory u.device) u base [] = subst (λ (y : W). HoldsBytes true (memory u.device) u (before (memory y)) []) at nothing.agrees in
+          remains.kept k true base [] (kept.kept k true base [] first);
+    }
+
+pub file_written_so : {W : Type 0} (known : Bool) (memory : W → Memory) (order : Endianness) (out last : W) (schema : Schema) (pairs given : Pairs) (fields : FieldTrees) (metadata : Pairs) (ids : IdTrees)
+    (cs : List Chunk) (copied : Result Ending Fault) (ending : Ending) (v w x : FileSeen W)
+    → IsTrue known → fields ≡ schema.fields → metadata ≡ schema.metadata → ids ≡ schema.ids → given ≡ pairs → last ≡ x.device
+    → BeginsFile known memory out order fields metadata ids given v → TookBlocks memory v cs w → EndsCopy known memory copied ending w x
+    → WritesFile order (memory out) (memory last) schema pairs cs
+file_written_so {W = W} known memory order out last schema pairs given fs es ids cs copied ending v w x k f m i p at begins took ends =
+    let holds : HoldsBytes true (memory x.device) x (before (memory out)) (normal_chunks cs) =
+    ends.remains.kept k true (before (memory out)) (normal_chunks cs) (took.file true (before (memory out)) [] (begins.agrees k)) in
+    let whole : IsWholeFile true x holds.bytes (normal_chunks cs) = subst (λ (s : WriterState). FileIs true s x holds.bytes (normal_chunks cs)) ends.ends.is holds.file in
+    record {
+      bytes = holds.bytes;
+      written = subst (λ (y : W). before (memory y) ≡ before (memory out) ++ holds.bytes) (sym at) holds.held;
+      same = whole_file x order schema.fields schema.metadata schema.ids pairs holds.bytes (normal_chunks cs)
+          (ends.same.order ∙ took.same.order ∙ begins.order_is)
+          (ends.same.fields ∙ took.same.fields ∙ begins.fields_are ∙ f)
+          (ends.same.metadata ∙ took.same.metadata ∙ begins.metadata_are ∙ m)
+          (ends.ends.ids ∙ took.ids ∙ begins.ids_are ∙ i)
+          (ends.same.pairs ∙ took.same.pairs ∙ begins.pairs_are ∙ p)
+          whole;
+    }

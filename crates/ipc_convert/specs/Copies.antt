@@ -1,0 +1,83 @@
+-- Streams and files that are written again.
+-- (Arrow columnar format, "IPC Streaming Format" and "IPC File Format".)
+use Rattle.std.specs.Prelude.{◌≡◌, ◌⊎◌, ℕ, IsTrue, Bool, List, [], ◌++◌, map, None, Some}
+use Rattle.lower.specs.TypeTrees.{Pairs}
+use Rattle.lower_types.specs.declared.Endianness.{Endianness}
+use Rattle.ipc_devices.specs.Device.{Memory, before}
+use Rattle.ipc_devices.specs.Gives.{Gives, Stop}
+use Rattle.ipc_model.specs.Batches.{Chunk, Schema}
+use Rattle.ipc_model.specs.Entries.{Dictionaries}
+use Rattle.ipc_model.specs.Files.{FileMetadata, all_of, chunks_at, file_dictionaries, metadata_of}
+use Rattle.ipc_model.specs.Streams.{End, Head, faulty, marked, waits}
+use Rattle.ipc_model.specs.WholeStreams.{Stream, stream_of}
+use Rattle.ipc_model.specs.Writers.{IsFinished}
+use Rattle.ipc_schema_write.specs.WriterAnswers.{written_head_as}
+use Rattle.ipc_write.specs.Agreement.{WasStarted}
+use Rattle.ipc_file_laws.specs.Appending.{normal_chunk}
+use Rattle.ipc_file_write.specs.Calls.{IsWrittenFile}
+
+-- ---- what is read
+
+-- The chunks at the blocks of a file are these. Where it has no block, its dictionaries are not asked for.
+pub record HasChunks (bytes : List ℕ) (m : FileMetadata) (cs : List Chunk) : Type 0 where
+  pub known : Dictionaries
+  pub dictionaries : (m.blocks ≡ []) ⊎ (file_dictionaries m bytes ≡ Some known)
+  pub chunks : chunks_at m known (all_of bytes) None None m.blocks ≡ map Some cs
+
+-- ---- what is written
+
+-- a schema in the normal form, with the same metadata and ids, in this order of the bytes of numbers
+abbrev pub normal_head : Endianness → Schema → Head
+normal_head order s = written_head_as order s.fields s.metadata s.ids
+
+abbrev pub normal_chunks : List Chunk → List Chunk
+normal_chunks cs = map normal_chunk cs
+
+-- The bytes are a stream of this head and these chunks, and end so: by the mark, or they wait for the next message.
+abbrev pub EndsSo : End → List ℕ → Head → List Chunk → Type 0
+EndsSo marked bytes head cs = IsFinished bytes head cs
+EndsSo (waits known begun) bytes head cs = WasStarted bytes head cs
+EndsSo faulty bytes head cs = ⊥
+
+-- Behind what stood in a memory a stream was written: of this schema in the normal form with its ids, and of exactly these chunks, and it ends
+-- so, or waits.
+pub record WritesStream (order : Endianness) (old new : Memory) (schema : Schema) (cs : List Chunk) (end : End) : Type 0 where
+  pub bytes : List ℕ
+  pub written : before new ≡ before old ++ bytes
+  pub same : EndsSo end bytes (normal_head order schema) (normal_chunks cs)
+
+-- Behind what stood in a memory a file was written: of this schema in the normal form with its ids, of these pairs, and of exactly these chunks.
+pub record WritesFile (order : Endianness) (old new : Memory) (schema : Schema) (pairs : Pairs) (cs : List Chunk) : Type 0 where
+  pub bytes : List ℕ
+  pub written : before new ≡ before old ++ bytes
+  pub same : IsWrittenFile bytes order schema.fields schema.metadata schema.ids pairs (normal_chunks cs)
+
+-- ---- one from the other
+
+-- how a stream ends that has no fault
+abbrev pub IsSound : End → Type 0
+IsSound marked = Unit {0}
+IsSound (waits known begun) = Unit {0}
+IsSound faulty = ⊥
+
+-- What a device gave is a stream without a fault, and of its schema and its chunks, and how it ends, this was written.
+pub record CopiesStream {R : Type 0} (gives : Gives R) (a b : R) (Writes : Schema → List Chunk → End → Type 0) : Type 0 where
+  pub bytes : List ℕ
+  pub stop : Stop
+  pub gave : gives a bytes stop b
+  pub stream : Stream
+  pub read : stream_of bytes ≡ Some stream
+  pub sound : IsSound stream.meant.end
+  pub written : Writes stream.head.schema stream.meant.chunks stream.meant.end
+
+-- These bytes are a file, and of its schema, its pairs and the chunks at its blocks, in their order, this was written.
+pub record CopiesFile (bytes : List ℕ) (Writes : Schema → Pairs → List Chunk → Type 0) : Type 0 where
+  pub metadata : FileMetadata
+  pub read : metadata_of bytes ≡ Some metadata
+  pub chunks : List Chunk
+  pub has : HasChunks bytes metadata chunks
+  pub written : Writes metadata.schema metadata.pairs chunks
+
+-- the same of a device, where it is memory and the file stands at its beginning
+abbrev pub CopiesFileOf : {F : Type 0} → Bool → (F → Memory) → F → (Schema → Pairs → List Chunk → Type 0) → Type 0
+CopiesFileOf known memory file Writes = IsTrue known → (memory file).place ≡ 0 → CopiesFile (memory file).whole Writes

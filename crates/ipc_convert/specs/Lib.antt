@@ -1,0 +1,7 @@
+pub mod Chunks
+pub mod Copies
+pub mod SinkLaws
+pub mod Sinks
+pub mod SourceLaws
+pub mod Sources
+pub mod Steps

@@ -1,0 +1,98 @@
+-- What comes twice stands one behind the other.
+use Rattle.std.proofs.Common.{◌≡◌, ◌⊎◌, ℕ, Bool, List, [], ◌++◌, Some, inl, inr, refl, sym, ap, subst, ◌∙◌, append-nil, append_assoc, length-append, arith}
+use Rattle.std.specs.Prelude.{IsSome}
+use Rattle.ipc_devices.specs.Device.{Memory}
+use Rattle.ipc_devices.specs.Gives.{going, Gives, GivesInOrder, GivesNothing}
+use Rattle.ipc_model.specs.Batches.{Chunk}
+use Rattle.ipc_model.specs.Entries.{Dictionaries}
+use Rattle.ipc_model.specs.Files.{FileMetadata, file_dictionaries}
+use Rattle.ipc_model.specs.Streams.{Meant, with_chunks}
+use Rattle.ipc_readers.specs.Streams.{device_of}
+use Rattle.ipc_readers.specs.declared.read.stream.reader.StreamReader.{StreamReader}
+use Rattle.ipc_file_readers.specs.Readers as files
+use Rattle.ipc_file_readers.specs.declared.read.reader.state.FileReader.{FileReader}
+use Rattle.ipc_convert.specs.Chunks.{InOrder, Nothing}
+use Rattle.ipc_convert.specs.Sources.{FileCame, FirstAre, GaveBlocks, GaveChunks, StreamCame, bytes_of, meant_by}
+
+-- ---- a stream
+
+pub stream_came_nothing : {R : Type 0} (gives : Gives R) → GivesNothing gives → Nothing (StreamCame gives)
+stream_came_nothing gives law a = λ unfinished. record {
+  unfinished = unfinished;
+  asked = refl;
+  bytes = [];
+  gave = law (device_of a);
+  rest = λ s ys at. (s, at, refl);
+}
+
+more_left : (xs ys : List Chunk) (n : Meant) → with_chunks xs (with_chunks ys n) ≡ with_chunks (xs ++ ys) n
+more_left xs ys n = λ i. record { chunks = sym (append_assoc xs ys n.chunks) i; end = n.end }
+
+gave_chunks : {R : Type 0} (gives : Gives R) → GivesInOrder gives → (a b c : StreamReader R) (xs ys : List Chunk) → GaveChunks gives a xs b → GaveChunks gives b ys c → GaveChunks gives a (xs ++ ys) c
+gave_chunks gives law a b c xs ys one more = record {
+  unfinished = more.unfinished;
+  asked = more.asked ∙ one.asked;
+  bytes = one.bytes ++ more.bytes;
+  gave = law (device_of a) one.bytes (device_of b) more.bytes going (device_of c) one.gave more.gave;
+  rest = λ s zs at.
+      let p = one.rest s (more.bytes ++ zs) at in
+      let q = more.rest p.0 zs p.1 in
+      (q.0, q.1, ap (meant_by a s) (append_assoc one.bytes more.bytes zs) ∙ p.2 ∙ ap (with_chunks xs) q.2 ∙ more_left xs ys (meant_by c q.0 zs));
+}
+
+pub stream_came_in_order : {R : Type 0} (gives : Gives R) → GivesInOrder gives → InOrder (StreamCame gives)
+stream_came_in_order gives law a xs b ys c one more = λ unfinished.
+    let first = one unfinished in
+    gave_chunks gives law a b c xs ys first (more first.unfinished)
+
+-- ---- a file
+
+pub file_came_nothing : {R : Type 0} (known : Bool) (memory : R → Memory) → Nothing (FileCame known memory)
+file_came_nothing known memory a = λ k whole. record {
+  file = refl;
+  bytes = refl;
+  whole = whole;
+  block = omega arith;
+  some = inl refl;
+  chunks = λ ds so_far found first. subst (λ (cs : List Chunk). FirstAre (files.file_of a) ds (bytes_of memory a) (files.block_of a) cs) (sym (append-nil so_far)) first;
+}
+
+-- what is said of a file is said of the same
+of_same : (m n : FileMetadata) (xs ys : List ℕ) (i j : ℕ) (cs : List Chunk) → n ≡ m → ys ≡ xs
+    → ((known : Dictionaries) (so_far : List Chunk) → file_dictionaries n ys ≡ Some known → FirstAre n known ys i so_far → FirstAre n known ys j (so_far ++ cs))
+    → (known : Dictionaries) (so_far : List Chunk) → file_dictionaries m xs ≡ Some known → FirstAre m known xs i so_far → FirstAre m known xs j (so_far ++ cs)
+of_same m n xs ys i j cs e f h =
+    subst (λ (zs : List ℕ). (known : Dictionaries) (so_far : List Chunk) → file_dictionaries m zs ≡ Some known → FirstAre m known zs i so_far → FirstAre m known zs j (so_far ++ cs)) f
+    (subst (λ (o : FileMetadata). (known : Dictionaries) (so_far : List Chunk) → file_dictionaries o ys ≡ Some known → FirstAre o known ys i so_far → FirstAre o known ys j (so_far ++ cs)) e h)
+
+still_some : (m n : FileMetadata) (xs ys : List ℕ) → n ≡ m → ys ≡ xs → IsSome (file_dictionaries n ys) → IsSome (file_dictionaries m xs)
+still_some m n xs ys e f h =
+    subst (λ (zs : List ℕ). IsSome (file_dictionaries m zs)) f (subst (λ (o : FileMetadata). IsSome (file_dictionaries o ys)) e h)
+
+none_or_some : (m n : FileMetadata) (xs ys : List ℕ) (cs ds : List Chunk) → n ≡ m → ys ≡ xs → (cs ≡ []) ⊎ IsSome (file_dictionaries m xs) → (ds ≡ []) ⊎ IsSome (file_dictionaries n ys)
+    → (cs ++ ds ≡ []) ⊎ IsSome (file_dictionaries m xs)
+none_or_some m n xs ys cs ds e f p q = elim p [
+  | inr some ↦ inr some
+  | inl none ↦ elim q [
+    | inr some ↦ inr (still_some m n xs ys e f some)
+    | inl empty ↦ inl (ap (λ (l : List Chunk). l ++ ds) none ∙ empty)
+  ]
+]
+
+gave_blocks : {R : Type 0} (memory : R → Memory) (a b c : FileReader R) (xs ys : List Chunk) → GaveBlocks memory a xs b → GaveBlocks memory b ys c → GaveBlocks memory a (xs ++ ys) c
+gave_blocks memory a b c xs ys one more = record {
+  file = more.file ∙ one.file;
+  bytes = more.bytes ∙ one.bytes;
+  whole = more.whole;
+  block = let both = length-append xs ys in omega (arith, one.block, more.block, both);
+  some = none_or_some (files.file_of a) (files.file_of b) (bytes_of memory a) (bytes_of memory b) xs ys one.file one.bytes one.some more.some;
+  chunks = λ ds so_far found first.
+      let then = of_same (files.file_of a) (files.file_of b) (bytes_of memory a) (bytes_of memory b) (files.block_of b) (files.block_of c) ys one.file one.bytes more.chunks in
+      subst (λ (cs : List Chunk). FirstAre (files.file_of a) ds (bytes_of memory a) (files.block_of c) cs) (append_assoc so_far xs ys)
+      (then ds (so_far ++ xs) found (one.chunks ds so_far found first));
+}
+
+pub file_came_in_order : {R : Type 0} (known : Bool) (memory : R → Memory) → InOrder (FileCame known memory)
+file_came_in_order known memory a xs b ys c one more = λ k whole.
+    let first = one k whole in
+    gave_blocks memory a b c xs ys first (more k first.whole)

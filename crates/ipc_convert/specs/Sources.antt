@@ -1,0 +1,89 @@
+-- Chunks that come from a stream, and from a file.
+-- (Arrow columnar format, "IPC Streaming Format" and "IPC File Format".)
+use Rattle.std.specs.Prelude.{◌≡◌, ◌⊎◌, ℕ, ◌+◌, Bool, true, false, IsSome, IsTrue, List, [], ◌++◌, length, map, take, Option, None, Some}
+use Rattle.ipc_devices.specs.Device.{Memory}
+use Rattle.ipc_devices.specs.Gives.{Stop, going, Gives}
+use Rattle.ipc_laws.specs.Agreement.{AreAlike}
+use Rattle.ipc_model.specs.Batches.{Chunk}
+use Rattle.ipc_model.specs.Entries.{Dictionaries}
+use Rattle.ipc_model.specs.Files.{FileMetadata, all_of, chunks_at, file_dictionaries}
+use Rattle.ipc_model.specs.Streams.{Known, Meant, with_chunks}
+use Rattle.ipc_readers.specs.ChosenStreams.{chosen_meaning}
+use Rattle.ipc_readers.specs.Streams.{Knows, begun_of, device_of, is_over, request_of}
+use Rattle.ipc_readers.specs.declared.read.stream.reader.StreamReader.{StreamReader}
+use Rattle.ipc_file_readers.specs.Readers as files
+use Rattle.ipc_file_readers.specs.declared.read.reader.state.FileReader.{FileReader}
+use Rattle.ipc_round_trip.specs.Reading.{EndsNow}
+use Rattle.ipc_convert.specs.Chunks.{Moved}
+use Rattle.ipc_convert.specs.declared.chunks.Ending.{Ending}
+use Rattle.ipc_convert.specs.declared.chunks.Ending.TheVariants.{Over, Waits}
+
+-- ---- a stream
+
+-- what a reader means that has these bytes ahead, behind those of a prefix that it began, to who knows s
+abbrev pub meant_by : {R : Type 0} → StreamReader R → Known → List ℕ → Meant
+meant_by r s bytes = chosen_meaning (request_of r) s (begun_of r ++ bytes)
+
+-- From a to b a device gave these chunks to a reader: whatever follows, it means these chunks, and then what it means to the reader.
+pub record GaveChunks {R : Type 0} (gives : Gives R) (a : StreamReader R) (cs : List Chunk) (b : StreamReader R) : Type 0 where
+  pub unfinished : is_over b ≡ false
+  pub asked : request_of b ≡ request_of a
+  pub bytes : List ℕ
+  pub gave : gives (device_of a) bytes going (device_of b)
+  pub rest : (s : Known) (ys : List ℕ) → Knows a s → (t : Known) × Knows b t × (meant_by a s (bytes ++ ys) ≡ with_chunks cs (meant_by b t ys))
+
+-- From a to b a device gave no chunk more: the stream is over, or it waits.
+pub record GaveNoMore {R : Type 0} (gives : Gives R) (a : StreamReader R) (over : Bool) (b : StreamReader R) : Type 0 where
+  pub bytes : List ℕ
+  pub stop : Stop
+  pub gave : gives (device_of a) bytes stop (device_of b)
+  pub ends : (s : Known) → Knows a s → EndsNow over (meant_by a s bytes)
+
+abbrev pub is_end : Ending → Bool
+is_end Waits = false
+is_end Over = true
+
+abbrev pub StreamCame : {R : Type 0} → Gives R → Moved (StreamReader R)
+StreamCame gives a cs b = is_over a ≡ false → GaveChunks gives a cs b
+
+abbrev pub StreamStopped : {R : Type 0} → Gives R → StreamReader R → Ending → StreamReader R → Type 0
+StreamStopped gives a ending b = is_over a ≡ false → GaveNoMore gives a (is_end ending) b
+
+-- ---- a file
+
+-- the bytes of it
+abbrev pub bytes_of : {R : Type 0} → (R → Memory) → FileReader R → List ℕ
+bytes_of memory r = (memory (files.device_of r)).whole
+
+-- no dictionaries were read, or those of the file
+abbrev pub AreOfFile : Option Dictionaries → Option Dictionaries → Type 0
+AreOfFile None file = Unit {0}
+AreOfFile (Some known) file = AreAlike file (Some known)
+
+-- It reads all of each chunk.
+pub record ReadsWhole {R : Type 0} (memory : R → Memory) (r : FileReader R) : Type 0 where
+  pub columns : files.asked_of r ≡ None
+  pub rows : files.remaining_of r ≡ None
+  pub known : AreOfFile (files.known_of r) (file_dictionaries (files.file_of r) (bytes_of memory r))
+
+-- the chunks at the first i blocks are these
+abbrev pub FirstAre : FileMetadata → Dictionaries → List ℕ → ℕ → List Chunk → Type 0
+FirstAre m known bytes i cs = chunks_at m known (all_of bytes) None None (take i m.blocks) ≡ map Some cs
+
+-- From a to b a reader gave these chunks: they stand at the next blocks.
+pub record GaveBlocks {R : Type 0} (memory : R → Memory) (a : FileReader R) (cs : List Chunk) (b : FileReader R) : Type 0 where
+  pub file : files.file_of b ≡ files.file_of a
+  pub bytes : bytes_of memory b ≡ bytes_of memory a
+  pub whole : ReadsWhole memory b
+  pub block : files.block_of b ≡ files.block_of a + length cs
+  pub some : (cs ≡ []) ⊎ IsSome (file_dictionaries (files.file_of a) (bytes_of memory a))
+  pub chunks : (known : Dictionaries) (so_far : List Chunk) → file_dictionaries (files.file_of a) (bytes_of memory a) ≡ Some known
+      → FirstAre (files.file_of a) known (bytes_of memory a) (files.block_of a) so_far
+      → FirstAre (files.file_of a) known (bytes_of memory a) (files.block_of b) (so_far ++ cs)
+
+abbrev pub FileCame : {R : Type 0} → Bool → (R → Memory) → Moved (FileReader R)
+FileCame known memory a cs b = IsTrue known → ReadsWhole memory a → GaveBlocks memory a cs b
+
+-- behind the last block nothing comes
+abbrev pub FileStopped : {R : Type 0} → FileReader R → Ending → FileReader R → Type 0
+FileStopped a ending b = (ending ≡ Over) × (files.is_over a ≡ true)

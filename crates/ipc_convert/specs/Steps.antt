@@ -1,0 +1,36 @@
+-- How a stream is ended, and how a file is begun and ended, that is written again.
+-- (Arrow columnar format, "IPC Streaming Format" and "IPC File Format".)
+use Rattle.std.specs.Prelude.{◌≡◌, Bool, IsTrue, [], Result, Ok}
+use Rattle.lower.specs.TypeTrees.{FieldTrees, Pairs}
+use Rattle.lower_types.specs.declared.Endianness.{Endianness}
+use Rattle.ipc_base.specs.IdTrees.{IdTrees}
+use Rattle.ipc_devices.specs.Device.{Memory, before}
+use Rattle.ipc_devices.specs.declared.fault.Fault.{Fault}
+use Rattle.ipc_write.specs.Agreement as streams
+use Rattle.ipc_write.specs.Writers.{WriterSeen}
+use Rattle.ipc_write.specs.declared.stream.WriterState.TheVariants.{Started, Finished}
+use Rattle.ipc_file_write.specs.FileWriters.{Agrees, EndsWith, FileSeen, IsSameFile, Remains}
+use Rattle.ipc_convert.specs.declared.chunks.Ending.{Ending}
+use Rattle.ipc_convert.specs.declared.chunks.Ending.TheVariants.{Over, Waits}
+
+-- the mark ends a stream where its source is over, and nothing is written where that waits
+abbrev pub EndsAsSource : {W : Type 0} → Bool → (W → Memory) → Ending → (a b : WriterSeen W) → Type 0
+EndsAsSource known memory Waits a b = b ≡ a
+EndsAsSource known memory Over a b = (b.state ≡ Finished) × streams.Remains known memory a b
+
+-- A writer has begun a file of this schema with its ids, in this order of bytes, with these pairs, and wrote no chunk.
+pub record BeginsFile {W : Type 0} (known : Bool) (memory : W → Memory) (out : W) (order : Endianness) (fields : FieldTrees) (metadata : Pairs) (ids : IdTrees) (pairs : Pairs) (w : FileSeen W) : Type 0 where
+  pub state : w.state ≡ Started
+  pub order_is : w.order ≡ order
+  pub fields_are : w.fields ≡ fields
+  pub metadata_are : w.metadata ≡ metadata
+  pub ids_are : w.ids ≡ ids
+  pub pairs_are : w.pairs ≡ pairs
+  pub agrees : IsTrue known → Agrees memory w (before (memory out)) []
+
+-- All chunks were taken, and the file that has them was ended.
+pub record EndsCopy {W : Type 0} (known : Bool) (memory : W → Memory) (copied : Result Ending Fault) (ending : Ending) (a b : FileSeen W) : Type 0 where
+  pub all : copied ≡ Ok ending
+  pub ends : EndsWith a b
+  pub same : IsSameFile a b
+  pub remains : Remains known memory a b

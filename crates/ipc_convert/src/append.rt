@@ -1,0 +1,50 @@
+//! Goes on with a file by the chunks of a stream.
+
+use crate::chunks::copy_chunks;
+use crate::files::finish_file;
+use ipc_base::ipc::IpcField;
+use ipc_devices::fault::{ArgFault, Fault};
+use ipc_devices::{Reads, Seeks, Writes};
+use ipc_encode::common::WriteOptions;
+use ipc_file_write::file::FileWriter;
+use ipc_files::read::file::read_file_metadata;
+use ipc_readers::read::stream::{StreamMetadata, StreamReader, read_stream_metadata};
+use ipc_schema_write::dictionaries::are_same_ids;
+use lower::datatypes::{Schema, is_same_schema};
+use std::alloc::Global;
+
+/// Writes the chunks of the stream at `input` behind those of the file at `file`, each as soon as it is read, and a footer with all of
+/// them. The file's byte order and its pairs stay. Both devices are given back.
+///
+/// Faults: those of [`read_file_metadata`], `try_from_file` and [`read_stream_metadata`]; `Argument(FieldsDiffer)` where the stream's schema
+/// isn't the file's, both in their normal form, or its ids aren't: the file is as it was then. Behind the schema those of the calls of
+/// [`StreamReader`] and [`FileWriter`]: the file is finished then with the chunks that were taken, unless its device failed; and then its
+/// old chunks still stand.
+pub fn append_stream<F: Reads + Writes + Seeks + Drop, R: Reads + Drop>(
+    alloc: Global,
+    file: F,
+    input: R,
+) -> Result<(F, R), Fault> {
+    let mut file = file;
+    let metadata = read_file_metadata(alloc, &mut file)?;
+    let ids = metadata.ipc_schema.clone()?.fields;
+    let mut writer = FileWriter::try_from_file(alloc, file, metadata, WriteOptions::default())?;
+    let mut input = input;
+    let metadata = read_stream_metadata(alloc, &mut input)?;
+    check_schema(&metadata, writer.schema(), &ids)?;
+    let mut reader = StreamReader::new(alloc, input, metadata, None)?;
+    let copied = copy_chunks(&mut reader, &mut writer);
+    finish_file(copied, &mut writer)?;
+    Ok((writer.into_inner(), reader.into_inner()))
+}
+
+// Refuses a stream whose schema, in the normal form, isn't this one, or whose ids aren't these.
+fn check_schema(metadata: &StreamMetadata, schema: &Schema, ids: &[IpcField]) -> Result<(), Fault> {
+    let normal = metadata.schema.normal()?;
+    if is_same_schema(&normal, &schema.normal()?)
+        && are_same_ids(&metadata.ipc_schema.fields, ids)
+    {
+        return Ok(());
+    }
+    Err(Fault::Argument(ArgFault::FieldsDiffer))
+}

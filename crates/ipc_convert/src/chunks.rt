@@ -1,0 +1,90 @@
+//! Chunks that are copied, one after the other.
+ghost use Rattle.std.specs.Prelude.{◌≡◌, ◌∷◌, [], IfOk, List, OnOk};
+ghost use Rattle.ipc_model.specs.Batches.{Chunk as ChunkMeant};
+ghost use Rattle.ipc_read.specs.Chunks.{chunk_seen};
+ghost use Rattle.ipc_convert.specs.Chunks.{CameNext, Copied, CopiedOne, InOrder, Nothing};
+
+use ipc_base::chunk::Chunk;
+use ipc_devices::fault::{ArgFault, Fault};
+use lower_arrays::array::AnyArray;
+
+/// How chunks came to an end.
+#[derive(Clone, Copy, PartialEq, Eq)]
+pub enum Ending {
+    /// The input waits: more may come.
+    Waits,
+    /// No more come.
+    Over,
+}
+
+/// What comes next.
+#[derive(Drop)]
+pub enum Next {
+    /// A chunk.
+    Chunk(Chunk<AnyArray>),
+    /// No chunk.
+    End(Ending),
+}
+
+/// What chunks are read from.
+pub trait Source {
+    ghost use Rattle.ipc_convert.specs.declared.chunks.Ending.{Ending};
+
+    // Which chunks came from one state to another.
+    ghost came: { Self → List ChunkMeant → Self → Type 0 };
+
+    // From one state to another no chunk came, and so it ended.
+    ghost stopped: { Self → Ending → Self → Type 0 };
+
+    /// The next chunk, or that none comes.
+    fn next_chunk(&mut self) -> Result<Next, Fault>
+        ensures { IfOk result (λ next. CameNext came stopped self.old next self.new) };
+
+    // Laws: at first none came, and what came twice stands one behind the other.
+    ghost came_nothing: { Nothing came };
+
+    ghost came_in_order: { InOrder came };
+}
+
+/// What chunks are written to.
+pub trait Sink {
+    // Which chunks were taken from one state to another.
+    ghost took: { Self → List ChunkMeant → Self → Type 0 };
+
+    /// Takes a chunk. A fault, `Io` aside, leaves all as it was.
+    fn take_chunk(&mut self, chunk: &Chunk<AnyArray>) -> Result<(), Fault>
+        ensures { OnOk result (took self.old (chunk_seen chunk.now ∷ []) self.new) };
+
+    // Laws: at first none were taken, and what was taken twice stands one behind the other.
+    ghost took_nothing: { Nothing took };
+
+    ghost took_in_order: { InOrder took };
+}
+
+/// Reads all chunks that come, and writes each as soon as it is read: just these were taken then.
+///
+/// Faults: those of the source and of the sink, by which it ends behind the chunks that were taken; `Argument(TooLarge)` where `2^64 - 1`
+/// chunks came and no end.
+pub fn copy_chunks<S: Source, T: Sink>(source: &mut S, sink: &mut T) -> Result<Ending, Fault>
+    ensures { IfOk result (λ ending. Copied S.came S.stopped T.took source.old sink.old ending source.new sink.new) }
+{
+    for _ in 0..u64::MAX {
+        if let Some(ending) = copy_next(source, sink)? {
+            return Ok(ending);
+        }
+    }
+    Err(Fault::Argument(ArgFault::TooLarge))
+}
+
+// Writes the next chunk, where one comes, else says how it ended.
+fn copy_next<S: Source, T: Sink>(source: &mut S, sink: &mut T) -> Result<Option<Ending>, Fault>
+    ensures { IfOk result (λ ending. CopiedOne S.came S.stopped T.took source.old sink.old ending source.new sink.new) }
+{
+    match source.next_chunk()? {
+        Next::Chunk(chunk) => {
+            sink.take_chunk(&chunk)?;
+            Ok(None)
+        }
+        Next::End(ending) => Ok(Some(ending)),
+    }
+}

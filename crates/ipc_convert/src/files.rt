@@ -1,0 +1,106 @@
+//! Writes streams and files as files.
+ghost use Rattle.std.specs.Prelude.{[], IfOk, IsTrue};
+ghost use Rattle.lower.specs.TypeViews.{fields_view, pairs_of};
+ghost use Rattle.ipc_base.specs.IdTrees.{all_ids_view};
+ghost use Rattle.ipc_convert.specs.Copies.{CopiesFileOf, CopiesStream, WritesFile};
+ghost use Rattle.ipc_convert.specs.Steps.{BeginsFile, EndsCopy};
+ghost use Rattle.ipc_file_write.specs.FileWriters.{seen};
+ghost use Rattle.ipc_write.specs.Writers.{order_of};
+
+use crate::chunks::{Ending, copy_chunks};
+use ipc_base::ipc::IpcField;
+use ipc_devices::fault::Fault;
+use ipc_devices::{Reads, Seeks, Writes};
+use ipc_encode::common::WriteOptions;
+use ipc_file_readers::read::reader::FileReader;
+use ipc_file_write::file::FileWriter;
+use ipc_files::read::file::read_file_metadata;
+use ipc_readers::read::stream::{StreamReader, read_stream_metadata};
+use lower::datatypes::clones::clone_metadata;
+use lower::datatypes::{Metadata, Schema};
+use std::alloc::Global;
+
+/// Writes the stream at `input` as a file to `out`: its schema, in the normal form and with the ids of its dictionaries, then each chunk
+/// as soon as it is read, and the footer, without pairs, where the stream ends by its mark or waits for more. Both devices are given back.
+///
+/// Faults: those of [`read_stream_metadata`], and the `Argument` faults of a schema that can't be written: nothing is written then. Behind
+/// the schema those of the calls of [`StreamReader`] and [`FileWriter`], and `Argument(TooLarge)` where `2^64 - 1` chunks came and no end:
+/// the file is finished then with the chunks that were taken, unless its device failed.
+pub fn stream_to_file<R: Reads + Drop, W: Writes + Drop>(
+    alloc: Global,
+    input: R,
+    out: W,
+    write_options: WriteOptions,
+) -> Result<(R, W), Fault>
+    ensures { IsTrue W.known → IfOk result (λ devices. CopiesStream R.gives input devices.0
+        (λ schema chunks _. WritesFile (order_of write_options) (W.memory out) (W.memory devices.1) schema [] chunks)) }
+{
+    let mut input = input;
+    let metadata = read_stream_metadata(alloc, &mut input)?;
+    let schema = metadata.schema.clone()?;
+    let ids = metadata.ipc_schema.clone()?.fields;
+    let mut reader = StreamReader::new(alloc, input, metadata, None)?;
+    let pairs = Metadata::new(alloc);
+    let mut writer = begin_file(alloc, out, schema, ids, pairs, write_options)?;
+    let copied = copy_chunks(&mut reader, &mut writer);
+    finish_file(copied, &mut writer)?;
+    Ok((reader.into_inner(), writer.into_inner()))
+}
+
+/// Writes the file at `file` again as a file to `out`, which it gives back: its schema, in the normal form and with the ids of its
+/// dictionaries, then the chunk at each block, in their order and each as soon as it is read, and the footer with the file's own pairs.
+///
+/// Faults: those of [`read_file_metadata`], and the `Argument` faults of a schema that can't be written: nothing is written then. Behind
+/// the schema those of the calls of [`FileReader`] and [`FileWriter`]: the file is finished then with the chunks that were taken, unless its
+/// device failed. The dictionaries are read with the first block.
+pub fn file_to_file<F: Reads + Seeks + Drop, W: Writes + Drop>(
+    alloc: Global,
+    file: F,
+    out: W,
+    write_options: WriteOptions,
+) -> Result<W, Fault>
+    ensures { IsTrue W.known → IfOk result (λ device. CopiesFileOf F.known F.memory file
+        (WritesFile (order_of write_options) (W.memory out) (W.memory device))) }
+{
+    let mut file = file;
+    let metadata = read_file_metadata(alloc, &mut file)?;
+    let schema = metadata.schema.clone()?;
+    let ids = metadata.ipc_schema.clone()?.fields;
+    let pairs = clone_metadata(&metadata.custom_metadata)?;
+    let mut reader = FileReader::new(alloc, file, metadata, None, None)?;
+    let mut writer = begin_file(alloc, out, schema, ids, pairs, write_options)?;
+    let copied = copy_chunks(&mut reader, &mut writer);
+    finish_file(copied, &mut writer)?;
+    Ok(writer.into_inner())
+}
+
+// A writer of a file that is started.
+fn begin_file<W: Writes + Drop>(
+    alloc: Global,
+    out: W,
+    schema: Schema,
+    ids: Vec<IpcField>,
+    pairs: Metadata,
+    write_options: WriteOptions,
+) -> Result<FileWriter<W>, Fault>
+    ensures { IfOk result (λ w. BeginsFile W.known W.memory out (order_of write_options) (fields_view schema.fields.items)
+        (pairs_of schema.metadata.entries) (all_ids_view ids.items) (pairs_of pairs.entries) (seen w)) }
+{
+    let mut writer = FileWriter::new(alloc, out, schema, Some(ids), write_options)?;
+    writer.set_custom_metadata(pairs)?;
+    writer.start()?;
+    Ok(writer)
+}
+
+// Finishes a file, whatever came of the copy, and answers that.
+pub(crate) fn finish_file<W: Writes + Drop>(
+    copied: Result<Ending, Fault>,
+    writer: &mut FileWriter<W>,
+) -> Result<Ending, Fault>
+    ensures { IfOk result (λ ending. EndsCopy W.known W.memory copied ending (seen writer.old) (seen writer.new)) }
+{
+    let finished = writer.finish();
+    let ending = copied?;
+    finished?;
+    Ok(ending)
+}

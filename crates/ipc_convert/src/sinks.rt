@@ -1,0 +1,35 @@
+//! Streams and files that chunks are written to.
+ghost use Rattle.ipc_convert.specs.SinkLaws.{file_took_in_order, file_took_nothing, stream_took_in_order, stream_took_nothing};
+ghost use Rattle.ipc_convert.specs.Sinks.{FileTook, StreamTook};
+
+use crate::chunks::Sink;
+use ipc_base::chunk::Chunk;
+use ipc_devices::Writes;
+use ipc_devices::fault::Fault;
+use ipc_file_write::file::FileWriter;
+use ipc_write::stream::StreamWriter;
+use lower_arrays::array::AnyArray;
+
+impl<W: Writes + Drop> Sink for StreamWriter<W> {
+    ghost took = { StreamTook W.known W.memory };
+
+    ghost took_nothing = { stream_took_nothing W.known W.memory };
+
+    ghost took_in_order = { stream_took_in_order W.known W.memory };
+
+    fn take_chunk(&mut self, chunk: &Chunk<AnyArray>) -> Result<(), Fault> {
+        self.write(chunk, None)
+    }
+}
+
+impl<W: Writes + Drop> Sink for FileWriter<W> {
+    ghost took = { FileTook W.known W.memory };
+
+    ghost took_nothing = { file_took_nothing W.known W.memory };
+
+    ghost took_in_order = { file_took_in_order W.known W.memory };
+
+    fn take_chunk(&mut self, chunk: &Chunk<AnyArray>) -> Result<(), Fault> {
+        self.write(chunk, None)
+    }
+}

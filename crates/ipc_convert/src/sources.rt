@@ -1,0 +1,46 @@
+//! Streams and files that chunks are read from.
+ghost use Rattle.ipc_convert.specs.SourceLaws.{file_came_in_order, file_came_nothing, stream_came_in_order, stream_came_nothing};
+ghost use Rattle.ipc_convert.specs.Sources.{FileCame, FileStopped, StreamCame, StreamStopped};
+
+use crate::chunks::{Ending, Next, Source};
+use ipc_devices::fault::Fault;
+use ipc_devices::{Reads, Seeks};
+use ipc_file_readers::read::reader::FileReader;
+use ipc_readers::read::stream::{StreamReader, StreamState};
+
+impl<R: Reads + Drop> Source for StreamReader<R> {
+    ghost came = { StreamCame R.gives };
+
+    ghost stopped = { StreamStopped R.gives };
+
+    ghost came_nothing = { stream_came_nothing R.gives R.gives_nothing };
+
+    ghost came_in_order = { stream_came_in_order R.gives R.gives_in_order };
+
+    fn next_chunk(&mut self) -> Result<Next, Fault> {
+        match self.next() {
+            None => Ok(Next::End(Ending::Over)),
+            Some(Err(fault)) => Err(fault),
+            Some(Ok(StreamState::Waiting)) => Ok(Next::End(Ending::Waits)),
+            Some(Ok(StreamState::Some(chunk))) => Ok(Next::Chunk(chunk)),
+        }
+    }
+}
+
+impl<F: Reads + Seeks + Drop> Source for FileReader<F> {
+    ghost came = { FileCame F.known F.memory };
+
+    ghost stopped = { FileStopped };
+
+    ghost came_nothing = { file_came_nothing F.known F.memory };
+
+    ghost came_in_order = { file_came_in_order F.known F.memory };
+
+    fn next_chunk(&mut self) -> Result<Next, Fault> {
+        match self.next() {
+            None => Ok(Next::End(Ending::Over)),
+            Some(Err(fault)) => Err(fault),
+            Some(Ok(chunk)) => Ok(Next::Chunk(chunk)),
+        }
+    }
+}

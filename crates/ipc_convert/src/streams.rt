@@ -1,0 +1,80 @@
+//! Writes streams and files as streams.
+ghost use Rattle.std.specs.Prelude.{IfOk, IsTrue, OnOk};
+ghost use Rattle.ipc_model.specs.Streams.{marked};
+ghost use Rattle.ipc_convert.specs.Copies.{CopiesFileOf, CopiesStream, WritesStream};
+ghost use Rattle.ipc_convert.specs.Steps.{EndsAsSource};
+ghost use Rattle.ipc_write.specs.Writers.{order_of, seen};
+
+use crate::chunks::{Ending, copy_chunks};
+use ipc_devices::fault::Fault;
+use ipc_devices::{Reads, Seeks, Writes};
+use ipc_encode::common::WriteOptions;
+use ipc_file_readers::read::reader::FileReader;
+use ipc_files::read::file::read_file_metadata;
+use ipc_readers::read::stream::{StreamReader, read_stream_metadata};
+use ipc_write::stream::StreamWriter;
+use std::alloc::Global;
+
+/// Writes the stream at `input` to `out`: its schema, in the normal form and with the ids of its dictionaries, then each
+/// chunk as soon as it is read, and the mark where the stream ends by one. Where the stream waits for more, so does what is written.
+/// Both devices are given back.
+///
+/// Faults: those of [`read_stream_metadata`] and of the calls of [`StreamReader`] and [`StreamWriter`]; the `Argument` faults
+/// among them tell that a schema or a chunk can't be written, or, as `TooLarge`, that `2^64 - 1` chunks came and no end. What was read by
+/// then has been written, without the mark.
+pub fn stream_to_stream<R: Reads + Drop, W: Writes + Drop>(
+    alloc: Global,
+    input: R,
+    out: W,
+    write_options: WriteOptions,
+) -> Result<(R, W), Fault>
+    ensures { IsTrue W.known → IfOk result (λ devices. CopiesStream R.gives input devices.0
+        (WritesStream (order_of write_options) (W.memory out) (W.memory devices.1))) }
+{
+    let mut input = input;
+    let metadata = read_stream_metadata(alloc, &mut input)?;
+    let ids = metadata.ipc_schema.clone()?.fields;
+    let mut reader = StreamReader::new(alloc, input, metadata, None)?;
+    let mut writer = StreamWriter::new(alloc, out, write_options);
+    writer.start(&reader.metadata().schema, Some(ids))?;
+    let ending = copy_chunks(&mut reader, &mut writer)?;
+    end_stream(ending, &mut writer)?;
+    Ok((reader.into_inner(), writer.into_inner()))
+}
+
+/// Writes the file at `file` as a stream to `out`, which it gives back: its schema, in the normal form and with the ids of its
+/// dictionaries, then the chunk at each block, in their order and each as soon as it is read, and the mark. The pairs of the file itself
+/// are left out: a stream has none.
+///
+/// Faults: those of [`read_file_metadata`] and of the calls of [`FileReader`] and [`StreamWriter`]; the `Argument` faults
+/// among them tell that the schema or a chunk can't be written. What was read by then has been written, without the mark.
+/// The dictionaries are read with the first block.
+pub fn file_to_stream<F: Reads + Seeks + Drop, W: Writes + Drop>(
+    alloc: Global,
+    file: F,
+    out: W,
+    write_options: WriteOptions,
+) -> Result<W, Fault>
+    ensures { IsTrue W.known → IfOk result (λ device. CopiesFileOf F.known F.memory file
+        (λ schema _ chunks. WritesStream (order_of write_options) (W.memory out) (W.memory device) schema chunks marked)) }
+{
+    let mut file = file;
+    let metadata = read_file_metadata(alloc, &mut file)?;
+    let ids = metadata.ipc_schema.clone()?.fields;
+    let mut reader = FileReader::new(alloc, file, metadata, None, None)?;
+    let mut writer = StreamWriter::new(alloc, out, write_options);
+    writer.start(&reader.metadata().schema, Some(ids))?;
+    let ending = copy_chunks(&mut reader, &mut writer)?;
+    end_stream(ending, &mut writer)?;
+    Ok(writer.into_inner())
+}
+
+// Ends a stream by the mark where its source is over.
+fn end_stream<W: Writes + Drop>(ending: Ending, writer: &mut StreamWriter<W>) -> Result<(), Fault>
+    ensures { OnOk result (EndsAsSource W.known W.memory ending (seen writer.old) (seen writer.new)) }
+{
+    match ending {
+        Ending::Waits => Ok(()),
+        Ending::Over => writer.finish(),
+    }
+}
