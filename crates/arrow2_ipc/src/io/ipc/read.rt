@@ -1,6 +1,7 @@
 //! Reading.
 pub use ipc_devices::OutOfSpecKind;
 pub use ipc_file_readers::read::reader::FileReader;
+pub use ipc_file_round_trip::read::{WholeFile, read_file, read_file_columns};
 pub use ipc_files::read::file::{
     FileMetadata, read_batch, read_file_dictionaries, read_file_metadata,
 };
