@@ -1,39 +1,40 @@
-//! `ipconvert`: reads an Arrow IPC stream or file and writes it again as a stream, in either byte order.
+//! `ipconvert`: reads an Arrow IPC stream or file and writes it again as a stream or a file, in either byte order; or goes on with a file.
 ghost use Rattle.std.specs.Prelude.{◌≤◌};
 
-mod copy;
-mod copy_file;
 mod forms;
 
 use crate::class::tell;
-use arrow2_ipc::io::ipc::fault::{Fault, Nyi, Reads, Seeks, Writes};
+use arrow2_ipc::io::ipc::fault::{Fault, Reads, Seeks, Writes};
 use arrow2_ipc::io::ipc::write::WriteOptions;
-use copy::copy_stream;
-use copy_file::copy_file;
-use forms::{Form, Source, form_of, source_of};
+pub use forms::Place;
+use forms::{Form, Source, Target, form_of, place_in};
+use ipc_convert::append::append_stream;
+use ipc_convert::files::{file_to_file, stream_to_file};
+use ipc_convert::streams::{file_to_stream, stream_to_stream};
 use ipc_write::common_sync::write_all;
 use std::alloc::Global;
 use std::io;
 use std::io::ErrorKind;
 
-const USAGE: &str = "usage: ipconvert FROM TO [ORDER]\n";
+const USAGE: &str = "usage: ipconvert FROM TO [ORDER] | ipconvert append PATH\n";
 
-/// The path that the words name, for whoever opens what stands there: that of a file to read from, where the words are right.
-pub fn path_of(words: &[String]) -> Option<&str> {
-    match source_of(form_of(words)?) {
-        Source::File(path) => Some(path),
-        Source::Input => None,
-    }
+/// What the words name, for whoever opens it: a file to read from, or one to go on with, where the words are right.
+pub fn place_of(words: &[String]) -> Option<Place<'_>> {
+    place_in(form_of(words)?)
 }
 
 /// Does what the words ask for, and answers the exit status: 0 where all was written, also of a stream that waits for more; 1 after
 /// a fault, whose class stands on `err` then; and 2 for wrong words, where `err` has the usage. The words are
 /// judged before anything is read. A failed write to `err` is passed over.
 ///
-/// `FROM` is `-`, a stream at `input`, or the path of a file, and `TO` is `stream` or `file`: a file to be written isn't there yet.
-/// `ORDER` is that of the bytes of numbers, `little` or `big`; where it is left out it is `little`. `file` is what stands at
-/// the path that the words name (see [`path_of`]), and None where that can't be opened, which is a fault where the words ask for it.
-pub fn run<R: Reads, F: Reads + Seeks + Drop, O: Writes, E: Writes>(
+/// `FROM` is `-`, a stream at `input`, or the path of a file, and `TO` is `stream` or `file`, written to `out`. `ORDER` is that of the bytes
+/// of numbers, `little` or `big`; where it is left out it is `little`. `append PATH` writes the chunks of the stream at `input` behind those
+/// of the file at a path, whose order of bytes stays. `file` is what stands at the path that the words name (see [`place_of`]), and None
+/// where that can't be opened, which is a fault where the words ask for it.
+///
+/// A stream that waits is written as a stream that waits, and ends a file. A fault before the schema was written leaves `out`, and a file
+/// that is to be gone on with, as they were; one behind it ends a file with the chunks that were taken, and a stream without a mark.
+pub fn run<R: Reads, F: Reads + Writes + Seeks + Drop, O: Writes, E: Writes>(
     alloc: Global,
     words: &[String],
     input: &mut R,
@@ -56,7 +57,7 @@ pub fn run<R: Reads, F: Reads + Seeks + Drop, O: Writes, E: Writes>(
     }
 }
 
-fn run_form<R: Reads, F: Reads + Seeks + Drop, O: Writes>(
+fn run_form<R: Reads, F: Reads + Writes + Seeks + Drop, O: Writes>(
     alloc: Global,
     form: Form<'_>,
     input: &mut R,
@@ -64,15 +65,26 @@ fn run_form<R: Reads, F: Reads + Seeks + Drop, O: Writes>(
     out: &mut O,
 ) -> Result<(), Fault> {
     match form {
-        Form::Stream(Source::Input, write_options) => {
-            let copied = copy_input(alloc, input, &mut *out, write_options);
+        Form::Convert(Source::Input, target, write_options) => {
+            let copied = copy_input(alloc, input, &mut *out, target, write_options);
             flushed(copied, out)
         }
-        Form::Stream(Source::File(_), write_options) => {
-            let copied = copy_opened(alloc, file, &mut *out, write_options);
+        Form::Convert(Source::File(_), target, write_options) => {
+            let copied = copy_file(alloc, opened(file)?, &mut *out, target, write_options);
             flushed(copied, out)
         }
-        Form::Pending(_) => Err(Fault::NotYetImplemented(Nyi::Pending)),
+        Form::Append(_) => {
+            append_stream(alloc, opened(file)?, input)?;
+            Ok(())
+        }
+    }
+}
+
+// What stands at a path, where it could be opened.
+fn opened<F>(file: Option<F>) -> Result<F, Fault> {
+    match file {
+        Some(file) => Ok(file),
+        None => Err(Fault::Io(io::Error::from(ErrorKind::NotFound))),
     }
 }
 
@@ -88,23 +100,34 @@ fn copy_input<R: Reads, O: Writes>(
     alloc: Global,
     input: &mut R,
     out: &mut O,
+    target: Target,
     write_options: WriteOptions,
 ) -> Result<(), Fault> {
-    copy_stream(alloc, input, out, write_options)?;
+    match target {
+        Target::Stream => {
+            stream_to_stream(alloc, input, out, write_options)?;
+        }
+        Target::File => {
+            stream_to_file(alloc, input, out, write_options)?;
+        }
+    }
     Ok(())
 }
 
-fn copy_opened<F: Reads + Seeks + Drop, O: Writes>(
+fn copy_file<F: Reads + Seeks + Drop, O: Writes>(
     alloc: Global,
-    file: Option<F>,
+    file: F,
     out: &mut O,
+    target: Target,
     write_options: WriteOptions,
 ) -> Result<(), Fault> {
-    match file {
-        Some(mut file) => {
-            copy_file(alloc, &mut file, out, write_options)?;
-            Ok(())
+    match target {
+        Target::Stream => {
+            file_to_stream(alloc, file, out, write_options)?;
         }
-        None => Err(Fault::Io(io::Error::from(ErrorKind::NotFound))),
+        Target::File => {
+            file_to_file(alloc, file, out, write_options)?;
+        }
     }
+    Ok(())
 }

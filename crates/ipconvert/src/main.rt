@@ -1,9 +1,9 @@
-//! `ipconvert` reads an Arrow IPC stream or file and writes it again as a stream, in either byte order.
+//! `ipconvert` reads an Arrow IPC stream or file and writes it again as a stream or a file, in either byte order; or goes on with a file.
 #![tactic(auto)]
 
 use arrow2_ipc::io::ipc::fault::Watched;
-use ipc_tools::convert::{path_of, run};
-use std::fs::File;
+use ipc_tools::convert::{place_of, run};
+use std::fs::OpenOptions;
 use std::process::ExitCode;
 use std::{env, io};
 
@@ -11,8 +11,12 @@ fn main(rt: HostRuntime) -> io::Result<ExitCode> {
     let mut words = env::args(&rt)?;
     let _program = words.next();
     let words: Vec<String> = words.collect(rt.alloc())?;
-    let file = match path_of(&words) {
-        Some(path) => File::open(&rt, path).ok().map(Watched::new),
+    let file = match place_of(&words) {
+        Some(place) => {
+            let mut options = OpenOptions::new();
+            options.read(true).write(place.is_written);
+            options.open(&rt, place.path).ok().map(Watched::new)
+        }
         None => None,
     };
     let status = run(

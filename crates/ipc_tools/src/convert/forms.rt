@@ -2,14 +2,14 @@
 
 use arrow2_ipc::io::ipc::write::WriteOptions;
 
-/// The program's forms, of which one isn't there yet.
+/// The program's forms.
 #[derive(Clone, Copy)]
 pub enum Form<'a> {
-    /// From a source to a stream that is written so.
-    Stream(Source<'a>, WriteOptions),
+    /// From a source to a target that is written so.
+    Convert(Source<'a>, Target, WriteOptions),
 
-    /// Words that are right, of the form that isn't there yet: from a source to a file.
-    Pending(Source<'a>),
+    /// Behind the chunks of the file at a path, from the stream at the input.
+    Append(&'a str),
 }
 
 /// Where it is read from.
@@ -22,19 +22,47 @@ pub enum Source<'a> {
     File(&'a str),
 }
 
-/// The form that these words ask for, or None where no form has them.
+/// As what it is written.
+#[derive(Clone, Copy)]
+pub enum Target {
+    Stream,
+    File,
+}
+
+/// What stands at a path.
+#[derive(Clone, Copy)]
+pub struct Place<'a> {
+    /// The path.
+    pub path: &'a str,
+
+    /// Whether it is written to, beside being read.
+    pub is_written: bool,
+}
+
+/// The form that these words ask for, or None where no form has them. A first word `append` always asks for appending.
 pub fn form_of(words: &[String]) -> Option<Form<'_>> {
-    match words {
-        [from, to] => form_from_to(from.as_str(), to.as_str(), WriteOptions::default()),
-        [from, to, order] => form_from_to(from.as_str(), to.as_str(), options_of(order.as_str())?),
+    let (first, others) = words.split_first()?;
+    match (first.as_str(), others) {
+        ("append", [path]) => Some(Form::Append(path.as_str())),
+        ("append", _) => None,
+        (from, [to]) => form_from_to(from, to.as_str(), WriteOptions::default()),
+        (from, [to, order]) => form_from_to(from, to.as_str(), options_of(order.as_str())?),
         _ => None,
     }
 }
 
-/// Where the words of a form read from.
-pub fn source_of(form: Form<'_>) -> Source<'_> {
+/// What the words of a form have opened.
+pub fn place_in(form: Form<'_>) -> Option<Place<'_>> {
     match form {
-        Form::Stream(source, _) | Form::Pending(source) => source,
+        Form::Convert(Source::Input, _, _) => None,
+        Form::Convert(Source::File(path), _, _) => Some(Place {
+            path,
+            is_written: false,
+        }),
+        Form::Append(path) => Some(Place {
+            path,
+            is_written: true,
+        }),
     }
 }
 
@@ -44,11 +72,12 @@ fn form_from_to<'a>(from: &'a str, to: &str, write_options: WriteOptions) -> Opt
     } else {
         Source::File(from)
     };
-    match to {
-        "stream" => Some(Form::Stream(source, write_options)),
-        "file" => Some(Form::Pending(source)),
-        _ => None,
-    }
+    let target = match to {
+        "stream" => Target::Stream,
+        "file" => Target::File,
+        _ => return None,
+    };
+    Some(Form::Convert(source, target, write_options))
 }
 
 // The order of the bytes of numbers, by its word.
