@@ -157,7 +157,8 @@ fn put_u32(out: &mut Vec<u8>, first: &Value, part: &Value, turn: usize) -> Resul
     }
 }
 
-fn put_zeros(out: &mut Vec<u8>, zeros: usize) -> Result<(), Trouble> {
+/// Adds so many bytes 0.
+pub fn put_zeros(out: &mut Vec<u8>, zeros: usize) -> Result<(), Trouble> {
     for _ in 0..zeros {
         out.push(0)?;
     }

@@ -4,6 +4,7 @@ mod appended;
 mod arrays;
 mod buffers;
 mod chunks;
+mod conversions;
 mod devices;
 mod encoded;
 mod files;
@@ -21,6 +22,7 @@ mod streams;
 mod tools;
 mod types;
 mod views;
+mod written_files;
 
 use crate::json::named;
 use crate::text::Text;
@@ -148,6 +150,9 @@ enum Call {
     ItemsOf,
     CutFilesOf,
     DamagedFilesOf,
+    FileBy,
+    FileOn,
+    WholeFileBy,
     DeviceBy,
     ProjectionOf,
     PreparedBy,
@@ -159,11 +164,12 @@ enum Call {
     TrackedBy,
     Ipcat,
     Ipconvert,
+    ConversionOf,
     IpcatCut,
     IpcatDamaged,
 }
 
-const CALLS: [(&str, Call); 65] = [
+const CALLS: [(&str, Call); 69] = [
     ("slots_of", Call::SlotsOf),
     ("parts_of", Call::PartsOf),
     ("bits_of", Call::BitsOf),
@@ -216,6 +222,9 @@ const CALLS: [(&str, Call); 65] = [
     ("items_of", Call::ItemsOf),
     ("cut_files_of", Call::CutFilesOf),
     ("damaged_files_of", Call::DamagedFilesOf),
+    ("file_by", Call::FileBy),
+    ("file_on", Call::FileOn),
+    ("whole_file_by", Call::WholeFileBy),
     ("device_by", Call::DeviceBy),
     ("projection_of", Call::ProjectionOf),
     ("prepared_by", Call::PreparedBy),
@@ -227,6 +236,7 @@ const CALLS: [(&str, Call); 65] = [
     ("tracked_by", Call::TrackedBy),
     ("ipcat", Call::Ipcat),
     ("ipconvert", Call::Ipconvert),
+    ("conversion_of", Call::ConversionOf),
     ("ipcat_cut", Call::IpcatCut),
     ("ipcat_damaged", Call::IpcatDamaged),
 ];
@@ -285,6 +295,9 @@ fn put_called(alloc: Global, out: &mut Text, call: Call, parts: &Value) -> Resul
         Call::ItemsOf => items::items_of(alloc, out, parts),
         Call::CutFilesOf => files::cut_files_of(alloc, out, parts),
         Call::DamagedFilesOf => files::damaged_files_of(alloc, out, parts),
+        Call::FileBy => written_files::file_by(alloc, out, parts),
+        Call::FileOn => written_files::file_on(alloc, out, parts),
+        Call::WholeFileBy => written_files::whole_file_by(alloc, out, parts),
         Call::DeviceBy => devices::device_by(alloc, out, parts),
         Call::ProjectionOf => projections::projection_of(alloc, out, parts),
         Call::PreparedBy => projections::prepared_by(alloc, out, parts),
@@ -296,6 +309,7 @@ fn put_called(alloc: Global, out: &mut Text, call: Call, parts: &Value) -> Resul
         Call::TrackedBy => encoded::tracked_by(alloc, out, parts),
         Call::Ipcat => tools::ipcat(alloc, out, parts),
         Call::Ipconvert => tools::ipconvert(alloc, out, parts),
+        Call::ConversionOf => conversions::conversion_of(alloc, out, parts),
         Call::IpcatCut => tools::ipcat_cut(alloc, out, parts),
         Call::IpcatDamaged => tools::ipcat_damaged(alloc, out, parts),
     }

@@ -1,27 +1,49 @@
 //! Files: `{"messages": [BYTES, ..], "footer": FOOTER}`: the magic and its padding, these messages, each behind its prefix of 8 bytes and
 //! before its body, the footer, its length, and the magic. The footer is a table as `tables.rt` has it, in which a block may be the number of a message;
-//! `"footer_bytes": BYTES` may stand in its place, and `"bytes": BYTES` in place of all. `"changes": [PART, ..]` are made to the whole, as in `bytes.rt`.
+//! `"footer_bytes": BYTES` may stand in its place, and in place of all `"bytes": BYTES`, or `"written": WRITTEN`, what a writer writes, as in
+//! `written_files.rt`, or `"converted": CONVERSION`, what a run as in `conversions.rt` has written. `"changes": [PART, ..]` are made to the
+//! whole, as in `bytes.rt`.
 
 use crate::bytes::{bytes, put_part};
+use crate::conversions::converted;
 use crate::json::{items, member};
 use crate::tables::footer;
+use crate::text::Text;
 use crate::trouble::Trouble;
+use crate::written_files::write_file;
 use ipc_views::Block;
 use serde_json::Value;
 use std::alloc::Global;
 
 /// The bytes of a file.
 pub fn file(alloc: Global, value: &Value) -> Result<Vec<u8>, Trouble> {
-    let mut out = match value.get("bytes") {
-        Some(whole) => bytes(alloc, whole)?,
-        None => built(alloc, value)?,
+    let mut out = match value.get("converted") {
+        Some(conversion) => converted(alloc, conversion)?.written,
+        None => plain_file(alloc, value)?,
     };
-    if let Some(changes) = value.get("changes") {
-        for change in items(Some(changes), "changes")? {
-            put_part(alloc, &mut out, change)?;
-        }
-    }
+    make_changes(alloc, &mut out, value)?;
     Ok(out)
+}
+
+/// Those of a file that isn't converted, and to which no changes are made.
+pub fn plain_file(alloc: Global, value: &Value) -> Result<Vec<u8>, Trouble> {
+    if let Some(whole) = value.get("bytes") {
+        return bytes(alloc, whole);
+    }
+    match value.get("written") {
+        Some(written) => write_file(alloc, &mut Text::new(alloc), written),
+        None => built(alloc, value),
+    }
+}
+
+fn make_changes(alloc: Global, out: &mut Vec<u8>, value: &Value) -> Result<(), Trouble> {
+    let Some(changes) = value.get("changes") else {
+        return Ok(());
+    };
+    for change in items(Some(changes), "changes")? {
+        put_part(alloc, out, change)?;
+    }
+    Ok(())
 }
 
 fn built(alloc: Global, value: &Value) -> Result<Vec<u8>, Trouble> {

@@ -9,6 +9,7 @@ mod arrays;
 mod bytes;
 mod calls;
 mod chunks;
+mod conversions;
 mod damages;
 mod files;
 mod json;
@@ -30,6 +31,7 @@ mod text;
 mod trouble;
 mod types;
 mod written;
+mod written_files;
 
 use std::process::ExitCode;
 use std::{env, fs, io};

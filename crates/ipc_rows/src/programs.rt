@@ -2,7 +2,7 @@
 
 use crate::json::{items, text};
 use crate::trouble::Trouble;
-use ipc_devices::MemFile;
+use ipc_devices::{MemFile, Reads, Seeks, Writes};
 use ipc_tools::{cat, convert};
 use serde_json::Value;
 use std::alloc::Global;
@@ -24,13 +24,33 @@ pub struct Run {
 
 /// Runs a program with these words on an input.
 pub fn run_of(alloc: Global, program: Program, words: &[String], input: &[u8]) -> Run {
+    run_with(alloc, program, words, input, None::<MemFile<Vec<u8>>>)
+}
+
+/// Runs it where this file stands at the path that the words name.
+pub fn run_beside(
+    alloc: Global,
+    program: Program,
+    words: &[String],
+    input: &[u8],
+    file: &mut MemFile<Vec<u8>>,
+) -> Run {
+    run_with(alloc, program, words, input, Some(file))
+}
+
+fn run_with<F: Reads + Writes + Seeks + Drop>(
+    alloc: Global,
+    program: Program,
+    words: &[String],
+    input: &[u8],
+    file: Option<F>,
+) -> Run {
     let mut out = Vec::new(alloc);
     let mut err = Vec::new(alloc);
     let mut input = MemFile::new(input);
-    let no_file = None::<MemFile<&[u8]>>;
     let status = match program {
-        Program::Ipcat => cat::run(alloc, words, &mut input, no_file, &mut out, &mut err),
-        Program::Ipconvert => convert::run(alloc, words, &mut input, no_file, &mut out, &mut err),
+        Program::Ipcat => cat::run(alloc, words, &mut input, file, &mut out, &mut err),
+        Program::Ipconvert => convert::run(alloc, words, &mut input, file, &mut out, &mut err),
     };
     Run { status, out, err }
 }

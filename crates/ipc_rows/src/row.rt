@@ -1,8 +1,9 @@
 //! A row: its call, and what comes out of it.
 //!
 //! `{"row": NAME, CALL: PARTS, "gives": VALUE}`. A call that is refused gives its fault as a text; one that ends in `..`
-//! leaves open what follows. `{"fault": NAME, "text": TEXT}` wants what the fault tells a reader too. `{"common": {CALL: PARTS}}` stands before rows that have these parts where they don't say others.
+//! leaves open what follows. Wanted bytes may be in parts, as in `bytes.rt`. `{"fault": NAME, "text": TEXT}` wants what the fault tells a reader too. `{"common": {CALL: PARTS}}` stands before rows that have these parts where they don't say others.
 
+use crate::bytes::bytes;
 use crate::calls::called;
 use crate::json::{member, text, truth};
 use crate::schemas::put_wanted_schema;
@@ -33,6 +34,7 @@ impl Answer {
 /// Runs a row, to which the common parts of its call are added.
 pub fn run_row(alloc: Global, row: &mut Value, common: &Value) -> Result<Answer, Trouble> {
     add_common(row, common)?;
+    spell_bytes(alloc, row)?;
     let gives = member(row, "gives")?;
     let name = String::from_str(alloc, text(row.get("row"), "row")?)?;
     let wanted = wanted_of(alloc, gives)?;
@@ -41,6 +43,21 @@ pub fn run_row(alloc: Global, row: &mut Value, common: &Value) -> Result<Answer,
         called => in_order(alloc, called?)?,
     };
     Ok(Answer { name, wanted, got })
+}
+
+// Spells the bytes that a row wants as hex digits, where they are in parts.
+fn spell_bytes(alloc: Global, row: &mut Value) -> Result<(), Trouble> {
+    let Some(gives) = row.get_mut("gives") else {
+        return Ok(());
+    };
+    let Some(wanted) = gives.get_mut("bytes") else {
+        return Ok(());
+    };
+    if let Value::Array(_) = wanted {
+        let spelt = bytes(alloc, wanted)?;
+        *wanted = Value::String(hex::encode(alloc, spelt.as_slice())?);
+    }
+    Ok(())
 }
 
 // What a call gave, with its parts in the order of their names, as JSON text of a value has them. A schema isn't JSON.

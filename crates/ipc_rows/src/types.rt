@@ -381,15 +381,20 @@ pub fn nullable(field: &Value) -> Result<bool, Trouble> {
 
 /// The texts of a field or a schema by their names, in its member `metadata`.
 pub fn metadata(alloc: Global, value: &Value) -> Result<Metadata, Trouble> {
+    texts(alloc, value, "metadata")
+}
+
+/// Texts by their names, in the member of this name, which may be left out.
+pub fn texts(alloc: Global, value: &Value, name: &'static str) -> Result<Metadata, Trouble> {
     let mut out = Metadata::new(alloc);
-    let Some(pairs) = value.get("metadata") else {
+    let Some(pairs) = value.get(name) else {
         return Ok(out);
     };
     let Value::Object(pairs) = pairs else {
-        return Err(Trouble::Row("metadata"));
+        return Err(Trouble::Row(name));
     };
     for (key, value) in pairs {
-        let value = String::from_str(alloc, text(Some(value), "metadata")?)?;
+        let value = String::from_str(alloc, text(Some(value), name)?)?;
         out.insert(key.clone()?, value)?;
     }
     Ok(out)

@@ -79,14 +79,20 @@ pub fn write(alloc: Global, answers: &mut Text, value: &Value) -> Result<Vec<u8>
     answers.put("[");
     for call in items(value.get("calls"), "calls")? {
         answers.comma();
-        match run_call(alloc, &mut writer, &schema, value, call) {
-            Ok(()) => answers.put("\"ok\""),
-            Err(Trouble::Refused(fault)) => answers.shown(&fault),
-            Err(trouble) => return Err(trouble),
-        }
+        put_answer(answers, run_call(alloc, &mut writer, &schema, value, call))?;
     }
     answers.put("]");
     Ok(writer.into_inner())
+}
+
+/// Appends what a call answers, `"ok"` or its fault.
+pub fn put_answer(answers: &mut Text, answer: Result<(), Trouble>) -> Result<(), Trouble> {
+    match answer {
+        Ok(()) => answers.put("\"ok\""),
+        Err(Trouble::Refused(fault)) => answers.shown(&fault),
+        Err(trouble) => return Err(trouble),
+    }
+    Ok(())
 }
 
 fn run_call(
@@ -108,8 +114,8 @@ fn run_call(
     }
 }
 
-// The ids that are handed in, if any are.
-fn given_ids(alloc: Global, value: &Value) -> Result<Option<Vec<IpcField>>, Trouble> {
+/// The ids that are handed in, if any are.
+pub fn given_ids(alloc: Global, value: &Value) -> Result<Option<Vec<IpcField>>, Trouble> {
     match value.get("ids") {
         None => Ok(None),
         Some(_) => Ok(Some(ids_of(alloc, value, &[])?)),

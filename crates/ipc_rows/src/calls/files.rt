@@ -46,7 +46,8 @@ pub fn file_of(alloc: Global, out: &mut Text, value: &Value) -> Result<(), Troub
     put_metadata(alloc, out, &metadata.clone()?)
 }
 
-fn put_metadata(alloc: Global, out: &mut Text, metadata: &FileMetadata) -> Result<(), Trouble> {
+/// Appends what the footer of a file says.
+pub fn put_metadata(alloc: Global, out: &mut Text, metadata: &FileMetadata) -> Result<(), Trouble> {
     out.put("{\"blocks\":");
     put_blocks(out, &metadata.blocks);
     out.put(",\"columns\":[");
@@ -77,7 +78,8 @@ fn put_blocks(out: &mut Text, blocks: &[Block]) {
     out.put("]");
 }
 
-fn put_pairs(out: &mut Text, pairs: &Metadata) {
+/// Pairs of metadata, by their keys.
+pub fn put_pairs(out: &mut Text, pairs: &Metadata) {
     out.put("[");
     for (key, value) in pairs {
         out.comma();

@@ -17,7 +17,8 @@ use lower::datatypes::Field;
 use serde_json::Value;
 use std::alloc::Global;
 
-type Reader<'a> = FileReader<MemFile<&'a [u8]>>;
+/// A reader of a file in memory.
+pub type Reader<'a> = FileReader<MemFile<&'a [u8]>>;
 
 fn opened<'a>(alloc: Global, file: &'a [u8], value: &Value) -> Result<Reader<'a>, Trouble> {
     let mut input = MemFile::new(file);
@@ -50,12 +51,17 @@ pub fn items_of(alloc: Global, out: &mut Text, value: &Value) -> Result<(), Trou
 
 fn put_item(out: &mut Text, reader: &mut Reader<'_>, fields: &[Field]) {
     out.put("[");
+    put_next(out, reader, fields);
+    out.put(",");
+    out.show(&reader.is_finished());
+    out.put("]");
+}
+
+/// Appends what a call of `next` answers: a chunk, null or a fault.
+pub fn put_next(out: &mut Text, reader: &mut Reader<'_>, fields: &[Field]) {
     match reader.next() {
         None => out.put("null"),
         Some(Ok(chunk)) => put_chunk(out, &chunk, fields),
         Some(Err(fault)) => out.shown(&fault),
     }
-    out.put(",");
-    out.show(&reader.is_finished());
-    out.put("]");
 }

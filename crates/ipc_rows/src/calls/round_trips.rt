@@ -11,6 +11,7 @@ use crate::trouble::Trouble;
 use crate::types::LEVELS;
 use crate::written::{options, stream};
 use ipc_base::chunk::Chunk;
+use ipc_devices::Fault;
 use ipc_round_trip::read::{WholeStream, read_stream};
 use ipc_round_trip::round_trip::round_trip;
 use ipc_write::calls::StreamCall;
@@ -19,9 +20,9 @@ use lower_arrays::array::AnyArray;
 use serde_json::Value;
 use std::alloc::Global;
 
-// A call of a writer, with the chunk that it writes.
+/// A call of a writer, with the chunk that it writes.
 #[derive(Drop)]
-enum Call {
+pub enum Call {
     Start,
     Write(Chunk<AnyArray>),
     Finish,
@@ -38,7 +39,8 @@ fn call_of(alloc: Global, value: &Value) -> Result<Call, Trouble> {
     }
 }
 
-fn calls_of(alloc: Global, value: &Value) -> Result<Vec<Call>, Trouble> {
+/// The calls of a row.
+pub fn calls_of(alloc: Global, value: &Value) -> Result<Vec<Call>, Trouble> {
     let mut calls = Vec::new(alloc);
     for call in items(value.get("calls"), "calls")? {
         calls.push(call_of(alloc, call)?)?;
@@ -46,8 +48,8 @@ fn calls_of(alloc: Global, value: &Value) -> Result<Vec<Call>, Trouble> {
     Ok(calls)
 }
 
-// The same calls, as a list that is run takes them.
-fn borrowed<'a>(alloc: Global, calls: &'a [Call]) -> Result<Vec<StreamCall<'a>>, Trouble> {
+/// The same calls, as a list that is run takes them.
+pub fn borrowed<'a>(alloc: Global, calls: &'a [Call]) -> Result<Vec<StreamCall<'a>>, Trouble> {
     let mut all = Vec::new(alloc);
     for call in calls {
         all.push(match call {
@@ -64,20 +66,27 @@ pub fn round_trip_of(alloc: Global, out: &mut Text, value: &Value) -> Result<(),
     let schema = schema(alloc, value)?;
     let calls = calls_of(alloc, value)?;
     let trip = round_trip(alloc, &schema, &borrowed(alloc, &calls)?, options(value))?;
-    out.put("{\"answers\":[");
-    for answer in &trip.answers {
+    out.put("{\"answers\":");
+    put_answers(out, &trip.answers);
+    out.put(",");
+    put_whole_stream(out, &trip.stream, &schema.fields);
+    out.put(",\"is_schema_same\":");
+    out.show(&(trip.stream.metadata.schema == schema));
+    out.put("}");
+    Ok(())
+}
+
+/// Appends what each of some calls answers.
+pub fn put_answers(out: &mut Text, answers: &[Result<(), Fault>]) {
+    out.put("[");
+    for answer in answers {
         out.comma();
         match answer {
             Ok(()) => out.put("\"ok\""),
             Err(fault) => out.shown(fault),
         }
     }
-    out.put("],");
-    put_whole_stream(out, &trip.stream, &schema.fields);
-    out.put(",\"is_schema_same\":");
-    out.show(&(trip.stream.metadata.schema == schema));
-    out.put("}");
-    Ok(())
+    out.put("]");
 }
 
 fn put_whole_stream(out: &mut Text, stream: &WholeStream, fields: &[Field]) {

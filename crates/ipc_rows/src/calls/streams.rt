@@ -52,11 +52,17 @@ fn asked<'a>(alloc: Global, stream: &'a [u8], value: &Value) -> Result<Reader<'a
 /// The chunks of a stream, and how it ends.
 pub fn read_of(alloc: Global, out: &mut Text, value: &Value) -> Result<(), Trouble> {
     let stream = stream(alloc, value)?;
-    let mut reader = opened(alloc, &stream)?;
-    let fields = reader.metadata().clone()?.schema.fields;
     out.put("{");
-    put_stream(out, &mut reader, &fields);
+    put_whole(alloc, out, &stream)?;
     out.put("}");
+    Ok(())
+}
+
+/// Appends the chunks of a stream, and how it ends, as members.
+pub fn put_whole(alloc: Global, out: &mut Text, stream: &[u8]) -> Result<(), Trouble> {
+    let mut reader = opened(alloc, stream)?;
+    let fields = reader.metadata().clone()?.schema.fields;
+    put_stream(out, &mut reader, &fields);
     Ok(())
 }
 
