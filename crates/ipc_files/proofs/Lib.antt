@@ -8,3 +8,4 @@ pub mod Openings
 pub mod Tails
 pub mod NeededValues
 pub mod Reasons
+pub mod HeldValues

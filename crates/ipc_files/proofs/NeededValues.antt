@@ -20,9 +20,12 @@ need_more known schema source [] b n metadata h stands = (metadata, 0, stands, r
 need_more known schema source (a ∷ bs) b n metadata h stands =
     (h.0, h.1 + needed_values schema metadata, h.2, need_more known schema source bs b h.1 metadata h.3 stands, omega (arith, h.4))
 
-take_none : (bs : List Block) → take 0 bs ≡ []
+pub take_none : (bs : List Block) → take 0 bs ≡ []
 take_none [] = refl
 take_none (b ∷ bs) = refl
+
+pub take_next : (bs : List Block) (i : ℕ) (d : Block) → i < length bs → take (i + 1) bs ≡ take i bs ++ get_or bs i d ∷ []
+take_next bs i d inside = (let same_place : i + 1 ≡ suc i = omega arith in ap (λ (n : ℕ). take n bs) same_place) ∙ take-suc bs i d inside
 
 pub none_given : (known : Bool) (schema : Schema) (source : List ℕ) (bs : List Block) (old : ℕ) → GivenFor known schema source (take 0 bs) old old
 none_given known schema source bs old =
@@ -32,8 +35,7 @@ pub more_given : (known : Bool) (schema : Schema) (source whole : List ℕ) (bs 
     → GivenFor known schema source (take i bs) old mid → (IsTrue known → whole ≡ source) → (IsTrue known → block_metadata whole (Some (get_or bs i d)) ≡ Some metadata)
     → new ≤ mid + needed_values schema metadata → GivenFor known schema source (take (i + 1) bs) old new
 more_given known schema source whole bs i d old mid new metadata inside so_far same stands most =
-    let next : take (i + 1) bs ≡ take i bs ++ get_or bs i d ∷ [] = (let same_place : i + 1 ≡ suc i = omega arith in ap (λ (n : ℕ). take n bs) same_place) ∙ take-suc bs i d inside in
-    subst (λ (xs : List Block). GivenFor known schema source xs old new) (sym next)
+    subst (λ (xs : List Block). GivenFor known schema source xs old new) (sym (take_next bs i d inside))
     (record {
       bytes = so_far.bytes + needed_values schema metadata;
       needed = need_more known schema source (take i bs) (get_or bs i d) so_far.bytes metadata so_far.needed

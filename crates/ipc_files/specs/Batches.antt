@@ -2,6 +2,7 @@
 -- (Arrow columnar format, "IPC File Format" and "RecordBatch message".)
 use Rattle.std.specs.Prelude.{◌≡◌, ◌⊎◌, ℕ, ◌+◌, ◌^◌, ◌≤◌, List, length, drop, Option, None, Some, Result, Ok, Err}
 use Rattle.std.specs.Option.{option_and_then}
+use Rattle.lower_arrays.specs.declared.array.AnyArray.{AnyArray}
 use Rattle.ipc_devices.specs.declared.fault.Fault.{Fault}
 use Rattle.ipc_devices.specs.declared.fault.Fault.TheVariants.{OutOfSpec}
 use Rattle.ipc_devices.specs.declared.fault.OutOfSpecKind.TheVariants.{NegativeFooterLength, UnexpectedNegativeInteger, UnexpectedMessageType}
@@ -14,6 +15,7 @@ use Rattle.ipc_model.specs.Files.{BlockHeader, Placed, block_header, metadata_at
 use Rattle.ipc_model.specs.Kinds.{Kinds}
 use Rattle.ipc_model.specs.Schemas.{given}
 use Rattle.ipc_files.specs.Blocks.{IsFrameFault, IsHeaderFault, prefix_of}
+use Rattle.ipc_read.specs.HeldChunks.{HoldChosen}
 use Rattle.ipc_read.specs.Refusals.{IsFaultOfBatch}
 use Rattle.ipc_read.specs.Sizes.{chosen_listed}
 
@@ -46,6 +48,17 @@ header_lists ts js (Some h) = chosen_listed (lists_of h.table) h.extra ts js
 -- those, the message that lists them, and its prefix
 abbrev pub needed_bytes : Kinds → List ℕ → List ℕ → ℕ
 needed_bytes ts js metadata = 8 + length metadata + header_lists ts js (block_header metadata)
+
+-- ---- how many bytes are held
+
+-- the arrays of some columns hold no more than their buffers list by this header, and one offset for each buffer of offsets that lists nothing
+abbrev pub HeaderHolds : Kinds → List ℕ → Option BlockHeader → List AnyArray → Type 0
+HeaderHolds ts js None xs = ⊥
+HeaderHolds ts js (Some h) xs = HoldChosen (lists_of h.table) h.extra ts js xs
+
+-- the same by the header of the message that has these metadata
+abbrev pub HoldBatch : Kinds → List ℕ → List ℕ → List AnyArray → Type 0
+HoldBatch ts js metadata xs = HeaderHolds ts js (block_header metadata) xs
 
 -- ---- faults
 

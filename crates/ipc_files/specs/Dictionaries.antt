@@ -1,6 +1,8 @@
 -- What reading the dictionaries of a file answers.
 -- (Arrow columnar format, "IPC File Format" and "Dictionary messages".)
-use Rattle.std.specs.Prelude.{◌≡◌, ◌⊎◌, ℕ, ◌+◌, ◌≤◌, Bool, IsTrue, List, [], ◌∷◌, length, Option, None, Some, Result, Ok, Err}
+use Rattle.std.specs.Prelude.{◌≡◌, ◌⊎◌, ℕ, ℤ, ◌+◌, ◌≤◌, Bool, IsTrue, List, [], ◌∷◌, length, Option, None, Some, Result, Ok, Err}
+use Rattle.lower_arrays.specs.Held.{held}
+use Rattle.lower_arrays.specs.Layouts.{Layout}
 use Rattle.ipc_devices.specs.Faults.{OwnFault}
 use Rattle.ipc_devices.specs.declared.fault.Fault.{Fault}
 use Rattle.ipc_devices.specs.declared.fault.Fault.TheVariants.{OutOfSpec}
@@ -15,7 +17,8 @@ use Rattle.ipc_model.specs.Files.{BlockHeader, FileMetadata, block_header}
 use Rattle.ipc_laws.specs.Agreement.{AreAlike}
 use Rattle.ipc_files.specs.Batches.{block_metadata}
 use Rattle.ipc_files.specs.Blocks.{IsFrameFault, IsHeaderFault}
-use Rattle.ipc_read.specs.DictionaryBatches.{IsDictionaryFault, values_listed}
+use Rattle.ipc_read.specs.DictionaryBatches.{IsDictionaryFault, dictionary_head, values_listed}
+use Rattle.ipc_read.specs.HeldChunks.{values_empty, HoldsValues}
 
 -- the dictionary batch in the header of a message, which has to be one
 abbrev pub needed_dictionary : MessageHeaderRef → Result Spot Fault
@@ -57,3 +60,33 @@ pub record ValuesGiven (known : Bool) (m : FileMetadata) (source : List ℕ) (ol
   pub bytes : ℕ
   pub needed : NeedValues known m.schema source m.dictionaries bytes
   pub most : new ≤ old + bytes
+
+-- ---- how many bytes are held
+
+-- The dictionary batch of this message has put an array under its id that holds no more than its buffers list, and one offset for each
+-- buffer of offsets that lists nothing. The others are as before.
+abbrev pub HoldsHeader : Schema → Option BlockHeader → (before after : Option ℤ → Layout) → Type 0
+HoldsHeader schema None before after = ⊥
+HoldsHeader schema (Some h) before after = HoldsValues schema h.extra h.table before after
+
+-- n bytes are no more than this header of an id's dictionary batch says that the buffers of its values list, and those offsets
+abbrev pub ListsValues : Schema → Option BlockHeader → ℤ → ℕ → Type 0
+ListsValues schema None id n = ⊥
+ListsValues schema (Some h) id n =
+    (values : Spot) × (dictionary_head h.table ≡ Some (id, values)) × (n ≤ values_listed schema h.extra h.table + values_empty schema h.extra h.table)
+
+-- so says the message of a block
+pub record IsListedBy (known : Bool) (schema : Schema) (source : List ℕ) (b : Block) (id : ℤ) (n : ℕ) : Type 0 where
+  pub metadata : List ℕ
+  pub stands : IsTrue known → block_metadata source (Some b) ≡ Some metadata
+  pub lists : ListsValues schema (block_header metadata) id n
+
+-- so says that of one of some blocks, or nothing is held
+abbrev pub IsListedByOne : Bool → Schema → List ℕ → List Block → ℤ → ℕ → Type 0
+IsListedByOne known schema source [] id n = n ≡ 0
+IsListedByOne known schema source (b ∷ bs) id n = IsListedBy known schema source b id n ⊎ IsListedByOne known schema source bs id n
+
+-- The array under each id holds no more than the buffers of the values list in one of the id's own blocks, and one offset for each buffer
+-- of offsets that lists nothing; without such a block it holds nothing.
+pub record HoldListed (known : Bool) (m : FileMetadata) (source : List ℕ) (values : Option ℤ → Layout) : Type 0 where
+  pub each : (id : ℤ) → IsListedByOne known m.schema source m.dictionaries id (held (values (Some id)))

@@ -16,3 +16,4 @@ pub mod KnownDictionaries
 pub mod DictionaryMeanings
 pub mod AskedColumns
 pub mod HeldLists
+pub mod AskedSums

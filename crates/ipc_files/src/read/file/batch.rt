@@ -10,12 +10,13 @@ ghost use Rattle.ipc_model.specs.Files.{file_chunk, placed};
 ghost use Rattle.ipc_model.specs.ReadChunks.{HaveMeaning};
 ghost use Rattle.ipc_base.specs.IdTrees.{all_ids_view};
 ghost use Rattle.lower_arrays.specs.AnyLayouts.{layout_of};
-ghost use Rattle.ipc_files.specs.Batches.{HasNegativeLength, IsRecordFault, block_metadata, needed_bytes, needed_record};
+ghost use Rattle.ipc_files.specs.Batches.{HasNegativeLength, HoldBatch, IsRecordFault, block_metadata, needed_bytes, needed_record};
 ghost use Rattle.ipc_files.specs.Blocks.{IsRefused};
 ghost use Rattle.ipc_files.specs.Footers.{GivesPart, file_seen};
 ghost use Rattle.ipc_columns.specs.Bodies.{known_dictionaries};
 ghost use Rattle.ipc_read.specs.Chunks.{chunk_seen};
 ghost use Rattle.ipc_read.specs.Columns.{ArePrepared};
+ghost use Rattle.ipc_read.specs.HeldChunks.{HoldChosen};
 ghost use Rattle.ipc_read.specs.Refusals.{IsFaultOfBatch};
 ghost use Rattle.ipc_read.specs.Sizes.{chosen_listed};
 
@@ -62,6 +63,8 @@ fn read_record<R: Reads + Seeks>(
     ensures failed { OnIo result (Rises (R.failures reader.old) (R.failures reader.new)) }
     ensures given { let js = chosen (option_copied projection.entry) (length metadata.now.schema.fields.items) in
         R.given reader.new ≤ R.given reader.old + chosen_listed (lists_of batch.entry) (extra_of version) (kinds (file_seen metadata.now).schema) js }
+    ensures held { let js = chosen (option_copied projection.entry) (length metadata.now.schema.fields.items) in
+        IfOk result (λ xs. HoldChosen (lists_of batch.entry) (extra_of version) (kinds (file_seen metadata.now).schema) js xs) }
     ensures memory { IsTrue R.known → let m = file_seen metadata.now in
         GivesPart chunk_seen result (record_meaning m.schema (extra_of version) (known_dictionaries dictionaries.now)
         (record { source = (R.memory reader.old).whole; base = body; size = m.size }) batch.entry (option_copied projection.entry) limit) }
@@ -89,8 +92,9 @@ fn read_record<R: Reads + Seeks>(
 /// columns of the projection, in rising order, or all where there is none, and of each at most `limit` slots. The index is that of
 /// a block in `metadata`, and the dictionaries are those of [`read_file_dictionaries`]. Each version is that of the block's own
 /// message, and the lengths of bodies aren't used. Of a column that isn't chosen no byte is read, and nothing is judged. Where it is
-/// Ok, no more bytes are taken of the device than the message, its prefix and what the buffers of the chosen columns list. At each
-/// dictionary place of a column, those inside the values of others aside, stand the values that the dictionaries have under its id.
+/// Ok, no more bytes are taken of the device than the message, its prefix and what the buffers of the chosen columns list, and the
+/// arrays hold together no more than these list and one offset for each buffer of offsets that lists nothing. At each dictionary
+/// place of a column, those inside the values of others aside, stand the values that the dictionaries have under its id.
 ///
 /// Over memory it is Ok exactly where the block has a meaning by the projection and the limit, and the chunk is then that. Faults:
 /// `OutOfSpec(NegativeFooterLength)` where a number of the block is below 0; `Ended` where its message isn't there, and
@@ -123,6 +127,9 @@ pub fn read_batch<R: Reads + Seeks>(
     ensures given { let m = file_seen metadata.now in
         let js = chosen (option_copied projection.entry) (length metadata.now.schema.fields.items) in
         OnOk result (R.given reader.new ≤ R.given reader.old + needed_bytes (kinds m.schema) js message_scratch.new.items) }
+    ensures held { let m = file_seen metadata.now in
+        let js = chosen (option_copied projection.entry) (length metadata.now.schema.fields.items) in
+        IfOk result (λ xs. HoldBatch (kinds m.schema) js message_scratch.new.items xs) }
     ensures message { IsTrue R.known → OnOk result (block_metadata (R.memory reader.old).whole (slice_get metadata.now.blocks.items index) ≡ Some message_scratch.new.items) }
     ensures numbers { option_and_then placed (slice_get metadata.now.blocks.items index) ≡ None → result ≡ Err (OutOfSpec NegativeFooterLength) }
     ensures below { IsTrue R.known → HasNegativeLength (R.memory reader.old).whole (slice_get metadata.now.blocks.items index) → IsRefused (OutOfSpec UnexpectedNegativeInteger) result }

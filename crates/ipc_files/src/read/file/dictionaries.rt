@@ -1,13 +1,14 @@
 //! Reads the dictionaries of a file.
-ghost use Rattle.std.specs.Prelude.{◌≡◌, ◌+◌, ◌≤◌, Some, IsTrue, IfErr, OnOk};
+ghost use Rattle.std.specs.Prelude.{◌≡◌, ◌+◌, ◌≤◌, Some, IsTrue, IfErr, IfOk, OnOk};
 ghost use Rattle.ipc_devices.specs.Device.{Rises};
 ghost use Rattle.ipc_devices.specs.Faults.{OnIo, OwnFault};
 ghost use Rattle.ipc_model.specs.Batches.{dictionary_meaning, extra_of};
-ghost use Rattle.ipc_model.specs.Files.{dictionaries_at, file_dictionaries};
+ghost use Rattle.ipc_model.specs.Files.{block_header, dictionaries_at, file_dictionaries};
 ghost use Rattle.ipc_files.specs.Batches.{block_metadata};
-ghost use Rattle.ipc_files.specs.Dictionaries.{GivesKnown, IsDictionaryBlockFault, ValuesGiven, needed_dictionary, needed_values};
+ghost use Rattle.ipc_files.specs.Dictionaries.{GivesKnown, HoldListed, HoldsHeader, IsDictionaryBlockFault, ValuesGiven, needed_dictionary, needed_values};
 ghost use Rattle.ipc_files.specs.Footers.{file_seen};
-ghost use Rattle.ipc_columns.specs.Bodies.{known_dictionaries};
+ghost use Rattle.ipc_columns.specs.Bodies.{array_under, known_dictionaries};
+ghost use Rattle.ipc_read.specs.HeldChunks.{HoldsValues};
 ghost use Rattle.ipc_read.specs.DictionaryBatches.{IsDictionaryFault, values_listed};
 
 use crate::read::file::block::{open_message, place_of, read_metadata};
@@ -46,6 +47,8 @@ fn read_values<R: Reads + Seeks>(
     ensures monotone { R.failures reader.old ≤ R.failures reader.new }
     ensures failed { OnIo result (Rises (R.failures reader.old) (R.failures reader.new)) }
     ensures given { R.given reader.new ≤ R.given reader.old + values_listed (file_seen metadata.now).schema (extra_of version) batch.entry }
+    ensures held { OnOk result (HoldsValues (file_seen metadata.now).schema (extra_of version) batch.entry
+        (λ id. array_under dictionaries.old id) (λ id. array_under dictionaries.new id)) }
     ensures memory { IsTrue R.known → let m = file_seen metadata.now in
         GivesKnown (λ _. known_dictionaries dictionaries.new) result
         (dictionary_meaning m.schema (extra_of version) (known_dictionaries dictionaries.old)
@@ -81,6 +84,8 @@ fn read_dictionary_block<R: Reads + Seeks>(
     ensures monotone { R.failures reader.old ≤ R.failures reader.new }
     ensures failed { OnIo result (Rises (R.failures reader.old) (R.failures reader.new)) }
     ensures given { OnOk result (R.given reader.new ≤ R.given reader.old + needed_values (file_seen metadata.now).schema message_scratch.new.items) }
+    ensures held { OnOk result (HoldsHeader (file_seen metadata.now).schema (block_header message_scratch.new.items)
+        (λ id. array_under dictionaries.old id) (λ id. array_under dictionaries.new id)) }
     ensures message { IsTrue R.known → OnOk result (block_metadata (R.memory reader.old).whole (Some block.now) ≡ Some message_scratch.new.items) }
     ensures memory { IsTrue R.known → GivesKnown (λ _. known_dictionaries dictionaries.new) result
         (dictionaries_at (file_seen metadata.now) (known_dictionaries dictionaries.old) (R.memory reader.old).whole block.now) }
@@ -108,7 +113,8 @@ fn read_dictionary_block<R: Reads + Seeks>(
 /// id that comes again the last values count. Each version is that of the block's own message, and the lengths of bodies aren't used.
 ///
 /// Over memory it is Ok exactly where the dictionaries have a meaning, and the values are then those. Where it is Ok, no more bytes are
-/// taken of the device than the messages of the blocks, their prefixes and what the buffers of the values list. Faults:
+/// taken of the device than the messages of the blocks, their prefixes and what the buffers of the values list, and the array under an
+/// id holds no more than these list in one of its blocks, and one offset for each buffer of offsets that lists nothing. Faults:
 /// `OutOfSpec(UnexpectedNegativeInteger)` where a number of a block is below 0; `Ended` where its message isn't there, and
 /// `OutOfSpec(NegativeFooterLength)` where the length of that is below 0; `InvalidFlatbufferMessage`, `MissingMessageHeader`,
 /// `InvalidFlatbufferHeader`, `InvalidFlatbufferVersion` where it is ill-made, and `UnexpectedMessageType` where it is no dictionary
@@ -124,6 +130,7 @@ pub fn read_file_dictionaries<R: Reads + Seeks>(
     ensures monotone { R.failures reader.old ≤ R.failures reader.new }
     ensures failed { OnIo result (Rises (R.failures reader.old) (R.failures reader.new)) }
     ensures given { OnOk result (ValuesGiven R.known (file_seen metadata.now) (R.memory reader.old).whole (R.given reader.old) (R.given reader.new)) }
+    ensures held { IfOk result (λ known. HoldListed R.known (file_seen metadata.now) (R.memory reader.old).whole (λ id. array_under known id)) }
     ensures memory { IsTrue R.known → GivesKnown (λ known. known_dictionaries known) result
         (file_dictionaries (file_seen metadata.now) (R.memory reader.old).whole) }
     ensures whole { IsTrue R.still → (R.memory reader.new).whole ≡ (R.memory reader.old).whole }

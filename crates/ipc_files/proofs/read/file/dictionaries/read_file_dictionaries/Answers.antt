@@ -1,9 +1,11 @@
-use Rattle.std.proofs.Common.{arith, rules, ◌∙◌, List, [], Some, subst}
+use Rattle.std.proofs.Common.{arith, rules, ◌∙◌, ℤ, List, [], Option, Some, subst}
+use Rattle.lower_arrays.specs.Layouts.{Layout}
 use Rattle.ipc_laws.specs.Agreement.{AreAlike}
 use Rattle.ipc_views.specs.declared.file.Block.{Block}
 use Rattle.ipc_model.specs.Files.{all_of, dictionaries_after}
 use Rattle.ipc_files.specs.Footers.{file_seen}
-use Rattle.ipc_columns.specs.Bodies.{known_dictionaries}
+use Rattle.ipc_columns.specs.Bodies.{array_under, known_dictionaries}
+use Rattle.ipc_files.proofs.HeldValues.{EachListed, none_listed, more_listed, each_listed}
 use Rattle.ipc_files.proofs.NeededValues.{GivenFor, all_given, more_given, none_given}
 use Rattle.ipc_files.proofs.KnownAlike.{next-known, all-known}
 use Rattle.ipc_files.proofs.read.file.dictionaries.read_file_dictionaries.Goals as goal
@@ -13,6 +15,7 @@ loop-block-init g c = record {
   monotone = search rules;
   whole = search rules;
   given = none_given g.R.Failures.known (file_seen c.args.metadata.now).schema (g.R.Failures.memory c.args.reader.now).whole c.dictionary_blocks-blocks.result.now (g.R.Failures.given c.args.reader.now);
+  held = none_listed g.R.Failures.known (file_seen c.args.metadata.now).schema (g.R.Failures.memory c.args.reader.now).whole c.new-dictionaries.result (search rules) c.dictionary_blocks-blocks.result.now;
   known = search rules;
 }
 
@@ -24,6 +27,10 @@ loop-block-preserved g c = record {
       c.dictionary_blocks-blocks.result.now c.loop-block.block-index _ _ (g.R.Failures.given c.loop-block.reader) (g.R.Failures.given c.read_dictionary_block.new.reader)
       c.read_dictionary_block.new.message_scratch.items c.loop-block-test.true c.loop-block.invariant.given (λ k. c.loop-block.invariant.whole (g.met.R.Seeks.known_still k))
       c.in_ok-read_dictionary_block.ensures.message c.in_ok-read_dictionary_block.ensures.given;
+  held = more_listed g.R.Failures.known (file_seen c.args.metadata.now).schema (g.R.Failures.memory c.args.reader.now).whole (g.R.Failures.memory c.loop-block.reader).whole
+      c.dictionary_blocks-blocks.result.now c.loop-block.block-index _ c.read_dictionary_block.new.message_scratch.items (λ id. array_under c.loop-block.dictionaries id)
+      (λ id. array_under c.read_dictionary_block.new.dictionaries id) c.loop-block-test.true c.loop-block.invariant.held (λ k. c.loop-block.invariant.whole (g.met.R.Seeks.known_still k))
+      c.in_ok-read_dictionary_block.ensures.message c.in_ok-read_dictionary_block.ensures.held;
   known = λ k.
       let m = file_seen c.args.metadata.now in
       let source = (g.R.Failures.memory c.args.reader.now).whole in
@@ -50,3 +57,12 @@ returns-clause-given g c =
     let all = all_given g.R.Failures.known m.schema source bs c.loop-block.block-index (g.R.Failures.given c.args.reader.now) (g.R.Failures.given c.loop-block.reader) (omega (arith, c.loop-block-test.false)) c.loop-block.invariant.given in
     let named = subst (λ (blocks : List Block). GivenFor g.R.Failures.known m.schema source blocks (g.R.Failures.given c.args.reader.now) (g.R.Failures.given c.loop-block.reader)) c.dictionary_blocks-blocks.ensures all in
     record { bytes = named.bytes; needed = named.needed; most = named.most }
+
+pub returns-clause-held : goal.returns-clause-held
+returns-clause-held g c =
+    let m = file_seen c.args.metadata.now in
+    let source = (g.R.Failures.memory c.args.reader.now).whole in
+    let values : Option ℤ → Layout = λ id. array_under c.loop-block.dictionaries id in
+    let all = each_listed g.R.Failures.known m.schema source c.dictionary_blocks-blocks.result.now c.loop-block.block-index values (omega (arith, c.loop-block-test.false)) c.loop-block.invariant.held in
+    let named = subst (λ (blocks : List Block). EachListed g.R.Failures.known m.schema source blocks values) c.dictionary_blocks-blocks.ensures all in
+    record { each = named.each }

@@ -2,7 +2,8 @@ use Rattle.std.proofs.Common.{◌≡◌, ◌≤◌, [], take, drop, IsTrue}
 use Rattle.ipc_laws.specs.Agreement.{AreAlike}
 use Rattle.ipc_model.specs.Files.{all_of, dictionaries_after}
 use Rattle.ipc_files.specs.Footers.{file_seen}
-use Rattle.ipc_columns.specs.Bodies.{known_dictionaries}
+use Rattle.ipc_columns.specs.Bodies.{array_under, known_dictionaries}
+use Rattle.ipc_files.proofs.HeldValues.{EachListed}
 use Rattle.ipc_files.proofs.NeededValues.{GivenFor}
 use Rattle.ipc_files.proofs.read.file.dictionaries.read_file_dictionaries.Given as goal
 
@@ -11,6 +12,7 @@ invariant-loop-block g l = record {
   monotone : g.R.Failures.failures l.fn.reader ≤ g.R.Failures.failures l.reader;
   whole : IsTrue g.R.Failures.still → (g.R.Failures.memory l.reader).whole ≡ (g.R.Failures.memory l.fn.reader).whole;
   given : GivenFor g.R.Failures.known (file_seen l.metadata).schema (g.R.Failures.memory l.fn.reader).whole (take l.block-index l.blocks) (g.R.Failures.given l.fn.reader) (g.R.Failures.given l.reader);
+  held : EachListed g.R.Failures.known (file_seen l.metadata).schema (g.R.Failures.memory l.fn.reader).whole (take l.block-index l.blocks) (λ id. array_under l.dictionaries id);
   known : IsTrue g.R.Failures.known → AreAlike
       (dictionaries_after (file_seen l.metadata) (all_of (g.R.Failures.memory l.fn.reader).whole) (known_dictionaries l.dictionaries) (drop l.block-index l.blocks))
       (dictionaries_after (file_seen l.metadata) (all_of (g.R.Failures.memory l.fn.reader).whole) [] l.blocks);
