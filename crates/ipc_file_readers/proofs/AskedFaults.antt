@@ -1,20 +1,17 @@
--- The faults of some columns, and what their buffers list, don't tell their order.
-use Rattle.std.proofs.Common.{◌≡◌, ℕ, ◌+◌, List, [], ◌∷◌, length, Option, None, Some, refl, sym, ap, ◌∙◌, inl, inr}
-use Rattle.std.specs.List.{sum_by}
+-- The faults of some columns, what their buffers list and what they hold don't tell their order.
+use Rattle.std.proofs.Common.{◌≡◌, ℕ, ◌+◌, List, length, Option, None, Some, refl, ap, ◌∙◌, inl, inr}
 use Rattle.std.specs.List.Sorted.{IsPermutation}
-use Rattle.std.proofs.lemmas.List.Sums.{sum_by-cons}
-use Rattle.std.proofs.lemmas.List.Sorted.{IsPermutation-sym, length_permutation, sum_by-IsPermutation}
+use Rattle.std.proofs.lemmas.List.Sorted.{IsPermutation-sym, length_permutation}
+use Rattle.lower_arrays.specs.declared.array.AnyArray.{AnyArray}
 use Rattle.ipc_devices.specs.declared.fault.Fault.{Fault}
-use Rattle.ipc_views.specs.declared.schema.Buffer.{Buffer}
-use Rattle.ipc_model.specs.Batches.{Lists, chosen, lists_of}
-use Rattle.ipc_model.specs.BatchLaws.{own_buffers}
+use Rattle.ipc_model.specs.Batches.{chosen, lists_of}
 use Rattle.ipc_model.specs.Files.{BlockHeader, block_header}
 use Rattle.ipc_model.specs.Kinds.{Kinds}
-use Rattle.ipc_projections.specs.ChosenColumns.{AreShuffled, asked_by, rising_by}
+use Rattle.ipc_projections.specs.ChosenColumns.{AreAsMany, AreOrdered, AreShuffled, asked_by, rising_by}
 use Rattle.ipc_projections.specs.declared.read.chosen.ChosenColumns.{ChosenColumns}
 use Rattle.ipc_read.proofs.AskedColumns.{batch_fault}
-use Rattle.ipc_read.specs.Sizes.{chosen_total, chosen_listed, total_of}
-use Rattle.ipc_files.specs.Batches.{IsRecordFault, header_lists, needed_bytes}
+use Rattle.ipc_read.proofs.AskedSums.{held_in_order, listed_same}
+use Rattle.ipc_files.specs.Batches.{HoldBatch, HeaderHolds, IsRecordFault, header_lists, needed_bytes}
 
 record_fault : (ts : Kinds) (e : Fault) (xs ys : List ℕ) → IsPermutation xs ys → IsRecordFault ts ys e → IsRecordFault ts xs e
 record_fault ts e xs ys same (inl f) = inl f
@@ -30,16 +27,6 @@ fault_asked (Some q) n ts e same f = record_fault ts e q.columns.columns q.colum
 
 -- ---- bytes
 
-total_is : (bs : List Buffer) (extra : ℕ) (ts : Kinds) (js : List ℕ) → chosen_total bs extra ts js ≡ sum_by (λ j. total_of (own_buffers bs extra ts j)) js
-total_is bs extra ts [] = refl
-total_is bs extra ts (j ∷ js) =
-    ap (λ (n : ℕ). total_of (own_buffers bs extra ts j) + n) (total_is bs extra ts js) ∙ sym (sum_by-cons (λ k. total_of (own_buffers bs extra ts k)) j js)
-
-listed_same : (o : Option Lists) (extra : ℕ) (ts : Kinds) (xs ys : List ℕ) → IsPermutation xs ys → chosen_listed o extra ts ys ≡ chosen_listed o extra ts xs
-listed_same None extra ts xs ys same = refl
-listed_same (Some lists) extra ts xs ys same =
-    total_is lists.buffers extra ts ys ∙ sum_by-IsPermutation (λ j. total_of (own_buffers lists.buffers extra ts j)) xs ys same ∙ sym (total_is lists.buffers extra ts xs)
-
 header_same : (o : Option BlockHeader) (ts : Kinds) (xs ys : List ℕ) → IsPermutation xs ys → header_lists ts ys o ≡ header_lists ts xs o
 header_same None ts xs ys same = refl
 header_same (Some h) ts xs ys same = listed_same (lists_of h.table) h.extra ts xs ys same
@@ -48,6 +35,17 @@ pub bytes_asked : (q : Option ChosenColumns) (n : ℕ) (ts : Kinds) (metadata : 
     → needed_bytes ts (chosen (rising_by q) n) metadata ≡ needed_bytes ts (chosen (asked_by q) n) metadata
 bytes_asked None n ts metadata same = refl
 bytes_asked (Some q) n ts metadata same = ap (λ (k : ℕ). 8 + length metadata + k) (header_same (block_header metadata) ts q.columns.columns q.columns.rising same.0)
+
+-- ---- what arrays hold
+
+header_asked : (q : Option ChosenColumns) (n : ℕ) (ts : Kinds) (o : Option BlockHeader) (read given : List AnyArray) → AreShuffled q → AreAsMany q (length read) → AreOrdered q read given
+    → HeaderHolds ts (chosen (rising_by q) n) o read → HeaderHolds ts (chosen (asked_by q) n) o given
+header_asked q n ts None read given same many order h = h
+header_asked q n ts (Some x) read given same many order h = held_in_order q n (lists_of x.table) x.extra ts read given same many order h
+
+pub held_asked : (q : Option ChosenColumns) (n : ℕ) (ts : Kinds) (metadata : List ℕ) (read given : List AnyArray) → AreShuffled q → AreAsMany q (length read) → AreOrdered q read given
+    → HoldBatch ts (chosen (rising_by q) n) metadata read → HoldBatch ts (chosen (asked_by q) n) metadata given
+held_asked q n ts metadata read given same many order h = header_asked q n ts (block_header metadata) read given same many order h
 
 -- ---- how many
 

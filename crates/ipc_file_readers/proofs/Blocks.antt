@@ -1,6 +1,8 @@
 -- What was read of a block, as a reader gives it.
-use Rattle.std.proofs.Common.{◌≡◌, ℕ, ◌+◌, ◌≤◌, List, map, length, Bool, true, IsTrue, Option, None, Some, Result, Ok, Err, IfOk, IfErr, OnOk, refl, sym, ap, ◌∙◌, subst}
+use Rattle.std.proofs.Common.{◌≡◌, ℕ, ℤ, ◌+◌, ◌≤◌, List, map, length, Bool, true, IsTrue, Option, None, Some, Result, Ok, Err, IfOk, IfErr, OnOk, refl, sym, ap, ◌∙◌, subst}
 use Rattle.std.specs.Prelude.{slice_get, option_map, is_some}
+use Rattle.std.specs.HashMap.{HashMap}
+use Rattle.std.specs.declared.rc.Rc.{Rc}
 use Rattle.lower_arrays.specs.declared.array.AnyArray.{AnyArray}
 use Rattle.ipc_devices.specs.Faults.{OnIo, OwnFault}
 use Rattle.ipc_devices.specs.declared.fault.Fault.{Fault}
@@ -9,20 +11,22 @@ use Rattle.ipc_laws.specs.Agreement.{KnowAlike}
 use Rattle.ipc_model.specs.Batches.{Chunk, chosen, kinds}
 use Rattle.ipc_model.specs.Entries.{Dictionaries, Limit}
 use Rattle.ipc_model.specs.Files.{FileMetadata as Meaning, file_chunk}
+use Rattle.ipc_model.specs.Kinds.{Kinds}
 use Rattle.ipc_model.specs.ReadChunks.{HaveMeaning}
 use Rattle.ipc_base.specs.IdTrees.{IdTrees, all_ids_view}
+use Rattle.ipc_columns.specs.Bodies.{known_dictionaries}
 use Rattle.lower_arrays.specs.AnyLayouts.{layout_of}
 use Rattle.ipc_projections.specs.ChosenColumns.{AreAsMany, AreOrdered, AreShuffled, asked_by, rising_by}
 use Rattle.ipc_projections.specs.declared.read.chosen.ChosenColumns.{ChosenColumns}
 use Rattle.ipc_read.proofs.AskedColumns.{AreArrays, as_many_read, values_in_order}
 use Rattle.ipc_read.specs.Chunks.{chunk_seen}
-use Rattle.ipc_files.specs.Batches.{IsRecordFault, block_metadata, needed_bytes}
+use Rattle.ipc_files.specs.Batches.{HoldBatch, IsRecordFault, block_metadata, needed_bytes}
 use Rattle.ipc_files.specs.Footers.{GivesPart, file_seen}
 use Rattle.ipc_files.specs.declared.read.file.metadata.FileMetadata.{FileMetadata}
 use Rattle.ipc_read.proofs.Refusals.{claims_through}
-use Rattle.ipc_file_readers.proofs.AskedFaults.{bytes_asked, fault_asked, many_asked}
+use Rattle.ipc_file_readers.proofs.AskedFaults.{bytes_asked, fault_asked, held_asked, many_asked}
 use Rattle.ipc_file_readers.proofs.Chunks.{chunk_alike, given_in_order, refused_in_order}
-use Rattle.ipc_file_readers.specs.Readers.{AreKnown}
+use Rattle.ipc_file_readers.specs.Readers.{AreKnown, HoldValues, values_in}
 use Rattle.ipc_file_readers.specs.Steps.{WasChunk}
 
 -- ---- an answer that memory alone can refuse
@@ -58,6 +62,11 @@ values_given : (known : Dictionaries) (is : IdTrees) (q : Option ChosenColumns) 
 values_given known is q n read (Ok given) same many order h = values_in_order known is n q read given same many order h
 values_given known is q n read (Err e) same many order h = tt
 
+held_given : (q : Option ChosenColumns) (n : ℕ) (ts : Kinds) (metadata : List ℕ) (read : List AnyArray) (r : Result (List AnyArray) Fault) → AreShuffled q → AreAsMany q (length read)
+    → IfOk r (λ given. AreOrdered q read given) → HoldBatch ts (chosen (rising_by q) n) metadata read → IfOk r (λ given. HoldBatch ts (chosen (asked_by q) n) metadata given)
+held_given q n ts metadata read (Ok given) same many order h = held_asked q n ts metadata read given same many order h
+held_given q n ts metadata read (Err e) same many order h = tt
+
 -- ---- what it means
 
 module _ (q : Option ChosenColumns) (same : AreShuffled q) (m : Meaning) (ds es : Dictionaries) (alike : KnowAlike ds es) (source : List ℕ) (limit : Limit) (i : ℕ) where
@@ -84,41 +93,48 @@ pub known_already : {D : Type 0} (view : D → Dictionaries) (o : Option D) (kno
 known_already view None known file e = absurd cc
 known_already view (Some d) known file e = (view d, refl, refl)
 
-module _ (known : Bool) (q : Option ChosenColumns) (m : FileMetadata) (limit : Limit) (i : ℕ) (d ds : Dictionaries) (source : List ℕ) (old new : ℕ) (o : Option (List ℕ))
+pub values_already : {Z S : Type 0} (o : Option (HashMap ℤ (Rc AnyArray Z) S)) (known : Bool) (m : Meaning) (source : List ℕ) → is_some o ≡ true
+    → HoldValues known m source (option_map known_dictionaries o) (values_in o) (values_in o)
+values_already None known m source e = absurd cc
+values_already (Some d) known m source e = refl
+
+module _ (known : Bool) (q : Option ChosenColumns) (m : FileMetadata) (limit : Limit) (i : ℕ) (d ds : Dictionaries) (source : List ℕ) (old new : ℕ) (metadata : List ℕ) (o : Option (List ℕ))
     (same : AreShuffled q) (rising : o ≡ rising_by q) (held : d ≡ ds) where
   abbrev N : ℕ
   N = length m.schema.fields.items
 
   -- it was refused
   pub refused_chunk : (r : Result (List AnyArray) Fault) (e : Fault) → r ≡ Err e → OwnFault e (IsRecordFault (kinds (file_seen m).schema) (chosen o N) e)
-      → (IsTrue known → OwnFault e (file_chunk (file_seen m) d source o limit i ≡ None)) → WasChunk known m (asked_by q) limit i ds source old new r
+      → (IsTrue known → OwnFault e (file_chunk (file_seen m) d source o limit i ≡ None)) → WasChunk known m (asked_by q) limit i ds source old new metadata r
   refused_chunk r e is only means = rw is (record {
     many = tt;
     only = claims_through e _ _ (fault_asked q N (kinds (file_seen m).schema) e same) (subst (λ (p : Option (List ℕ)). OwnFault e (IsRecordFault (kinds (file_seen m).schema) (chosen p N) e)) rising only);
+    message = λ k. tt;
     bytes = tt;
+    holds = tt;
     meaning = λ k es alike. block_refused q same (file_seen m) d es (subst (λ (x : Dictionaries). KnowAlike x es) (sym held) alike) source limit i e
         (subst (λ (p : Option (List ℕ)). OwnFault e (file_chunk (file_seen m) d source p limit i ≡ None)) rising (means k));
     values = λ k. tt;
   })
 
   -- it was read
-  pub read_chunk : (read : List AnyArray) (r : Result (List AnyArray) Fault) (metadata : List ℕ) → length read ≡ length (chosen o N)
+  pub read_chunk : (read : List AnyArray) (r : Result (List AnyArray) Fault) → length read ≡ length (chosen o N)
       → IfOk r (λ given. AreOrdered q read given) → IfErr r (λ e. e ≡ faults.Memory)
       → (IsTrue known → block_metadata source (slice_get m.blocks.items i) ≡ Some metadata) → new ≤ old + needed_bytes (kinds (file_seen m).schema) (chosen o N) metadata
-      → (IsTrue known → file_chunk (file_seen m) d source o limit i ≡ Some (chunk_seen read))
-      → (IsTrue known → HaveMeaning d (all_ids_view m.ipc_schema.fields.items) (chosen o N) (chunk_seen read) (map layout_of read)) → WasChunk known m (asked_by q) limit i ds source old new r
-  read_chunk read r metadata long order only message most means vals =
+      → HoldBatch (kinds (file_seen m).schema) (chosen o N) metadata read → (IsTrue known → file_chunk (file_seen m) d source o limit i ≡ Some (chunk_seen read))
+      → (IsTrue known → HaveMeaning d (all_ids_view m.ipc_schema.fields.items) (chosen o N) (chunk_seen read) (map layout_of read))
+      → WasChunk known m (asked_by q) limit i ds source old new metadata r
+  read_chunk read r long order only message most holds means vals =
       let many : length read ≡ length (chosen (rising_by q) N) = subst (λ (p : Option (List ℕ)). length read ≡ length (chosen p N)) rising long in
       let bound : new ≤ old + needed_bytes (kinds (file_seen m).schema) (chosen (rising_by q) N) metadata =
       subst (λ (p : Option (List ℕ)). new ≤ old + needed_bytes (kinds (file_seen m).schema) (chosen p N) metadata) rising most in
       record {
         many = given_many q N read r same many order;
         only = memory_only r _ only;
-        bytes = on_ok r _ (record {
-          metadata = metadata;
-          message = message;
-          most = subst (λ (n : ℕ). new ≤ old + n) (bytes_asked q N (kinds (file_seen m).schema) metadata same) bound;
-        });
+        message = λ k. on_ok r _ (message k);
+        bytes = on_ok r _ (subst (λ (n : ℕ). new ≤ old + n) (bytes_asked q N (kinds (file_seen m).schema) metadata same) bound);
+        holds = held_given q N (kinds (file_seen m).schema) metadata read r same (as_many_read N q (length read) many) order
+            (subst (λ (p : Option (List ℕ)). HoldBatch (kinds (file_seen m).schema) (chosen p N) metadata read) rising holds);
         meaning = λ k es alike. block_given q same (file_seen m) d es (subst (λ (x : Dictionaries). KnowAlike x es) (sym held) alike) source limit i read r (as_many_read N q (length read) many) order only
             (subst (λ (p : Option (List ℕ)). file_chunk (file_seen m) d source p limit i ≡ Some (chunk_seen read)) rising (means k));
         values = λ k.

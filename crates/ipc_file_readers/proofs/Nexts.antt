@@ -1,5 +1,6 @@
 -- What a call of `next` gave, by its steps.
-use Rattle.std.proofs.Common.{◌≡◌, ℕ, ◌+◌, ◌-◌, ◌≤◌, List, Bool, true, false, IsTrue, Option, None, Some, Result, Ok, Err, OnOk, refl, sym, ap, ◌∙◌, subst, arith, inr}
+use Rattle.std.proofs.Common.{◌≡◌, ℕ, ℤ, ◌+◌, ◌-◌, ◌≤◌, List, Bool, true, false, IsTrue, Option, None, Some, Result, Ok, Err, OnOk, refl, sym, ap, ◌∙◌, subst, arith, inr}
+use Rattle.lower_arrays.specs.Layouts.{Layout}
 use Rattle.lower_arrays.specs.declared.array.AnyArray.{AnyArray}
 use Rattle.ipc_devices.specs.Device.{Memory, Rises}
 use Rattle.ipc_devices.specs.Faults.{OnIo}
@@ -13,7 +14,7 @@ use Rattle.ipc_read.specs.Chunks.{chunk_seen}
 use Rattle.ipc_files.specs.Batches.{block_metadata, needed_bytes}
 use Rattle.ipc_files.specs.Footers.{GivesPart, file_seen}
 use Rattle.ipc_files.specs.declared.read.file.metadata.FileMetadata.{FileMetadata}
-use Rattle.ipc_file_readers.specs.Readers.{HasNext, NextStep, WasGiven, WasNext, asked_of, block_of, columns_asked, device_of, file_of, is_over, less, metadata_of, next_result, remaining_of, rows_given}
+use Rattle.ipc_file_readers.specs.Readers.{HasNext, HoldValues, NextStep, WasNext, asked_of, block_of, columns_asked, device_of, file_of, is_over, known_of, less, message_of, metadata_of, next_result, remaining_of, rows_given, values_of}
 use Rattle.ipc_file_readers.specs.Steps.{DictionariesGave, NextGave, WasChunk}
 use Rattle.ipc_file_readers.specs.declared.read.reader.state.FileReader.{FileReader}
 
@@ -32,23 +33,13 @@ failed_behind (Err (faults.Io e)) a b c h f = rises_from a b c h f
 failed_behind (Err _) a b c h f = tt
 
 -- a chunk of the same file
-same_chunk : (known : Bool) (m n : FileMetadata) (p q : Option (List ℕ)) (l k : Limit) (i j : ℕ) (ds : Dictionaries) (xs : List ℕ) (old new : ℕ) (r : Result (List AnyArray) Fault)
-    → n ≡ m → q ≡ p → k ≡ l → j ≡ i → WasChunk known n q k j ds xs old new r → WasChunk known m p l i ds xs old new r
-same_chunk known m n p q l k i j ds xs old new r a b c d h =
-    subst (λ (x : FileMetadata). WasChunk known x p l i ds xs old new r) a
-    (subst (λ (x : Option (List ℕ)). WasChunk known n x l i ds xs old new r) b
-    (subst (λ (x : Limit). WasChunk known n q x i ds xs old new r) c
-    (subst (λ (x : ℕ). WasChunk known n q k x ds xs old new r) d h)))
-
--- the same bytes were given
-same_bytes : (known : Bool) (m : FileMetadata) (p : Option (List ℕ)) (i : ℕ) (xs ys : List ℕ) (old before new : ℕ) (r : Result (List AnyArray) Fault)
-    → (IsTrue known → ys ≡ xs) → before ≡ old → OnOk r (WasGiven known m p i ys before new) → OnOk r (WasGiven known m p i xs old new)
-same_bytes known m p i xs ys old before new (Ok zs) same e h = record {
-  metadata = h.metadata;
-  message = λ k. subst (λ (x : List ℕ). block_metadata x (slice_get m.blocks.items i) ≡ Some h.metadata) (same k) (h.message k);
-  most = subst (λ (n : ℕ). new ≤ n + needed_bytes (kinds (file_seen m).schema) (columns_asked m p) h.metadata) e h.most;
-}
-same_bytes known m p i xs ys old before new (Err f) same e h = tt
+same_chunk : (known : Bool) (m n : FileMetadata) (p q : Option (List ℕ)) (l k : Limit) (i j : ℕ) (ds : Dictionaries) (xs : List ℕ) (old new : ℕ) (metadata : List ℕ) (r : Result (List AnyArray) Fault)
+    → n ≡ m → q ≡ p → k ≡ l → j ≡ i → WasChunk known n q k j ds xs old new metadata r → WasChunk known m p l i ds xs old new metadata r
+same_chunk known m n p q l k i j ds xs old new metadata r a b c d h =
+    subst (λ (x : FileMetadata). WasChunk known x p l i ds xs old new metadata r) a
+    (subst (λ (x : Option (List ℕ)). WasChunk known n x l i ds xs old new metadata r) b
+    (subst (λ (x : Limit). WasChunk known n q x i ds xs old new metadata r) c
+    (subst (λ (x : ℕ). WasChunk known n q k x ds xs old new metadata r) d h)))
 
 module _ {R : Type 0} (known still : Bool) (memory : R → Memory) (failures given : R → ℕ) (stays : IsTrue known → IsTrue still)
     (a mid b : FileReader R) (first : DictionariesGave known still memory failures a (Ok tt) mid)
@@ -56,19 +47,26 @@ module _ {R : Type 0} (known still : Bool) (memory : R → Memory) (failures giv
   same_source : IsTrue known → (memory (device_of mid)).whole ≡ (memory (device_of a)).whole
   same_source k = first.asked.whole (stays k)
 
-  here : WasChunk known (metadata_of a) (asked_of a) (remaining_of a) (block_of a) first.are.0 (memory (device_of mid)).whole (given (device_of mid)) (given (device_of b)) r
-  here = same_chunk known _ _ _ _ _ _ _ _ first.are.0 _ _ _ r first.file.described first.file.asked first.remaining first.block (second.chunk first.are.0 first.are.1)
+  here : WasChunk known (metadata_of a) (asked_of a) (remaining_of a) (block_of a) first.are.0 (memory (device_of mid)).whole (given (device_of mid)) (given (device_of b)) (message_of b) r
+  here = same_chunk known _ _ _ _ _ _ _ _ first.are.0 _ _ _ _ r first.file.described first.file.asked first.remaining first.block (second.chunk first.are.0 first.are.1)
 
   was_next : WasNext known memory given a r b
   was_next = record {
     dictionaries = first.are.0;
     held = second.held ∙ first.are.1;
     are = first.are.2;
+    held_values =
+        subst (λ (v : Option ℤ → Layout). HoldValues known (file_of a) (memory (device_of a)).whole (known_of a) (values_of a) v) (sym second.values) first.holds;
     block = second.block ∙ ap (λ (n : ℕ). n + 1) first.block;
     remaining = second.remaining ∙ ap (λ (l : Limit). less l (rows_given r)) first.remaining;
     many = here.many;
     only = here.only;
-    bytes = λ ds is. same_bytes known _ _ _ _ _ _ _ _ r same_source (ap given (first.left_alone ds is)) here.bytes;
+    message = λ k.
+        subst (λ (xs : List ℕ). OnOk r (block_metadata xs (slice_get (metadata_of a).blocks.items (block_of a)) ≡ Some (message_of b))) (same_source k) (here.message k);
+    bytes = λ ds is.
+        let needed = needed_bytes (kinds (file_of a).schema) (columns_asked (metadata_of a) (asked_of a)) (message_of b) in
+        subst (λ (n : ℕ). OnOk r (given (device_of b) ≤ n + needed)) (ap given (first.left_alone ds is)) here.bytes;
+    holds = here.holds;
     meaning = λ k es alike.
         subst (λ (xs : List ℕ). GivesPart chunk_seen r (file_chunk (file_of a) es xs (asked_of a) (remaining_of a) (block_of a))) (same_source k) (here.meaning k es alike);
     values = here.values;

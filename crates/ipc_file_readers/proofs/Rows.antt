@@ -81,13 +81,13 @@ module _ (m : Meaning) (ds : Dictionaries) (source : List ℕ) (asked : Option (
   record_pruned extra b h =
       then_pruned (lists_of h.table) _ _ c (pruned asked limit c) (λ lists e. prune_law (entries_of lists b m.schema.order h.extra ds) b.size m.schema asked limit c is e)
 
-  block_pruned : (b : Block) → chunk_at m ds source b None None ≡ Some c → chunk_at m ds source b asked limit ≡ Some (pruned asked limit c)
+  pub block_pruned : (b : Block) → chunk_at m ds source b None None ≡ Some c → chunk_at m ds source b asked limit ≡ Some (pruned asked limit c)
   unfolding chunk_at
   block_pruned b =
       given_pruned (placed b) _ _ c (pruned asked limit c) (λ p. given_pruned (metadata_at source p) _ _ c (pruned asked limit c) (λ metadata.
       given_pruned (block_header metadata) _ _ c (pruned asked limit c) (λ h. where_pruned (nat_eq h.tag 3) _ _ c (pruned asked limit c) (record_pruned h.extra (body_at m source p) h))))
 
-  chunk_pruned : (i : ℕ) → file_chunk m ds source None None i ≡ Some c → file_chunk m ds source asked limit i ≡ Some (pruned asked limit c)
+  pub chunk_pruned : (i : ℕ) → file_chunk m ds source None None i ≡ Some c → file_chunk m ds source asked limit i ≡ Some (pruned asked limit c)
   chunk_pruned i = then_pruned (slice_get m.blocks i) _ _ c (pruned asked limit c) block_pruned
 
 -- ---- how many rows

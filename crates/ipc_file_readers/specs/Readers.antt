@@ -1,10 +1,12 @@
 -- What a reader of a file holds and answers.
 -- (Arrow columnar format, "IPC File Format".)
-use Rattle.std.specs.Prelude.{◌≡◌, ◌⊎◌, ℕ, ◌+◌, ◌-◌, ◌≤◌, nat_le, Bool, true, false, IsTrue, IfOk, IfErr, OnOk, List, map, length, Option, None, Some, option_map, slice_get, Result, Ok, Err, vec_len, Vec}
+use Rattle.std.specs.Prelude.{◌≡◌, ◌⊎◌, ℕ, ℤ, ◌+◌, ◌-◌, ◌≤◌, nat_le, Bool, true, false, IsTrue, IfOk, IfErr, OnOk, List, map, length, Option, None, Some, option_map, slice_get, Result, Ok, Err, vec_len, Vec}
+use Rattle.std.specs.HashMap.{HashMap}
 use Rattle.std.specs.declared.alloc.Global.{Global}
+use Rattle.std.specs.declared.rc.Rc.{Rc}
 use Rattle.lower.specs.declared.datatypes.schema.Schema.{Schema}
 use Rattle.lower_arrays.specs.AnyLayouts.{layout_of}
-use Rattle.lower_arrays.specs.Layouts.{len_of}
+use Rattle.lower_arrays.specs.Layouts.{Layout, len_of}
 use Rattle.lower_arrays.specs.declared.array.AnyArray.{AnyArray}
 use Rattle.ipc_base.specs.Chunks.{row_count}
 use Rattle.ipc_devices.specs.Device.{Memory, Rises}
@@ -16,11 +18,11 @@ use Rattle.ipc_model.specs.Files.{FileMetadata as Meaning, file_dictionaries, fi
 use Rattle.ipc_model.specs.ReadChunks.{HaveMeaning}
 use Rattle.ipc_base.specs.IdTrees.{all_ids_view}
 use Rattle.ipc_laws.specs.Agreement.{AreAlike, KnowAlike}
-use Rattle.ipc_columns.specs.Bodies.{known_dictionaries}
+use Rattle.ipc_columns.specs.Bodies.{array_under, known_dictionaries, no_values}
 use Rattle.ipc_projections.specs.ChosenColumns.{ShowsColumns, asked_by, shown_by}
 use Rattle.ipc_read.specs.Chunks.{chunk_seen}
-use Rattle.ipc_files.specs.Batches.{IsRecordFault, block_metadata, needed_bytes}
-use Rattle.ipc_files.specs.Dictionaries.{IsDictionaryBlockFault}
+use Rattle.ipc_files.specs.Batches.{HoldBatch, IsRecordFault, block_metadata, needed_bytes}
+use Rattle.ipc_files.specs.Dictionaries.{HoldListed, IsDictionaryBlockFault}
 use Rattle.ipc_files.specs.Footers.{GivesPart, file_seen}
 use Rattle.ipc_files.specs.declared.read.file.metadata.FileMetadata.{FileMetadata}
 use Rattle.ipc_file_readers.specs.declared.read.reader.state.FileReader.{FileReader}
@@ -45,6 +47,14 @@ schema_of x = shown_by x.metadata.schema x.projection
 abbrev pub known_of : {R : Type 0} → FileReader R → Option Dictionaries
 known_of x = option_map known_dictionaries x.dictionaries
 
+-- the arrays of their values
+abbrev pub values_in : {Z S : Type 0} → Option (HashMap ℤ (Rc AnyArray Z) S) → Option ℤ → Layout
+values_in None id = no_values id
+values_in (Some m) id = array_under m id
+
+abbrev pub values_of : {R : Type 0} → FileReader R → Option ℤ → Layout
+values_of x id = values_in x.dictionaries id
+
 -- the number of the next block
 abbrev pub block_of : {R : Type 0} → FileReader R → ℕ
 block_of x = x.current_block
@@ -64,6 +74,10 @@ blocks_left x = vec_len x.metadata.blocks - x.current_block
 -- the room for data and for messages
 abbrev pub scratches_of : {R : Type 0} → FileReader R → Vec ℕ Global × Vec ℕ Global
 scratches_of x = (x.data_scratch, x.message_scratch)
+
+-- the metadata of the message that was read last
+abbrev pub message_of : {R : Type 0} → FileReader R → List ℕ
+message_of x = x.message_scratch.items
 
 -- the file, as its metadata say it
 abbrev pub file_of : {R : Type 0} → FileReader R → Meaning
@@ -124,12 +138,11 @@ abbrev pub AreKnown : Bool → Option Dictionaries → Option Dictionaries → D
 AreKnown known (Some before) file ds = before ≡ ds
 AreKnown known None file ds = IsTrue known → AreAlike file (Some ds)
 
--- Of the bytes of a file no more was given than the message of block i, its prefix and what the buffers of the columns that are asked
--- for list.
-pub record WasGiven (known : Bool) (m : FileMetadata) (asked : Option (List ℕ)) (i : ℕ) (source : List ℕ) (old new : ℕ) : Type 0 where
-  pub metadata : List ℕ
-  pub message : IsTrue known → block_metadata source (slice_get m.blocks.items i) ≡ Some metadata
-  pub most : new ≤ old + needed_bytes (kinds (file_seen m).schema) (columns_asked m asked) metadata
+-- The arrays of values that were known stay. Those that were read now hold no more than the buffers of their blocks list, and one offset for
+-- each buffer of offsets that lists nothing.
+abbrev pub HoldValues : Bool → Meaning → List ℕ → Option Dictionaries → (before after : Option ℤ → Layout) → Type 0
+HoldValues known m source (Some ds) before after = after ≡ before
+HoldValues known m source None before after = HoldListed known m source after
 
 -- At the dictionary places of the columns that are asked for, those inside the values of others aside, stand the values that are known.
 abbrev pub HaveKnownValues : FileMetadata → Option (List ℕ) → Dictionaries → List AnyArray → Type 0
@@ -142,18 +155,24 @@ pub record WereRefused {R : Type 0} (known : Bool) (memory : R → Memory) (a : 
   pub meaning : IsTrue known → OwnFault e (file_dictionaries (file_of a) (memory (device_of a)).whole ≡ None)
   pub over : is_over b ≡ true
 
--- The chunk of the next block was given, or its fault, which leaves the limit as it was. The block behind it is the next then. Where the
--- dictionaries were known before, no more was read than that chunk needs.
+-- The chunk of the next block was given, or its fault, which leaves the limit as it was. The block behind it is the next then. The
+-- metadata of the block's message are kept. Where the dictionaries were known before, no more was given than this message, its prefix and
+-- what the buffers of the columns that are asked for list; and the arrays hold no more than these list, and one offset for each buffer of
+-- offsets that lists nothing.
 pub record WasNext {R : Type 0} (known : Bool) (memory : R → Memory) (given : R → ℕ) (a : FileReader R) (r : Result (List AnyArray) Fault) (b : FileReader R) : Type 0 where
   pub dictionaries : Dictionaries
   pub held : known_of b ≡ Some dictionaries
   pub are : AreKnown known (known_of a) (file_dictionaries (file_of a) (memory (device_of a)).whole) dictionaries
+  pub held_values : HoldValues known (file_of a) (memory (device_of a)).whole (known_of a) (values_of a) (values_of b)
   pub block : block_of b ≡ block_of a + 1
   pub remaining : remaining_of b ≡ less (remaining_of a) (rows_given r)
   pub many : IfOk r (λ xs. length xs ≡ length (columns_asked (metadata_of a) (asked_of a)))
   pub only : IfErr r (λ e. OwnFault e (IsRecordFault (kinds (file_of a).schema) (columns_asked (metadata_of a) (asked_of a)) e))
+  pub message : IsTrue known
+      → OnOk r (block_metadata (memory (device_of a)).whole (slice_get (metadata_of a).blocks.items (block_of a)) ≡ Some (message_of b))
   pub bytes : (ds : Dictionaries) → known_of a ≡ Some ds
-      → OnOk r (WasGiven known (metadata_of a) (asked_of a) (block_of a) (memory (device_of a)).whole (given (device_of a)) (given (device_of b)))
+      → OnOk r (given (device_of b) ≤ given (device_of a) + needed_bytes (kinds (file_of a).schema) (columns_asked (metadata_of a) (asked_of a)) (message_of b))
+  pub holds : IfOk r (HoldBatch (kinds (file_of a).schema) (columns_asked (metadata_of a) (asked_of a)) (message_of b))
   pub meaning : IsTrue known → (ds : Dictionaries) → KnowAlike dictionaries ds
       → GivesPart chunk_seen r (file_chunk (file_of a) ds (memory (device_of a)).whole (asked_of a) (remaining_of a) (block_of a))
   pub values : IsTrue known → IfOk r (HaveKnownValues (metadata_of a) (asked_of a) dictionaries)

@@ -1,6 +1,6 @@
 -- What the steps of a call of `next` do, one by one.
 -- (Arrow columnar format, "IPC File Format".)
-use Rattle.std.specs.Prelude.{◌≡◌, ℕ, ◌+◌, ◌≤◌, Bool, IsTrue, IfOk, IfErr, OnOk, List, length, Option, None, Some, Result}
+use Rattle.std.specs.Prelude.{◌≡◌, ℕ, ◌+◌, ◌≤◌, Bool, IsTrue, IfOk, IfErr, OnOk, List, length, Option, None, Some, Result, slice_get}
 use Rattle.lower_arrays.specs.declared.array.AnyArray.{AnyArray}
 use Rattle.ipc_devices.specs.Device.{Memory, Rises}
 use Rattle.ipc_devices.specs.Faults.{OnIo, OwnFault}
@@ -10,11 +10,11 @@ use Rattle.ipc_model.specs.Entries.{Dictionaries, Limit}
 use Rattle.ipc_model.specs.Files.{file_dictionaries, file_chunk}
 use Rattle.ipc_laws.specs.Agreement.{KnowAlike}
 use Rattle.ipc_read.specs.Chunks.{chunk_seen}
-use Rattle.ipc_files.specs.Batches.{IsRecordFault}
+use Rattle.ipc_files.specs.Batches.{HoldBatch, IsRecordFault, block_metadata, needed_bytes}
 use Rattle.ipc_files.specs.Dictionaries.{IsDictionaryBlockFault}
 use Rattle.ipc_files.specs.Footers.{GivesPart, file_seen}
 use Rattle.ipc_files.specs.declared.read.file.metadata.FileMetadata.{FileMetadata}
-use Rattle.ipc_file_readers.specs.Readers.{AreKnown, HaveKnownValues, IsOfSameFile, WasGiven, asked_of, block_of, columns_asked, device_of, file_of, known_of, less, metadata_of, remaining_of, rows_given}
+use Rattle.ipc_file_readers.specs.Readers.{AreKnown, HaveKnownValues, HoldValues, IsOfSameFile, asked_of, block_of, columns_asked, device_of, file_of, known_of, less, message_of, metadata_of, remaining_of, rows_given, values_of}
 use Rattle.ipc_file_readers.specs.declared.read.reader.state.FileReader.{FileReader}
 
 -- the device was asked
@@ -31,16 +31,20 @@ pub record DictionariesGave {R : Type 0} (known still : Bool) (memory : R → Me
   pub asked : WasAsked still memory failures a r b
   pub are : IfOk r (λ _. (ds : Dictionaries) × (known_of b ≡ Some ds)
       × AreKnown known (known_of a) (file_dictionaries (file_of a) (memory (device_of a)).whole) ds)
+  pub holds : IfOk r (λ _. HoldValues known (file_of a) (memory (device_of a)).whole (known_of a) (values_of a) (values_of b))
   pub left_alone : (ds : Dictionaries) → known_of a ≡ Some ds → device_of b ≡ device_of a
   pub unread : IfErr r (λ e. known_of a ≡ None)
   pub only : IfErr r (λ e. OwnFault e (IsDictionaryBlockFault e))
   pub refused : IsTrue known → IfErr r (λ e. OwnFault e (file_dictionaries (file_of a) (memory (device_of a)).whole ≡ None))
 
--- The chunk of block i was given, by the dictionaries that are known, or its fault.
-pub record WasChunk (known : Bool) (m : FileMetadata) (asked : Option (List ℕ)) (limit : Limit) (i : ℕ) (ds : Dictionaries) (source : List ℕ) (old new : ℕ) (r : Result (List AnyArray) Fault) : Type 0 where
+-- The chunk of block i was given, by the dictionaries that are known, or its fault. The message that was read has these metadata.
+pub record WasChunk (known : Bool) (m : FileMetadata) (asked : Option (List ℕ)) (limit : Limit) (i : ℕ) (ds : Dictionaries) (source : List ℕ) (old new : ℕ) (metadata : List ℕ)
+    (r : Result (List AnyArray) Fault) : Type 0 where
   pub many : IfOk r (λ xs. length xs ≡ length (columns_asked m asked))
   pub only : IfErr r (λ e. OwnFault e (IsRecordFault (kinds (file_seen m).schema) (columns_asked m asked) e))
-  pub bytes : OnOk r (WasGiven known m asked i source old new)
+  pub message : IsTrue known → OnOk r (block_metadata source (slice_get m.blocks.items i) ≡ Some metadata)
+  pub bytes : OnOk r (new ≤ old + needed_bytes (kinds (file_seen m).schema) (columns_asked m asked) metadata)
+  pub holds : IfOk r (HoldBatch (kinds (file_seen m).schema) (columns_asked m asked) metadata)
   pub meaning : IsTrue known → (es : Dictionaries) → KnowAlike ds es → GivesPart chunk_seen r (file_chunk (file_seen m) es source asked limit i)
   pub values : IsTrue known → IfOk r (HaveKnownValues m asked ds)
 
@@ -50,9 +54,10 @@ pub record BlockGave {R : Type 0} (known still : Bool) (memory : R → Memory) (
   pub block : block_of b ≡ block_of a
   pub remaining : remaining_of b ≡ remaining_of a
   pub held : known_of b ≡ known_of a
+  pub values : values_of b ≡ values_of a
   pub asked : WasAsked still memory failures a r b
   pub chunk : (ds : Dictionaries) → known_of a ≡ Some ds
-      → WasChunk known (metadata_of a) (asked_of a) (remaining_of a) i ds (memory (device_of a)).whole (given (device_of a)) (given (device_of b)) r
+      → WasChunk known (metadata_of a) (asked_of a) (remaining_of a) i ds (memory (device_of a)).whole (given (device_of a)) (given (device_of b)) (message_of b) r
 
 -- That of the next block was, and the reader stands behind it.
 pub record NextGave {R : Type 0} (known still : Bool) (memory : R → Memory) (failures given : R → ℕ) (a : FileReader R) (r : Result (List AnyArray) Fault) (b : FileReader R) : Type 0 where
@@ -60,6 +65,7 @@ pub record NextGave {R : Type 0} (known still : Bool) (memory : R → Memory) (f
   pub block : block_of b ≡ block_of a + 1
   pub remaining : remaining_of b ≡ less (remaining_of a) (rows_given r)
   pub held : known_of b ≡ known_of a
+  pub values : values_of b ≡ values_of a
   pub asked : WasAsked still memory failures a r b
   pub chunk : (ds : Dictionaries) → known_of a ≡ Some ds
-      → WasChunk known (metadata_of a) (asked_of a) (remaining_of a) (block_of a) ds (memory (device_of a)).whole (given (device_of a)) (given (device_of b)) r
+      → WasChunk known (metadata_of a) (asked_of a) (remaining_of a) (block_of a) ds (memory (device_of a)).whole (given (device_of a)) (given (device_of b)) (message_of b) r

@@ -1,5 +1,5 @@
 -- What was read of a message's body is what the message means.
-use Rattle.std.proofs.Common.{arith, cond, ◌≡◌, ◌≢◌, ◌⊎◌, ◌==◌, ℕ, ◌+◌, ◌<◌, ◌≤◌, nat_lt, true, false, Bool, List, [], length, take, drop, ◌++◌, subst, Option, None, Some, IsSome, IfSome, IfErr, OnOk, Result, Ok, Err, refl, sym, ap, inl, inr, ◌∙◌, length-append, length-take}
+use Rattle.std.proofs.Common.{arith, cond, ◌≡◌, ◌≢◌, ◌⊎◌, ◌==◌, ℕ, ◌+◌, ◌<◌, ◌≤◌, nat_lt, true, false, Bool, List, [], length, take, drop, ◌++◌, subst, Option, None, Some, IsSome, IfSome, IfOk, IfErr, OnOk, Result, Ok, Err, refl, sym, ap, inl, inr, ◌∙◌, length-append, length-take}
 use Rattle.std.proofs.lemmas.Bool.{cases_lt, le-ltb, lt-ltb}
 use Rattle.std.proofs.lemmas.List.{drop_at, take_at}
 use Rattle.lower.specs.TypeTrees.{Pairs, FieldTrees}
@@ -27,7 +27,7 @@ use Rattle.ipc_read.specs.Chunks.{chunk_seen, GivesBatch}
 use Rattle.ipc_readers.specs.ChosenStreams.{Request, chosen_body}
 use Rattle.ipc_readers.proofs.Knowing.{AlsoGives, alike_then, dictionary_alike, no_dictionary_alike, record_alike, same_values}
 use Rattle.ipc_readers.specs.Refusals.{IsStreamFault}
-use Rattle.ipc_readers.specs.Streams.{BlamesBody, GivesBody, GivesHeld, ReadsBody, RefusesBody, of_dictionary, of_record}
+use Rattle.ipc_readers.specs.Streams.{BlamesBody, GivesBody, GivesHeld, HoldsRecord, ReadsBody, RefusesBody, of_dictionary, of_record}
 use Rattle.ipc_views.specs.declared.schema.MetadataVersion.{MetadataVersion}
 
 -- two claims of a fault
@@ -123,11 +123,12 @@ module _ (fs : FieldTrees) (ms : Pairs) (is : IdTrees) (o : Endianness) (version
 
   chunk_reads : (chunk : List AnyArray) (l : Known) → l.dictionaries ≡ k.dictionaries → l.count ≡ 0
       → record_meaning (bare fs is o) (extra_of version) k.dictionaries (first bytes n) t p None ≡ Some (chunk_seen chunk)
-      → ReadsBody (asks fs ms is o version p) s (header 3 t n) xs (Ok (Some chunk)) l (drop n xs)
-  chunk_reads chunk l same none means = (
+      → HoldsRecord (asks fs ms is o version p) t chunk → ReadsBody (asks fs ms is o version p) s (header 3 t n) xs (Ok (Some chunk)) l (drop n xs)
+  chunk_reads chunk l same none means holds = (
     record { dictionaries = s.dictionaries; count = 0 },
     record { alike = alike_then s.dictionaries k.dictionaries l.dictionaries at.alike (same_values k.dictionaries l.dictionaries (sym same)); count = sym none },
     record_body (asks fs ms is o version p) s t n xs (Some (chunk_seen chunk)) long (record_is ∙ means),
+    holds,
   )
 
   record_blames : (e' : Fault) → IsFaultOfBatch (kinds_of fs is) (chosen p (count (kinds_of fs is))) e' → BlamesBody (asks fs ms is o version p) s.count 3 e'
@@ -153,6 +154,7 @@ module _ (fs : FieldTrees) (ms : Pairs) (is : IdTrees) (o : Endianness) (version
         record { dictionaries = also.known; count = s.count + 1 },
         record { alike = also.alike; count = omega (arith, same, more_by) },
         dictionary_body h s t n xs (Some also.known) long (omega (arith, same, few)) also.some,
+        tt,
       )
 
   values_blame : (e' : Fault) → IsDictionaryFault e' → BlamesBody (asks fs ms is o version p) s.count 2 e'
@@ -173,13 +175,13 @@ module _ (fs : FieldTrees) (ms : Pairs) (is : IdTrees) (o : Endianness) (version
 -- what the answer of a record batch says, of a body with bytes behind it
 record_answer : (fs : FieldTrees) (ms : Pairs) (is : IdTrees) (o : Endianness) (version : MetadataVersion) (p : Option (List ℕ)) (k : Known) (t : Spot) (n : ℕ) (xs bytes : List ℕ)
     → n ≤ length xs → bytes ≡ take n xs → (r : Result (List AnyArray) Fault) (l : Known) → OnOk r ((l.dictionaries ≡ k.dictionaries) × (l.count ≡ 0))
-    → IfErr r (λ e. OwnFault e (IsFaultOfBatch (kinds_of fs is) (chosen p (count (kinds_of fs is))) e))
+    → IfErr r (λ e. OwnFault e (IsFaultOfBatch (kinds_of fs is) (chosen p (count (kinds_of fs is))) e)) → IfOk r (HoldsRecord (asks fs ms is o version p) t)
     → GivesBatch (bare fs is o) (extra_of version) k.dictionaries (first bytes n) t p None r
     → GivesBody (asks fs ms is o version p) k (header 3 t n) xs (of_record r) l (drop n xs)
-record_answer fs ms is o version p k t n xs bytes long e (Ok chunk) l next only read = record {
-  each = λ s at. chunk_reads fs ms is o version p k t n xs bytes long e s at chunk l next.0 next.1 read.1;
+record_answer fs ms is o version p k t n xs bytes long e (Ok chunk) l next only holds read = record {
+  each = λ s at. chunk_reads fs ms is o version p k t n xs bytes long e s at chunk l next.0 next.1 read.1 holds;
 }
-record_answer fs ms is o version p k t n xs bytes long e (Err e') l next only read =
+record_answer fs ms is o version p k t n xs bytes long e (Err e') l next only holds read =
     let u : Option Chunk = record_meaning (bare fs is o) (extra_of version) k.dictionaries (first bytes n) t p None in
     record {
       each = λ s at. record_refused fs ms is o version p k t n xs bytes long e s at e' only
@@ -215,12 +217,12 @@ held h k tag t body r l given = record {
 
 pub columns_give : (fs : FieldTrees) (ms : Pairs) (is : IdTrees) (o : Endianness) (version : MetadataVersion) (p : Option (List ℕ)) (k : Known) (t : Spot) (body : List ℕ) (r : Result (List AnyArray) Fault) (l : Known)
     → OnOk r ((l.dictionaries ≡ k.dictionaries) × (l.count ≡ 0))
-    → IfErr r (λ e. OwnFault e (IsFaultOfBatch (kinds_of fs is) (chosen p (count (kinds_of fs is))) e))
+    → IfErr r (λ e. OwnFault e (IsFaultOfBatch (kinds_of fs is) (chosen p (count (kinds_of fs is))) e)) → IfOk r (HoldsRecord (asks fs ms is o version p) t)
     → GivesBatch (bare fs is o) (extra_of version) k.dictionaries (first body (length body)) t p None r
     → GivesHeld (asks fs ms is o version p) k 3 t body (of_record r) l
-columns_give fs ms is o version p k t body r l next only read =
+columns_give fs ms is o version p k t body r l next only holds read =
     held (asks fs ms is o version p) k 3 t body (of_record r) l
-    (λ xs long e. record_answer fs ms is o version p k t (length body) xs body long e r l next only read)
+    (λ xs long e. record_answer fs ms is o version p k t (length body) xs body long e r l next only holds read)
 
 pub values_give : (fs : FieldTrees) (ms : Pairs) (is : IdTrees) (o : Endianness) (version : MetadataVersion) (p : Option (List ℕ)) (k : Known) (t : Spot) (body : List ℕ) (r : Result Unit Fault) (l : Known)
     → k.count < most_dictionaries → OnOk r (l.count ≡ k.count + 1) → IfErr r (λ e. OwnFault e (IsDictionaryFault e))

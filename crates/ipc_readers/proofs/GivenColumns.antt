@@ -11,21 +11,23 @@ use Rattle.ipc_devices.specs.declared.fault.Fault.{Fault}
 use Rattle.ipc_devices.specs.declared.fault.Fault.TheVariants.{Memory}
 use Rattle.ipc_views.specs.Spot.{Spot}
 use Rattle.ipc_views.specs.declared.schema.MetadataVersion.{MetadataVersion}
-use Rattle.ipc_model.specs.Batches.{chosen, extra_of}
+use Rattle.ipc_model.specs.Batches.{chosen, extra_of, lists_of}
 use Rattle.ipc_model.specs.Kinds.{count}
 use Rattle.ipc_model.specs.Streams.{Known}
 use Rattle.ipc_model.specs.TypeKinds.{kinds_of}
 use Rattle.ipc_projections.specs.ChosenColumns.{AreAsMany, AreOrdered, AreShuffled, asked_by, rising_by}
 use Rattle.ipc_projections.specs.declared.read.chosen.ChosenColumns.{ChosenColumns}
 use Rattle.ipc_read.proofs.AskedColumns.{faults_in_order}
+use Rattle.ipc_read.proofs.AskedSums.{held_in_order}
 use Rattle.ipc_read.proofs.Fields.{field_count}
 use Rattle.ipc_read.specs.Chunks.{GivesBatch}
+use Rattle.ipc_read.specs.HeldChunks.{HoldChosen}
 use Rattle.ipc_read.specs.Refusals.{IsFaultOfBatch}
 use Rattle.ipc_readers.proofs.AskedBatches.{given_in_order, refused_in_order}
 use Rattle.ipc_readers.proofs.Bodies.{asks, bare, batch_faults, columns_give, first}
 use Rattle.ipc_readers.specs.ChosenStreams.{Request}
 use Rattle.ipc_readers.specs.Refusals.{IsStreamFault}
-use Rattle.ipc_readers.specs.Streams.{GivesHeld}
+use Rattle.ipc_readers.specs.Streams.{GivesHeld, HoldsRecord}
 
 module _ (c : Option ChosenColumns) (ds : List Field) (ms : Pairs) (is : IdTrees) (o : Endianness) (version : MetadataVersion) (same : AreShuffled c) where
   -- which faults the columns in rising order can have
@@ -41,19 +43,28 @@ module _ (c : Option ChosenColumns) (ds : List Field) (ms : Pairs) (is : IdTrees
   pub stream_faults : (e : Fault) → Blames e → OwnFault e (IsStreamFault (asks (fields_view ds) ms is o version (asked_by c)) e)
   stream_faults e only = batch_faults (fields_view ds) ms is o version (asked_by c) e (asked_faults e only)
 
+  asked_holds : (t : Spot) (read given : List AnyArray) → AreAsMany c (length read) → AreOrdered c read given
+      → HoldChosen (lists_of t) (extra_of version) (kinds_of (fields_view ds) is) (chosen (rising_by c) (length ds)) read
+      → HoldsRecord (asks (fields_view ds) ms is o version (asked_by c)) t given
+  asked_holds t read given many moved h =
+      let ts = kinds_of (fields_view ds) is in
+      held_in_order c (count ts) (lists_of t) (extra_of version) ts read given same many moved
+      (subst (λ (n : ℕ). HoldChosen (lists_of t) (extra_of version) ts (chosen (rising_by c) n) read) (sym (field_count ds is)) h)
+
   module _ (k : Known) (t : Spot) (body : List ℕ) where
     pub given_columns : (read given : List AnyArray) → AreAsMany c (length read) → AreOrdered c read given
+        → HoldChosen (lists_of t) (extra_of version) (kinds_of (fields_view ds) is) (chosen (rising_by c) (length ds)) read
         → GivesBatch (bare (fields_view ds) is o) (extra_of version) k.dictionaries (first body (length body)) t (rising_by c) None (Ok read)
         → GivesHeld (asks (fields_view ds) ms is o version (asked_by c)) k 3 t body (Ok (Some given)) (record { dictionaries = k.dictionaries; count = 0 })
-    given_columns read given many moved g =
-        columns_give (fields_view ds) ms is o version (asked_by c) k t body (Ok given) (record { dictionaries = k.dictionaries; count = 0 }) (refl, refl) tt
+    given_columns read given many moved holds g =
+        columns_give (fields_view ds) ms is o version (asked_by c) k t body (Ok given) (record { dictionaries = k.dictionaries; count = 0 }) (refl, refl) tt (asked_holds t read given many moved holds)
         (given_in_order c (bare (fields_view ds) is o) (extra_of version) k.dictionaries (first body (length body)) t read given same many moved g)
 
     pub refused_columns : (e : Fault) → Blames e
         → GivesBatch (bare (fields_view ds) is o) (extra_of version) k.dictionaries (first body (length body)) t (rising_by c) None (Err e)
         → GivesHeld (asks (fields_view ds) ms is o version (asked_by c)) k 3 t body (Err e) k
     refused_columns e only g =
-        columns_give (fields_view ds) ms is o version (asked_by c) k t body (Err e) k tt (asked_faults e only)
+        columns_give (fields_view ds) ms is o version (asked_by c) k t body (Err e) k tt (asked_faults e only) tt
         (refused_in_order c (bare (fields_view ds) is o) (extra_of version) k.dictionaries (first body (length body)) t e same g)
 
 -- a refusal of memory says nothing of the body

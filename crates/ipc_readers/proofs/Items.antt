@@ -10,7 +10,7 @@ use Rattle.ipc_read.proofs.Refusals.{claims_through}
 use Rattle.ipc_readers.proofs.Bodies.{both_claims}
 use Rattle.ipc_readers.specs.ChosenStreams.{Request, chosen_body, chosen_frame, chosen_item, chosen_message}
 use Rattle.ipc_readers.specs.Messages.{opened}
-use Rattle.ipc_readers.specs.Streams.{BlamesBody, BlamesFront, BlamesOpened, GivesBody, GivesItem, BodyGave, ItemGave, ItemStop, IsWithinMessage, ReadsBody, ReadsItem}
+use Rattle.ipc_readers.specs.Streams.{BlamesBody, BlamesFront, BlamesOpened, GivesBody, FrontHolds, GivesItem, HeaderHolds, BodyGave, ItemGave, ItemStop, IsWithinMessage, ReadsBody, ReadsItem}
 use Rattle.ipc_readers.specs.declared.read.stream.reader.Found.{Found}
 use Rattle.ipc_readers.specs.declared.read.stream.reader.Found.TheVariants as fronts
 use Rattle.ipc_devices.specs.Gives.{Stop, going, ended, stop_of, AnswerStop, FaultStop, Gives, GivesInOrder}
@@ -73,7 +73,9 @@ as_found (Err e) = Err e
 body_is_front : (h : Request) (s : Known) (xs m rest left : List ℕ) (d : Header) (q : List ℕ) (r : Result (Option (List AnyArray)) Fault) (l : Known) → frame xs ≡ message m rest
     → header_of m ≡ Some d → opened m ≡ Ok d → q ≡ [] → ReadsBody h s d rest r l left → ReadsItem h s xs (as_found r) l q (q ++ left)
 body_is_front h s xs m rest left d q (Ok (Some chunk)) l e f opens none g =
-    (g.0, g.1, body_of h s xs m rest (Some d) e f ∙ g.2 ∙ ap (λ ys. more (Some (chunk_seen chunk)) g.0 ys) (sym (behind_none q left none)))
+    let holds : FrontHolds h (frame xs) chunk =
+    subst (λ (y : Frame). FrontHolds h y chunk) (sym e) (subst (λ (o : Option Header). HeaderHolds h o chunk) (sym f) g.3) in
+    (g.0, g.1, body_of h s xs m rest (Some d) e f ∙ g.2 ∙ ap (λ ys. more (Some (chunk_seen chunk)) g.0 ys) (sym (behind_none q left none)), holds)
 body_is_front h s xs m rest left d q (Ok None) l e f opens none g =
     (g.0, g.1, body_of h s xs m rest (Some d) e f ∙ g.2 ∙ ap (λ ys. more None g.0 ys) (sym (behind_none q left none)))
 body_is_front h s xs m rest left d q (Err x) l e f opens none g =

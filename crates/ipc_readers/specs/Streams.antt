@@ -15,13 +15,15 @@ use Rattle.ipc_devices.specs.declared.fault.Fault.TheVariants.{OutOfSpec}
 use Rattle.ipc_devices.specs.declared.fault.OutOfSpecKind.TheVariants.{UnexpectedMessageType}
 use Rattle.ipc_laws.specs.Agreement.{AreAt}
 use Rattle.ipc_views.specs.Spot.{Spot}
-use Rattle.ipc_model.specs.Batches.{chosen}
+use Rattle.ipc_model.specs.Batches.{chosen, extra_of, kinds, lists_of}
+use Rattle.ipc_model.specs.Kinds.{count}
 use Rattle.ipc_model.specs.ReadChunks.{HaveMeaning}
 use Rattle.ipc_model.specs.Frame.{Frame, broken, frame, message, mark}
 use Rattle.ipc_model.specs.Streams.{Head, Header, Known, header_of, more, done, faulty, marked, most_dictionaries, with_chunks, nothing_known, waits}
 use Rattle.ipc_projections.specs.ChosenColumns.{asked_by, shown_by}
 use Rattle.ipc_projections.specs.declared.read.chosen.ChosenColumns.{ChosenColumns}
 use Rattle.ipc_read.specs.Chunks.{chunk_seen, order_of}
+use Rattle.ipc_read.specs.HeldChunks.{HoldChosen}
 use Rattle.ipc_readers.specs.ChosenStreams.{Request, chosen_body, chosen_item, chosen_meaning}
 use Rattle.ipc_readers.specs.Frames.{IsFramingFault, begun_bytes, due}
 use Rattle.ipc_readers.specs.Messages.{opened}
@@ -129,6 +131,28 @@ abbrev pub StateHasValues : Batches → Option StreamState → Type 0
 StateHasValues b (Some (states.Some chunk)) = HasKnownValues b chunk
 StateHasValues b _ = Unit {0}
 
+-- ---- how many bytes are held
+
+-- The arrays of a record batch with this table hold no more than the buffers of the columns that are asked for list, and one offset for each
+-- buffer of offsets that lists nothing.
+abbrev pub HoldsRecord : Request → Spot → List AnyArray → Type 0
+HoldsRecord h t chunk = let ts = kinds h.head.schema in HoldChosen (lists_of t) (extra_of h.head.version) ts (chosen h.projection (count ts)) chunk
+
+-- so do those of a message, if it is a record
+abbrev pub BodyHolds : Request → Spot → Option (List AnyArray) → Type 0
+BodyHolds h t None = Unit {0}
+BodyHolds h t (Some chunk) = HoldsRecord h t chunk
+
+-- so do those of a record with this header
+abbrev pub HeaderHolds : Request → Option Header → List AnyArray → Type 0
+HeaderHolds h None chunk = ⊥
+HeaderHolds h (Some m) chunk = HoldsRecord h m.table chunk
+
+-- so do those of the record that stands at the front
+abbrev pub FrontHolds : Request → Frame → List AnyArray → Type 0
+FrontHolds h (message metadata behind) chunk = HeaderHolds h (header_of metadata) chunk
+FrontHolds h _ chunk = ⊥
+
 -- ---- one message
 
 -- Which faults of the input's a message with a header of this tag can have in a stream of which h is asked, n dictionary messages behind
@@ -168,9 +192,9 @@ of_dictionary (Ok _) = Ok None
 of_dictionary (Err e) = Err e
 
 -- The body of a message was read of xs, which leaves ys: what it means to s is its chunk, if it is a record, and what is known then is
--- what l is. A fault of the input's says that it means nothing, and is one of its kind.
+-- what l is; and it holds no more than its message lists. A fault of the input's says that it means nothing, and is one of its kind.
 abbrev pub ReadsBody : Request → (s : Known) → Header → List ℕ → Result (Option (List AnyArray)) Fault → (l : Known) → List ℕ → Type 0
-ReadsBody h s m xs (Ok c) l ys = (t : Known) × AreAt t l × (chosen_body h s m xs ≡ more (option_map chunk_seen c) t ys)
+ReadsBody h s m xs (Ok c) l ys = (t : Known) × AreAt t l × (chosen_body h s m xs ≡ more (option_map chunk_seen c) t ys) × BodyHolds h m.table c
 ReadsBody h s m xs (Err e) l ys = OwnFault e ((chosen_body h s m xs ≡ done faulty) × BlamesBody h s.count m.tag e)
 
 -- the same for whoever knows as much as k
@@ -186,9 +210,10 @@ pub record RefusesBody (h : Request) (k : Known) (tag : ℕ) (t : Spot) (e : Fau
   pub each : (n : ℕ) (xs : List ℕ) → GivesBody h k (record { tag = tag; table = t; body = n }) xs (Err e) k xs
 
 -- What was read is what stands at the front of xs to who knows s, of what h asks for. begun is what is kept then, l what is known, and ys
--- what is ahead: behind the mark all that follows it, which another can read.
+-- what is ahead: behind the mark all that follows it, which another can read. A chunk holds no more than its message lists.
 abbrev pub ReadsItem : Request → (s : Known) → List ℕ → Result Found Fault → (l : Known) → (begun ys : List ℕ) → Type 0
-ReadsItem h s xs (Ok (fronts.Chunk chunk)) l begun ys = (t : Known) × AreAt t l × (chosen_item h s xs ≡ more (Some (chunk_seen chunk)) t ys)
+ReadsItem h s xs (Ok (fronts.Chunk chunk)) l begun ys =
+    (t : Known) × AreAt t l × (chosen_item h s xs ≡ more (Some (chunk_seen chunk)) t ys) × FrontHolds h (frame xs) chunk
 ReadsItem h s xs (Ok fronts.Dictionary) l begun ys = (t : Known) × AreAt t l × (chosen_item h s xs ≡ more None t ys)
 ReadsItem h s xs (Ok fronts.Waiting) l begun ys = AreAt s l × (chosen_item h s xs ≡ done (waits s begun))
 ReadsItem h s xs (Ok fronts.Mark) l begun ys = (chosen_item h s xs ≡ done marked) × (frame xs ≡ mark ys)

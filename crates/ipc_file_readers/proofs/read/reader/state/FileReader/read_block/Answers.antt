@@ -24,6 +24,7 @@ returns-in_err-chunk g c =
         block = refl;
         remaining = refl;
         held = refl;
+        values = refl;
         asked = record {
           monotone = c.in_err-chunk.ensures.monotone;
           failed = search rules;
@@ -31,7 +32,7 @@ returns-in_err-chunk g c =
         };
         chunk = λ ds e.
             refused_chunk g.R.Failures.known c.args.self.now.projection c.args.self.now.metadata c.args.self.now.remaining c.args.block
-            (known_dictionaries c.in-Some.dictionaries) ds (g.R.Failures.memory c.args.self.now.reader).whole _ _ _ c.rising.ensures.same c.rising.ensures.columns
+            (known_dictionaries c.in-Some.dictionaries) ds (g.R.Failures.memory c.args.self.now.reader).whole _ _ _ _ c.rising.ensures.same c.rising.ensures.columns
             (same_known known_dictionaries c.args.self.now.dictionaries c.in-Some.dictionaries ds c.in-Some.is e) c.from_residual.result fault is
             c.in_err-chunk.ensures.only c.in_err-chunk.ensures.memory;
       };
@@ -44,6 +45,7 @@ returns g c = record {
     block = refl;
     remaining = refl;
     held = refl;
+    values = refl;
     asked = record {
       monotone = c.in_ok-chunk.ensures.monotone;
       failed = no_io c.in_order.result _ c.in_order.ensures.only;
@@ -51,9 +53,9 @@ returns g c = record {
     };
     chunk = λ ds e.
         read_chunk g.R.Failures.known c.args.self.now.projection c.args.self.now.metadata c.args.self.now.remaining c.args.block
-        (known_dictionaries c.in-Some.dictionaries) ds (g.R.Failures.memory c.args.self.now.reader).whole _ _ _ c.rising.ensures.same c.rising.ensures.columns
+        (known_dictionaries c.in-Some.dictionaries) ds (g.R.Failures.memory c.args.self.now.reader).whole _ _ c.read_batch.new.message_scratch.items _ c.rising.ensures.same c.rising.ensures.columns
         (same_known known_dictionaries c.args.self.now.dictionaries c.in-Some.dictionaries ds c.in-Some.is e) c.in_ok-chunk.chunk c.in_order.result
-        c.read_batch.new.message_scratch.items c.in_ok-chunk.ensures.many c.in_order.ensures.ordered c.in_order.ensures.only c.in_ok-chunk.ensures.message
-        c.in_ok-chunk.ensures.given c.in_ok-chunk.ensures.memory c.in_ok-chunk.ensures.values;
+        c.in_ok-chunk.ensures.many c.in_order.ensures.ordered c.in_order.ensures.only c.in_ok-chunk.ensures.message
+        c.in_ok-chunk.ensures.given c.in_ok-chunk.ensures.held c.in_ok-chunk.ensures.memory c.in_ok-chunk.ensures.values;
   };
 }

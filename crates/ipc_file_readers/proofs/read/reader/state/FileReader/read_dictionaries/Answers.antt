@@ -1,6 +1,6 @@
 use Rattle.std.proofs.Common.{rules, refl, arith}
 use Rattle.ipc_columns.specs.Bodies.{known_dictionaries}
-use Rattle.ipc_file_readers.proofs.Blocks.{known_already}
+use Rattle.ipc_file_readers.proofs.Blocks.{known_already, values_already}
 use Rattle.ipc_file_readers.proofs.read.reader.state.FileReader.read_dictionaries.Goals as goal
 
 pub returns-then-is_some : goal.returns-then-is_some
@@ -11,6 +11,7 @@ returns-then-is_some g c = record {
     remaining = refl;
     asked = record { monotone = omega arith; failed = tt; whole = λ _. refl };
     are = known_already known_dictionaries c.args.self.now.dictionaries g.R.Failures.known _ (search rules);
+    holds = values_already c.args.self.now.dictionaries g.R.Failures.known _ _ (search rules);
     left_alone = λ ds e. refl;
     unread = tt;
     only = tt;

@@ -14,6 +14,7 @@ returns-in_err-chunk g c =
         block = gave.block;
         remaining = gave.remaining ∙ less_nothing (remaining_of c.args.self.now);
         held = gave.held;
+        values = gave.values;
         asked = record { monotone = gave.asked.monotone; failed = gave.asked.failed; whole = gave.asked.whole };
         chunk = gave.chunk;
       };
@@ -28,6 +29,7 @@ returns g c =
         block = gave.block;
         remaining = c.less-self.ensures ∙ ap (λ (l : Limit). less l c.len.result) gave.remaining ∙ ap (less (remaining_of c.args.self.now)) c.len.ensures.rows;
         held = gave.held;
+        values = gave.values;
         asked = record { monotone = gave.asked.monotone; failed = tt; whole = gave.asked.whole };
         chunk = gave.chunk;
       };

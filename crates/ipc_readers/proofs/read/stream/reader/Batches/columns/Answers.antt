@@ -8,10 +8,11 @@ use Rattle.ipc_base.specs.IdTrees.{all_ids_view}
 use Rattle.ipc_columns.specs.Bodies.{known_dictionaries}
 use Rattle.ipc_devices.specs.Faults.{OwnFault}
 use Rattle.ipc_devices.specs.declared.fault.Fault.{Fault}
-use Rattle.ipc_model.specs.Batches.{extra_of, kinds, chosen}
+use Rattle.ipc_model.specs.Batches.{extra_of, kinds, chosen, lists_of}
 use Rattle.ipc_model.specs.ReadChunks.{HaveMeaning}
 use Rattle.ipc_read.specs.Chunks.{GivesBatch, batch_schema, chunk_seen, order_of}
 use Rattle.ipc_read.specs.Columns.{ArePrepared}
+use Rattle.ipc_read.specs.HeldChunks.{HoldChosen}
 use Rattle.ipc_read.specs.Refusals.{IsFaultOfBatch}
 use Rattle.ipc_read.proofs.AskedColumns.{are_prepared, as_many_read, values_in_order}
 use Rattle.ipc_readers.proofs.GivenColumns.{given_columns, no_memory, refused_columns, stream_faults}
@@ -52,10 +53,14 @@ returns-clause-memory c =
     let Read : Option (List ℕ) → List Field → List ℕ → Type 0 = λ p ds bs. GivesBatch (batch_schema ds m.ipc_schema) (extra_of m.version) (known_dictionaries old.dictionaries) (record { source = bs; base = 0; size = length body }) c.args.batch p None (Ok read) in
     let given : Read (option_copied c.rising.result) c.deref.result.now bytes = c.in_ok-read.ensures.memory refl in
     let Many : Option (List ℕ) → List Field → Type 0 = λ p ds. length read ≡ length (chosen p (length ds)) in
+    let Hold : Option (List ℕ) → List Field → Type 0 =
+    λ p ds. HoldChosen (lists_of c.args.batch) (extra_of m.version) (kinds (batch_schema ds m.ipc_schema)) (chosen p (length ds)) read in
+    let hold : Hold (option_copied c.rising.result) c.deref.result.now = c.in_ok-read.ensures.held in
     given_columns old.projection fs (pairs_of m.schema.metadata.entries) (all_ids_view m.ipc_schema.fields.items) (order_of m.ipc_schema.is_little_endian) m.version c.rising.ensures.same
     (known_in old) c.args.batch body read c.in_ok-chunk.chunk
     (as_many_read (length fs) old.projection (length read) (subst (λ ds. Many (rising_by old.projection) ds) fields_are (subst (λ p. Many p c.deref.result.now) c.rising.ensures.columns c.in_ok-read.ensures.many)))
     c.in_ok-chunk.ensures.ordered
+    (subst (λ ds. Hold (rising_by old.projection) ds) fields_are (subst (λ p. Hold p c.deref.result.now) c.rising.ensures.columns hold))
     (subst (λ bs. Read (rising_by old.projection) fs bs) bytes_are (subst (λ ds. Read (rising_by old.projection) ds bytes) fields_are (subst (λ p. Read p c.deref.result.now bytes) c.rising.ensures.columns given)))
 
 pub returns-in_err-read-clause-memory : goal.returns-in_err-read-clause-memory
