@@ -21,7 +21,7 @@ use Rattle.ipc_write.specs.declared.calls.StreamCall.TheVariants.{Start, Write, 
 use Rattle.ipc_write.specs.declared.stream.WriterState.{WriterState}
 use Rattle.ipc_write.specs.declared.stream.WriterState.TheVariants.{New, Started, Finished, Failed}
 use Rattle.ipc_base.specs.IdTrees.{IdTrees}
-use Rattle.ipc_file_write.specs.Calls.{EndsFile, Follows, HasChosen, IdsAre, IsWrittenFile, Moves, vector, writer_seen}
+use Rattle.ipc_file_write.specs.Calls.{AreMade, EndsFile, Follows, HasChosen, IdsAre, IsMade, IsWrittenFile, Moves, vector, writer_seen}
 use Rattle.ipc_file_write.specs.FileWriters.{Agrees, EndsWith, FileIs, FileSeen, HasNothing, IsFileOf, IsSameFile, IsWholeFile, Remains, SendsBytes, StartsWith, StateComesFirst, TakesPairs}
 use Rattle.ipc_file_write.specs.Writes.{Appends, SendsColumns}
 
@@ -74,14 +74,6 @@ module _ {W : Type 0} (known : Bool) (memory : W → Memory) where
   moves_chosen a b [] (r ∷ rs) h k = absurd h
   moves_chosen a b (call ∷ calls) [] h k = absurd h
   moves_chosen a b (call ∷ calls) (r ∷ rs) h k = moves_chosen h.0 b calls rs h.1.1 (h.1.0.chosen k)
-
-  -- one call more
-  pub moves_more : (a m b : FileSeen W) (calls : List StreamCall) (rs : List (Result (Unit {0}) Fault)) (call : StreamCall) (r : Result (Unit {0}) Fault) → AllMove known memory a calls rs m → Moves known memory m call r b
-      → AllMove known memory a (calls ++ call ∷ []) (rs ++ r ∷ []) b
-  moves_more a m b [] [] call r h last = (b, (subst (λ (w : FileSeen W). Moves known memory w call r b) h last, refl))
-  moves_more a m b [] (x ∷ rs) call r h last = absurd h
-  moves_more a m b (c ∷ calls) [] call r h last = absurd h
-  moves_more a m b (c ∷ calls) (x ∷ rs) call r h last = (h.0, (h.1.0, moves_more h.0 m b calls rs call r h.1.1 last))
 
 -- ---- one call
 
@@ -194,12 +186,40 @@ module _ {W : Type 0} (known grows : Bool) (failures room : W → ℕ) (memory :
     chosen = chosen_stay a b sends.step.refused.state sends.step.refused.ids sends.step.same.chosen;
   }
 
+-- ---- calls by what each says of itself
+
+module _ {W : Type 0} (known grows : Bool) (failures room : W → ℕ) (memory : W → Memory) where
+  abbrev Made : FileSeen W → StreamCall → Result (Unit {0}) Fault → FileSeen W → Type 0
+  Made = IsMade known grows failures room memory
+
+  abbrev AllMade : FileSeen W → List StreamCall → List (Result (Unit {0}) Fault) → FileSeen W → Type 0
+  AllMade = AreMade known grows failures room memory
+
+  pub moves_one : (a b : FileSeen W) (call : StreamCall) (r : Result (Unit {0}) Fault) → Made a call r b → Moves known memory a call r b
+  moves_one a b Start r h = start_moves known grows failures room memory a b r h.first h.step h.ok h.means
+  moves_one a b (Write chunk) r h = write_moves known grows failures room memory a b chunk r h.first h.step h.means
+  moves_one a b Finish r h = finish_moves known grows failures room memory a b r h.first h.step h.ok h.means
+
+  pub moves_all : (a b : FileSeen W) (calls : List StreamCall) (rs : List (Result (Unit {0}) Fault)) → AllMade a calls rs b → AllMove known memory a calls rs b
+  moves_all a b [] [] h = h
+  moves_all a b [] (r ∷ rs) h = absurd h
+  moves_all a b (call ∷ calls) [] h = absurd h
+  moves_all a b (call ∷ calls) (r ∷ rs) h = (h.0, (moves_one a h.0 call r h.1.0, moves_all h.0 b calls rs h.1.1))
+
+  -- one call more
+  pub made_more : (a m b : FileSeen W) (calls : List StreamCall) (rs : List (Result (Unit {0}) Fault)) (call : StreamCall) (r : Result (Unit {0}) Fault) → AllMade a calls rs m → Made m call r b
+      → AllMade a (calls ++ call ∷ []) (rs ++ r ∷ []) b
+  made_more a m b [] [] call r h last = (b, (subst (λ (w : FileSeen W). Made w call r b) h last, refl))
+  made_more a m b [] (x ∷ rs) call r h last = absurd h
+  made_more a m b (c ∷ calls) [] call r h last = absurd h
+  made_more a m b (c ∷ calls) (x ∷ rs) call r h last = (h.0, (h.1.0, made_more h.0 m b calls rs call r h.1.1 last))
+
 -- ---- whole files
 
 whole_before : (xs : List ℕ) (n : ℕ) → n ≡ length xs → take n xs ++ replicate (n - length xs) 0 ≡ xs
 whole_before xs n h = let none : n - length xs ≡ 0 = omega arith in rw (none, append-nil, take_all n xs (omega arith)) refl
 
-vector_before : (v : Vec ℕ Global) → before (vector v) ≡ v.items
+pub vector_before : (v : Vec ℕ Global) → before (vector v) ≡ v.items
 vector_before v = whole_before v.items v.len (omega (arith, v.ok))
 
 module _ (bytes xs : List ℕ) (cs : List Chunk) where

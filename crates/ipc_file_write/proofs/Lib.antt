@@ -13,3 +13,4 @@ pub mod Onward
 pub mod PlacedMessages
 pub mod StartsAndEnds
 pub mod Writes
+pub mod WrittenFiles

@@ -331,8 +331,15 @@ pub record TakesPairs {W : Type 0} (a b : FileSeen W) (pairs : Pairs) : Type 0 w
   pub open_state : fault_if_over a.state ≡ None
   pub light : file_weight a.fields a.metadata pairs ≤ max_weight
   pub are : b.pairs ≡ pairs
+  pub device : b.device ≡ a.device
   pub state : b.state ≡ a.state
   pub order : b.order ≡ a.order
   pub fields : b.fields ≡ a.fields
   pub metadata : b.metadata ≡ a.metadata
   pub chosen : b.chosen ≡ a.chosen
+  pub ids : b.ids ≡ a.ids
+  pub remembers : RemembersSame a b
+  pub dictionaries : b.dictionaries ≡ a.dictionaries
+  pub blocks : b.blocks ≡ a.blocks
+  pub place : b.place ≡ a.place
+  pub size : b.size ≡ a.size

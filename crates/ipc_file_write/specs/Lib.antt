@@ -1,7 +1,9 @@
 pub mod AppendLaws
 pub mod Appends
 pub mod Blocks
+pub mod Beginnings
 pub mod Calls
 pub mod FileWriters
 pub mod Keeping
 pub mod Writes
+pub mod WrittenFiles

@@ -1,5 +1,5 @@
 //! Sends bytes to the device of a writer, and makes those that begin and end a file.
-ghost use Rattle.std.specs.Prelude.{◌≡◌, ◌^◌, ◌<◌, ◌++◌, IfOk, OnErr, OnOk, length, map, replicate};
+ghost use Rattle.std.specs.Prelude.{◌≡◌, ◌^◌, ◌<◌, ◌++◌, IfOk, OnErr, OnOk, length, map};
 ghost use Rattle.lower_arrays.specs.AnyLayouts.{layout_of};
 ghost use Rattle.ipc_schema_write.specs.WriterAnswers.{byte_order};
 ghost use Rattle.ipc_tracker.specs.Listings.{listed};
@@ -17,11 +17,13 @@ use crate::blocks::{Placed, place_chunk};
 use ipc_base::chunk::Chunk;
 use ipc_chunks::messages::{Messages, encode_messages};
 use ipc_devices::{Fault, Writes};
-use ipc_plan::sending::{send_bytes, zeros};
+use ipc_plan::pieces::Piece;
+use ipc_plan::sending::{send_bytes, send_pieces};
 use ipc_tracker::NewDictionary;
 use ipc_write::checks::note_failure;
 use ipc_write::common_sync::write_messages;
 use ipc_write::stream::WriterState;
+use lower::types::Endianness;
 use lower_arrays::array::AnyArray;
 use std::alloc::{AllocError, Global};
 
@@ -59,28 +61,18 @@ pub(crate) fn send<W: Writes>(
     note_failure(state, sent)
 }
 
-// Sends so many bytes 0.
-fn send_zeros<W: Writes>(writer: &mut W, count: u64) -> Result<(), Fault>
-    ensures { Sends W.known W.grows (seen_by W.failures W.room W.memory writer.old)
-        (seen_by W.failures W.room W.memory writer.new) result (replicate count 0) }
-{
-    let mut left = count;
-    while left > 0 {
-        let part = left.min(64);
-        send_bytes(writer, zeros(part as usize))?;
-        left -= part;
-    }
-    Ok(())
-}
-
 // Sends the mark, the bytes 0, and the footer.
 fn send_ending<W: Writes>(writer: &mut W, ending: &Ending) -> Result<(), Fault>
     ensures { Sends W.known W.grows (seen_by W.failures W.room W.memory writer.old)
         (seen_by W.failures W.room W.memory writer.new) result (ending_bytes ending.now) }
 {
-    send_bytes(writer, &END_OF_STREAM)?;
-    send_zeros(writer, ending.zeros)?;
-    send_bytes(writer, &ending.bytes)
+    let pieces = [
+        Piece::Bytes(&END_OF_STREAM),
+        Piece::Zeros(ending.zeros as usize),
+        Piece::Bytes(&ending.bytes),
+    ];
+    // No number is among them, so that any order of bytes will do.
+    send_pieces(writer, &pieces, Endianness::Little)
 }
 
 // Sends the last bytes of a file, and then what the device may have kept back.

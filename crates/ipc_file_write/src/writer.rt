@@ -10,6 +10,7 @@ ghost use Rattle.ipc_tracker.specs.Listings.{listed};
 ghost use Rattle.ipc_write.specs.Meaning.{chunk_written};
 ghost use Rattle.ipc_write.specs.Writers.{HaveTypes, RefusesState, RefusesTypes, chosen_ids, seen_ids, fault_unless_new, fault_unless_started};
 ghost use Rattle.ipc_write.specs.declared.stream.WriterState.TheVariants.{New, Started};
+ghost use Rattle.ipc_file_write.specs.Beginnings.{StartsNew};
 ghost use Rattle.ipc_file_write.specs.Writes.{Appends, MayList, RefusesChunk, SendsColumns, WritesExactly, field_normal};
 ghost use Rattle.ipc_file_write.specs.FileWriters.{Agrees, AnswersFinish, AnswersStart, EndsWith, HasNothing, IsFileOf, MayFinish, MayStart, OrFails, ReachesEnd, RefusesFinish, RefusesPairs, RefusesStart, Remains, SendsBytes, StartsWith, StateComesFirst, TakesPairs, fault_if_over, scratches_of, seen};
 
@@ -63,6 +64,7 @@ impl<W: Writes + Drop> FileWriter<W> {
     // Refuses a writer that takes no pairs any more.
     fn check_open(&self) -> Result<(), Fault>
         ensures ok { OnOk result (fault_if_over self.now.state ≡ None) }
+        ensures first { IfSome (fault_if_over self.now.state) (λ e. result ≡ Err (State e)) }
         ensures only { IfErr result (RefusesState (fault_if_over self.now.state)) }
     {
         match self.state {
@@ -115,6 +117,11 @@ impl<W: Writes + Drop> FileWriter<W> {
         options: WriteOptions,
     ) -> Result<FileWriter<W>, Fault>
         ensures state { IfOk result (λ w. (seen w).state ≡ Started) }
+        ensures file { let fields = fields_view schema.fields.items in
+            IfOk result (λ w. IsFileOf (seen w) fields (pairs_of schema.metadata.entries) (chosen_ids ipc_fields fields) (byte_order (not options.big_endian)) []) }
+        ensures starts { let fields = fields_view schema.fields.items in
+            StartsNew W.known W.grows W.failures W.room W.memory writer fields (pairs_of schema.metadata.entries) (chosen_ids ipc_fields fields)
+            (byte_order (not options.big_endian)) result }
         ensures means { IsTrue W.known → IfOk result (λ w. Agrees W.memory (seen w) (before (W.memory writer)) []) }
     {
         let mut file = FileWriter::new(alloc, writer, schema, ipc_fields, options)?;
@@ -166,6 +173,7 @@ impl<W: Writes + Drop> FileWriter<W> {
     /// Faults: `State(Finished)`, `State(Failed)` by the writer's state; `Argument(TooLarge)` where the weight of the schema and the pairs
     /// is above `2^30`. After these the writer is as it was.
     pub fn set_custom_metadata(&mut self, metadata: Metadata) -> Result<(), Fault>
+        ensures first { StateComesFirst (fault_if_over (seen self.old).state) (seen self.old) result (seen self.new) }
         ensures ok { OnOk result (TakesPairs (seen self.old) (seen self.new) (pairs_of metadata.entries)) }
         ensures only { IfErr result (RefusesPairs (seen self.old) (pairs_of metadata.entries)) }
         ensures kept { OnErr result (seen self.new ≡ seen self.old) }

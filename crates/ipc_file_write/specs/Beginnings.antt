@@ -1,0 +1,27 @@
+-- What making a writer of a file that is started answers.
+-- (Arrow columnar format, "IPC File Format".)
+use Rattle.std.specs.Prelude.{◌≡◌, ℕ, Bool, [], Result, Ok, IfErr, IfOk, OnOk}
+use Rattle.lower.specs.TypeTrees.{FieldTrees, Pairs}
+use Rattle.lower_types.specs.declared.Endianness.{Endianness}
+use Rattle.ipc_base.specs.IdTrees.{IdTrees}
+use Rattle.ipc_devices.specs.Device.{Memory}
+use Rattle.ipc_devices.specs.Faults.{OwnFault}
+use Rattle.ipc_devices.specs.declared.fault.Fault.{Fault}
+use Rattle.ipc_write.specs.declared.stream.WriterState.TheVariants.{New}
+use Rattle.ipc_file_write.specs.FileWriters.{FileSeen, HasNothing, IsFileOf, MayBeStarted, MissesStart, OrFails, RefusesStart, SendsBytes, StartsWith, seen}
+use Rattle.ipc_file_write.specs.declared.file.FileWriter.{FileWriter}
+
+-- It is `start` of a new writer of this file: that one is Ok just where a file of this schema with these ids may be started, memory and
+-- devices aside, and has sent then what a file begins with; a refusal names a condition that isn't met.
+pub record StartsNew {W : Type 0} (known grows : Bool) (failures room : W → ℕ) (memory : W → Memory) (device : W) (fields : FieldTrees) (metadata : Pairs) (ids : IdTrees) (order : Endianness)
+    (r : Result (FileWriter W) Fault) : Type 0 where
+  pub new : FileSeen W
+  pub state : new.state ≡ New
+  pub device_is : new.device ≡ device
+  pub file : IsFileOf new fields metadata ids order []
+  pub nothing : HasNothing memory new
+  pub sends : IfOk r (λ w. SendsBytes known grows failures room memory new (Ok tt) (seen w))
+  pub starts : IfOk r (λ w. StartsWith new (seen w))
+  pub may : OnOk r (MayBeStarted new)
+  pub only : IfErr r (OrFails (RefusesStart new))
+  pub misses : IfErr r (λ e. MissesStart new e × OwnFault e (¬ MayBeStarted new))
