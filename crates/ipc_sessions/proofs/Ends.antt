@@ -107,12 +107,12 @@ module _ {W : Type 0} (known grows : Bool) (failures room : W → ℕ) (memory :
           pairs_are = ends.pairs ∙ took.same.pairs;
         }
 
-  session-leaves : (r : Result (Unit {0}) Fault) → SendsBytes known grows failures room memory b r c → OnOk r (EndsWith b c) → OnOk r (ReachesEnd known memory b c) → Remains known memory b c → Leaves known memory a c.device r cs
-  session-leaves (Ok x) sent ends reaches remains = record {
+  pub session_leaves : (r : Result (Unit {0}) Fault) → SendsBytes known grows failures room memory b r c → OnOk r (EndsWith b c) → OnOk r (ReachesEnd known memory b c) → Remains known memory b c → Leaves known memory a c.device r cs
+  session_leaves (Ok x) sent ends reaches remains = record {
     onward = λ k inside. onward-all (Ok x) sent k inside;
     ended = λ k is_stream then h inside more. ended (Ok x) sent ends reaches remains k is_stream then h inside more;
   }
-  session-leaves (Err e) sent ends reaches remains = record { onward = λ k inside. onward-all (Err e) sent k inside; ended = λ k. tt }
+  session_leaves (Err e) sent ends reaches remains = record { onward = λ k inside. onward-all (Err e) sent k inside; ended = λ k. tt }
 
 pub ends_session : {W : Type 0} (known grows : Bool) (failures room : W → ℕ) (memory : W → Memory) (a b c : FileSeen W) (chunks : List (List AnyArray)) (answers : List (Result (Unit {0}) Fault)) (r : Result (Unit {0}) Fault)
     → AreWritten known memory a chunks answers b → SendsBytes known grows failures room memory b r c → OnOk r (EndsWith b c) → OnOk r (ReachesEnd known memory b c) → Remains known memory b c → AnswersFinish b r
@@ -121,5 +121,5 @@ ends_session known grows failures room memory a b c chunks answers r writes sent
   last = b;
   writes = writes;
   ends = exact;
-  leaves = session-leaves known grows failures room memory a b c (taken_of chunks answers) (takes_all known memory a b chunks answers writes) r sent ends reaches remains;
+  leaves = session_leaves known grows failures room memory a b c (taken_of chunks answers) (takes_all known memory a b chunks answers writes) r sent ends reaches remains;
 }

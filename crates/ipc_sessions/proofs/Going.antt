@@ -22,7 +22,7 @@ use Rattle.ipc_file_write.specs.Appends.{GoesOn, GoesOnAgain, GoesOnWith, HasNoD
 use Rattle.ipc_file_write.specs.FileWriters.{FileSeen, HoldsBytes, head_of_file}
 use Rattle.ipc_file_write.proofs.Appends.{inside_file, same_head, schema_same}
 use Rattle.ipc_file_write.proofs.FileHeads.{is_headed}
-use Rattle.ipc_sessions.specs.Sessions.{Adds, AddsInTurn, IsEndedFile, IsForeignFile, IsOldFile, KeepsOld, RefusesNoOld}
+use Rattle.ipc_sessions.specs.Sessions.{Adds, AddsInTurn, CantGoOn, IsEndedFile, IsForeignFile, IsOldFile, KeepsOld, RefusesNoOld}
 use Rattle.ipc_sessions.specs.Steps.{AreSessions, IsSessionOn, Leaves}
 
 -- ---- the file that it makes
@@ -144,10 +144,10 @@ refuses_no_old m bytes known e k is refused =
     ])
     refused (refuses-not m e)
 
-own-one : (e : Fault) (P Q : Type 0) → (P → Q) → OwnFault e P → OwnFault e Q
-own-one NoMemory P Q f p = tt
-own-one (Io x) P Q f p = tt
-own-one _ P Q f p = f p
+pub own_one : (e : Fault) (P Q : Type 0) → (P → Q) → OwnFault e P → OwnFault e Q
+own_one NoMemory P Q f p = tt
+own_one (Io x) P Q f p = tt
+own_one _ P Q f p = f p
 
 -- ---- metadata that a session reads
 
@@ -159,10 +159,22 @@ as_read P old mid read m e f is h m' is' =
     let same : m ≡ m' = some-same m m' (sym there ∙ is') in
     subst (λ (x : FileMetadata). P x old) same (subst (λ (xs : List ℕ). P m xs) (f ∙ e) (h (ap metadata_of f ∙ is)))
 
+-- what is refused of the bytes that were read is refused of those that were there
+refuses-read : (known : Bool) (old read : List ℕ) (m : FileMetadata) (e : Fault) → (IsTrue known → read ≡ old) → RefusesFile known m read e → RefusesFile known m old e
+refuses-read known old read m e same =
+    own_one e (RefusesToGoOn m e ⊎ HasNoDictionaries known m read e) (RefusesToGoOn m e ⊎ HasNoDictionaries known m old e)
+    (λ reason. elim reason [
+      | inl own ↦ inl own
+      | inr lacks ↦ inr (record { kind = lacks.kind; none = λ k. ap (file_dictionaries m) (sym (same k)) ∙ lacks.none k })
+    ])
+
+pub refused_as_read : (known : Bool) (old read : List ℕ) (m : FileMetadata) (e : Fault) → (IsTrue known → read ≡ old) → (IsTrue known → metadata_of old ≡ Some m) → RefusesFile known m read e → CantGoOn known old e
+refused_as_read known old read m e same is refused = record { metadata = m; is = is; refused = refuses-read known old read m e same refused }
+
 -- a file that has none
 pub none_read : (old mid : List ℕ) (e : Fault) → mid ≡ old → OwnFault e (metadata_of mid ≡ None) → (m : FileMetadata) → metadata_of old ≡ Some m → RefusesNoOld m old e
 none_read old mid e same none m is =
-    own-one e (metadata_of mid ≡ None) _
+    own_one e (metadata_of mid ≡ None) _
     (λ no may is_stream schema pairs before h.
     let both : None ≡ Some m = sym no ∙ ap metadata_of same ∙ is in
     absurd cc)

@@ -16,7 +16,8 @@ use Rattle.ipc_model.specs.Writers.{Call, taken, write_call}
 use Rattle.ipc_write.specs.Meaning.{chunk_written}
 use Rattle.ipc_file_laws.specs.Appending.{MeansBefore, goes_on, normal_chunk, normal_schema}
 use Rattle.ipc_file_laws.specs.FileBytes.{EndsStream, IsFile, file_so_far}
-use Rattle.ipc_file_write.specs.Appends.{MayGoOn}
+use Rattle.ipc_files.specs.Files.{FileFault}
+use Rattle.ipc_file_write.specs.Appends.{MayGoOn, RefusesFile}
 use Rattle.ipc_file_write.specs.FileWriters.{FileSeen, IsWholeFile, head_of_file}
 
 -- ---- what was taken
@@ -86,6 +87,16 @@ pub record KeepsOld (m : FileMetadata) (old new : List ℕ) : Type 0 where
 abbrev pub RefusesNoOld : FileMetadata → List ℕ → Fault → Type 0
 RefusesNoOld m old e =
     OwnFault e (MayGoOn m → (is_stream : Bool) (schema : Schema) (pairs : Pairs) (before : List Chunk) → IsOldFile is_stream old schema pairs before → ⊥)
+
+-- the metadata of a file are refused
+pub record CantGoOn (known : Bool) (bytes : List ℕ) (e : Fault) : Type 0 where
+  pub metadata : FileMetadata
+  pub is : IsTrue known → metadata_of bytes ≡ Some metadata
+  pub refused : RefusesFile known metadata bytes e
+
+-- Why a session is refused on a file of these bytes: it has no metadata, or they are refused. Memory and the devices tell nothing.
+abbrev pub RefusesSession : Bool → List ℕ → Fault → Type 0
+RefusesSession known bytes e = OwnFault e (FileFault e ⊎ CantGoOn known bytes e)
 
 -- ---- what is read of a file that a session left
 

@@ -1,27 +1,33 @@
 -- The calls of a session: what its writes do, what its end leaves, and which calls are made of which writers.
 -- (Arrow columnar format, "IPC File Format".)
-use Rattle.std.specs.Prelude.{◌≡◌, ℕ, ◌≤◌, Bool, IsTrue, true, List, [], ◌∷◌, ◌++◌, length, Some, None, Result, Ok, OnOk, Vec}
+use Rattle.std.specs.Prelude.{◌≡◌, ◌⊎◌, ℕ, ◌≤◌, Bool, IsTrue, true, List, [], ◌∷◌, ◌++◌, length, Some, None, Result, Ok, OnOk, Vec}
 use Rattle.std.specs.declared.alloc.Global.{Global}
 use Rattle.lower.specs.TypeTrees.{FieldTrees, Pairs}
 use Rattle.lower_types.specs.declared.Endianness.{Endianness}
 use Rattle.lower_arrays.specs.declared.array.AnyArray.{AnyArray}
+use Rattle.ipc_base.specs.Fitting.{AllFit}
 use Rattle.ipc_base.specs.IdTrees.{IdTrees}
 use Rattle.ipc_devices.specs.Device.{Memory}
+use Rattle.ipc_devices.specs.declared.fault.ArgFault.TheVariants.{FieldsShape, NotWritable, TooLarge}
 use Rattle.ipc_devices.specs.declared.fault.Fault.{Fault}
+use Rattle.ipc_devices.specs.declared.fault.Fault.TheVariants.{Argument, Io, Memory as NoMemory, State}
+use Rattle.ipc_devices.specs.declared.fault.StateFault.TheVariants as faults
 use Rattle.ipc_devices.specs.declared.memory.MemFile.{MemFile}
 use Rattle.ipc_model.specs.Batches.{Chunk}
 use Rattle.ipc_model.specs.Files.{FileMetadata, metadata_of}
+use Rattle.ipc_model.specs.Writable.{IsWritable, file_weight}
 use Rattle.ipc_model.specs.WriterStates.{state_after}
 use Rattle.ipc_model.specs.Writers.{write_call}
-use Rattle.ipc_schema_write.specs.WriterAnswers.{written_as}
+use Rattle.ipc_schema_write.specs.WriterAnswers.{max_weight, written_as}
 use Rattle.ipc_write.specs.Calls.{outcome, state_seen}
 use Rattle.ipc_write.specs.Meaning.{chunk_written}
-use Rattle.ipc_write.specs.declared.stream.WriterState.TheVariants.{Started}
+use Rattle.ipc_write.specs.declared.stream.WriterState.TheVariants.{Failed, Started}
 use Rattle.ipc_file_write.specs.AppendLaws.{NoMore, Onward}
 use Rattle.ipc_file_write.specs.Appends.{GoesOn}
 use Rattle.ipc_file_write.specs.Calls.{vector}
-use Rattle.ipc_file_write.specs.FileWriters.{AnswersFinish, FileSeen, HoldsBytes, IsFileOf, IsSameFile, head_of_file}
+use Rattle.ipc_file_write.specs.FileWriters.{Agrees, AnswersFinish, FileSeen, HoldsBytes, IsFileOf, IsSameFile, head_of_file}
 use Rattle.ipc_file_write.specs.Writes.{WritesExactly}
+use Rattle.ipc_file_write.specs.WrittenFiles.{HasTooMany}
 use Rattle.ipc_sessions.specs.Sessions.{IsEndedFile, taken_of}
 
 -- ---- what they do
@@ -59,13 +65,32 @@ AreWritten known memory a [] [] b = b ≡ a
 AreWritten {W = W} known memory a (c ∷ cs) (r ∷ rs) b = (m : FileSeen W) × (WritesChunk known memory a c r m × AreWritten known memory m cs rs b)
 AreWritten known memory a _ _ b = ⊥
 
--- A session that creates a file in memory: its writer was started, with this schema, these ids and these pairs, and each chunk was written.
+-- A session that creates a file in memory: its writer was started over an empty memory, with this schema, these ids and these pairs, and
+-- each chunk was written.
 pub record IsCreation (fields : FieldTrees) (metadata : Pairs) (ids : IdTrees) (order : Endianness) (pairs : Pairs) (chunks : List (List AnyArray)) (answers : List (Result Unit Fault)) : Type 0 where
   pub opened : FileSeen (Vec ℕ Global)
   pub started : opened.state ≡ Started
   pub file : IsFileOf opened fields metadata ids order pairs
+  pub empty : Agrees vector opened [] []
   pub last : FileSeen (Vec ℕ Global)
   pub writes : AreWritten true vector opened chunks answers last
+
+-- with some answers one leaves a writer of which this holds
+pub record MayCreate (fields : FieldTrees) (metadata : Pairs) (ids : IdTrees) (order : Endianness) (pairs : Pairs) (chunks : List (List AnyArray)) (P : FileSeen (Vec ℕ Global) → Type 0) : Type 0 where
+  pub answers : List (Result Unit Fault)
+  pub creation : IsCreation fields metadata ids order pairs chunks answers
+  pub holds : P creation.last
+
+-- Why a file isn't created: memory, of which a device that is memory tells by its own fault; ids that don't fit the schema, one that can't
+-- be written, or one that is too heavy with the pairs; or a writer that the writes left failed, or with too many blocks.
+abbrev pub RefusesCreation : FieldTrees → Pairs → IdTrees → Endianness → Pairs → List (List AnyArray) → Fault → Type 0
+RefusesCreation fs es is order ps chunks NoMemory = Unit {0}
+RefusesCreation fs es is order ps chunks (Io e) = Unit {0}
+RefusesCreation fs es is order ps chunks (Argument FieldsShape) = ¬ AllFit fs is
+RefusesCreation fs es is order ps chunks (Argument NotWritable) = ¬ IsWritable fs es is
+RefusesCreation fs es is order ps chunks (Argument TooLarge) = (¬ (file_weight fs es ps ≤ max_weight)) ⊎ MayCreate fs es is order ps chunks HasTooMany
+RefusesCreation fs es is order ps chunks (State faults.Failed) = MayCreate fs es is order ps chunks (λ w. w.state ≡ Failed)
+RefusesCreation fs es is order ps chunks _ = ⊥
 
 -- The calls of a started writer: each chunk is written, and `finish` is called last, which answers `end`.
 pub record EndsSession {W : Type 0} (known : Bool) (memory : W → Memory) (opened : FileSeen W) (chunks : List (List AnyArray)) (answers : List (Result Unit Fault)) (end : Result Unit Fault) (left : W) : Type 0 where

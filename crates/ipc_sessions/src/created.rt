@@ -1,11 +1,11 @@
 //! Files in memory that sessions write: the first one creates the file, each later one goes on with it.
-ghost use Rattle.std.specs.Prelude.{◌++◌, IfOk, not, true};
+ghost use Rattle.std.specs.Prelude.{◌++◌, IfErr, IfOk, not, true};
 ghost use Rattle.lower.specs.TypeViews.{fields_view, pairs_of};
 ghost use Rattle.ipc_schema_write.specs.WriterAnswers.{byte_order, written_as};
 ghost use Rattle.ipc_write.specs.Writers.{chosen_ids};
 ghost use Rattle.ipc_file_write.specs.Calls.{IsWrittenFile};
 ghost use Rattle.ipc_sessions.specs.Sessions.{IsEndedFile, all_taken_of, taken_of};
-ghost use Rattle.ipc_sessions.specs.Steps.{AreAllSessions, IsCreation};
+ghost use Rattle.ipc_sessions.specs.Steps.{AreAllSessions, IsCreation, RefusesCreation};
 
 use crate::sessions::{Sessions, run_sessions, write_chunks};
 use ipc_base::chunk::Chunk;
@@ -33,8 +33,10 @@ pub struct WrittenSessions {
 /// the ids that are handed in, or 0, 1, 2 and on, these pairs, and exactly the chunks of the writes that were Ok. The answers are those of
 /// the writes. Sessions can go on with it.
 ///
-/// Faults: `Argument(TooLarge)` where the weight of the schema and the pairs is above `2^30`; those of [`FileWriter::start`] and
-/// [`FileWriter::finish`]; `Memory`.
+/// Faults: `Argument(TooLarge)` where the weight of the schema and the pairs is above `2^30`, or where the file has more than `2^25` blocks;
+/// `Argument(FieldsShape)` where the ids don't fit the fields, `Argument(NotWritable)` where the schema can't be written; `State(Failed)`
+/// where a write answered `Io`, and `Io` where the beginning or the end can't be written, both of which come only where the memory that is
+/// written to was refused its growth; `Memory`.
 pub fn create_file(
     alloc: Global,
     schema: Schema,
@@ -48,6 +50,8 @@ pub fn create_file(
     ensures file { let fields = fields_view schema.fields.items in
         IfOk result (λ f. IsEndedFile true f.bytes.items (written_as (byte_order (not options.big_endian)) fields (pairs_of schema.metadata.entries) (chosen_ids ipc_fields fields))
         (pairs_of custom_metadata.entries) (taken_of chunks.now f.answers.items)) }
+    ensures only { let fields = fields_view schema.fields.items in
+        IfErr result (RefusesCreation fields (pairs_of schema.metadata.entries) (chosen_ids ipc_fields fields) (byte_order (not options.big_endian)) (pairs_of custom_metadata.entries) chunks.now) }
 {
     let mut writer = FileWriter::new(alloc, Vec::new(alloc), schema, ipc_fields, options)?;
     writer.set_custom_metadata(custom_metadata)?;

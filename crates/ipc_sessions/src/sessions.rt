@@ -3,8 +3,9 @@ ghost use Rattle.std.specs.Prelude.{◌≡◌, length, IfErr, IfOk, IsTrue, Ok, 
 ghost use Rattle.ipc_devices.specs.declared.fault.Fault.TheVariants.{Memory};
 ghost use Rattle.ipc_files.specs.Footers.{file_seen};
 ghost use Rattle.ipc_model.specs.Files.{FileMetadata as FileMeaning, metadata_of};
+ghost use Rattle.ipc_file_write.specs.Appends.{RefusesFile};
 ghost use Rattle.ipc_file_write.specs.FileWriters.{seen};
-ghost use Rattle.ipc_sessions.specs.Sessions.{Adds, AddsInTurn, KeepsOld, RefusesNoOld, all_taken_of, taken_of};
+ghost use Rattle.ipc_sessions.specs.Sessions.{Adds, AddsInTurn, KeepsOld, RefusesNoOld, RefusesSession, all_taken_of, taken_of};
 ghost use Rattle.ipc_sessions.specs.Steps.{AreSessions, AreWritten, EndsSession, IsSession, IsSessionOn, TakesChunks, WritesChunk};
 
 use ipc_base::chunk::Chunk;
@@ -109,6 +110,7 @@ pub fn append_to_file<W: Reads + Writes + Seeks + Drop>(
     ensures made { IfOk result (λ session. IsSession W.known W.memory (file_seen metadata) device chunks.now session.answers.items session.end session.device) }
     ensures always { IsTrue W.known → metadata_of (W.memory device).whole ≡ Some (file_seen metadata)
         → IfErr result (RefusesNoOld (file_seen metadata) (W.memory device).whole) }
+    ensures only { IfErr result (RefusesFile W.known (file_seen metadata) (W.memory device).whole) }
 {
     let writer = FileWriter::try_from_file(alloc, device, metadata, WriteOptions::default())?;
     let session = end_session(alloc, writer, chunks)?;
@@ -129,6 +131,7 @@ pub fn append_session<W: Reads + Writes + Seeks + Drop>(
     ensures made { IfOk result (λ session. IsSessionOn W.known W.memory device chunks.now session.answers.items session.end session.device) }
     ensures always { IsTrue W.known → IfErr result (λ e. (m : FileMeaning) → metadata_of (W.memory device).whole ≡ Some m
         → RefusesNoOld m (W.memory device).whole e) }
+    ensures only { IfErr result (RefusesSession W.known (W.memory device).whole) }
 {
     device.seek_to(0)?;
     let metadata = read_file_metadata(alloc, &mut device)?;

@@ -26,3 +26,13 @@ returns-clause-keeps g c = λ k is.
 
 pub returns-clause-made : goal.returns-clause-made
 returns-clause-made g c = record { opened = seen c.in_ok-writer.writer; goes_on = c.in_ok-writer.ensures.ok; calls = c.in_ok-session.ensures.made }
+
+pub returns-in_err-writer-clause-only : goal.returns-in_err-writer-clause-only
+returns-in_err-writer-clause-only g c =
+    let p = err_from_is_err_and c.from_residual.result c.from_residual.ensures.1 in
+    rw (p.1, p.2) c.in_err-writer.ensures.only
+
+pub returns-in_err-session-clause-only : goal.returns-in_err-session-clause-only
+returns-in_err-session-clause-only g c =
+    let p = err_from_is_err_and c.from_residual-in_err-session.result c.from_residual-in_err-session.ensures.1 in
+    rw (p.1, p.2, c.in_err-session.ensures.only) tt
