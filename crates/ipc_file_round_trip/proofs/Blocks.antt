@@ -1,24 +1,24 @@
 -- The chunks of the blocks of a file, one after the other.
-use Rattle.std.proofs.Common.{◌≡◌, ℕ, zero, suc, ◌+◌, List, [], ◌∷◌, ◌++◌, map, length, drop, Bool, true, false, cond, nat_eq, Option, None, Some, Ok, Err, refl, sym, ap, ◌∙◌, arith}
+use Rattle.std.proofs.Common.{◌≡◌, ℕ, zero, suc, ◌+◌, List, [], ◌∷◌, ◌++◌, map, length, drop, Option, None, Some, Ok, Err, refl, sym, ap, ◌∙◌, arith}
 use Rattle.std.specs.Option.{option_and_then, option_map}
 use Rattle.std.specs.Prelude.{slice_get}
 use Rattle.std.proofs.Math.Numerals.{add-one}
 use Rattle.lower_arrays.specs.AnyLayouts.{layout_of}
 use Rattle.lower_arrays.specs.Layouts.{len_of}
-use Rattle.lower_arrays.specs.Slots.{Slot, slots_from}
 use Rattle.lower_arrays.specs.declared.array.AnyArray.{AnyArray}
 use Rattle.ipc_devices.specs.Faults.{OwnFault}
 use Rattle.ipc_devices.specs.declared.fault.Fault.{Fault}
 use Rattle.ipc_views.specs.declared.file.Block.{Block}
 use Rattle.ipc_model.specs.BatchLaws.{pruned}
-use Rattle.ipc_model.specs.Batches.{Body, Chunk, IsProjection, entries_of, kinds, lists_of, record_meaning}
+use Rattle.ipc_model.specs.Batches.{Chunk, IsProjection, kinds}
 use Rattle.ipc_model.specs.Entries.{Dictionaries, Limit}
-use Rattle.ipc_model.specs.Files.{BlockHeader, FileMetadata as Meaning, block_header, body_at, chunk_at, metadata_at, placed}
+use Rattle.ipc_model.specs.Files.{FileMetadata as Meaning, chunk_at}
 use Rattle.ipc_model.specs.Kinds.{count}
 use Rattle.ipc_model.specs.Schemas.{given}
-use Rattle.ipc_model.proofs.Pruned.{prune_law}
 use Rattle.ipc_read.specs.Chunks.{chunk_seen}
+use Rattle.ipc_read.proofs.Meanings.{length-slots_from}
 use Rattle.ipc_read.proofs.Refusals.{claims_through}
+use Rattle.ipc_file_readers.proofs.Rows.{block_pruned}
 use Rattle.ipc_file_readers.specs.Readers.{less, rows_given}
 use Rattle.ipc_file_readers.specs.Runs.{AreItems}
 use Rattle.ipc_file_round_trip.specs.Reading.{all_pruned, chunks_by, chunks_seen, rows_of}
@@ -35,10 +35,6 @@ at_front (y ∷ ys) (suc i) x rest e = at_front ys i x rest e
 
 then_next : {X : Type 0} (xs : List X) (i : ℕ) (rest : List X) → drop (suc i) xs ≡ rest → drop (i + 1) xs ≡ rest
 then_next xs i rest e = rw add-one e
-
-length-slots_from : (f : ℕ → Slot) (a n : ℕ) → length (slots_from f a n) ≡ n
-length-slots_from f a zero = refl
-length-slots_from f a (suc n) = ap suc (length-slots_from f (a + 1) n)
 
 -- as many rows as were given are seen
 rows_seen : (xs : List AnyArray) → rows_given (Ok xs) ≡ rows_of (chunk_seen xs)
@@ -130,31 +126,7 @@ as_many m ds source (b ∷ bs) (c ∷ cs) e = let rest : map (λ b. chunk_at m d
 
 -- ---- by columns and a limit
 
-pub then_pruned : {X : Type 0} (o : Option X) (f g : X → Option Chunk) (c d : Chunk) → ((x : X) → f x ≡ Some c → g x ≡ Some d) → option_and_then f o ≡ Some c → option_and_then g o ≡ Some d
-then_pruned None f g c d h e = absurd cc
-then_pruned (Some x) f g c d h e = h x e
-
-given_pruned : {X : Type 0} (o : Option X) (f g : X → Option Chunk) (c d : Chunk) → ((x : X) → f x ≡ Some c → g x ≡ Some d) → given o f ≡ Some c → given o g ≡ Some d
-given_pruned None f g c d h e = absurd cc
-given_pruned (Some x) f g c d h e = h x e
-
-where_pruned : (b : Bool) (o p : Option Chunk) (c d : Chunk) → (o ≡ Some c → p ≡ Some d) → cond b o None ≡ Some c → cond b p None ≡ Some d
-where_pruned true o p c d h e = h e
-where_pruned false o p c d h e = absurd cc
-
 module _ (m : Meaning) (ds : Dictionaries) (source : List ℕ) (p : Option (List ℕ)) (is : IsProjection p (count (kinds m.schema))) where
-  record_pruned : (limit : Limit) (c : Chunk) (b : Body) (h : BlockHeader) → record_meaning m.schema h.extra ds b h.table None None ≡ Some c
-      → record_meaning m.schema h.extra ds b h.table p limit ≡ Some (pruned p limit c)
-  unfolding record_meaning
-  record_pruned limit c b h =
-      then_pruned (lists_of h.table) _ _ c (pruned p limit c) (λ lists e. prune_law (entries_of lists b m.schema.order h.extra ds) b.size m.schema p limit c is e)
-
-  pub block_pruned : (limit : Limit) (c : Chunk) (b : Block) → chunk_at m ds source b None None ≡ Some c → chunk_at m ds source b p limit ≡ Some (pruned p limit c)
-  unfolding chunk_at
-  block_pruned limit c b =
-      given_pruned (placed b) _ _ c (pruned p limit c) (λ at. given_pruned (metadata_at source at) _ _ c (pruned p limit c) (λ metadata.
-      given_pruned (block_header metadata) _ _ c (pruned p limit c) (λ h. where_pruned (nat_eq h.tag 3) _ _ c (pruned p limit c) (record_pruned limit c (body_at m source at) h))))
-
   pub pruned_blocks : (bs : List Block) (cs : List Chunk) (limit : Limit) → map (λ b. chunk_at m ds source b None None) bs ≡ map Some cs → chunks_by m ds source p limit bs ≡ Some (all_pruned p limit cs)
   pruned_blocks [] [] limit e = refl
   pruned_blocks [] (c ∷ cs) limit e = absurd cc
@@ -163,4 +135,4 @@ module _ (m : Meaning) (ds : Dictionaries) (source : List ℕ) (p : Option (List
       let here : chunk_at m ds source b None None ≡ Some c = cc in
       let rest : map (λ b. chunk_at m ds source b None None) bs ≡ map Some cs = cc in
       let d = pruned p limit c in
-      first_then m ds source p b bs limit d (Some (all_pruned p (less limit (rows_of d)) cs)) (block_pruned limit c b here) (pruned_blocks bs cs (less limit (rows_of d)) rest)
+      first_then m ds source p b bs limit d (Some (all_pruned p (less limit (rows_of d)) cs)) (block_pruned m ds source p is limit c b here) (pruned_blocks bs cs (less limit (rows_of d)) rest)

@@ -1,7 +1,6 @@
 pub mod Agreeing
 pub mod Blocks
 pub mod Files
-pub mod MadeCalls
 pub mod Pushes
 pub mod ReadBack
 pub mod Readings

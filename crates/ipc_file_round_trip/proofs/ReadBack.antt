@@ -1,14 +1,12 @@
 -- Files that were written, and any others that have a meaning, are read back.
 use Rattle.std.proofs.Common.{◌≡◌, ℕ, List, [], ◌∷◌, ◌++◌, length, drop, Option, None, Some, sym, ap, ◌∙◌, subst}
-use Rattle.std.specs.Prelude.{slice_get}
 use Rattle.lower.specs.TypeTrees.{FieldTrees, Pairs}
 use Rattle.lower_types.specs.declared.Endianness.{Endianness}
 use Rattle.ipc_base.specs.IdTrees.{IdTrees}
 use Rattle.ipc_views.specs.declared.file.Block.{Block}
-use Rattle.ipc_model.specs.BatchLaws.{pruned}
 use Rattle.ipc_model.specs.Batches.{Chunk}
 use Rattle.ipc_model.specs.Entries.{Dictionaries, Limit}
-use Rattle.ipc_model.specs.Files.{FileMetadata as Meaning, chunk_at, file_chunk, file_dictionaries}
+use Rattle.ipc_model.specs.Files.{FileMetadata as Meaning, file_chunk, file_dictionaries}
 use Rattle.ipc_model.specs.Schemas.{given}
 use Rattle.ipc_model.specs.Writers.{IsFinished}
 use Rattle.ipc_laws.specs.Agreement.{AreAlike, KnowAlike}
@@ -16,9 +14,10 @@ use Rattle.ipc_schema_write.specs.WriterAnswers.{written_head_as}
 use Rattle.ipc_footers.specs.Footers.{file_written}
 use Rattle.ipc_file_laws.specs.FileBytes.{file_head}
 use Rattle.ipc_file_readers.proofs.Chunks.{chunk_alike}
+use Rattle.ipc_file_readers.proofs.Rows.{chunk_pruned}
 use Rattle.ipc_file_write.specs.Calls.{IsWrittenFile}
 use Rattle.ipc_round_trip.proofs.Streams.{finished_law, readable_law}
-use Rattle.ipc_file_round_trip.proofs.Blocks.{as_many, block_of_each, block_pruned, pruned_blocks, then_pruned, whole_blocks}
+use Rattle.ipc_file_round_trip.proofs.Blocks.{as_many, block_of_each, pruned_blocks, whole_blocks}
 use Rattle.ipc_file_round_trip.proofs.Files.{meant_with}
 use Rattle.ipc_file_round_trip.specs.Laws.{BatchesLaw, ChosenLaw, ReadableStreamLaw, StreamLaw, WholeLaw, WrittenLaw}
 use Rattle.ipc_file_round_trip.specs.Reading.{FileMeant, all_pruned, chunks_by, dictionaries_for, file_read}
@@ -67,8 +66,7 @@ batches_law bytes m cs known i c h knows at =
       whole = sym (chunk_alike m h.known known alike None None bytes i) ∙ here;
       chosen = λ p limit is.
           sym (chunk_alike m h.known known alike p limit bytes i)
-          ∙ then_pruned (slice_get m.blocks i) (λ b. chunk_at m h.known bytes b None None) (λ b. chunk_at m h.known bytes b p limit) c (pruned p limit c)
-          (block_pruned m h.known bytes p is limit c) here;
+          ∙ chunk_pruned m h.known bytes p is limit c i here;
     }
 
 -- ---- without the first eight bytes

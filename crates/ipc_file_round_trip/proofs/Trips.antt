@@ -1,151 +1,28 @@
--- What the calls of a file's writer left, and what is read of its bytes.
-use Rattle.std.proofs.Common.{◌≡◌, ℕ, ◌-◌, true, List, [], None, Some, Result, Err, refl, sym, ap, ◌∙◌, subst, inl, inr}
-use Rattle.std.specs.Prelude.{◌⊎◌, Vec, vec_capacity, vec_len}
-use Rattle.std.specs.declared.alloc.Global.{Global}
+-- What was written of a file is refused by no reader.
+use Rattle.std.proofs.Common.{◌≡◌, ℕ, List, None, Err, sym, ◌∙◌}
 use Rattle.lower.specs.TypeTrees.{FieldTrees, Pairs}
 use Rattle.lower_types.specs.declared.Endianness.{Endianness}
 use Rattle.ipc_base.specs.IdTrees.{IdTrees}
-use Rattle.ipc_devices.specs.Device.{before}
 use Rattle.ipc_devices.specs.Faults.{OnIo, OwnFault}
-use Rattle.ipc_devices.specs.declared.fault.ArgFault.{ArgFault}
-use Rattle.ipc_devices.specs.declared.fault.ArgFault.TheVariants as args
 use Rattle.ipc_devices.specs.declared.fault.Fault.{Fault}
 use Rattle.ipc_devices.specs.declared.fault.Fault.TheVariants as faults
-use Rattle.ipc_devices.specs.declared.fault.StateFault.{StateFault}
-use Rattle.ipc_devices.specs.declared.fault.StateFault.TheVariants as states
 use Rattle.ipc_model.specs.Batches.{Chunk}
-use Rattle.ipc_model.specs.WriterStates.{IsRun, Writer, answered, new_writer}
-use Rattle.ipc_model.specs.Writers.{taken}
-use Rattle.ipc_write.specs.Calls.{ended_as, state_seen}
-use Rattle.ipc_write.specs.Writers.{fault_unless_started}
 use Rattle.ipc_write.specs.declared.calls.StreamCall.{StreamCall}
-use Rattle.ipc_write.specs.declared.stream.WriterState.{WriterState}
-use Rattle.ipc_write.specs.declared.stream.WriterState.TheVariants.{New, Started, Finished, Failed}
 use Rattle.ipc_read.proofs.Refusals.{claims_through}
-use Rattle.ipc_file_write.proofs.CallLists.{AllMove, file_written_by, moves_chosen, moves_follow, moves_run, moves_same}
-use Rattle.ipc_file_write.specs.Calls.{EndsFile, IsWrittenFile, vector, writer_seen}
-use Rattle.ipc_file_write.specs.FileWriters.{Agrees, FileSeen, HasNothing, IsFileOf, MissesFinish, OrFails, RefusesFinish, RefusesPairs, Remains, StateComesFirst, TakesPairs, fault_if_over}
-use Rattle.ipc_round_trip.proofs.Streams.{vector_before}
-use Rattle.ipc_file_round_trip.proofs.MadeCalls.{moves_all}
+use Rattle.ipc_file_write.specs.Calls.{IsWrittenFile}
+use Rattle.ipc_file_write.specs.WrittenFiles.{RefusesWholeFile}
 use Rattle.ipc_file_round_trip.proofs.ReadBack.{whole_law}
-use Rattle.ipc_file_round_trip.specs.Calls.{AreMade}
 use Rattle.ipc_file_round_trip.specs.Reading.{file_by}
-use Rattle.ipc_file_round_trip.specs.RoundTrip.{Leave, RefusesEnd, RefusesRoundTrip, writer_in}
 use Rattle.ipc_file_round_trip.specs.declared.read.WholeFile.{WholeFile}
 
--- ---- the end
-
--- which state a writer is in that refuses to end for its state
-state_refuses : (s : WriterState) (x : StateFault) → (s ≡ Finished → ⊥) → fault_unless_started s ≡ Some x → ((s ≡ New) × (x ≡ states.NotStarted)) ⊎ ((s ≡ Failed) × (x ≡ states.Failed))
-state_refuses New x going e = inl (refl, let same : x ≡ states.NotStarted = cc in same)
-state_refuses Started x going e = absurd cc
-state_refuses Finished x going e = absurd (going refl)
-state_refuses Failed x going e = inr (refl, let same : x ≡ states.Failed = cc in same)
-
--- a fault of another kind comes of a started writer alone
-started_alone : (s : WriterState) (a b : FileSeen (Vec ℕ Global)) (x : ArgFault) → StateComesFirst (fault_unless_started s) a (Err (faults.Argument x)) b → s ≡ Started
-started_alone New a b x h = let other = h.0 in absurd cc
-started_alone Started a b x h = refl
-started_alone Finished a b x h = let other = h.0 in absurd cc
-started_alone Failed a b x h = let other = h.0 in absurd cc
-
-module _ (a b : FileSeen (Vec ℕ Global)) (going : a.state ≡ Finished → ⊥) where
-  refuses_state : (x : StateFault) → fault_unless_started a.state ≡ Some x → RefusesEnd a (faults.State x)
-  refuses_state x e = elim (state_refuses a.state x going e) [
-    | inl h ↦ subst (λ (y : StateFault). RefusesEnd a (faults.State y)) (sym h.1) h.0
-    | inr h ↦ subst (λ (y : StateFault). RefusesEnd a (faults.State y)) (sym h.1) h.0
-  ]
-
-  pub refuses_end : (e : Fault) → StateComesFirst (fault_unless_started a.state) a (Err e) b → OrFails (RefusesFinish a) e → MissesFinish a e → RefusesEnd a e
-  refuses_end faults.Memory first only misses = tt
-  refuses_end (faults.Io e) first only misses = tt
-  refuses_end (faults.State x) first only misses = refuses_state x only
-  refuses_end (faults.Argument args.TooLarge) first only misses = record { started = started_alone a.state a b args.TooLarge first; many = misses }
-  refuses_end _ first only misses = absurd misses
-
--- ---- the calls
-
--- a new writer whose pairs were set: its memory is empty
-module _ (a b : FileSeen (Vec ℕ Global)) (fs : FieldTrees) (es : Pairs) (is : IdTrees) (order : Endianness) (pairs : Pairs) (of : IsFileOf a fs es is order []) (takes : TakesPairs a b pairs) where
-  file_of_pairs : IsFileOf b fs es is order pairs
-  file_of_pairs = record {
-    fields_are = takes.fields ∙ of.fields_are;
-    metadata_are = takes.metadata ∙ of.metadata_are;
-    chosen_are = takes.chosen ∙ of.chosen_are;
-    order_is = takes.order ∙ of.order_is;
-    pairs_are = takes.are;
-  }
-
-empty_first : (a b : FileSeen (Vec ℕ Global)) → HasNothing vector a → a.device.items ≡ [] → Remains true vector a b → Agrees vector b [] []
-empty_first a b nothing empty remains =
-    let none : before (vector a.device) ≡ [] = vector_before a.device ∙ empty in
-    let first : Agrees vector a [] [] = subst (λ (xs : List ℕ). Agrees vector a xs []) none nothing.agrees in
-    remains.kept refl true [] [] first
-
-module _ (b w : FileSeen (Vec ℕ Global)) (calls : List StreamCall) (answers : List (Result (Unit {0}) Fault)) (fs : FieldTrees) (es : Pairs) (is : IdTrees) (order : Endianness) (pairs : Pairs)
-    (of : IsFileOf b fs es is order pairs) (new : b.state ≡ New) (empty : Agrees vector b [] []) (made : AreMade true true (λ v. 0) (λ v. vec_capacity v - vec_len v) vector b calls answers w) where
-  all_move : AllMove true vector b calls answers w
-  all_move = moves_all true true (λ v. 0) (λ v. vec_capacity v - vec_len v) vector b w calls answers made
-
-  begins : writer_seen b ≡ writer_in order pairs new_writer
-  begins =
-      let ordered = of.order_is in
-      let are = of.pairs_are in
-      λ i. record { state = state_seen (new i); order = ordered i; pairs = are i }
-
-  pub left_by : Leave order fs es is pairs calls answers w
-  left_by = record {
-    first = b;
-    new = new;
-    file = of;
-    empty = empty;
-    made = made;
-    run = subst (λ (v : Writer). IsRun v (ended_as calls answers) (writer_seen w)) begins (moves_run true vector b w calls answers all_move);
-    holds = (moves_follow true vector b w calls answers all_move).followed refl [] [] empty;
-  }
-
--- what `make_calls` left of a new writer
-pub left_after : (a b w : FileSeen (Vec ℕ Global)) (calls : List StreamCall) (answers : List (Result (Unit {0}) Fault)) (fs : FieldTrees) (es : Pairs) (is : IdTrees) (order : Endianness) (pairs : Pairs)
-    → IsFileOf a fs es is order [] → a.state ≡ New → HasNothing vector a → a.device.items ≡ [] → TakesPairs a b pairs → Remains true vector a b
-    → AreMade true true (λ v. 0) (λ v. vec_capacity v - vec_len v) vector b calls answers w → Leave order fs es is pairs calls answers w
-left_after a b w calls answers fs es is order pairs of new nothing empty takes remains made =
-    left_by b w calls answers fs es is order pairs (file_of_pairs a b fs es is order pairs of takes) (takes.state ∙ new) (empty_first a b nothing empty remains) made
-
--- the bytes of a file that was ended
-pub file_after : (a b w : FileSeen (Vec ℕ Global)) (bytes : List ℕ) (calls : List StreamCall) (answers : List (Result (Unit {0}) Fault)) (fs : FieldTrees) (es : Pairs) (is : IdTrees) (order : Endianness) (pairs : Pairs)
-    → IsFileOf a fs es is order [] → a.state ≡ New → HasNothing vector a → a.device.items ≡ [] → TakesPairs a b pairs → Remains true vector a b
-    → AreMade true true (λ v. 0) (λ v. vec_capacity v - vec_len v) vector b calls answers w → EndsFile w bytes → IsWrittenFile bytes order fs es is pairs (taken (answered (ended_as calls answers)))
-file_after a b w bytes calls answers fs es is order pairs of new nothing empty takes remains made ends =
-    let move = moves_all true true (λ v. 0) (λ v. vec_capacity v - vec_len v) vector b w calls answers made in
-    file_written_by a b w bytes fs es is order pairs (taken (answered (ended_as calls answers))) of new nothing empty takes remains (moves_same true vector b w calls answers move)
-    (moves_chosen true vector b w calls answers move) (moves_follow true vector b w calls answers move) ends
-
--- ---- why a round trip is refused
-
 module _ (order : Endianness) (fs : FieldTrees) (es : Pairs) (is : IdTrees) (ps : Pairs) (calls : List StreamCall) where
-  -- the pairs
-  pub pairs_refused : (a : FileSeen (Vec ℕ Global)) (e : Fault) → a.state ≡ New → a.fields ≡ fs → a.metadata ≡ es → RefusesPairs a ps e → RefusesRoundTrip order fs es is ps calls e
-  pairs_refused a (faults.State x) new f m h = let none : fault_if_over a.state ≡ None = ap fault_if_over new in let no : None ≡ Some x = sym none ∙ h in absurd cc
-  pairs_refused a (faults.Argument args.TooLarge) new f m h = inl (rw (f, m) at h)
-  pairs_refused a (faults.Argument x) new f m h = absurd h
-  pairs_refused a _ new f m h = absurd h
-
-  -- the end
-  pub end_refused : (answers : List (Result (Unit {0}) Fault)) (w : FileSeen (Vec ℕ Global)) (e : Fault) → Leave order fs es is ps calls answers w → RefusesEnd w e → RefusesRoundTrip order fs es is ps calls e
-  end_refused answers w faults.Memory left h = tt
-  end_refused answers w (faults.Io x) left h = tt
-  end_refused answers w (faults.Argument args.TooLarge) left h = inr (record { answers = answers; last = w; leave = left; holds = h })
-  end_refused answers w (faults.State states.NotStarted) left h = record { answers = answers; last = w; leave = left; holds = h }
-  end_refused answers w (faults.State states.Failed) left h = record { answers = answers; last = w; leave = left; holds = h }
-  end_refused answers w _ left h = absurd h
-
-  memory_alone : (e : Fault) → OnIo {X = WholeFile} (Err e) ⊥ → OwnFault e ⊥ → RefusesRoundTrip order fs es is ps calls e
+  memory_alone : (e : Fault) → OnIo {X = WholeFile} (Err e) ⊥ → OwnFault e ⊥ → RefusesWholeFile order fs es is ps calls e
   memory_alone faults.Memory device h = tt
   memory_alone (faults.Io x) device h = absurd device
   memory_alone _ device h = absurd h
 
   -- what was written is refused for want of memory, and for nothing else
   pub never_refused : (bytes : List ℕ) (cs : List Chunk) (e : Fault) → IsWrittenFile bytes order fs es is ps cs → OnIo {X = WholeFile} (Err e) ⊥
-      → OwnFault e (file_by None None bytes ≡ None) → RefusesRoundTrip order fs es is ps calls e
+      → OwnFault e (file_by None None bytes ≡ None) → RefusesWholeFile order fs es is ps calls e
   never_refused bytes cs e w device h =
       memory_alone e device (claims_through e _ _ (λ none. let no = sym none ∙ whole_law bytes _ cs w.file in absurd cc) h)

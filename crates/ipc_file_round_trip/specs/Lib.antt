@@ -1,4 +1,3 @@
-pub mod Calls
 pub mod Laws
 pub mod Reading
 pub mod RoundTrip

@@ -1,24 +1,20 @@
 //! What a writer of files wrote is what a reader of files reads.
-ghost use Rattle.std.specs.Prelude.{◌≡◌, ◌⊎◌, IfErr, IfOk, OnOk, not};
+ghost use Rattle.std.specs.Prelude.{IfErr, IfOk, not};
 ghost use Rattle.lower.specs.TypeViews.{fields_view, pairs_of};
 ghost use Rattle.ipc_model.specs.WriterStates.{answered};
 ghost use Rattle.ipc_model.specs.Writers.{taken};
 ghost use Rattle.ipc_schema_write.specs.WriterAnswers.{byte_order};
 ghost use Rattle.ipc_write.specs.Calls.{ended_as};
 ghost use Rattle.ipc_write.specs.Writers.{chosen_ids};
-ghost use Rattle.ipc_write.specs.declared.stream.WriterState.TheVariants.{Finished, Started};
-ghost use Rattle.ipc_file_write.specs.Calls.{EndsFile};
-ghost use Rattle.ipc_file_write.specs.FileWriters.{seen};
-ghost use Rattle.ipc_file_round_trip.specs.RoundTrip.{ComesBack, RefusesEnd, RefusesRoundTrip, RunsToFile};
+ghost use Rattle.ipc_file_write.specs.WrittenFiles.{RefusesWholeFile, RunsToFile};
+ghost use Rattle.ipc_file_round_trip.specs.RoundTrip.{ComesBack};
 
-use crate::calls::make_calls;
 use crate::read::{WholeFile, read_file};
 use ipc_base::ipc::IpcField;
 use ipc_devices::Fault;
 use ipc_encode::common::WriteOptions;
-use ipc_file_write::file::FileWriter;
+use ipc_file_write::calls::{WrittenFile, write_file};
 use ipc_write::calls::StreamCall;
-use ipc_write::stream::WriterState;
 use lower::datatypes::{Metadata, Schema};
 use std::alloc::Global;
 
@@ -29,21 +25,6 @@ pub struct FileRoundTrip {
     pub file: WholeFile,
     /// What each call answered.
     pub answers: Vec<Result<(), Fault>>,
-}
-
-// The bytes of a file that is ended, now or by an earlier call.
-fn ended(mut writer: FileWriter<Vec<u8>>) -> Result<Vec<u8>, Fault>
-    ensures ok { IfOk result (λ bytes. EndsFile (seen writer) bytes.items) }
-    ensures state { OnOk result (((seen writer).state ≡ Started) ⊎ ((seen writer).state ≡ Finished)) }
-    ensures only { IfErr result (RefusesEnd (seen writer)) }
-{
-    match writer.state() {
-        WriterState::Finished => Ok(writer.into_inner()),
-        _ => {
-            writer.finish()?;
-            Ok(writer.into_inner())
-        }
-    }
 }
 
 /// Makes these calls of a writer of a file in memory, also those behind a refused one, ends the file where none of them did, and reads it
@@ -69,13 +50,11 @@ pub fn file_round_trip(
         IfOk result (λ r. RunsToFile (byte_order (not options.big_endian)) fields (pairs_of schema.metadata.entries)
         (chosen_ids ipc_fields fields) (pairs_of custom_metadata.entries) calls.now r.answers.items) }
     ensures only { let fields = fields_view schema.fields.items in
-        IfErr result (RefusesRoundTrip (byte_order (not options.big_endian)) fields (pairs_of schema.metadata.entries)
+        IfErr result (RefusesWholeFile (byte_order (not options.big_endian)) fields (pairs_of schema.metadata.entries)
         (chosen_ids ipc_fields fields) (pairs_of custom_metadata.entries) calls.now) }
 {
-    let mut writer = FileWriter::new(alloc, Vec::new(alloc), schema, ipc_fields, options)?;
-    writer.set_custom_metadata(custom_metadata)?;
-    let answers = make_calls(alloc, &mut writer, calls)?;
-    let bytes = ended(writer)?;
+    let written = write_file(alloc, schema, ipc_fields, custom_metadata, options, calls)?;
+    let WrittenFile { bytes, answers } = written;
     let file = read_file(alloc, &bytes)?;
     Ok(FileRoundTrip { file, answers })
 }

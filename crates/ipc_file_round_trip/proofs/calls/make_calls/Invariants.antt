@@ -1,9 +1,0 @@
-use Rattle.std.proofs.Common.{take}
-use Rattle.ipc_file_write.specs.FileWriters.{seen}
-use Rattle.ipc_file_round_trip.specs.Calls.{AreMade}
-use Rattle.ipc_file_round_trip.proofs.calls.make_calls.Given as goal
-
--- The calls so far are made.
-abbrev pub invariant-loop-call : goal.invariant-loop-call
-invariant-loop-call g l =
-    AreMade g.W.Failures.known g.W.Writes.grows g.W.Failures.failures g.W.Writes.room g.W.Failures.memory (seen l.fn.writer) (take l.call-index l.calls) l.answers.items (seen l.writer)
