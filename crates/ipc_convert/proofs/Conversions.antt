@@ -97,33 +97,33 @@ file_streamed there held known memory order file device out end m shown r c ids 
 
 -- ---- as a file
 
-pub stream_filed : {R W : Type 0} (gives : Gives R) (known : Bool) (memory : W → Memory) (order : Endianness) → GivesInOrder gives
+pub stream_filed : {R W : Type 0} (gives : Gives R) (known grows : Bool) (failures room : W → ℕ) (memory : W → Memory) (order : Endianness) → GivesInOrder gives
     → (input device last : R) (out end : W) (m : StreamMetadata) (r c : StreamReader R) (fields : FieldTrees) (metadata : Pairs) (ids : IdTrees) (given : Pairs) (v w x : FileWriter W) (result : Result Ending Fault) (ending : Ending)
     → IsTrue known → MetadataGave gives input (Ok m) device → Begins device m r → projection_of r ≡ None → fields ≡ fields_view m.schema.fields.items → metadata ≡ pairs_of m.schema.metadata.entries
     → ids ≡ all_ids_view m.ipc_schema.fields.items → given ≡ [] → BeginsFile known memory out order fields metadata ids given (files.seen v)
-    → IfOk result (λ e. Copied (StreamCame gives) (StreamStopped gives) (FileTook known memory) r v e c w) → EndsCopy known memory result ending (files.seen w) (files.seen x)
+    → IfOk result (λ e. Copied (StreamCame gives) (StreamStopped gives) (FileTook known memory) r v e c w) → EndsCopy known grows failures room memory result ending (files.seen w) (files.seen x)
     → last ≡ device_of c → end ≡ (files.seen x).device → CopiesStream gives input last (λ schema chunks e. WritesFile order (memory out) (memory end) schema [] chunks)
-stream_filed gives known memory order law input device last out end m r c fs es ids given v w x result ending k front begins whole f s i none begun all ends same_last same_end =
+stream_filed gives known grows failures room memory order law input device last out end m r c fs es ids given v w x result ending k front begins whole f s i none begun all ends same_last same_end =
     let copied : Copied (StreamCame gives) (StreamStopped gives) (FileTook known memory) r v ending c w =
     subst (λ (o : Result Ending Fault). IfOk o (λ e. Copied (StreamCame gives) (StreamStopped gives) (FileTook known memory) r v e c w)) ends.all all in
     let schema = (head_of m).schema in
     let cs = copied.handed.chunks in
     was_copied gives input (device_of c) last m cs (is_end ending) (λ schema chunks e. WritesFile order (memory out) (memory end) schema [] chunks) same_last
     (was_read gives law input device m r copied.last c cs ending front begins whole copied.handed.came_all copied.stops)
-    (λ e so. file_written_so known memory order out end schema [] given fs es ids cs result ending (files.seen v) (files.seen w) (files.seen x) k f s i none same_end begun (copied.handed.took_all k) ends)
+    (λ e so. file_written_so known grows failures room memory order out end schema [] given fs es ids cs result ending (files.seen v) (files.seen w) (files.seen x) k f s i none same_end begun copied.handed.took_all ends)
 
-pub file_filed : {F W : Type 0} (there : Bool) (held : F → Memory) (known : Bool) (memory : W → Memory) (order : Endianness)
+pub file_filed : {F W : Type 0} (there : Bool) (held : F → Memory) (known grows : Bool) (failures room : W → ℕ) (memory : W → Memory) (order : Endianness)
     → (file device : F) (out end : W) (m : FileMetadata) (r c : FileReader F) (fields : FieldTrees) (metadata : Pairs) (ids : IdTrees) (given : Pairs) (v w x : FileWriter W) (result : Result Ending Fault) (ending : Ending)
     → IsTrue there → IsTrue known → metadata_of (held file).whole ≡ Some (file_seen m) → (held device).whole ≡ (held file).whole → blocks.Begins device m None None r
     → fields ≡ fields_view m.schema.fields.items → metadata ≡ pairs_of m.schema.metadata.entries → ids ≡ all_ids_view m.ipc_schema.fields.items → given ≡ pairs_of m.custom_metadata.entries
     → BeginsFile known memory out order fields metadata ids given (files.seen v)
-    → IfOk result (λ e. Copied (FileCame there held) FileStopped (FileTook known memory) r v e c w) → EndsCopy known memory result ending (files.seen w) (files.seen x)
+    → IfOk result (λ e. Copied (FileCame there held) FileStopped (FileTook known memory) r v e c w) → EndsCopy known grows failures room memory result ending (files.seen w) (files.seen x)
     → end ≡ (files.seen x).device → CopiesFile (held file).whole (WritesFile order (memory out) (memory end))
-file_filed there held known memory order file device out end m r c fs es ids given v w x result ending t k read same begins f s i p begun all ends same_end =
+file_filed there held known grows failures room memory order file device out end m r c fs es ids given v w x result ending t k read same begins f s i p begun all ends same_end =
     let copied : Copied (FileCame there held) FileStopped (FileTook known memory) r v ending c w =
     subst (λ (o : Result Ending Fault). IfOk o (λ e. Copied (FileCame there held) FileStopped (FileTook known memory) r v e c w)) ends.all all in
     let schema = (file_seen m).schema in
     let cs = copied.handed.chunks in
     file_copied (held file).whole (file_seen m) cs (WritesFile order (memory out) (memory end)) read
     (chunks_of there held (FileTook known memory) file device m r c v w ending t same begins copied)
-    (file_written_so known memory order out end schema (file_seen m).pairs given fs es ids cs result ending (files.seen v) (files.seen w) (files.seen x) k f s i p same_end begun (copied.handed.took_all k) ends)
+    (file_written_so known grows failures room memory order out end schema (file_seen m).pairs given fs es ids cs result ending (files.seen v) (files.seen w) (files.seen x) k f s i p same_end begun copied.handed.took_all ends)

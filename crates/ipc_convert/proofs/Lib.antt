@@ -1,3 +1,4 @@
+pub mod Appended
 pub mod Conversions
 pub mod Handing
 pub mod ReadFiles

@@ -1,5 +1,5 @@
 -- What a writer takes is written in the normal form.
-use Rattle.std.proofs.Common.{◌≡◌, ℕ, List, [], ◌∷◌, ◌++◌, length, Option, Result, Ok, Err, OnOk, Bool, true, false, not, IsTrue, if◌then◌else◌, refl, sym, ap, subst, ◌∙◌}
+use Rattle.std.proofs.Common.{◌≡◌, ℕ, List, [], ◌∷◌, ◌++◌, length, Option, Result, Ok, Err, OnOk, OnErr, Bool, true, false, not, IsTrue, if◌then◌else◌, refl, sym, ap, subst, ◌∙◌, append-nil}
 use Rattle.lower.specs.TypeTrees.{FieldTrees, Pairs}
 use Rattle.lower_types.specs.declared.Endianness.{Endianness}
 use Rattle.lower_types.specs.declared.Endianness.TheVariants.{Big, Little}
@@ -7,7 +7,9 @@ use Rattle.lower_arrays.specs.AnyLayouts.{layout_of}
 use Rattle.lower_arrays.specs.declared.array.AnyArray.{AnyArray}
 use Rattle.ipc_base.specs.IdTrees.{IdTrees}
 use Rattle.ipc_devices.specs.Device.{Memory, before}
+use Rattle.ipc_devices.specs.Faults.{OnRefused}
 use Rattle.ipc_devices.specs.declared.fault.Fault.{Fault}
+use Rattle.ipc_devices.specs.declared.fault.Fault.TheVariants as faults
 use Rattle.ipc_laws.specs.Messages.{column_written}
 use Rattle.ipc_model.specs.Batches.{Chunk, Schema}
 use Rattle.ipc_model.specs.Files.{FileMetadata}
@@ -17,7 +19,7 @@ use Rattle.ipc_schema_write.specs.WriterAnswers.{byte_order, written_head_as}
 use Rattle.ipc_write.specs.Agreement as streams
 use Rattle.ipc_write.specs.Agreement.{Agrees, Begins, IsClosed, IsFresh, IsOpen, StreamIs}
 use Rattle.ipc_write.specs.Meaning.{chunk_written}
-use Rattle.ipc_write.specs.Writers.{TakesChunk, WriterSeen}
+use Rattle.ipc_write.specs.Writers.{SendsChunk, TakesChunk, WriterSeen}
 use Rattle.ipc_write.specs.declared.stream.WriterState.{WriterState}
 use Rattle.ipc_write.specs.declared.stream.WriterState.TheVariants.{Started, Finished}
 use Rattle.ipc_footers.specs.Footers.{file_written}
@@ -25,13 +27,14 @@ use Rattle.ipc_file_laws.specs.Appending.{normal_chunk}
 use Rattle.ipc_file_laws.specs.FileBytes.{EndsStream, IsFile}
 use Rattle.ipc_file_write.specs.Calls.{IsWrittenFile}
 use Rattle.ipc_file_write.specs.FileWriters as files
-use Rattle.ipc_file_write.specs.FileWriters.{EndsWith, FileIs, FileSeen, HoldsBytes, IsSameFile, IsWholeFile}
+use Rattle.ipc_file_write.specs.FileWriters.{EndsWith, FileIs, FileSeen, HoldsBytes, IsWholeFile}
 use Rattle.ipc_file_write.specs.Writes as writes
 use Rattle.ipc_round_trip.specs.Reading.{EndsAs}
+use Rattle.ipc_sessions.specs.Steps.{TakesChunks, WritesChunk}
 use Rattle.ipc_convert.specs.Copies.{EndsSo, WritesFile, WritesStream, normal_chunks, normal_head}
 use Rattle.ipc_convert.specs.Sources.{is_end}
 use Rattle.ipc_convert.specs.Steps.{BeginsFile, EndsAsSource, EndsCopy}
-use Rattle.ipc_convert.specs.Sinks.{TookBlocks, TookChunks}
+use Rattle.ipc_convert.specs.Sinks.{TookChunks}
 use Rattle.ipc_convert.specs.declared.chunks.Ending.{Ending}
 use Rattle.ipc_convert.specs.declared.chunks.Ending.TheVariants.{Over, Waits}
 
@@ -50,26 +53,54 @@ one_took known memory v w columns ids x appends takes k = record {
       subst (λ (c : Chunk). Agrees memory w base head (so_far ++ c ∷ [])) (written_seen columns) (appends.appended k base head so_far agrees);
 }
 
-one_block_took : {W : Type 0} (known grows : Bool) (failures room : W → ℕ) (memory : W → Memory) (v w : FileSeen W) (columns : List AnyArray) (x : Unit {0})
-    → writes.Appends known memory v (Ok x) w (chunk_written columns) → writes.SendsColumns known grows failures room memory v (Ok x) w columns → IsTrue known
-    → TookBlocks memory v (chunk_seen columns ∷ []) w
-one_block_took known grows failures room memory v w columns x appends sends k = record {
-  state = sends.takes.is ∙ sym sends.takes.was;
-  same = sends.step.same;
-  ids = sends.takes.ids;
-  file = λ is_stream base so_far holds.
-      subst (λ (c : Chunk). HoldsBytes is_stream (memory w.device) w base (so_far ++ c ∷ [])) (written_seen columns) (appends.appended k is_stream base so_far holds);
-}
-
 pub stream_took : {W : Type 0} (known : Bool) (memory : W → Memory) (v w : WriterSeen W) (columns : List AnyArray) (ids : Option IdTrees) (r : Result (Unit {0}) Fault)
     → streams.Appends known memory v r w (chunk_written columns) → OnOk r (TakesChunk v w columns ids) → OnOk r (IsTrue known → TookChunks memory v (chunk_seen columns ∷ []) w)
 stream_took known memory v w columns ids (Ok x) appends takes = one_took known memory v w columns ids x appends takes
 stream_took known memory v w columns ids (Err e) appends takes = tt
 
-pub file_took : {W : Type 0} (known grows : Bool) (failures room : W → ℕ) (memory : W → Memory) (v w : FileSeen W) (columns : List AnyArray) (r : Result (Unit {0}) Fault)
-    → writes.Appends known memory v r w (chunk_written columns) → writes.SendsColumns known grows failures room memory v r w columns → OnOk r (IsTrue known → TookBlocks memory v (chunk_seen columns ∷ []) w)
-file_took known grows failures room memory v w columns (Ok x) appends sends = one_block_took known grows failures room memory v w columns x appends sends
-file_took known grows failures room memory v w columns (Err e) appends sends = tt
+pub file_took : {W : Type 0} (known : Bool) (memory : W → Memory) (v w : FileSeen W) (columns : List AnyArray) (r : Result (Unit {0}) Fault) → WritesChunk known memory v columns r w
+    → OnOk r (TakesChunks known memory v w (normal_chunks (chunk_seen columns ∷ [])))
+file_took known memory v w columns (Ok x) wrote = subst (λ (c : Chunk). TakesChunks known memory v w (c ∷ [])) (written_seen columns) wrote.takes
+file_took known memory v w columns (Err e) wrote = tt
+
+-- ---- a refused one
+
+if_refused : {P Q : Type 0} (r : Result (Unit {0}) Fault) → ((e : Fault) → r ≡ Err e → P → Q) → OnRefused r P → OnRefused r Q
+if_refused (Ok x) f p = tt
+if_refused (Err (faults.Io e)) f p = tt
+if_refused (Err (faults.OutOfSpec e)) f p = f _ refl p
+if_refused (Err faults.Ended) f p = f _ refl p
+if_refused (Err (faults.NotYetImplemented e)) f p = f _ refl p
+if_refused (Err (faults.Schema e)) f p = f _ refl p
+if_refused (Err (faults.Argument e)) f p = f _ refl p
+if_refused (Err (faults.State e)) f p = f _ refl p
+if_refused (Err faults.TooManyDictionaries) f p = f _ refl p
+if_refused (Err faults.Memory) f p = f _ refl p
+if_refused (Err (faults.Lower e)) f p = f _ refl p
+
+-- nothing was taken where all that it had stands
+none_took : {W : Type 0} (memory : W → Memory) (v w : WriterSeen W) → w.state ≡ v.state
+    → ((base : List ℕ) (head : Head) (so_far : List Chunk) → Agrees memory v base head so_far → Agrees memory w base head so_far) → TookChunks memory v [] w
+none_took memory v w state stays = record {
+  state = state;
+  stream = λ base head so_far agrees. subst (λ (cs : List Chunk). Agrees memory w base head cs) (sym (append-nil so_far)) (stays base head so_far agrees);
+}
+
+pub stream_kept : {W : Type 0} (known grows : Bool) (failures room : W → ℕ) (memory : W → Memory) (v w : WriterSeen W) (columns : List AnyArray) (r : Result (Unit {0}) Fault)
+    → streams.Appends known memory v r w (chunk_written columns) → SendsChunk known grows failures room memory v r w columns → OnRefused r (IsTrue known → TookChunks memory v [] w)
+stream_kept known grows failures room memory v w columns r appends sends =
+    if_refused r (λ e is kept k.
+    none_took memory v w kept.state
+    (λ base head so_far agrees. subst (λ (x : Result (Unit {0}) Fault). OnErr x (Agrees memory w base head so_far)) is (appends.kept k base head so_far agrees)))
+    sends.step.refused
+
+took_none : {W : Type 0} (known : Bool) (memory : W → Memory) (v w : FileSeen W) (columns : List AnyArray) (e : Fault) → WritesChunk known memory v columns (Err e) w → TakesChunks known memory v w []
+took_none known memory v w columns e wrote = wrote.takes
+
+pub file_kept : {W : Type 0} (known grows : Bool) (failures room : W → ℕ) (memory : W → Memory) (v w : FileSeen W) (columns : List AnyArray) (r : Result (Unit {0}) Fault)
+    → WritesChunk known memory v columns r w → writes.SendsColumns known grows failures room memory v r w columns → OnRefused r (TakesChunks known memory v w [])
+file_kept known grows failures room memory v w columns r wrote sends =
+    if_refused r (λ e is kept. took_none known memory v w columns e (subst (λ (x : Result (Unit {0}) Fault). WritesChunk known memory v columns x w) is wrote)) sends.step.refused
 
 -- ---- a stream
 
@@ -159,23 +190,23 @@ file_begun {W = W} known grows failures room memory out big fs es ids pairs u t 
           remains.kept k true base [] (kept.kept k true base [] first);
     }
 
-pub file_written_so : {W : Type 0} (known : Bool) (memory : W → Memory) (order : Endianness) (out last : W) (schema : Schema) (pairs given : Pairs) (fields : FieldTrees) (metadata : Pairs) (ids : IdTrees)
+pub file_written_so : {W : Type 0} (known grows : Bool) (failures room : W → ℕ) (memory : W → Memory) (order : Endianness) (out last : W) (schema : Schema) (pairs given : Pairs) (fields : FieldTrees) (metadata : Pairs) (ids : IdTrees)
     (cs : List Chunk) (copied : Result Ending Fault) (ending : Ending) (v w x : FileSeen W)
     → IsTrue known → fields ≡ schema.fields → metadata ≡ schema.metadata → ids ≡ schema.ids → given ≡ pairs → last ≡ x.device
-    → BeginsFile known memory out order fields metadata ids given v → TookBlocks memory v cs w → EndsCopy known memory copied ending w x
+    → BeginsFile known memory out order fields metadata ids given v → TakesChunks known memory v w (normal_chunks cs) → EndsCopy known grows failures room memory copied ending w x
     → WritesFile order (memory out) (memory last) schema pairs cs
-file_written_so {W = W} known memory order out last schema pairs given fs es ids cs copied ending v w x k f m i p at begins took ends =
+file_written_so {W = W} known grows failures room memory order out last schema pairs given fs es ids cs copied ending v w x k f m i p at begins took ends =
     let holds : HoldsBytes true (memory x.device) x (before (memory out)) (normal_chunks cs) =
-    ends.remains.kept k true (before (memory out)) (normal_chunks cs) (took.file true (before (memory out)) [] (begins.agrees k)) in
+    ends.remains.kept k true (before (memory out)) (normal_chunks cs) (took.holds k true (before (memory out)) [] (begins.agrees k)) in
     let whole : IsWholeFile true x holds.bytes (normal_chunks cs) = subst (λ (s : WriterState). FileIs true s x holds.bytes (normal_chunks cs)) ends.ends.is holds.file in
     record {
       bytes = holds.bytes;
       written = subst (λ (y : W). before (memory y) ≡ before (memory out) ++ holds.bytes) (sym at) holds.held;
       same = whole_file x order schema.fields schema.metadata schema.ids pairs holds.bytes (normal_chunks cs)
-          (ends.same.order ∙ took.same.order ∙ begins.order_is)
-          (ends.same.fields ∙ took.same.fields ∙ begins.fields_are ∙ f)
-          (ends.same.metadata ∙ took.same.metadata ∙ begins.metadata_are ∙ m)
-          (ends.ends.ids ∙ took.ids ∙ begins.ids_are ∙ i)
-          (ends.same.pairs ∙ took.same.pairs ∙ begins.pairs_are ∙ p)
+          (ends.sends.step.same.order ∙ took.same.order ∙ begins.order_is)
+          (ends.sends.step.same.fields ∙ took.same.fields ∙ begins.fields_are ∙ f)
+          (ends.sends.step.same.metadata ∙ took.same.metadata ∙ begins.metadata_are ∙ m)
+          (ends.ends.ids ∙ took.ids ends.ends.was ∙ begins.ids_are ∙ i)
+          (ends.sends.step.same.pairs ∙ took.same.pairs ∙ begins.pairs_are ∙ p)
           whole;
     }

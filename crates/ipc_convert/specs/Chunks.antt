@@ -29,6 +29,11 @@ pub record Handed {S T : Type 0} (came : Moved S) (took : Moved T) (a : S) (v : 
   pub came_all : came a chunks b
   pub took_all : took v chunks w
 
+-- What was taken are the first chunks that came.
+pub record TookWhatCame {S T : Type 0} (came : Moved S) (took : Moved T) (a : S) (v w : T) : Type 0 where
+  pub last : S
+  pub handed : Handed came took a v last w
+
 -- one was handed on, or none came, and so it ended
 abbrev pub CopiedOne : {S T : Type 0} → Moved S → (S → Ending → S → Type 0) → Moved T → S → T → Option Ending → S → T → Type 0
 CopiedOne came stopped took a v None b w = Handed came took a v b w

@@ -1,8 +1,10 @@
 -- Streams and files that are written again.
 -- (Arrow columnar format, "IPC Streaming Format" and "IPC File Format".)
 use Rattle.std.specs.Prelude.{◌≡◌, ◌⊎◌, ℕ, IsTrue, Bool, List, [], ◌++◌, map, None, Some}
-use Rattle.lower.specs.TypeTrees.{Pairs}
+use Rattle.lower.specs.Normal.{norm_schema}
+use Rattle.lower.specs.TypeTrees.{FieldTrees, Pairs}
 use Rattle.lower_types.specs.declared.Endianness.{Endianness}
+use Rattle.ipc_base.specs.IdTrees.{IdTrees}
 use Rattle.ipc_devices.specs.Device.{Memory, before}
 use Rattle.ipc_devices.specs.Gives.{Gives, Stop}
 use Rattle.ipc_model.specs.Batches.{Chunk, Schema}
@@ -15,6 +17,7 @@ use Rattle.ipc_schema_write.specs.WriterAnswers.{written_head_as}
 use Rattle.ipc_write.specs.Agreement.{WasStarted}
 use Rattle.ipc_file_laws.specs.Appending.{normal_chunk}
 use Rattle.ipc_file_write.specs.Calls.{IsWrittenFile}
+use Rattle.ipc_sessions.specs.Sessions.{Adds, KeepsOld}
 
 -- ---- what is read
 
@@ -51,6 +54,18 @@ pub record WritesFile (order : Endianness) (old new : Memory) (schema : Schema) 
   pub bytes : List ℕ
   pub written : before new ≡ before old ++ bytes
   pub same : IsWrittenFile bytes order schema.fields schema.metadata schema.ids pairs (normal_chunks cs)
+
+-- Two schemas with their ids are the same, both in the normal form.
+abbrev pub AreSame : FieldTrees × Pairs → IdTrees → FieldTrees × Pairs → IdTrees → Type 0
+AreSame s is t js = (norm_schema s ≡ norm_schema t) × (is ≡ js)
+
+-- Behind the chunks of a file came these, in the normal form, and its schema is the same. The metadata that it had still give its old chunks.
+pub record AppendsTo (old new : List ℕ) (schema : Schema) (cs : List Chunk) : Type 0 where
+  pub metadata : FileMetadata
+  pub read : metadata_of old ≡ Some metadata
+  pub same : AreSame (schema.fields, schema.metadata) schema.ids (metadata.schema.fields, metadata.schema.metadata) metadata.schema.ids
+  pub adds : Adds old new (normal_chunks cs)
+  pub keeps : KeepsOld metadata old new
 
 -- ---- one from the other
 

@@ -7,10 +7,11 @@ use Rattle.ipc_file_laws.specs.Appending.{normal_chunk}
 use Rattle.ipc_write.specs.Agreement.{Agrees}
 use Rattle.ipc_write.specs.Writers.{WriterSeen, seen}
 use Rattle.ipc_file_write.specs.FileWriters as files
-use Rattle.ipc_file_write.specs.FileWriters.{FileSeen, HoldsBytes, IsSameFile}
+use Rattle.ipc_sessions.specs.Steps.{TakesChunks}
+use Rattle.ipc_sessions.proofs.Writes.{takes_both, takes_none}
 use Rattle.ipc_convert.specs.Chunks.{InOrder, Nothing}
 use Rattle.ipc_convert.specs.Copies.{normal_chunks}
-use Rattle.ipc_convert.specs.Sinks.{FileTook, StreamTook, TookBlocks, TookChunks}
+use Rattle.ipc_convert.specs.Sinks.{FileTook, StreamTook, TookChunks}
 
 more_taken : (so_far xs ys : List Chunk) → (so_far ++ normal_chunks xs) ++ normal_chunks ys ≡ so_far ++ normal_chunks (xs ++ ys)
 more_taken so_far xs ys =
@@ -34,33 +35,10 @@ stream_took_nothing known memory a = λ k. record {
 pub stream_took_in_order : {W : Type 0} (known : Bool) (memory : W → Memory) → InOrder (StreamTook known memory)
 stream_took_in_order known memory a xs b ys c one more = λ k. took_chunks memory (seen a) (seen b) (seen c) xs ys (one k) (more k)
 
-same_file : {W : Type 0} (u v w : FileSeen W) → IsSameFile u v → IsSameFile v w → IsSameFile u w
-same_file u v w one more = record {
-  order = more.order ∙ one.order;
-  fields = more.fields ∙ one.fields;
-  metadata = more.metadata ∙ one.metadata;
-  chosen = more.chosen ∙ one.chosen;
-  pairs = more.pairs ∙ one.pairs;
-  size = more.size ∙ one.size;
-}
-
-took_blocks : {W : Type 0} (memory : W → Memory) (u v w : FileSeen W) (xs ys : List Chunk) → TookBlocks memory u xs v → TookBlocks memory v ys w → TookBlocks memory u (xs ++ ys) w
-took_blocks memory u v w xs ys one more = record {
-  state = more.state ∙ one.state;
-  same = same_file u v w one.same more.same;
-  ids = more.ids ∙ one.ids;
-  file = λ is_stream base so_far holds.
-      subst (λ (cs : List Chunk). HoldsBytes is_stream (memory w.device) w base cs) (more_taken so_far xs ys)
-      (more.file is_stream base (so_far ++ normal_chunks xs) (one.file is_stream base so_far holds));
-}
-
 pub file_took_nothing : {W : Type 0} (known : Bool) (memory : W → Memory) → Nothing (FileTook known memory)
-file_took_nothing known memory a = λ k. record {
-  state = refl;
-  same = record { order = refl; fields = refl; metadata = refl; chosen = refl; pairs = refl; size = refl };
-  ids = refl;
-  file = λ is_stream base so_far holds. subst (λ (cs : List Chunk). HoldsBytes is_stream (memory a.writer) (files.seen a) base cs) (sym (append-nil so_far)) holds;
-}
+file_took_nothing known memory a = takes_none known memory (files.seen a)
 
 pub file_took_in_order : {W : Type 0} (known : Bool) (memory : W → Memory) → InOrder (FileTook known memory)
-file_took_in_order known memory a xs b ys c one more = λ k. took_blocks memory (files.seen a) (files.seen b) (files.seen c) xs ys (one k) (more k)
+file_took_in_order known memory a xs b ys c one more =
+    subst (λ (cs : List Chunk). TakesChunks known memory (files.seen a) (files.seen c) cs) (sym (map-append normal_chunk xs ys))
+    (takes_both known memory (files.seen a) (files.seen b) (files.seen c) (normal_chunks xs) (normal_chunks ys) one more)

@@ -1,6 +1,6 @@
 -- How a stream is ended, and how a file is begun and ended, that is written again.
 -- (Arrow columnar format, "IPC Streaming Format" and "IPC File Format".)
-use Rattle.std.specs.Prelude.{◌≡◌, Bool, IsTrue, [], Result, Ok}
+use Rattle.std.specs.Prelude.{◌≡◌, ℕ, Bool, IsTrue, [], OnOk, Result, Ok, Err}
 use Rattle.lower.specs.TypeTrees.{FieldTrees, Pairs}
 use Rattle.lower_types.specs.declared.Endianness.{Endianness}
 use Rattle.ipc_base.specs.IdTrees.{IdTrees}
@@ -9,7 +9,7 @@ use Rattle.ipc_devices.specs.declared.fault.Fault.{Fault}
 use Rattle.ipc_write.specs.Agreement as streams
 use Rattle.ipc_write.specs.Writers.{WriterSeen}
 use Rattle.ipc_write.specs.declared.stream.WriterState.TheVariants.{Started, Finished}
-use Rattle.ipc_file_write.specs.FileWriters.{Agrees, EndsWith, FileSeen, IsSameFile, Remains}
+use Rattle.ipc_file_write.specs.FileWriters.{Agrees, AnswersFinish, EndsWith, FileSeen, ReachesEnd, Remains, SendsBytes}
 use Rattle.ipc_convert.specs.declared.chunks.Ending.{Ending}
 use Rattle.ipc_convert.specs.declared.chunks.Ending.TheVariants.{Over, Waits}
 
@@ -29,8 +29,23 @@ pub record BeginsFile {W : Type 0} (known : Bool) (memory : W → Memory) (out :
   pub agrees : IsTrue known → Agrees memory w (before (memory out)) []
 
 -- All chunks were taken, and the file that has them was ended.
-pub record EndsCopy {W : Type 0} (known : Bool) (memory : W → Memory) (copied : Result Ending Fault) (ending : Ending) (a b : FileSeen W) : Type 0 where
+pub record EndsCopy {W : Type 0} (known grows : Bool) (failures room : W → ℕ) (memory : W → Memory) (copied : Result Ending Fault) (ending : Ending) (a b : FileSeen W) : Type 0 where
   pub all : copied ≡ Ok ending
+  pub sends : SendsBytes known grows failures room memory a (Ok tt) b
   pub ends : EndsWith a b
-  pub same : IsSameFile a b
+  pub reaches : ReachesEnd known memory a b
   pub remains : Remains known memory a b
+
+-- of two answers the fault of the first, or else that of the second
+abbrev pub both : Result Ending Fault → Result Unit Fault → Result Ending Fault
+both (Err e) finished = Err e
+both (Ok ending) (Err e) = Err e
+both (Ok ending) (Ok x) = Ok ending
+
+-- Whatever came of the copy, the file was ended where it may be, and has the chunks that it had.
+pub record EndsAnyway {W : Type 0} (known : Bool) (memory : W → Memory) (copied result : Result Ending Fault) (a b : FileSeen W) : Type 0 where
+  pub finished : Result Unit Fault
+  pub answers : AnswersFinish a finished
+  pub ends : OnOk finished (EndsWith a b)
+  pub remains : Remains known memory a b
+  pub is : result ≡ both copied finished

@@ -1,4 +1,9 @@
 //! Goes on with a file by the chunks of a stream.
+ghost use Rattle.std.specs.Prelude.{◌≡◌, IfOk, IsTrue};
+ghost use Rattle.lower.specs.TypeViews.{schema_view};
+ghost use Rattle.ipc_base.specs.IdTrees.{all_ids_view};
+ghost use Rattle.ipc_devices.specs.Faults.{Answers};
+ghost use Rattle.ipc_convert.specs.Copies.{AppendsTo, AreSame, CopiesStream};
 
 use crate::chunks::copy_chunks;
 use crate::files::finish_file;
@@ -24,7 +29,10 @@ pub fn append_stream<F: Reads + Writes + Seeks + Drop, R: Reads + Drop>(
     alloc: Global,
     file: F,
     input: R,
-) -> Result<(F, R), Fault> {
+) -> Result<(F, R), Fault>
+    ensures { IsTrue F.known → (F.memory file).place ≡ 0 → IfOk result (λ devices. CopiesStream R.gives input devices.1
+        (λ schema chunks _. AppendsTo (F.memory file).whole (F.memory devices.0).whole schema chunks)) }
+{
     let mut file = file;
     let metadata = read_file_metadata(alloc, &mut file)?;
     let ids = metadata.ipc_schema.clone()?.fields;
@@ -39,7 +47,9 @@ pub fn append_stream<F: Reads + Writes + Seeks + Drop, R: Reads + Drop>(
 }
 
 // Refuses a stream whose schema, in the normal form, isn't this one, or whose ids aren't these.
-fn check_schema(metadata: &StreamMetadata, schema: &Schema, ids: &[IpcField]) -> Result<(), Fault> {
+fn check_schema(metadata: &StreamMetadata, schema: &Schema, ids: &[IpcField]) -> Result<(), Fault>
+    ensures { Answers result (AreSame (schema_view metadata.now.schema) (all_ids_view metadata.now.ipc_schema.fields.items) (schema_view schema.now) (all_ids_view ids.now)) (λ _. Unit {0}) }
+{
     let normal = metadata.schema.normal()?;
     if is_same_schema(&normal, &schema.normal()?)
         && are_same_ids(&metadata.ipc_schema.fields, ids)

@@ -1,8 +1,9 @@
 //! Chunks that are copied, one after the other.
 ghost use Rattle.std.specs.Prelude.{◌≡◌, ◌∷◌, [], IfOk, List, OnOk};
+ghost use Rattle.ipc_devices.specs.Faults.{OnRefused};
 ghost use Rattle.ipc_model.specs.Batches.{Chunk as ChunkMeant};
 ghost use Rattle.ipc_read.specs.Chunks.{chunk_seen};
-ghost use Rattle.ipc_convert.specs.Chunks.{CameNext, Copied, CopiedOne, InOrder, Nothing};
+ghost use Rattle.ipc_convert.specs.Chunks.{CameNext, Copied, CopiedOne, InOrder, Nothing, TookWhatCame};
 
 use ipc_base::chunk::Chunk;
 use ipc_devices::fault::{ArgFault, Fault};
@@ -53,7 +54,8 @@ pub trait Sink {
 
     /// Takes a chunk. A fault, `Io` aside, leaves all as it was.
     fn take_chunk(&mut self, chunk: &Chunk<AnyArray>) -> Result<(), Fault>
-        ensures { OnOk result (took self.old (chunk_seen chunk.now ∷ []) self.new) };
+        ensures taken { OnOk result (took self.old (chunk_seen chunk.now ∷ []) self.new) }
+        ensures kept { OnRefused result (took self.old [] self.new) };
 
     // Laws: at first none were taken, and what was taken twice stands one behind the other.
     ghost took_nothing: { Nothing took };
@@ -63,10 +65,11 @@ pub trait Sink {
 
 /// Reads all chunks that come, and writes each as soon as it is read: just these were taken then.
 ///
-/// Faults: those of the source and of the sink, by which it ends behind the chunks that were taken; `Argument(TooLarge)` where `2^64 - 1`
-/// chunks came and no end.
+/// Faults: those of the source and of the sink, by which it ends behind the chunks that were taken, `Io` aside: the first ones that came;
+/// `Argument(TooLarge)` where `2^64 - 1` chunks came and no end.
 pub fn copy_chunks<S: Source, T: Sink>(source: &mut S, sink: &mut T) -> Result<Ending, Fault>
-    ensures { IfOk result (λ ending. Copied S.came S.stopped T.took source.old sink.old ending source.new sink.new) }
+    ensures copied { IfOk result (λ ending. Copied S.came S.stopped T.took source.old sink.old ending source.new sink.new) }
+    ensures refused { OnRefused result (TookWhatCame S.came T.took source.old sink.old sink.new) }
 {
     for _ in 0..u64::MAX {
         if let Some(ending) = copy_next(source, sink)? {
@@ -78,7 +81,8 @@ pub fn copy_chunks<S: Source, T: Sink>(source: &mut S, sink: &mut T) -> Result<E
 
 // Writes the next chunk, where one comes, else says how it ended.
 fn copy_next<S: Source, T: Sink>(source: &mut S, sink: &mut T) -> Result<Option<Ending>, Fault>
-    ensures { IfOk result (λ ending. CopiedOne S.came S.stopped T.took source.old sink.old ending source.new sink.new) }
+    ensures copied { IfOk result (λ ending. CopiedOne S.came S.stopped T.took source.old sink.old ending source.new sink.new) }
+    ensures refused { OnRefused result (T.took sink.old [] sink.new) }
 {
     match source.next_chunk()? {
         Next::Chunk(chunk) => {

@@ -3,7 +3,7 @@ ghost use Rattle.std.specs.Prelude.{[], IfOk, IsTrue};
 ghost use Rattle.lower.specs.TypeViews.{fields_view, pairs_of};
 ghost use Rattle.ipc_base.specs.IdTrees.{all_ids_view};
 ghost use Rattle.ipc_convert.specs.Copies.{CopiesFileOf, CopiesStream, WritesFile};
-ghost use Rattle.ipc_convert.specs.Steps.{BeginsFile, EndsCopy};
+ghost use Rattle.ipc_convert.specs.Steps.{BeginsFile, EndsAnyway, EndsCopy};
 ghost use Rattle.ipc_file_write.specs.FileWriters.{seen};
 ghost use Rattle.ipc_write.specs.Writers.{order_of};
 
@@ -97,7 +97,8 @@ pub(crate) fn finish_file<W: Writes + Drop>(
     copied: Result<Ending, Fault>,
     writer: &mut FileWriter<W>,
 ) -> Result<Ending, Fault>
-    ensures { IfOk result (λ ending. EndsCopy W.known W.memory copied ending (seen writer.old) (seen writer.new)) }
+    ensures ends { IfOk result (λ ending. EndsCopy W.known W.grows W.failures W.room W.memory copied ending (seen writer.old) (seen writer.new)) }
+    ensures anyway { EndsAnyway W.known W.memory copied result (seen writer.old) (seen writer.new) }
 {
     let finished = writer.finish();
     let ending = copied?;

@@ -11,5 +11,5 @@ returns g c = λ k there front.
     c.args.file c.read_file_metadata.new.reader c.args.out _ c.in_ok-metadata.metadata c.metadata.result.now c.in_ok-reader.reader c.copy_chunks.new.source _
     c.new-writer.result c.start.new.self c.copy_chunks.new.sink c.end_stream.new.writer c.in_ok-ending.ending _
     there k (c.in_ok-metadata.ensures.memory there front) (c.in_ok-metadata.ensures.whole (g.met.F.Seeks.known_still there)) begins (c.metadata.ensures ∙ begins.described) (ap (λ x. x.0) c.in_ok-ids.ensures)
-    made.device made.order made.means c.in_ok-start.ensures.means c.in_ok-start.ensures.ok.is c.in_ok-ending.ensures c.in_ok-end_stream.ensures
+    made.device made.order made.means c.in_ok-start.ensures.means c.in_ok-start.ensures.ok.is c.in_ok-ending.ensures.copied c.in_ok-end_stream.ensures
     c.into_inner.ensures

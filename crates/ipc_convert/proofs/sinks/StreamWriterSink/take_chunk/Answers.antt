@@ -1,6 +1,10 @@
 use Rattle.ipc_write.specs.Writers.{seen}
-use Rattle.ipc_convert.proofs.Taken.{stream_took}
+use Rattle.ipc_convert.proofs.Taken.{stream_kept, stream_took}
 use Rattle.ipc_convert.proofs.sinks.StreamWriterSink.take_chunk.Goals as goal
 
-pub returns : goal.returns
-returns g c = stream_took g.W.Failures.known g.W.Failures.memory (seen c.args.self.now) (seen c.write.new.self) _ _ c.write.result c.write.ensures.means c.write.ensures.ok
+pub returns-clause-taken : goal.returns-clause-taken
+returns-clause-taken g c = stream_took g.W.Failures.known g.W.Failures.memory (seen c.args.self.now) (seen c.write.new.self) _ _ c.write.result c.write.ensures.means c.write.ensures.ok
+
+pub returns-clause-kept : goal.returns-clause-kept
+returns-clause-kept g c =
+    stream_kept g.W.Failures.known g.W.Writes.grows g.W.Failures.failures g.W.Writes.room g.W.Failures.memory (seen c.args.self.now) (seen c.write.new.self) _ c.write.result c.write.ensures.means c.write.ensures.step
