@@ -1,1 +1,4 @@
+pub mod CatWords
+pub mod Classes
+pub mod ConvertWords
 pub mod Positions

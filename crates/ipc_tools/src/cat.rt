@@ -1,5 +1,6 @@
 //! `ipcat`: writes the documented example as an Arrow IPC stream, and shows the streams and files that it is given.
-ghost use Rattle.std.specs.Prelude.{◌≤◌};
+ghost use Rattle.std.specs.Prelude.{◌≡◌, ◌≤◌, map, option_and_then, option_map, string_bytes, None};
+ghost use Rattle.ipc_tools.specs.CatWords.{asked, opened_for};
 
 mod demo;
 mod file;
@@ -23,7 +24,9 @@ use std::io::ErrorKind;
 const USAGE: &str = "usage: ipcat demo | ipcat stream [COLS] | ipcat file PATH [COLS [LIMIT]]\n";
 
 /// The path that the words name, for whoever opens what stands there: that of a file, where the words are right.
-pub fn path_of(words: &[String]) -> Option<&str> {
+pub fn path_of(words: &[String]) -> Option<&str>
+    ensures { option_map (λ path. path.now) result ≡ option_and_then opened_for (asked (map string_bytes words.now)) }
+{
     match form_of(words)? {
         Form::File(file) => Some(file.path),
         Form::Demo | Form::Stream(_) => None,
@@ -42,7 +45,9 @@ pub fn run<R: Reads, F: Reads + Seeks + Drop, O: Writes, E: Writes>(
     out: &mut O,
     err: &mut E,
 ) -> u8
-    ensures { result ≤ 2 }
+    ensures status { result ≤ 2 }
+    ensures usage { asked (map string_bytes words.now) ≡ None → result ≡ 2 }
+    ensures untouched { asked (map string_bytes words.now) ≡ None → (input.new ≡ input.old) × (out.new ≡ out.old) }
 {
     let outcome = match form_of(words) {
         Some(form) => run_form(alloc, form, input, file, out),

@@ -1,10 +1,14 @@
 //! The class of a fault, as the programs tell it.
+ghost use Rattle.std.specs.Prelude.{◌≡◌};
+ghost use Rattle.ipc_tools.specs.Classes.{class};
 
 use arrow2_ipc::io::ipc::fault::{Fault, Writes};
 use ipc_write::common_sync::write_all;
 
 /// The class that stands for this fault on standard error.
-pub fn class_of(fault: &Fault) -> &'static str {
+pub fn class_of(fault: &Fault) -> &'static str
+    ensures { result.now ≡ class fault.now }
+{
     match fault {
         Fault::OutOfSpec(_) => "out of spec",
         Fault::Ended => "input ended",

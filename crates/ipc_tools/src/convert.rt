@@ -1,5 +1,6 @@
 //! `ipconvert`: reads an Arrow IPC stream or file and writes it again as a stream or a file, in either byte order; or goes on with a file.
-ghost use Rattle.std.specs.Prelude.{◌≤◌};
+ghost use Rattle.std.specs.Prelude.{◌≡◌, ◌≤◌, ◌↔◌, map, option_and_then, option_map, string_bytes, None};
+ghost use Rattle.ipc_tools.specs.ConvertWords.{asked, place_for};
 
 mod forms;
 
@@ -19,7 +20,9 @@ use std::io::ErrorKind;
 const USAGE: &str = "usage: ipconvert FROM TO [ORDER] | ipconvert append PATH\n";
 
 /// What the words name, for whoever opens it: a file to read from, or one to go on with, where the words are right.
-pub fn place_of(words: &[String]) -> Option<Place<'_>> {
+pub fn place_of(words: &[String]) -> Option<Place<'_>>
+    ensures { option_map (λ place. (place.path.now, place.is_written)) result ≡ option_and_then place_for (asked (map string_bytes words.now)) }
+{
     place_in(form_of(words)?)
 }
 
@@ -42,7 +45,9 @@ pub fn run<R: Reads, F: Reads + Writes + Seeks + Drop, O: Writes, E: Writes>(
     out: &mut O,
     err: &mut E,
 ) -> u8
-    ensures { result ≤ 2 }
+    ensures status { result ≤ 2 }
+    ensures usage { (result ≡ 2) ↔ (asked (map string_bytes words.now) ≡ None) }
+    ensures untouched { asked (map string_bytes words.now) ≡ None → (input.new ≡ input.old) × (out.new ≡ out.old) }
 {
     let Some(form) = form_of(words) else {
         let _ = write_all(err, USAGE.as_bytes());

@@ -1,4 +1,4 @@
-//! Arrow's IPC streams.
+//! Arrow's IPC streams and files.
 pub mod fault;
 pub mod format;
 pub mod read;

@@ -1,4 +1,6 @@
 //! What the words of a call ask for.
+ghost use Rattle.std.specs.Prelude.{◌≡◌, map, option_map, string_bytes};
+ghost use Rattle.ipc_tools.specs.CatWords.{asked, asked_by, columns_by, columns_named, demo_asked, file_asked, is_decimal, limit_named, stream_asked};
 
 /// The program's forms.
 #[derive(Clone, Copy)]
@@ -38,17 +40,31 @@ pub enum Columns<'a> {
 }
 
 /// The form that these words ask for, or None where no form has them.
-pub fn form_of(words: &[String]) -> Option<Form<'_>> {
+pub fn form_of(words: &[String]) -> Option<Form<'_>>
+    ensures { option_map asked_by result ≡ asked (map string_bytes words.now) }
+{
     let (name, others) = words.split_first()?;
     match name.as_str() {
-        "demo" if others.is_empty() => Some(Form::Demo),
+        "demo" => demo_form(others),
         "stream" => stream_form(others),
         "file" => file_form(others),
         _ => None,
     }
 }
 
-fn stream_form(words: &[String]) -> Option<Form<'_>> {
+fn demo_form(words: &[String]) -> Option<Form<'_>>
+    ensures { option_map asked_by result ≡ demo_asked (map string_bytes words.now) }
+{
+    if words.is_empty() {
+        Some(Form::Demo)
+    } else {
+        None
+    }
+}
+
+fn stream_form(words: &[String]) -> Option<Form<'_>>
+    ensures { option_map asked_by result ≡ stream_asked (map string_bytes words.now) }
+{
     match words {
         [] => Some(Form::Stream(Columns::All)),
         [word] => Some(Form::Stream(columns_in(word.as_str())?)),
@@ -56,7 +72,9 @@ fn stream_form(words: &[String]) -> Option<Form<'_>> {
     }
 }
 
-fn file_form(words: &[String]) -> Option<Form<'_>> {
+fn file_form(words: &[String]) -> Option<Form<'_>>
+    ensures { option_map asked_by result ≡ file_asked (map string_bytes words.now) }
+{
     let (path, others) = words.split_first()?;
     let (columns, limit) = match others {
         [] => (Columns::All, None),
@@ -76,7 +94,9 @@ fn file_form(words: &[String]) -> Option<Form<'_>> {
 }
 
 // `-`, which stands for all columns, or positions joined by commas.
-fn columns_in(word: &str) -> Option<Columns<'_>> {
+fn columns_in(word: &str) -> Option<Columns<'_>>
+    ensures { option_map columns_by result ≡ columns_named word.now }
+{
     if word == "-" {
         return Some(Columns::All);
     }
@@ -87,7 +107,9 @@ fn columns_in(word: &str) -> Option<Columns<'_>> {
 }
 
 // A number of rows, up to 2^64 - 1.
-fn limit_in(word: &str) -> Option<usize> {
+fn limit_in(word: &str) -> Option<usize>
+    ensures { result ≡ limit_named word.now }
+{
     if is_decimal(word) {
         word.parse().ok()
     } else {
@@ -96,6 +118,8 @@ fn limit_in(word: &str) -> Option<usize> {
 }
 
 // Decimal digits alone. Leading zeros are fine.
-fn is_decimal(word: &str) -> bool {
+fn is_decimal(word: &str) -> bool
+    ensures { result ≡ is_decimal word.now }
+{
     !word.is_empty() && word.bytes().all(|byte| byte.is_ascii_digit())
 }

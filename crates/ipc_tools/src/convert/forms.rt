@@ -1,4 +1,6 @@
 //! What the words of a call ask for.
+ghost use Rattle.std.specs.Prelude.{◌≡◌, false, map, option_map, string_bytes};
+ghost use Rattle.ipc_tools.specs.ConvertWords.{asked, asked_by, copy_named, options_named, place_for};
 
 use arrow2_ipc::io::ipc::write::WriteOptions;
 
@@ -40,7 +42,9 @@ pub struct Place<'a> {
 }
 
 /// The form that these words ask for, or None where no form has them. A first word `append` always asks for appending.
-pub fn form_of(words: &[String]) -> Option<Form<'_>> {
+pub fn form_of(words: &[String]) -> Option<Form<'_>>
+    ensures { option_map asked_by result ≡ asked (map string_bytes words.now) }
+{
     let (first, others) = words.split_first()?;
     match (first.as_str(), others) {
         ("append", [path]) => Some(Form::Append(path.as_str())),
@@ -52,7 +56,9 @@ pub fn form_of(words: &[String]) -> Option<Form<'_>> {
 }
 
 /// What the words of a form have opened.
-pub fn place_in(form: Form<'_>) -> Option<Place<'_>> {
+pub fn place_in(form: Form<'_>) -> Option<Place<'_>>
+    ensures { option_map (λ place. (place.path.now, place.is_written)) result ≡ place_for (asked_by form.entry) }
+{
     match form {
         Form::Convert(Source::Input, _, _) => None,
         Form::Convert(Source::File(path), _, _) => Some(Place {
@@ -66,7 +72,9 @@ pub fn place_in(form: Form<'_>) -> Option<Place<'_>> {
     }
 }
 
-fn form_from_to<'a>(from: &'a str, to: &str, write_options: WriteOptions) -> Option<Form<'a>> {
+fn form_from_to<'a>(from: &'a str, to: &str, write_options: WriteOptions) -> Option<Form<'a>>
+    ensures { option_map asked_by result ≡ copy_named from.now to.now write_options }
+{
     let source = if from == "-" {
         Source::Input
     } else {
@@ -81,7 +89,9 @@ fn form_from_to<'a>(from: &'a str, to: &str, write_options: WriteOptions) -> Opt
 }
 
 // The order of the bytes of numbers, by its word.
-fn options_of(order: &str) -> Option<WriteOptions> {
+fn options_of(order: &str) -> Option<WriteOptions>
+    ensures { result ≡ options_named order.now }
+{
     match order {
         "little" => Some(WriteOptions { big_endian: false }),
         "big" => Some(WriteOptions { big_endian: true }),

@@ -2,6 +2,7 @@
 pub use ipc_chunks::common::{encode_chunk, encode_chunk_amortized};
 pub use ipc_encode::common::{EncodedData, Record, WriteOptions};
 pub use ipc_encode::serialize::write;
+pub use ipc_file_write::calls::WrittenFile;
 pub use ipc_file_write::writer::FileWriter;
 pub use ipc_schema_write::defaults::default_ipc_fields;
 pub use ipc_schema_write::schema::{schema_to_bytes, schema_to_bytes_as};

@@ -1,0 +1,73 @@
+-- What the words of `ipcat` ask for.
+use Rattle.std.specs.Prelude.{ℕ, List, [], ◌∷◌, Option, None, Some, Bool, codes, if◌then◌else◌, bytes_eq, option_and_then, option_map, eqb, ltb, ◌==◌, not, ◌&&◌, ◌^◌, length}
+use Rattle.std.specs.Char.{is_ascii_digit}
+use Rattle.std.specs.List.{list_all, slice_split}
+use Rattle.std.specs.Str.Parse.{digits_value}
+use Rattle.ipc_tools.specs.declared.cat.forms.Form.{Form}
+use Rattle.ipc_tools.specs.declared.cat.forms.Form.TheVariants.{Demo, Stream, File}
+use Rattle.ipc_tools.specs.declared.cat.forms.Columns.{Columns}
+use Rattle.ipc_tools.specs.declared.cat.forms.Columns.TheVariants.{All, At}
+
+-- what is asked for: the example; columns of the stream at the input; columns of the file at a path, and how many rows at most
+pub data Asked : Type 0 where
+  demo : Asked
+  stream : Option (List ℕ) → Asked
+  file : List ℕ → Option (List ℕ) → Option ℕ → Asked
+
+-- decimal digits alone, at least one
+abbrev pub is_decimal : List ℕ → Bool
+is_decimal word = not (length word == 0) && list_all is_ascii_digit word
+
+-- the pieces between the commas
+abbrev pub pieces : List ℕ → List (List ℕ)
+pieces = slice_split (λ byte. eqb byte 44)
+
+-- all columns, or those at these positions; none where the word names no columns
+abbrev pub columns_named : List ℕ → Option (Option (List ℕ))
+columns_named word =
+    if bytes_eq word (codes "-") then Some None
+    else (if list_all is_decimal (pieces word) then Some (Some word) else None)
+
+abbrev pub limit_named : List ℕ → Option ℕ
+limit_named word = if is_decimal word && ltb (digits_value 10 word) (2 ^ 64) then Some (digits_value 10 word) else None
+
+abbrev pub stream_asked : List (List ℕ) → Option Asked
+stream_asked [] = Some (stream None)
+stream_asked (columns ∷ []) = option_map stream (columns_named columns)
+stream_asked (columns ∷ second ∷ others) = None
+
+abbrev pub file_asked : List (List ℕ) → Option Asked
+file_asked [] = None
+file_asked (path ∷ []) = Some (file path None None)
+file_asked (path ∷ columns ∷ []) = option_map (λ chosen. file path chosen None) (columns_named columns)
+file_asked (path ∷ columns ∷ limit ∷ []) =
+    option_and_then (λ chosen. option_map (λ rows. file path chosen (Some rows)) (limit_named limit)) (columns_named columns)
+file_asked (path ∷ columns ∷ limit ∷ fourth ∷ others) = None
+
+abbrev pub demo_asked : List (List ℕ) → Option Asked
+demo_asked [] = Some demo
+demo_asked (second ∷ others) = None
+
+-- what the words ask for, or none where no form has them
+abbrev pub asked : List (List ℕ) → Option Asked
+asked [] = None
+asked (name ∷ others) =
+    if bytes_eq name (codes "demo") then demo_asked others
+    else (if bytes_eq name (codes "stream") then stream_asked others
+    else (if bytes_eq name (codes "file") then file_asked others else None))
+
+abbrev pub columns_by : Columns → Option (List ℕ)
+columns_by All = None
+columns_by (At word) = Some word.now
+
+-- what a form asks for
+abbrev pub asked_by : Form → Asked
+asked_by Demo = demo
+asked_by (Stream columns) = stream (columns_by columns)
+asked_by (File words) = file words.path.now (columns_by words.columns) words.limit
+
+-- the path of the file that has to be opened
+abbrev pub opened_for : Asked → Option (List ℕ)
+opened_for demo = None
+opened_for (stream columns) = None
+opened_for (file path columns limit) = Some path

@@ -1,0 +1,51 @@
+-- What the words of `ipconvert` ask for.
+use Rattle.std.specs.Prelude.{ℕ, List, [], ◌∷◌, Option, None, Some, Bool, true, false, codes, if◌then◌else◌, bytes_eq, option_and_then}
+use Rattle.ipc_encode.specs.declared.common.WriteOptions.{WriteOptions}
+use Rattle.ipc_tools.specs.declared.convert.forms.Form.{Form}
+use Rattle.ipc_tools.specs.declared.convert.forms.Form.TheVariants.{Convert, Append}
+use Rattle.ipc_tools.specs.declared.convert.forms.Source.TheVariants.{Input, File}
+use Rattle.ipc_tools.specs.declared.convert.forms.Target.{Target}
+use Rattle.ipc_tools.specs.declared.convert.forms.Target.TheVariants.{Stream, File as FileTarget}
+
+-- what is asked for: a copy of the stream at the input, or of the file at a path; or to go on with the file at a path
+pub data Asked : Type 0 where
+  copy : Option (List ℕ) → Target → WriteOptions → Asked
+  append : List ℕ → Asked
+
+abbrev pub source_named : List ℕ → Option (List ℕ)
+source_named from = if bytes_eq from (codes "-") then None else Some from
+
+abbrev pub target_named : List ℕ → Option Target
+target_named to = if bytes_eq to (codes "stream") then Some Stream else (if bytes_eq to (codes "file") then Some FileTarget else None)
+
+abbrev pub options_named : List ℕ → Option WriteOptions
+options_named order =
+    if bytes_eq order (codes "little") then Some (record { big_endian = false })
+    else (if bytes_eq order (codes "big") then Some (record { big_endian = true }) else None)
+
+abbrev pub copy_named : List ℕ → List ℕ → WriteOptions → Option Asked
+copy_named from to options = option_and_then (λ target. Some (copy (source_named from) target options)) (target_named to)
+
+-- what the words ask for, or none where no form has them; where no order is named it is `little`
+abbrev pub asked : List (List ℕ) → Option Asked
+asked [] = None
+asked (first ∷ []) = None
+asked (first ∷ second ∷ []) =
+    if bytes_eq first (codes "append") then Some (append second)
+    else copy_named first second (record { big_endian = false })
+asked (first ∷ second ∷ third ∷ []) =
+    if bytes_eq first (codes "append") then None
+    else option_and_then (copy_named first second) (options_named third)
+asked (first ∷ second ∷ third ∷ fourth ∷ others) = None
+
+-- what a form asks for
+abbrev pub asked_by : Form → Asked
+asked_by (Convert Input target options) = copy None target options
+asked_by (Convert (File path) target options) = copy (Some path.now) target options
+asked_by (Append path) = append path.now
+
+-- the path of the file that has to be opened, and whether it is written to
+abbrev pub place_for : Asked → Option (List ℕ × Bool)
+place_for (copy None target options) = None
+place_for (copy (Some path) target options) = Some (path, false)
+place_for (append path) = Some (path, true)
