@@ -1,14 +1,14 @@
 //! The columns that are timed.
 
-use arrow2_ipc::array::{
-    AnyArray, AnyPrimitive, DictionaryArray, DictionaryKeys, ListArray, ListOffsets,
+use ipc_devices::Fault;
+use lower::bitmap::Bitmap;
+use lower::buffer::Buffer;
+use lower::datatypes::{DataType, Field, IntegerType};
+use lower::offset::OffsetsBuffer;
+use lower_arrays::array::{
+    AnyArray, AnyPrimitive, BooleanArray, DictionaryArray, DictionaryKeys, ListArray, ListOffsets,
     PrimitiveArray, StructArray, Utf8Array,
 };
-use arrow2_ipc::bitmap::Bitmap;
-use arrow2_ipc::buffer::Buffer;
-use arrow2_ipc::datatypes::{DataType, Field, IntegerType};
-use arrow2_ipc::io::ipc::fault::Fault;
-use arrow2_ipc::offset::OffsetsBuffer;
 use std::alloc::Global;
 use std::rc::Rc;
 
@@ -21,6 +21,8 @@ pub enum Kind {
     Nulls,
     /// The same from the fourth slot on, so that their validity begins within a byte.
     Bits3,
+    /// Truth values, every fourth of them null.
+    Boolean,
     /// Lists of four such numbers.
     List,
     /// Texts of eight ASCII characters.
@@ -33,10 +35,11 @@ pub enum Kind {
     Mixed,
 }
 
-const KINDS: [(&str, Kind); 8] = [
+const KINDS: [(&str, Kind); 9] = [
     ("int64", Kind::Int64),
     ("nulls", Kind::Nulls),
     ("bits3", Kind::Bits3),
+    ("boolean", Kind::Boolean),
     ("list", Kind::List),
     ("utf8", Kind::Utf8),
     ("struct", Kind::Struct),
@@ -94,6 +97,13 @@ fn bits3(alloc: Global, rows: u32, first: i64) -> Result<AnyArray, Fault> {
     })
 }
 
+fn boolean(alloc: Global, rows: u32) -> Result<AnyArray, Fault> {
+    let bits = validity(alloc, rows)?;
+    let validity = bits.clone()?;
+    let array = BooleanArray::try_new(DataType::Boolean, bits, Some(validity))?;
+    Ok(AnyArray::Boolean(array))
+}
+
 // Where each of so many parts of the same length begins, and where the last ends.
 fn offsets(alloc: Global, parts: u32, len: i32) -> Result<OffsetsBuffer<i32>, Fault> {
     let mut offsets: Vec<i32> = Vec::new(alloc);
@@ -149,6 +159,7 @@ pub fn column(alloc: Global, kind: Kind, rows: u32, number: u32) -> Result<AnyAr
         Kind::Int64 => int64(alloc, rows, first, None),
         Kind::Nulls => int64(alloc, rows, first, Some(validity(alloc, rows)?)),
         Kind::Bits3 => bits3(alloc, rows, first),
+        Kind::Boolean => boolean(alloc, rows),
         Kind::List => list(alloc, rows, first),
         Kind::Utf8 => utf8(alloc, rows),
         Kind::Struct => struct_(alloc, rows, first),
