@@ -18,10 +18,12 @@ mod projections;
 mod records;
 mod round_trips;
 mod schemas;
+mod sessions;
 mod streams;
 mod tools;
 mod types;
 mod views;
+mod whole_files;
 mod written_files;
 
 use crate::json::named;
@@ -37,10 +39,53 @@ pub fn called(alloc: Global, name: &str, parts: &Value) -> Result<String, Troubl
         Some(call) => put_called(alloc, &mut out, call, parts)?,
         None => match named(&QUESTIONS, name) {
             Some(question) => out.show(&is_so(alloc, question, parts)?),
-            None => return Err(Trouble::Row("a call")),
+            None => put_whole_called(alloc, &mut out, name, parts)?,
         },
     }
     out.finish()
+}
+
+// The calls that append what becomes of a whole stream or file.
+#[derive(Clone, Copy)]
+enum WholeCall {
+    StreamColumnsOf,
+    WholeFileOf,
+    FileColumnsOf,
+    FileRoundTripOf,
+    CreatedBy,
+    SessionsBy,
+    SessionOn,
+    SessionsOn,
+}
+
+const WHOLE_CALLS: [(&str, WholeCall); 8] = [
+    ("stream_columns_of", WholeCall::StreamColumnsOf),
+    ("whole_file_of", WholeCall::WholeFileOf),
+    ("file_columns_of", WholeCall::FileColumnsOf),
+    ("file_round_trip_of", WholeCall::FileRoundTripOf),
+    ("created_by", WholeCall::CreatedBy),
+    ("sessions_by", WholeCall::SessionsBy),
+    ("session_on", WholeCall::SessionOn),
+    ("sessions_on", WholeCall::SessionsOn),
+];
+
+fn put_whole_called(
+    alloc: Global,
+    out: &mut Text,
+    name: &str,
+    parts: &Value,
+) -> Result<(), Trouble> {
+    let call = named(&WHOLE_CALLS, name).ok_or(Trouble::Row("a call"))?;
+    match call {
+        WholeCall::StreamColumnsOf => round_trips::stream_columns_of(alloc, out, parts),
+        WholeCall::WholeFileOf => whole_files::whole_file_of(alloc, out, parts),
+        WholeCall::FileColumnsOf => whole_files::file_columns_of(alloc, out, parts),
+        WholeCall::FileRoundTripOf => whole_files::file_round_trip_of(alloc, out, parts),
+        WholeCall::CreatedBy => sessions::created_by(alloc, out, parts),
+        WholeCall::SessionsBy => sessions::sessions_by(alloc, out, parts),
+        WholeCall::SessionOn => sessions::session_on(alloc, out, parts),
+        WholeCall::SessionsOn => sessions::sessions_on(alloc, out, parts),
+    }
 }
 
 // The calls that give whether something is so.

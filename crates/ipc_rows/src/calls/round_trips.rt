@@ -1,10 +1,12 @@
 //! Streams that are written and read by one call. `"round_trip_of": {"fields": [FIELD, ..], "calls": [CALL, ..]}`, with the calls and the order of bytes of `written.rt`, gives
 //! `{"answers": ["ok" or a fault, ..], "chunks": [CHUNK, ..], "is_finished": true, "is_schema_same": true}`; `"whole_of": STREAM` reads one, and gives
-//! `{"chunks": [CHUNK, ..], "is_finished": true}`.
+//! `{"chunks": [CHUNK, ..], "is_finished": true}`. `"stream_columns_of": {"stream": STREAM, "chosen": [2, 0]}` gives the same of these columns, or null where the
+//! stream hasn't one of them, or one is named twice.
 
 use crate::arrays::arrays;
 use crate::chunks::put_chunk;
-use crate::json::items;
+use crate::json::{items, member};
+use crate::projections::{chosen, chosen_fields};
 use crate::schemas::schema;
 use crate::text::Text;
 use crate::trouble::Trouble;
@@ -12,6 +14,7 @@ use crate::types::LEVELS;
 use crate::written::{options, stream};
 use ipc_base::chunk::Chunk;
 use ipc_devices::Fault;
+use ipc_round_trip::columns::read_stream_columns;
 use ipc_round_trip::read::{WholeStream, read_stream};
 use ipc_round_trip::round_trip::round_trip;
 use ipc_write::calls::StreamCall;
@@ -104,6 +107,23 @@ pub fn whole_of(alloc: Global, out: &mut Text, value: &Value) -> Result<(), Trou
     let whole = read_stream(alloc, &stream(alloc, value)?)?;
     out.put("{");
     put_whole_stream(out, &whole, &whole.metadata.schema.fields);
+    out.put("}");
+    Ok(())
+}
+
+/// Some columns of a stream.
+pub fn stream_columns_of(alloc: Global, out: &mut Text, value: &Value) -> Result<(), Trouble> {
+    let stream = stream(alloc, member(value, "stream")?)?;
+    let Some(asked) = chosen(alloc, value)? else {
+        return Err(Trouble::Row("chosen"));
+    };
+    let Some(part) = read_stream_columns(alloc, &stream, asked)? else {
+        out.put("null");
+        return Ok(());
+    };
+    let fields = chosen_fields(alloc, &part.metadata.schema.fields, &chosen(alloc, value)?)?;
+    out.put("{");
+    put_whole_stream(out, &part, &fields);
     out.put("}");
     Ok(())
 }

@@ -1,5 +1,6 @@
 //! The programs. `"ipcat": {"words": [WORD, ..], "input": BYTES}` runs ipcat over memory and gives its status and what it
 //! prints; `{"demo": true}` is an input too, the stream that `ipcat demo` writes, and so is what a writer wrote (`written.rt`). What isn't text is given by its length.
+//! With `"path": FILE` that file stands at the path which the words name.
 //!
 //! `"ipconvert"` of the same parts runs ipconvert, and gives its status, what it tells, and what `ipcat stream` prints of what it wrote, or null
 //! where it wrote nothing.
@@ -11,11 +12,13 @@
 //! by one of the `"classes"`, and the places where the answer is another one.
 
 use crate::bytes::bytes;
+use crate::files::file;
 use crate::json::{items, member};
-use crate::programs::{Program, Run, run_of, words_of};
+use crate::programs::{Program, Run, run_beside, run_of, words_of};
 use crate::text::Text;
 use crate::trouble::Trouble;
 use crate::written::stream;
+use ipc_devices::MemFile;
 use serde_json::Value;
 use std::alloc::Global;
 
@@ -44,7 +47,13 @@ fn word(alloc: Global, word: &str) -> Result<Vec<String>, Trouble> {
 pub fn ipcat(alloc: Global, out: &mut Text, value: &Value) -> Result<(), Trouble> {
     let words = words_of(alloc, value)?;
     let input = input_of(alloc, value)?;
-    let run = run_of(alloc, Program::Ipcat, &words, &input);
+    let run = match value.get("path") {
+        None => run_of(alloc, Program::Ipcat, &words, &input),
+        Some(path) => {
+            let mut place = MemFile::new(file(alloc, path)?);
+            run_beside(alloc, Program::Ipcat, &words, &input, &mut place)
+        }
+    };
     out.put("{\"out\":");
     put_printed(out, &run.out);
     put_ending(out, &run);

@@ -73,6 +73,11 @@ pub fn file_on(alloc: Global, out: &mut Text, value: &Value) -> Result<(), Troub
 fn put_file(alloc: Global, out: &mut Text, file: &[u8], value: &Value) -> Result<(), Trouble> {
     out.put(",\"bytes\":");
     out.hex(file);
+    put_read(alloc, out, file, value)
+}
+
+/// Appends what is read of a file, as further members: what its footer says, its chunks, and what it is as a stream where a row asks for that.
+pub fn put_read(alloc: Global, out: &mut Text, file: &[u8], value: &Value) -> Result<(), Trouble> {
     out.put(",\"footer\":");
     match read_file_metadata(alloc, &mut MemFile::new(file)) {
         Err(fault) => out.shown(&fault),
@@ -88,8 +93,8 @@ fn put_file(alloc: Global, out: &mut Text, file: &[u8], value: &Value) -> Result
     Ok(())
 }
 
-// Appends what is read at each block that these metadata name.
-fn put_items(
+/// Appends what is read at each block that these metadata name.
+pub fn put_items(
     alloc: Global,
     out: &mut Text,
     file: &[u8],
