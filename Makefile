@@ -1,5 +1,5 @@
 # `rt` is the command of the Rattle kit.
-.PHONY: demo build edits test
+.PHONY: demo build edits refused test
 
 # Builds ipcat without its proofs, and runs `ipcat demo`, and then `ipcat stream` on what it wrote. What is tried waits two seconds for
 # its input and no longer, so the second begins when the first has ended.
@@ -15,6 +15,10 @@ build:
 # The wrong bodies that the gate leaves out: all of edits/, or make edits ONLY="lower_rules ipc_views".
 edits:
 	tools/edits $(ONLY)
+
+# The tests of ipc_bench with each allocation refused in its turn, or make refused ONLY="WORD ..": those whose names have a word.
+refused:
+	tools/refused $(ONLY)
 
 # The gate: that each edit applies, and that the README's program is the tour; then every proof from nothing, the must-fail edits, every
 # test and every program.

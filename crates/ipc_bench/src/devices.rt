@@ -1,5 +1,6 @@
 //! Devices that fail, and one that counts its flushes.
 
+use crate::fixtures::refusal;
 use ipc_devices::{Failures, Fault, MemFile, Reads, Seeks, Watched, Writes, read_bytes};
 use std::io;
 use std::io::{ErrorKind, SeekFrom};
@@ -83,10 +84,10 @@ impl io::Write for Full {
     }
 }
 
-// Whether the answer is the fault of `Broken`, as the device told it.
-fn is_broken_pipe(answer: &Result<Vec<u8>, Fault>) -> bool {
-    match answer {
-        Err(Fault::Io(error)) => error.kind() == ErrorKind::BrokenPipe,
+// Whether a fault is that of `Broken`, as the device told it.
+fn is_broken_pipe(fault: &Option<Fault>) -> bool {
+    match fault {
+        Some(Fault::Io(error)) => error.kind() == ErrorKind::BrokenPipe,
         _ => false,
     }
 }
@@ -94,7 +95,7 @@ fn is_broken_pipe(answer: &Result<Vec<u8>, Fault>) -> bool {
 #[test]
 fn watched_devices_count_failures(rt: HostRuntime) -> Result<(), Fault> {
     let mut broken = Watched::new(Broken);
-    assert!(rt; is_broken_pipe(&read_bytes(rt.alloc(), &mut broken, 1)));
+    assert!(rt; is_broken_pipe(&refusal(read_bytes(rt.alloc(), &mut broken, 1))?));
     assert_eq!(rt; broken.failures(), 1);
     let mut full = Watched::new(Full);
     assert!(rt; full.write(b"a").is_err());

@@ -4,6 +4,8 @@
 #![tactic(auto)]
 
 #[cfg(test)]
+mod barred;
+#[cfg(test)]
 mod batches;
 #[cfg(test)]
 mod blanks;
@@ -12,12 +14,28 @@ mod devices;
 #[cfg(test)]
 mod encoded;
 #[cfg(test)]
+mod failures;
+#[cfg(test)]
 mod files;
 #[cfg(test)]
 mod fixtures;
 #[cfg(test)]
+mod handed;
+#[cfg(test)]
+mod keyed;
+#[cfg(test)]
 mod pieces;
+#[cfg(test)]
+mod printing;
 #[cfg(test)]
 mod refusals;
 #[cfg(test)]
+mod rough;
+#[cfg(test)]
+mod sessions;
+#[cfg(test)]
 mod shared;
+#[cfg(test)]
+mod told;
+#[cfg(test)]
+mod walks;

@@ -1,0 +1,186 @@
+//! Devices that fail, and memory that is refused, while streams and files are written, read and gone on with.
+
+use crate::rough::Way;
+use crate::told::Told;
+use crate::walks::{Ready, Walk, make_ready, tell};
+use arrow2_ipc::io::ipc::fault::Fault;
+use std::alloc::Global;
+
+// What a walk tells where the first call of its device fails, where the second does, and on; what is told again isn't said again, and in the last one
+// none fails. Writers answer `Io` once, and then `State(Failed)`; what went out is a first part. A reader of a stream answers a fault once, and
+// then None; one of a file that of the dictionaries so, and where a block can't be read the next still come. A session keeps the old chunks.
+const FAILING: [(&str, Walk, &[&str]); 5] = [
+    (
+        "a stream is written",
+        Walk::WriteStream,
+        &[
+            "ifffffff1<",
+            "oiffffff1<",
+            "ooifffff1<",
+            "oooiffff1<",
+            "ooooifff1<",
+            "oooooddd0=",
+        ],
+    ),
+    (
+        "a file is written",
+        Walk::WriteFile,
+        &[
+            "ifffffffffff1<",
+            "oiffffffffff1<",
+            "ooifffffffff1<",
+            "oooxifffffff1<",
+            "oooxoiffffff1<",
+            "oooxooifffff1<",
+            "oooxoooiffff1<",
+            "oooxoooiffff1=",
+            "oooxoooodddd0=",
+        ],
+    ),
+    (
+        "a stream is read",
+        Walk::ReadStream,
+        &["i1", "i....1", "ai...1", "abi..1", "abci.1", "abc..0"],
+    ),
+    (
+        "a file is read",
+        Walk::ReadFile,
+        &[
+            "i1",
+            "i......a1",
+            "ibaba..a1",
+            "aiaba..a1",
+            "abiba..a1",
+            "abaia..a1",
+            "ababi..a1",
+            "ababa..i1",
+            "ababa..a0",
+        ],
+    ),
+    (
+        "a file is gone on with",
+        Walk::Append,
+        &[
+            "i1=ababa.",
+            "ifff1=ababa.",
+            "oiff1=ababa.",
+            "ooxi1=ababa.",
+            "ooxo0=ababa.",
+        ],
+    ),
+];
+
+// How many runs there are: more than a device is called.
+const RUNS: u64 = 200;
+
+fn is_at(told: &Told, wanted: &[&str], index: usize) -> bool {
+    match wanted.get(index) {
+        Some(text) => told.is(text),
+        None => false,
+    }
+}
+
+// The call of a device whose failure is told otherwise than it is wanted.
+fn first_other(
+    alloc: Global,
+    ready: &Ready,
+    tried: Walk,
+    wanted: &[&str],
+) -> Result<Option<u64>, Fault> {
+    let mut index = 0usize;
+    for call in 1..=RUNS {
+        let told = tell(alloc, ready, tried, Way::Fails(call))?.ample()?;
+        if !is_at(&told, wanted, index) {
+            index = index.saturating_add(1);
+        }
+        if !is_at(&told, wanted, index) {
+            return Ok(Some(call));
+        }
+        if index.saturating_add(1) == wanted.len() {
+            return Ok(None);
+        }
+    }
+    Ok(Some(RUNS))
+}
+
+#[test]
+fn a_device_fails_at_each_call(rt: HostRuntime) -> Result<(), Fault> {
+    let alloc = rt.alloc();
+    let ready = make_ready(alloc)?;
+    for (name, tried, wanted) in FAILING {
+        let other = first_other(alloc, &ready, tried, wanted)?;
+        assert_eq!(rt; other, None, "{name}");
+    }
+    Ok(())
+}
+
+#[test]
+fn a_device_moves_a_byte_a_call(rt: HostRuntime) -> Result<(), Fault> {
+    let alloc = rt.alloc();
+    let ready = make_ready(alloc)?;
+    for (name, tried, wanted) in FAILING {
+        let told = tell(alloc, &ready, tried, Way::OneByte)?.ample()?;
+        let last = wanted.len().saturating_sub(1);
+        assert!(rt; is_at(&told, wanted, last), "{name}");
+    }
+    Ok(())
+}
+
+// What a walk tells on a sound device, and then what else it may tell where an allocation is refused: a writer's call is made again, a reader of
+// a stream ends, one of a file goes on with the next block, and a session goes on with the next chunk. No memory is taken at the end.
+const REFUSED: [(&str, Walk, &[&str]); 5] = [
+    ("a stream is written", Walk::WriteStream, &["oooooddd0="]),
+    ("a file is written", Walk::WriteFile, &["oooxoooodddd0="]),
+    (
+        "a stream is read",
+        Walk::ReadStream,
+        &["abc..0", "m0", "m....0", "am...0", "abm..0"],
+    ),
+    (
+        "a file is read",
+        Walk::ReadFile,
+        &[
+            "ababa..a0",
+            "m0",
+            "m......a0",
+            "mbaba..a0",
+            "amaba..a0",
+            "abmba..a0",
+            "abama..a0",
+            "ababm..a0",
+            "ababa..m0",
+        ],
+    ),
+    (
+        "a file is gone on with",
+        Walk::Append,
+        &[
+            "ooxo0=ababa.",
+            "m0=ababa.",
+            "moxo0=ababa.",
+            "omxo0=ababa.",
+            "oomo0=ababa.",
+            "ooxm0=ababa.",
+        ],
+    ),
+];
+
+fn is_among(told: &Told, wanted: &[&str]) -> bool {
+    for text in wanted {
+        if told.is(text) {
+            return true;
+        }
+    }
+    false
+}
+
+#[test]
+fn an_allocation_is_refused(rt: HostRuntime) -> Result<(), Fault> {
+    let alloc = rt.alloc();
+    let ready = make_ready(alloc)?;
+    for (name, tried, wanted) in REFUSED {
+        let told = tell(alloc, &ready, tried, Way::Fails(0))?;
+        assert!(rt; is_among(&told, wanted), "{name}");
+    }
+    Ok(())
+}

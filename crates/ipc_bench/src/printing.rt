@@ -1,0 +1,54 @@
+//! What `ipcat` does where a device fails that it prints to.
+
+use crate::fixtures::room;
+use crate::rough::{Way, bytes_of, make_rough};
+use arrow2_ipc::io::ipc::fault::{Fault, MemFile};
+use ipc_tools::cat::run;
+use std::alloc::Global;
+
+// What a run answers, and what it printed.
+#[derive(Drop)]
+struct Printed {
+    status: u8,
+    out: Vec<u8>,
+    err: Vec<u8>,
+}
+
+// A run by one word, on an empty input.
+fn print(alloc: Global, word: &str, out: Way, err: Way) -> Result<Printed, Fault> {
+    let words = vec![in alloc; word.to_string(alloc)?]?;
+    let mut input = MemFile::new([].as_slice());
+    let no_file: Option<MemFile<&[u8]>> = None;
+    let mut out = make_rough(room(alloc)?, out);
+    let mut err = make_rough(room(alloc)?, err);
+    let status = run(alloc, &words, &mut input, no_file, &mut out, &mut err);
+    Ok(Printed {
+        status,
+        out: bytes_of(out),
+        err: bytes_of(err),
+    })
+}
+
+#[test]
+fn a_failure_of_the_output_is_told_and_one_of_the_errors_passed_over(
+    rt: HostRuntime,
+) -> Result<(), Fault> {
+    const SOUND: Way = Way::Fails(0);
+    const BROKEN: Way = Way::Fails(1);
+    let alloc = rt.alloc();
+    let printed = print(alloc, "demo", BROKEN, SOUND)?;
+    if printed.err.as_slice() == b"ipcat: no memory\n".as_slice() {
+        return Err(Fault::Memory);
+    }
+    assert_eq!(rt; printed.status, 1);
+    assert_eq!(rt;
+        printed.err.as_slice(),
+        b"ipcat: input or output failed\n".as_slice()
+    );
+    let printed = print(alloc, "stream", SOUND, BROKEN)?;
+    assert_eq!(rt; printed.status, 1);
+    assert!(rt; printed.out.is_empty() && printed.err.is_empty());
+    let printed = print(alloc, "nothing", SOUND, BROKEN)?;
+    assert_eq!(rt; printed.status, 2);
+    Ok(())
+}
