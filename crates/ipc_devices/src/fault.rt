@@ -16,20 +16,21 @@ pub enum Fault {
     /// The bytes break a rule of the Arrow columnar format.
     #[error("out of spec: {0}")]
     OutOfSpec(OutOfSpecKind),
-    /// The input is shorter than it states, or ends where a schema message has to stand.
+    /// The input is shorter than it states, ends where a schema message has to stand, or is too short
+    /// for a file.
     #[error("the input ended early")]
     Ended,
-    /// The bytes, or the call, ask for a form that isn't carried.
+    /// The bytes, or the call, ask for a form that isn't supported.
     #[error("not yet implemented: {0}")]
     NotYetImplemented(Nyi),
     /// A schema that is read breaks a rule.
     #[error("bad schema: {0}")]
     Schema(SchemaFault),
-    /// An argument breaks a rule of the call, which changed nothing; or the columns of a batch that is
-    /// read have different numbers of rows.
+    /// An argument breaks a rule of the call, or of a call that it makes in its turn; a writer's call
+    /// changed nothing then. Or the columns of a batch that is read have different numbers of rows.
     #[error("{0}")]
     Argument(ArgFault),
-    /// A writer isn't in the state that the call asks for. Nothing was changed.
+    /// A writer isn't in the state that the call asks for, which changed nothing.
     #[error("{0}")]
     State(StateFault),
     /// More than 65,536 dictionary messages stand before one record batch.
@@ -42,8 +43,8 @@ pub enum Fault {
     /// Memory was refused.
     #[error("no memory")]
     Memory,
-    /// Some parts make no array: `?` makes this of an array's own error. No reader and no writer
-    /// answers it.
+    /// The parts of a column make no array: the array's own error. Readers answer it where a child is
+    /// shorter or longer than its parent asks.
     #[error("bad array: {0}")]
     Lower(ArrayError),
 }
@@ -58,11 +59,12 @@ pub enum OutOfSpecKind {
     /// A file doesn't end with `ARROW1`.
     #[error("the file does not end with ARROW1")]
     InvalidFooter,
-    /// A number that has to be at least 0 is below it: the length of a footer, of the prefix of a
-    /// message, of a record block, of a node or a buffer, or the offset of a buffer.
+    /// A number that has to be at least 0 is below it: the length of a footer; what the prefix of a
+    /// message states, in a stream and at a dictionary block; the offset or the length of the metadata of
+    /// a record block; the length of a node or a buffer, or the offset of a buffer.
     #[error("a length or an offset is negative")]
     NegativeFooterLength,
-    /// The root of a footer is ill-made.
+    /// The root of a footer, or one of the file's own pairs, is ill-made.
     #[error("the footer is ill-made: {0}")]
     InvalidFlatbufferFooter(TableFault),
     /// A footer has no record blocks.
@@ -83,7 +85,8 @@ pub enum OutOfSpecKind {
     /// The dictionary blocks of a footer are ill-made.
     #[error("the footer's dictionaries are ill-made: {0}")]
     InvalidFlatbufferDictionaries(TableFault),
-    /// A block of a footer is ill-made.
+    /// Of arrow2. No call answers it: a block is numbers alone, and vectors of blocks have faults of
+    /// their own.
     #[error("a block is ill-made: {0}")]
     InvalidFlatbufferBlock(TableFault),
     /// The root of a message is ill-made.
@@ -95,7 +98,9 @@ pub enum OutOfSpecKind {
     /// The header of a message is ill-made.
     #[error("the message's header is ill-made: {0}")]
     InvalidFlatbufferHeader(TableFault),
-    /// A position or a length of a file's block or of a body is below 0.
+    /// The length of a body in a stream, the offset or the length of the metadata of a dictionary block,
+    /// what the prefix at a record block states, or, where a file is gone on with, any number of a block
+    /// is below 0.
     #[error("a position or a length is negative")]
     UnexpectedNegativeInteger,
     /// A message of another kind stands where a record or a dictionary is due.
@@ -182,7 +187,7 @@ pub enum OutOfSpecKind {
     InvalidDataType,
 }
 
-/// What isn't carried.
+/// What isn't supported.
 #[derive(Debug, Clone, Copy, PartialEq, Eq, Error)]
 pub enum Nyi {
     /// Buffers that are compressed.
@@ -272,7 +277,8 @@ pub enum ArgFault {
     /// The ids don't have the shape of the fields.
     #[error("the ids do not have the shape of the fields")]
     FieldsShape,
-    /// The ids aren't those that the writer started with.
+    /// The ids aren't those that the writer started with; or a stream's schema and ids aren't those of the
+    /// file behind whose chunks it is to come.
     #[error("the ids are not those that the writer started with")]
     FieldsDiffer,
     /// A chunk has another number of columns than the schema.
@@ -290,7 +296,8 @@ pub enum ArgFault {
     /// An array is longer than `i64::MAX`.
     #[error("an array is too long")]
     TooLong,
-    /// A length or a position passes what its number can hold.
+    /// A length or a position passes what its number can hold, or a limit is passed: the weight `2^30` of
+    /// a schema with a file's pairs, or `2^25` blocks of a file.
     #[error("a length or a position is too large")]
     TooLarge,
     /// A file to be gone on with has no record blocks.

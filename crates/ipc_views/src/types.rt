@@ -278,7 +278,7 @@ fn union_mode_of(number: u16) -> Result<UnionMode, TableFault>
 }
 
 impl<'a> TableRef<'a, IntTable> {
-    /// The number of bits.
+    /// The number of bits, 0 where absent.
     pub fn bit_width(&self) -> Result<i32, TableFault>
         ensures { result ≡ int_bit_width self.now }
     {
@@ -303,14 +303,14 @@ impl<'a> TableRef<'a, FloatingPointTable> {
 }
 
 impl<'a> TableRef<'a, DecimalTable> {
-    /// The number of decimal digits.
+    /// The number of decimal digits, 0 where absent.
     pub fn precision(&self) -> Result<i32, TableFault>
         ensures { result ≡ decimal_precision self.now }
     {
         self.i32(0, 0)
     }
 
-    /// The number of digits after the point.
+    /// The number of digits after the point, 0 where absent.
     pub fn scale(&self) -> Result<i32, TableFault>
         ensures { result ≡ decimal_scale self.now }
     {
@@ -395,7 +395,7 @@ impl<'a> TableRef<'a, UnionTable> {
 }
 
 impl<'a> TableRef<'a, FixedSizeBinaryTable> {
-    /// The number of bytes of a slot.
+    /// The number of bytes of a slot, 0 where absent.
     pub fn byte_width(&self) -> Result<i32, TableFault>
         ensures { result ≡ fixed_size_binary_byte_width self.now }
     {
@@ -404,7 +404,7 @@ impl<'a> TableRef<'a, FixedSizeBinaryTable> {
 }
 
 impl<'a> TableRef<'a, FixedSizeListTable> {
-    /// The number of slots of the child for a slot.
+    /// The number of slots of the child for a slot, 0 where absent.
     pub fn list_size(&self) -> Result<i32, TableFault>
         ensures { result ≡ fixed_size_list_list_size self.now }
     {

@@ -153,8 +153,9 @@ fn goes_to(map: &HashMap<usize, usize>, column: usize, place: usize) -> bool
     }
 }
 
-/// The chunk with its columns in a new order: column `i` goes to the place that the map has for it. No
-/// column is copied. It answers `Memory` where there is no memory; then the chunk is dropped.
+/// The chunk with its columns in a new order: column `i` goes to the place that the map has for it. The
+/// map brings as many columns as the chunk has into an order (see [`is_reordering`]). No column is
+/// copied. It answers `Memory` where there is no memory; then the chunk is dropped.
 pub fn apply_projection(
     alloc: Global,
     chunk: Chunk<AnyArray>,
