@@ -1,15 +1,14 @@
 -- Bits that aren't set, counted byte by byte.
-use Rattle.std.proofs.Common.{arith, zero, suc, refl, ◌≡◌, ℕ, ◌+◌, ◌-◌, ◌*◌, ◌/◌, ◌%◌, ◌<◌, ◌≤◌, List, Bool, true, false, length, drop, map, get_or, nat_eq, not, cond, ◌⊎◌, inl, inr, sym, ap, ap₂, subst, ◌∙◌}
+use Rattle.std.proofs.Common.{arith, zero, suc, refl, ◌≡◌, ℕ, ◌+◌, ◌-◌, ◌*◌, ◌/◌, ◌%◌, ◌<◌, ◌≤◌, List, Bool, true, false, length, take, drop, map, get_or, nat_eq, not, cond, ◌⊎◌, inl, inr, sym, ap, ap₂, subst, ◌∙◌}
 use Rattle.std.specs.Prelude.{slice_index}
 use Rattle.std.specs.List.{count_by, range_with_len}
 use Rattle.std.specs.Int.{bit_at, w8, count_zeros}
 use Rattle.std.proofs.lemmas.Bool.{eqb-true}
-use Rattle.std.proofs.lemmas.List.{get_or-drop, length-drop}
+use Rattle.std.proofs.lemmas.List.{get_or-take, get_or-drop, length-drop}
 use Rattle.std.proofs.lemmas.List.Sums.{sum_by-cons, count_by_more_yes, count_by_more_no}
 use Rattle.lower.specs.Bits.{has_bit}
 use Rattle.lower.proofs.BitLists.{part as neighbours}
 use Rattle.lower_flat.specs.Validities.{part, unset_along}
-use Rattle.lower_flat.proofs.Cuts.{get_or-part}
 
 -- the bits of a byte
 abbrev byte_bit : ℕ → ℕ → Bool
@@ -56,7 +55,7 @@ unset_step : (f : ℕ → Bool) (a n : ℕ) → unset_along f a (suc n) ≡ cond
 unset_step f a n = sum_by-cons (λ bit. cond (not bit) 1 0) (f a) (map f (range_with_len (a + 1) n))
 
 -- neighbouring bits
-unset-split : (f : ℕ → Bool) (a m n : ℕ) → unset_along f a (m + n) ≡ unset_along f a m + unset_along f (a + m) n
+pub unset-split : (f : ℕ → Bool) (a m n : ℕ) → unset_along f a (m + n) ≡ unset_along f a m + unset_along f (a + m) n
 unset-split f a zero n =
     let e : 0 + n ≡ n = omega arith in
     let d : a ≡ a + 0 = omega arith in
@@ -95,14 +94,24 @@ one_more bytes i small =
     ∙ unset-split (has_bit bytes) 0 (8 * i) 8
     ∙ ap (λ m. unset_along (has_bit bytes) 0 (8 * i) + m) (one_byte bytes i ∙ byte_zeros (slice_index bytes i) small)
 
+-- the bits from byte o on
+pub bits_after : (bytes : List ℕ) (o n : ℕ) → unset_along (has_bit (drop o bytes)) 0 n ≡ unset_along (has_bit bytes) (8 * o) n
+bits_after bytes o n =
+    unset-same (has_bit (drop o bytes)) (has_bit bytes) 0 (8 * o) n (λ j below.
+    let there : o + (0 + j) / 8 ≡ (8 * o + j) / 8 = omega arith in
+    let byte : slice_index (drop o bytes) ((0 + j) / 8) ≡ slice_index bytes ((8 * o + j) / 8) = get_or-drop o bytes ((0 + j) / 8) 0 ∙ ap (slice_index bytes) there in
+    let bit : (0 + j) % 8 ≡ (8 * o + j) % 8 = omega arith in
+    ap₂ (λ b m. nat_eq (bit_at b m) 1) byte bit)
+
+-- the bits of the first k bytes
+pub bits_of_first : (bytes : List ℕ) (k : ℕ) → unset_along (has_bit (take k bytes)) 0 (8 * k) ≡ unset_along (has_bit bytes) 0 (8 * k)
+bits_of_first bytes k =
+    unset-same (has_bit (take k bytes)) (has_bit bytes) 0 0 (8 * k) (λ j below.
+    ap (λ b. nat_eq (bit_at b ((0 + j) % 8)) 1) (get_or-take k bytes ((0 + j) / 8) 0 (omega (arith, below))))
+
 -- the bits of the k bytes after the first
 inner_bits : (bytes : List ℕ) (k : ℕ) → unset_along (has_bit (part 1 k bytes)) 0 (8 * k) ≡ unset_along (has_bit bytes) 8 (8 * k)
-inner_bits bytes k =
-    unset-same (has_bit (part 1 k bytes)) (has_bit bytes) 0 8 (8 * k) (λ j below.
-    let there : 1 + (0 + j) / 8 ≡ (8 + j) / 8 = omega arith in
-    let byte : slice_index (part 1 k bytes) ((0 + j) / 8) ≡ slice_index bytes ((8 + j) / 8) = get_or-part 1 k bytes ((0 + j) / 8) 0 (omega (arith, below)) ∙ ap (slice_index bytes) there in
-    let bit : (0 + j) % 8 ≡ (8 + j) % 8 = omega arith in
-    ap₂ (λ b m. nat_eq (bit_at b m) 1) byte bit)
+inner_bits bytes k = bits_of_first (drop 1 bytes) k ∙ bits_after bytes 1 (8 * k)
 
 -- the bits of some neighbouring bits
 unset-part : (f : ℕ → Bool) (a o n m : ℕ) → o + n ≤ m → count_by (λ bit. not bit) (part o n (map f (range_with_len a m))) ≡ unset_along f (a + o) n

@@ -1,6 +1,6 @@
 //! Whether texts that stand one after another are UTF-8.
 ghost use Rattle.std.specs.Prelude.{◌-◌, ◌<◌, ◌≤◌, ◌↔◌, length, drop, IsTrue};
-ghost use Rattle.std.specs.Str.{IsUtf8};
+ghost use Rattle.std.specs.Str.{IsAscii, IsUtf8};
 ghost use Rattle.lower_flat.specs.Spans.{EndsWithin, AreTexts, IsCut, AreCut};
 
 use lower::offset::{Offset, OffsetsBuffer};
@@ -12,10 +12,23 @@ pub(crate) fn are_texts<O: Offset>(offsets: &OffsetsBuffer<O>, values: &[u8]) ->
     ensures { IsTrue result ↔ AreTexts offsets.now values.now }
 {
     let bytes = &values[..offsets.last()];
-    if bytes.is_ascii() {
+    if are_ascii(bytes) {
         return true;
     }
     is_utf8_from(bytes, offsets.get(0)) && are_cut(offsets, bytes)
+}
+
+// Whether all bytes are ASCII. There is no early exit, so it becomes vector code.
+fn are_ascii(bytes: &[u8]) -> bool
+    ensures { IsTrue result ↔ IsAscii bytes.now }
+{
+    let mut are_ascii = true;
+    for byte in bytes {
+        if *byte >= 128 {
+            are_ascii = false;
+        }
+    }
+    are_ascii
 }
 
 // Whether the bytes from `first` on are UTF-8.

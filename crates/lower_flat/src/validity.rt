@@ -1,6 +1,6 @@
 //! What an array does with its validity.
 ghost use Rattle.std.specs.Prelude.{◌≡◌, ◌↔◌, ◌+◌, ◌-◌, ◌*◌, ◌^◌, ◌<◌, ◌≤◌, IsTrue, IfOk, not, length};
-ghost use Rattle.std.specs.List.{count_by};
+ghost use Rattle.std.specs.List.{count_by, sum_by};
 ghost use Rattle.lower.specs.Bits.{has_bit};
 ghost use Rattle.lower_flat.specs.Validities.{part, unset_along, null_count_of, is_valid, ValidityFits, ValidityHolds, cut_validity};
 
@@ -27,7 +27,7 @@ pub fn unset_bits(validity: &Option<Bitmap>) -> usize
     }
 }
 
-// How many bits aren't set: those of the bytes that are whole, byte by byte, and those of the first
+// How many bits aren't set: those of the bytes that are whole, many at once, and those of the first
 // and the last byte one by one.
 fn count_unset(bits: &Bitmap) -> usize
     ensures { result ≡ count_by (λ bit. not bit) bits.now }
@@ -42,8 +42,39 @@ fn count_unset(bits: &Bitmap) -> usize
     unset_between(bits, 0, head) + unset_in(inner) + unset_between(bits, tail, len)
 }
 
-// How many bits of the bytes aren't set.
+// How many bits of the bytes aren't set: a machine counts those of eight bytes at once.
 fn unset_in(bytes: &[u8]) -> usize
+    requires { 8 * length bytes.now < 2 ^ 64 }
+    ensures count { result ≡ unset_along (has_bit bytes.now) 0 (8 * length bytes.now) }
+    ensures bound { result ≤ 8 * length bytes.now }
+{
+    let (words, rest) = bytes.as_chunks::<8>();
+    unset_in_words(words) + unset_in_bytes(rest)
+}
+
+// How many bits of the words aren't set.
+fn unset_in_words(words: &[[u8; 8]]) -> usize
+    requires { 64 * length words.now < 2 ^ 64 }
+    ensures count { result ≡ sum_by (λ word. unset_along (has_bit word) 0 64) words.now }
+    ensures bound { result ≤ 64 * length words.now }
+{
+    let mut count = 0;
+    for word in words {
+        count += unset_in_word(*word);
+    }
+    count
+}
+
+// How many bits of the eight bytes aren't set, which a machine counts in one step.
+fn unset_in_word(word: [u8; 8]) -> usize
+    ensures count { result ≡ unset_along (has_bit word) 0 64 }
+    ensures bound { result ≤ 64 }
+{
+    u64::from_le_bytes(word).count_zeros() as usize
+}
+
+// How many bits of the bytes aren't set, byte by byte.
+fn unset_in_bytes(bytes: &[u8]) -> usize
     requires { 8 * length bytes.now < 2 ^ 64 }
     ensures count { result ≡ unset_along (has_bit bytes.now) 0 (8 * length bytes.now) }
     ensures bound { result ≤ 8 * length bytes.now }

@@ -3,8 +3,8 @@ use Rattle.std.specs.Str.{IsUtf8}
 use Rattle.lower_flat.proofs.TextRuns.{first_in, ascii_texts, front_texts, front_utf8, front_cut}
 use Rattle.lower_flat.proofs.texts.are_texts.Goals as goal
 
-pub returns-then-is_ascii : goal.returns-then-is_ascii
-returns-then-is_ascii g c =
+pub returns-then-are_ascii : goal.returns-then-are_ascii
+returns-then-are_ascii g c =
     let t = ascii_texts c.args.offsets.now c.args.values.now c.last.result c.last.ensures.offsets c.last.ensures.value c.requires (search rules) in
     (λ yes. t, λ texts. search rules)
 
