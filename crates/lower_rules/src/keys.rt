@@ -171,12 +171,33 @@ impl DictionaryKey for u64 {
     }
 }
 
-// Whether each key that is not null is a place among `len` values.
+// Whether each key that is not null is a place among `len` values. Mostly all are, the null ones too, and that is told faster.
 fn keys_fit<K: DictionaryKey>(keys: &PrimitiveArray<K>, len: usize) -> bool
     ensures { IsTrue result ↔ KeysFit keys.now.validity (map K.integer keys.now.values) len }
 {
+    are_places(keys.values().as_slice(), len) || valid_keys_fit(keys, len)
+}
+
+// Whether each key is a place among `len` values. Those that aren't are counted, without an early exit, so that no key costs a branch.
+fn are_places<K: DictionaryKey>(keys: &[K], len: usize) -> bool
+    ensures { IsTrue result ↔ KeysFit None (map K.integer keys.now) len }
+{
+    let mut others = 0usize;
     for index in 0..keys.len() {
-        if keys.is_valid(index) && !is_place(keys, index, len) {
+        if !is_place(keys, index, len) {
+            others += 1;
+        }
+    }
+    others == 0
+}
+
+// Whether each key that is not null is a place among `len` values: one by one.
+fn valid_keys_fit<K: DictionaryKey>(keys: &PrimitiveArray<K>, len: usize) -> bool
+    ensures { IsTrue result ↔ KeysFit keys.now.validity (map K.integer keys.now.values) len }
+{
+    let values = keys.values().as_slice();
+    for index in 0..values.len() {
+        if keys.is_valid(index) && !is_place(values, index, len) {
             return false;
         }
     }
@@ -184,11 +205,11 @@ fn keys_fit<K: DictionaryKey>(keys: &PrimitiveArray<K>, len: usize) -> bool
 }
 
 // Whether the key at `index` is a place among `len` values.
-fn is_place<K: DictionaryKey>(keys: &PrimitiveArray<K>, index: usize, len: usize) -> bool
-    requires { index < length keys.now.values }
-    ensures { IsTrue result ↔ KeyFits (get_or (map K.integer keys.now.values) index (pos 0)) len }
+fn is_place<K: DictionaryKey>(keys: &[K], index: usize, len: usize) -> bool
+    requires { index < length keys.now }
+    ensures { IsTrue result ↔ KeyFits (get_or (map K.integer keys.now) index (pos 0)) len }
 {
-    match keys.values().as_slice()[index].to_usize() {
+    match keys[index].to_usize() {
         None => false,
         Some(place) => place < len,
     }

@@ -1,6 +1,6 @@
 use Rattle.std.proofs.Common.{rules, below_more}
-use Rattle.lower_rules.proofs.keys.keys_fit.Goals as goal
-use Rattle.lower_rules.proofs.keys.keys_fit.Goals.{else-is_valid-via-then-is_valid+else-not-is_place, else-is_valid-via-else-is_valid}
+use Rattle.lower_rules.proofs.keys.valid_keys_fit.Goals as goal
+use Rattle.lower_rules.proofs.keys.valid_keys_fit.Goals.{else-is_valid-via-then-is_valid+else-not-is_place, else-is_valid-via-else-is_valid}
 
 pub loop-index-preserved : goal.loop-index-preserved
 loop-index-preserved g c =
