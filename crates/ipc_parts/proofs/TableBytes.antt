@@ -87,16 +87,13 @@ tails-whole (x ∷ rest) =
 pub table-whole : (slots : List Slot) → length (table_bytes slots) % 8 ≡ 0
 table-whole slots = omega (arith, length-table slots, tails-whole slots)
 
-pub table-done : (bytes tail out : List ℕ) (slots : List Slot) (i entry : ℕ) → length slots ≤ i → entry ≡ vtable_size (length slots)
-    → bytes ++ numbers (length tail) (drop i slots) ≡ (vtable_bytes slots ++ le 8 entry) ++ numbers 0 slots
-    → tail ++ tails (drop i slots) ≡ tails slots → out ≡ bytes ++ tail → out ≡ table_bytes slots
+-- a table's bytes, one run after the other
+pub table-done : (head placed numbered out : List ℕ) (slots : List Slot) (entry : ℕ) → head ≡ vtable_bytes slots → entry ≡ vtable_size (length slots)
+    → placed ≡ head ++ le 8 entry → numbered ≡ placed ++ numbers 0 slots → out ≡ numbered ++ tails slots → out ≡ table_bytes slots
 unfolding table_bytes
-table-done bytes tail out slots i entry h at e f g =
+table-done head placed numbered out slots entry first at second third last =
     let v = vtable_size (length slots) in
-    let nil = drop_all i slots h in
-    let first = sym (append-nil bytes) ∙ ap (λ (r : List Slot). bytes ++ numbers (length tail) r) (sym nil) ∙ e in
-    let second = sym (append-nil tail) ∙ ap (λ (r : List Slot). tail ++ tails r) (sym nil) ∙ f in
-    g ∙ ap (λ (r : List ℕ). r ++ tail) first ∙ ap (λ (r : List ℕ). ((vtable_bytes slots ++ le 8 entry) ++ numbers 0 slots) ++ r) second
-    ∙ ap (λ (n : ℕ). ((vtable_bytes slots ++ le 8 n) ++ numbers 0 slots) ++ tails slots) at
+    let begun : placed ≡ vtable_bytes slots ++ le 8 v = second ∙ ap (λ (r : List ℕ). r ++ le 8 entry) first ∙ ap (λ (n : ℕ). vtable_bytes slots ++ le 8 n) at in
+    last ∙ ap (λ (r : List ℕ). r ++ tails slots) third ∙ ap (λ (r : List ℕ). (r ++ numbers 0 slots) ++ tails slots) begun
     ∙ append_assoc (vtable_bytes slots ++ le 8 v) (numbers 0 slots) (tails slots)
     ∙ append_assoc (vtable_bytes slots) (le 8 v) (numbers 0 slots ++ tails slots)

@@ -1,11 +1,10 @@
--- What has been written when the loop over a vector's parts ends.
-use Rattle.std.proofs.Common.{◌≡◌, ℕ, ◌%◌, ◌≤◌, List, [], ◌∷◌, ◌++◌, length, drop, refl, sym, ap, ◌∙◌, arith, length-append, append_assoc}
-use Rattle.std.proofs.lemmas.List.{length-replicate, drop_all}
+-- The bytes of a vector of parts: how many they are, and the runs that they are written in.
+use Rattle.std.proofs.Common.{◌≡◌, ℕ, ◌%◌, List, [], ◌∷◌, ◌++◌, length, refl, ap, ◌∙◌, arith, length-append, append_assoc}
+use Rattle.std.proofs.lemmas.List.{length-replicate}
 use Rattle.ipc_parts.specs.declared.build.Built.{Built}
 use Rattle.ipc_parts.specs.Pads.{le, short, zeros}
 use Rattle.ipc_parts.specs.Parts.{gap_after, joined, offsets, vector_bytes}
 use Rattle.ipc_parts.proofs.Lengths.{length-le}
-use Rattle.ipc_parts.proofs.TableBytes.{append-nil}
 use Rattle.ipc_parts.proofs.VectorLengths.{length-offsets}
 
 joined-whole : (parts : List Built) → length (joined parts) % 8 ≡ 0
@@ -30,15 +29,14 @@ vector-whole parts =
       joined-whole parts,
     )
 
-pub vector-done : (bytes tail filled out : List ℕ) (parts : List Built) (i : ℕ) → length parts ≤ i
-    → bytes ++ offsets (gap_after parts) (length tail) (drop i parts) ≡ le 4 (short (length parts)) ++ offsets (gap_after parts) 0 parts
-    → tail ++ joined (drop i parts) ≡ joined parts → filled ≡ bytes ++ zeros (gap_after parts) → out ≡ filled ++ tail → out ≡ vector_bytes parts
+-- a vector's bytes, one run after the other
+pub vector-done : (fresh counted offered filled out : List ℕ) (parts : List Built) (count gap : ℕ) → fresh ≡ [] → count ≡ short (length parts) → gap ≡ gap_after parts
+    → counted ≡ fresh ++ le 4 count → offered ≡ counted ++ offsets gap 0 parts → filled ≡ offered ++ zeros gap → out ≡ filled ++ joined parts → out ≡ vector_bytes parts
 unfolding vector_bytes
-vector-done bytes tail filled out parts i h e f g k =
-    let gap = gap_after parts in
-    let nil = drop_all i parts h in
-    let first = sym (append-nil bytes) ∙ ap (λ (r : List Built). bytes ++ offsets gap (length tail) r) (sym nil) ∙ e in
-    let second = sym (append-nil tail) ∙ ap (λ (r : List Built). tail ++ joined r) (sym nil) ∙ f in
-    let head = le 4 (short (length parts)) ++ offsets gap 0 parts in
-    k ∙ ap (λ (r : List ℕ). r ++ tail) g ∙ ap (λ (r : List ℕ). (r ++ zeros gap) ++ tail) first ∙ ap (λ (r : List ℕ). (head ++ zeros gap) ++ r) second
-    ∙ append_assoc head (zeros gap) (joined parts)
+vector-done fresh counted offered filled out parts count gap none few at first second third last =
+    let n = gap_after parts in
+    let head = le 4 (short (length parts)) ++ offsets n 0 parts in
+    let begun : counted ≡ le 4 (short (length parts)) = first ∙ ap (λ (r : List ℕ). r ++ le 4 count) none ∙ ap (λ (k : ℕ). le 4 k) few in
+    let led : offered ≡ head = second ∙ ap (λ (r : List ℕ). r ++ offsets gap 0 parts) begun ∙ ap (λ (k : ℕ). le 4 (short (length parts)) ++ offsets k 0 parts) at in
+    last ∙ ap (λ (r : List ℕ). r ++ joined parts) third ∙ ap (λ (r : List ℕ). (r ++ zeros gap) ++ joined parts) led ∙ ap (λ (k : ℕ). (head ++ zeros k) ++ joined parts) at
+    ∙ append_assoc head (zeros n) (joined parts)

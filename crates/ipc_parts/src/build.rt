@@ -1,6 +1,7 @@
 //! Parts of a message as bytes.
-ghost use Rattle.std.specs.Prelude.{◌≡◌, ◌<◌, ◌%◌, ◌^◌, ◌++◌, ◌+◌, OnOk, length};
+ghost use Rattle.std.specs.Prelude.{◌≡◌, ◌<◌, ◌%◌, ◌^◌, ◌++◌, ◌+◌, IfOk, OnOk, length};
 ghost use Rattle.ipc_parts.specs.Pads.{le, padded, short, zeros};
+ghost use Rattle.ipc_parts.specs.Sizes.{whole};
 
 use std::alloc::AllocError;
 
@@ -30,6 +31,29 @@ pub(crate) fn short(n: usize) -> u32
     ensures { result ≡ short n }
 {
     n.min(u32::MAX as usize) as u32
+}
+
+// A length up to the next multiple of 8.
+pub(crate) fn whole(len: usize) -> usize
+    requires { len < 2 ^ 63 + 8 }
+    ensures { result ≡ whole len }
+{
+    len + (8 - len % 8) % 8
+}
+
+// The length of two runs of bytes together. No vector holds 2^63 bytes, so there is no memory for such
+// a length.
+pub(crate) fn together(len: usize, more: usize) -> Result<usize, AllocError>
+    requires len { len < 2 ^ 63 }
+    requires more { more < 2 ^ 63 }
+    ensures value { IfOk result (λ sum. sum ≡ len + more) }
+    ensures small { IfOk result (λ sum. sum < 2 ^ 63) }
+{
+    let sum = len + more;
+    if sum > isize::MAX as usize {
+        return Err(AllocError);
+    }
+    Ok(sum)
 }
 
 // Adds a number of 16 bits, the lowest byte first.
@@ -65,8 +89,8 @@ pub(crate) fn pad(bytes: &mut Vec<u8>) -> Result<(), AllocError>
     ensures items { OnOk result (bytes.new.items ≡ padded bytes.old.items) }
     ensures whole { OnOk result (length bytes.new.items % 8 ≡ 0) }
 {
-    let len = bytes.len();
-    bytes.resize(len + (8 - len % 8) % 8, 0)
+    let len = whole(bytes.len());
+    bytes.resize(len, 0)
 }
 
 pub(crate) fn put_zeros(bytes: &mut Vec<u8>, count: usize) -> Result<(), AllocError>

@@ -1,7 +1,8 @@
 //! The parts of a message in Arrow's metadata as bytes: texts, vectors and tables.
 //!
 //! A part is built from the parts that it leads to. Its bytes may stand at any multiple of 8, since
-//! offsets count from where they stand, so nothing is measured ahead and nothing is patched.
+//! offsets count from where they stand, so nothing is patched. How many they are is counted first:
+//! each part is one vector, allocated once, into which the parts below are copied once.
 #![tactic(auto)]
 
 mod build;

@@ -16,7 +16,7 @@ const MAX_LEN: usize = 0x7FFF_FFFF;
 fn rooted(alloc: Global, root: &Built) -> Result<Vec<u8>, AllocError>
     ensures { IfOk result (λ bytes. bytes.items ≡ le 8 (8 + root.now.entry) ++ root.now.bytes.items) }
 {
-    let mut bytes = Vec::new(alloc);
+    let mut bytes = Vec::with_capacity(alloc, 8 + root.bytes.len())?;
     put_u64(&mut bytes, (8 + root.entry) as u64)?;
     bytes.extend_from_slice(&root.bytes)?;
     Ok(bytes)

@@ -1,9 +1,9 @@
 //! Tables as bytes.
 ghost use Rattle.std.specs.Prelude.{◌≡◌, ◌<◌, ◌^◌, ◌++◌, ◌+◌, IfOk, OnOk, length};
-ghost use Rattle.ipc_parts.specs.Parts.{AreSlots, IsPart, entry_of, number_in, tail_of, vtable_bytes};
+ghost use Rattle.ipc_parts.specs.Parts.{AreSlots, IsPart, entry_of, number_in, numbers, tail_of, tails, vtable_bytes};
 ghost use Rattle.ipc_parts.specs.Tree.{Slots, table};
 
-use crate::build::{Built, Slot, pad, put_u16, put_u64};
+use crate::build::{Built, Slot, pad, put_u16, put_u64, together, whole};
 use std::alloc::{AllocError, Global};
 
 fn entry_of(index: usize, slot: &Slot) -> u16
@@ -16,12 +16,12 @@ fn entry_of(index: usize, slot: &Slot) -> u16
     }
 }
 
-// The vtable, up to the next multiple of 8.
-fn vtable(alloc: Global, slots: &[Slot]) -> Result<Vec<u8>, AllocError>
+// The vtable, up to the next multiple of 8, with room for `capacity` bytes in all.
+fn vtable(alloc: Global, capacity: usize, slots: &[Slot]) -> Result<Vec<u8>, AllocError>
     requires { length slots.now < 1000 }
     ensures { IfOk result (λ v. v.items ≡ vtable_bytes slots.now) }
 {
-    let mut bytes = Vec::new(alloc);
+    let mut bytes = Vec::with_capacity(alloc, capacity)?;
     put_u16(&mut bytes, (4 + 2 * slots.len()) as u16)?;
     put_u16(&mut bytes, (8 + 8 * slots.len()) as u16)?;
     for (i, slot) in slots.iter().enumerate() {
@@ -36,17 +36,51 @@ pub fn table(alloc: Global, slots: &[Slot]) -> Result<Built, AllocError>
     requires { length slots.now < 1000 }
     ensures { (xs : Slots) → AreSlots slots.now xs → IfOk result (λ built. IsPart built (table xs)) }
 {
-    let mut bytes = vtable(alloc, slots)?;
+    let tails = tails_len(slots)?;
+    let len = whole(4 + 2 * slots.len()) + 8 + 8 * slots.len() + tails;
+    let mut bytes = vtable(alloc, len, slots)?;
     let entry = bytes.len();
     put_u64(&mut bytes, entry as u64)?;
-    let mut tail: Vec<u8> = Vec::new(alloc);
-    for (i, slot) in slots.iter().enumerate() {
-        let ahead = 8 * (slots.len() - i) + tail.len();
-        put_u64(&mut bytes, number_in(ahead, slot))?;
-        put_tail(&mut tail, slot)?;
-    }
-    bytes.append(&mut tail)?;
+    put_numbers(&mut bytes, slots)?;
+    put_tails(&mut bytes, slots)?;
     Ok(Built { bytes, entry })
+}
+
+// How many bytes the parts take that the slots lead to.
+fn tails_len(slots: &[Slot]) -> Result<usize, AllocError>
+    ensures value { IfOk result (λ len. len ≡ length (tails slots.now)) }
+    ensures small { IfOk result (λ len. len < 2 ^ 63) }
+{
+    let mut len = 0;
+    for slot in slots {
+        len = together(len, tail_len(slot))?;
+    }
+    Ok(len)
+}
+
+fn tail_len(slot: &Slot) -> usize
+    ensures value { result ≡ length (tail_of slot.now) }
+    ensures small { result < 2 ^ 63 }
+{
+    match slot {
+        Slot::Absent | Slot::Number(_) => 0,
+        Slot::Offset(part) => part.bytes.len(),
+    }
+}
+
+fn put_numbers(bytes: &mut Vec<u8>, slots: &[Slot]) -> Result<(), AllocError>
+    requires few { length slots.now < 1000 }
+    requires small { length (tails slots.now) < 2 ^ 63 }
+    ensures { OnOk result (bytes.new.items ≡ bytes.old.items ++ numbers 0 slots.now) }
+{
+    // How many bytes the parts of the earlier slots take.
+    let mut before = 0;
+    for (i, slot) in slots.iter().enumerate() {
+        let ahead = 8 * (slots.len() - i) + before;
+        put_u64(bytes, number_in(ahead, slot))?;
+        before += tail_len(slot);
+    }
+    Ok(())
 }
 
 // The number in a slot, whose part stands `ahead` bytes after it.
@@ -61,11 +95,20 @@ fn number_in(ahead: usize, slot: &Slot) -> u64
     }
 }
 
-fn put_tail(tail: &mut Vec<u8>, slot: &Slot) -> Result<(), AllocError>
-    ensures { OnOk result (tail.new.items ≡ tail.old.items ++ tail_of slot.now) }
+fn put_tails(bytes: &mut Vec<u8>, slots: &[Slot]) -> Result<(), AllocError>
+    ensures { OnOk result (bytes.new.items ≡ bytes.old.items ++ tails slots.now) }
+{
+    for slot in slots {
+        put_tail(bytes, slot)?;
+    }
+    Ok(())
+}
+
+fn put_tail(bytes: &mut Vec<u8>, slot: &Slot) -> Result<(), AllocError>
+    ensures { OnOk result (bytes.new.items ≡ bytes.old.items ++ tail_of slot.now) }
 {
     match slot {
         Slot::Absent | Slot::Number(_) => Ok(()),
-        Slot::Offset(part) => tail.extend_from_slice(&part.bytes),
+        Slot::Offset(part) => bytes.extend_from_slice(&part.bytes),
     }
 }

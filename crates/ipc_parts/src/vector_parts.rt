@@ -1,10 +1,10 @@
 //! Texts and vectors as bytes.
-ghost use Rattle.std.specs.Prelude.{ℕ, ◌≡◌, ◌<◌, ◌%◌, ◌^◌, ◌+◌, ◌*◌, IfOk, length};
+ghost use Rattle.std.specs.Prelude.{ℕ, ◌≡◌, ◌<◌, ◌%◌, ◌^◌, ◌++◌, ◌+◌, ◌*◌, IfOk, OnOk, length};
 ghost use Rattle.ipc_parts.specs.Pads.{short};
-ghost use Rattle.ipc_parts.specs.Parts.{AreParts, IsPart, elements_bytes, gap_after, text_bytes, vector_bytes};
+ghost use Rattle.ipc_parts.specs.Parts.{AreParts, IsPart, elements_bytes, gap_after, joined, offsets, text_bytes, vector_bytes};
 ghost use Rattle.ipc_parts.specs.Tree.{Parts, elements, tables, text};
 
-use crate::build::{Built, pad, put_u32, put_zeros, short};
+use crate::build::{Built, pad, put_u32, put_zeros, short, together, whole};
 use std::alloc::{AllocError, Global};
 
 #[tactic(auto, unfolding(crate::specs::Parts::text_bytes))]
@@ -12,7 +12,7 @@ fn text_bytes(alloc: Global, content: &str) -> Result<Vec<u8>, AllocError>
     ensures items { IfOk result (λ bytes. bytes.items ≡ text_bytes content.now) }
     ensures whole { IfOk result (λ bytes. length bytes.items % 8 ≡ 0) }
 {
-    let mut bytes = Vec::new(alloc);
+    let mut bytes = Vec::with_capacity(alloc, whole(4 + content.len() + 1))?;
     put_u32(&mut bytes, short(content.len()))?;
     bytes.extend_from_slice(content.as_bytes())?;
     bytes.push(0).map_err(AllocError::from)?;
@@ -33,7 +33,7 @@ fn elements_bytes(alloc: Global, count: usize, raw: &[u8]) -> Result<Vec<u8>, Al
     ensures items { IfOk result (λ bytes. bytes.items ≡ elements_bytes count raw.now) }
     ensures whole { IfOk result (λ bytes. length bytes.items % 8 ≡ 0) }
 {
-    let mut bytes = Vec::new(alloc);
+    let mut bytes = Vec::with_capacity(alloc, whole(8 + raw.len()))?;
     put_u32(&mut bytes, 0)?;
     put_u32(&mut bytes, short(count))?;
     bytes.extend_from_slice(raw)?;
@@ -72,23 +72,53 @@ fn gap_after(parts: &[Built]) -> usize
     4 - 4 * (parts.len() % 2)
 }
 
+// How many bytes the parts take.
+fn joined_len(parts: &[Built]) -> Result<usize, AllocError>
+    ensures value { IfOk result (λ len. len ≡ length (joined parts.now)) }
+    ensures small { IfOk result (λ len. len < 2 ^ 63) }
+{
+    let mut len = 0;
+    for part in parts {
+        len = together(len, part.bytes.len())?;
+    }
+    Ok(len)
+}
+
+// The offsets to the parts, which stand behind a gap.
+fn put_offsets(bytes: &mut Vec<u8>, gap: usize, parts: &[Built]) -> Result<(), AllocError>
+    requires gap { gap < 8 }
+    requires small { length (joined parts.now) < 2 ^ 63 }
+    ensures { OnOk result (bytes.new.items ≡ bytes.old.items ++ offsets gap 0 parts.now) }
+{
+    // How many bytes the earlier parts take.
+    let mut before = 0;
+    for (i, part) in parts.iter().enumerate() {
+        put_u32(bytes, offset_to(parts.len() - i, gap + before, part.entry))?;
+        before += part.bytes.len();
+    }
+    Ok(())
+}
+
+fn put_joined(bytes: &mut Vec<u8>, parts: &[Built]) -> Result<(), AllocError>
+    ensures { OnOk result (bytes.new.items ≡ bytes.old.items ++ joined parts.now) }
+{
+    for part in parts {
+        bytes.extend_from_slice(&part.bytes)?;
+    }
+    Ok(())
+}
+
 fn vector_bytes(alloc: Global, parts: &[Built]) -> Result<Vec<u8>, AllocError>
     ensures items { IfOk result (λ bytes. bytes.items ≡ vector_bytes parts.now) }
     ensures whole { IfOk result (λ bytes. length bytes.items % 8 ≡ 0) }
 {
-    let mut bytes = Vec::new(alloc);
-    put_u32(&mut bytes, short(parts.len()))?;
     let gap = gap_after(parts);
-    let mut tail: Vec<u8> = Vec::new(alloc);
-    for (i, part) in parts.iter().enumerate() {
-        put_u32(
-            &mut bytes,
-            offset_to(parts.len() - i, gap + tail.len(), part.entry),
-        )?;
-        tail.extend_from_slice(&part.bytes)?;
-    }
+    let len = 4 + 4 * parts.len() + gap + joined_len(parts)?;
+    let mut bytes = Vec::with_capacity(alloc, len)?;
+    put_u32(&mut bytes, short(parts.len()))?;
+    put_offsets(&mut bytes, gap, parts)?;
     put_zeros(&mut bytes, gap)?;
-    bytes.append(&mut tail)?;
+    put_joined(&mut bytes, parts)?;
     Ok(bytes)
 }
 

@@ -20,6 +20,10 @@ pub(crate) trait Element: Copy + Drop {
     // The bytes of one.
     ghost spelt: { Self → List ℕ };
 
+    // How many bytes one has.
+    fn len() -> usize
+        ensures { result ≡ size };
+
     // Adds the bytes of one.
     fn put(self, bytes: &mut Vec<u8>) -> Result<(), AllocError>
         ensures { OnOk result (bytes.new.items ≡ bytes.old.items ++ spelt self) };
@@ -34,7 +38,7 @@ pub(crate) trait Element: Copy + Drop {
 fn bytes_of<S: Element>(alloc: Global, values: &[S]) -> Result<Vec<u8>, AllocError>
     ensures { IfOk result (λ bytes. bytes.items ≡ flat_map S.spelt values.now) }
 {
-    let mut bytes = Vec::new(alloc);
+    let mut bytes = Vec::with_capacity(alloc, S::len().saturating_mul(values.len()))?;
     for value in values {
         value.put(&mut bytes)?;
     }

@@ -44,6 +44,10 @@ impl Element for Block {
 
     ghost aligned = { refl };
 
+    fn len() -> usize {
+        24
+    }
+
     // 24 bytes, of which four are unused.
     fn put(self, bytes: &mut Vec<u8>) -> Result<(), AllocError> {
         put_u64(bytes, self.offset.cast_unsigned())?;

@@ -92,6 +92,10 @@ impl Element for FieldNode {
 
     ghost aligned = { refl };
 
+    fn len() -> usize {
+        16
+    }
+
     fn put(self, bytes: &mut Vec<u8>) -> Result<(), AllocError> {
         put_u64(bytes, self.length.cast_unsigned())?;
         put_u64(bytes, self.null_count.cast_unsigned())
@@ -114,6 +118,10 @@ impl Element for Buffer {
     ghost some = { some-16 };
 
     ghost aligned = { refl };
+
+    fn len() -> usize {
+        16
+    }
 
     fn put(self, bytes: &mut Vec<u8>) -> Result<(), AllocError> {
         put_u64(bytes, self.offset.cast_unsigned())?;

@@ -127,6 +127,10 @@ impl Element for Feature {
 
     ghost aligned = { refl };
 
+    fn len() -> usize {
+        8
+    }
+
     fn put(self, bytes: &mut Vec<u8>) -> Result<(), AllocError> {
         put_u64(bytes, feature_number(self))
     }

@@ -299,6 +299,10 @@ impl Element for i32 {
 
     ghost aligned = { refl };
 
+    fn len() -> usize {
+        4
+    }
+
     fn put(self, bytes: &mut Vec<u8>) -> Result<(), AllocError> {
         put_u32(bytes, self.cast_unsigned())
     }
