@@ -142,6 +142,51 @@ fn read_pieces<T: NativeType, R: Reads>(
     Ok(numbers)
 }
 
+// The next `count` bytes, where the device shows them: they are copied once. None where it doesn't, and nothing is given then.
+fn take_shown_bytes<R: Reads>(
+    alloc: Global,
+    reader: &mut R,
+    count: usize,
+) -> Result<Option<Vec<u8>>, Fault>
+    ensures count { IfOk result (λ r. IfSome r (λ v. length v.items ≡ count)) }
+    ensures only { IfErr result (λ e. OwnFault e ⊥) }
+    ensures monotone { R.failures reader.old ≤ R.failures reader.new }
+    ensures failed { OnIo result (Rises (R.failures reader.old) (R.failures reader.new)) }
+    ensures given { R.given reader.new ≤ R.given reader.old + count }
+    ensures none { IfOk result (λ r. IsNone r → R.gives reader.old [] going reader.new) }
+    ensures idle { IfOk result (λ r. IsNone r → R.given reader.new ≤ R.given reader.old) }
+    ensures memory { IsTrue R.known → IfOk result (λ r. IfSome r (λ v.
+        (count ≤ length (after (R.memory reader.old))) × (v.items ≡ take count (after (R.memory reader.old))))) }
+    ensures whole { IsTrue R.still → (R.memory reader.new).whole ≡ (R.memory reader.old).whole }
+{
+    let Some(bytes) = reader.pass(count) else {
+        let _given = reader.given();
+        return Ok(None);
+    };
+    let copied = Vec::from_slice(alloc, bytes);
+    let _given = reader.given();
+    Ok(Some(copied?))
+}
+
+// Reads the next `count` bytes: where the device shows them by one copy, else piece by piece.
+fn read_next_bytes<R: Reads>(alloc: Global, reader: &mut R, count: usize) -> Result<Vec<u8>, Fault>
+    requires small { count < 2 ^ 63 }
+    ensures count { IfOk result (λ v. length v.items ≡ count) }
+    ensures only { IfErr result (λ e. OwnFault e (e ≡ Ended)) }
+    ensures monotone { R.failures reader.old ≤ R.failures reader.new }
+    ensures failed { OnIo result (Rises (R.failures reader.old) (R.failures reader.new)) }
+    ensures given { R.given reader.new ≤ R.given reader.old + count }
+    ensures memory { IsTrue R.known → Answers result
+        (count ≤ length (after (R.memory reader.old)))
+        (λ v. v.items ≡ take count (after (R.memory reader.old))) }
+    ensures whole { IsTrue R.still → (R.memory reader.new).whole ≡ (R.memory reader.old).whole }
+{
+    match take_shown_bytes(alloc, reader, count)? {
+        Some(bytes) => Ok(bytes),
+        None => read_bytes(alloc, reader, count),
+    }
+}
+
 // Reads `count` numbers, at least one, that stand `offset` bytes behind the place `base`.
 fn read_numbers_at<T: NativeType, R: Reads + Seeks>(
     alloc: Global,
@@ -197,7 +242,7 @@ fn read_bytes_at<R: Reads + Seeks>(
         return Err(Fault::Ended);
     };
     reader.seek_to(place)?;
-    read_bytes(alloc, reader, count)
+    read_next_bytes(alloc, reader, count)
 }
 
 // Whether `count` values of `width` bytes fit into `listed` bytes.
