@@ -61,11 +61,16 @@ pub fn plan_columns<'a>(
     ensures takes { AnswersColumns result (flat_map whole_levels (map layout_of columns.now)) }
     ensures arrays { OnOk result (AreArrays (layouts (map layout_of columns.now))) }
 {
+    // Room for columns without children, which most are: a node, two buffers and four pieces each.
+    let count = columns.len();
+    let nodes = Vec::with_capacity(alloc, count)?;
+    let buffers = Vec::with_capacity(alloc, count.saturating_mul(2))?;
+    let pieces = Vec::with_capacity(alloc, count.saturating_mul(4))?;
     let mut plan = Plan {
         order,
-        nodes: Vec::new(alloc),
-        buffers: Vec::new(alloc),
-        pieces: Vec::new(alloc),
+        nodes,
+        buffers,
+        pieces,
         end: 0,
     };
     plan_whole(&mut plan, columns)?;

@@ -194,7 +194,11 @@ pub fn read_columns<R: Reads + Seeks>(
         let ts = kinds_of (fields_view fields.now) (all_ids_view ids.now) in
         Answers result (HasColumns s ts limit js) (λ v. AreColumns s (known body.now) (fields_view fields.now) ts limit js v.items) }
 {
-    let mut columns = Vec::new(alloc);
+    let wanted = match projection {
+        None => fields.len(),
+        Some(projection) => projection.len(),
+    };
+    let mut columns = Vec::with_capacity(alloc, wanted)?;
     let mut place = Place { node: 0, buffer: 0 };
     let mut left = ids;
     for (index, field) in fields.iter().enumerate() {
@@ -230,12 +234,14 @@ pub fn read_columns<R: Reads + Seeks>(
 /// than the buffers of the chosen columns list, and the arrays hold together no more than these and one
 /// offset for each buffer of offsets that lists nothing, the values of dictionaries aside.
 ///
-/// Faults: `InvalidFlatbufferCompression`, `InvalidFlatbufferBuffers`, `InvalidFlatbufferNodes` where
-/// these slots are ill-made, `MissingMessageBuffers`, `MissingMessageNodes` where they are absent or
-/// there are fewer nodes than the columns of all fields take, `ExpectedBuffer` where there are too few
-/// buffers, `Compressed`, `NegativeFooterLength` where a length is below 0, `InvalidBuffersLength` where
-/// the buffers list more than `file_size` bytes, those of [`read_columns`], and `UnequalRows`. `Io` and
-/// `Memory` come too, and no other. The scratch memory isn't used.
+/// Faults, each `OutOfSpec`: `InvalidFlatbufferCompression`, `InvalidFlatbufferBuffers`,
+/// `InvalidFlatbufferNodes` where these slots are ill-made, `MissingMessageBuffers`,
+/// `MissingMessageNodes` where they are absent or there are fewer nodes than the columns of all fields
+/// take, `ExpectedBuffer` where there are too few buffers, `NegativeFooterLength` where a length is below
+/// 0, `InvalidBuffersLength` where the buffers list more than `file_size` bytes. Then
+/// `NotYetImplemented(Compressed)`, `Argument(UnequalRows)`, and those of [`read_columns`]. `Io` and
+/// `Memory` come too, and no other. After a fault the reader stands anywhere. The scratch memory isn't
+/// used.
 #[allow(clippy::too_many_arguments)]
 #[tactic(auto, using(crate::proofs::Refusals::batch_faults))]
 pub fn read_record_batch<R: Reads + Seeks>(

@@ -188,12 +188,12 @@ fn head_of<'a>(batch: &DictionaryBatchRef<'a>) -> Result<(i64, RecordBatchRef<'a
 /// dictionaries stay as they were. No more bytes are taken of the device than the buffers of the values list, and the array
 /// of the values holds no more than these and one offset for each buffer of offsets that lists nothing.
 ///
-/// Faults: `InvalidFlatbufferIsDelta`, `InvalidFlatbufferId`, `InvalidFlatbufferData` where these slots are ill-made,
-/// `Delta` where the values are to follow others, `InvalidId` where no field has the id, `MissingData` where there are
-/// no values; of these `InvalidFlatbufferCompression`, `InvalidFlatbufferBuffers`, `InvalidFlatbufferNodes`,
-/// `MissingMessageBuffers`, `MissingMessageNodes`, `ExpectedBuffer`, `Compressed`, `NegativeFooterLength`,
-/// `InvalidBuffersLength`, and those of their column ([`read`]). `Io` and `Memory` come too, and no other. The scratch
-/// memory isn't used.
+/// Faults, each `OutOfSpec`: `InvalidFlatbufferIsDelta`, `InvalidFlatbufferId`, `InvalidFlatbufferData` where these slots
+/// are ill-made, `InvalidId` where no field has the id, `MissingData` where there are no values; of these
+/// `InvalidFlatbufferCompression`, `InvalidFlatbufferBuffers`, `InvalidFlatbufferNodes`, `MissingMessageBuffers`,
+/// `MissingMessageNodes`, `ExpectedBuffer`, `NegativeFooterLength`, `InvalidBuffersLength`. Then `NotYetImplemented(Delta)`
+/// where the values are to follow others, `NotYetImplemented(Compressed)`, and those of their column ([`read`]). `Io` and
+/// `Memory` come too, and no other. After a fault the reader stands anywhere. The scratch memory isn't used.
 #[allow(clippy::too_many_arguments)]
 #[tactic(auto, using(crate::proofs::DictionaryMeanings::dictionary_faults))]
 pub fn read_dictionary<R: Reads + Seeks>(

@@ -7,10 +7,10 @@ use Rattle.ipc_plan.proofs.serialize.plan_columns.Goals as goal
 
 pub returns-clause-plans : goal.returns-clause-plans
 returns-clause-plans c =
-    let p : Plan = record { order = c.args.order; nodes = c.new.result; buffers = c.new-2.result; pieces = c.new-3.result; end = 0 } in
+    let p : Plan = record { order = c.args.order; nodes = c.in_ok-nodes.nodes; buffers = c.in_ok-buffers.buffers; pieces = c.in_ok-pieces.pieces; end = 0 } in
     let xs = c.args.columns.now in
     let done = c.in_ok-plan_whole.ensures in
-    plans_columns p c.plan_whole.new.plan (map layout_of xs) c.new.ensures.items c.new-2.ensures.items c.new-3.ensures.items refl (arrays_are xs done.arrays) done.grows
+    plans_columns p c.plan_whole.new.plan (map layout_of xs) c.in_ok-nodes.ensures.items c.in_ok-buffers.ensures.items c.in_ok-pieces.ensures.items refl (arrays_are xs done.arrays) done.grows
 
 pub returns-clause-arrays : goal.returns-clause-arrays
 returns-clause-arrays c = arrays_are c.args.columns.now c.in_ok-plan_whole.ensures.arrays

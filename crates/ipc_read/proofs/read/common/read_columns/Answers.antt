@@ -36,9 +36,9 @@ loop-index-init g c =
     let p : Option (List ℕ) = option_copied c.args.projection in
     let n = length fs in
     let js = chosen p n in
-    let none : c.new-columns.result.items ≡ [] = c.new-columns.ensures.items in
-    let empty : length c.new-columns.result.items ≡ 0 = ap length none in
-    let left : left_of p n (length c.new-columns.result.items) 0 ≡ js = ap (λ (m : ℕ). left_of p n m 0) empty ∙ left_all p n in
+    let none : c.in_ok-columns.columns.items ≡ [] = c.in_ok-columns.ensures.items in
+    let empty : length c.in_ok-columns.columns.items ≡ 0 = ap length none in
+    let left : left_of p n (length c.in_ok-columns.columns.items) 0 ≡ js = ap (λ (m : ℕ). left_of p n m 0) empty ∙ left_all p n in
     let e = ap (columns_listed s c.args.body.now.extra ts) left in
     let h1 = ap (columns_most s c.args.body.now.extra ts) left in
     let h2 = ap arrays_held none in
@@ -172,7 +172,7 @@ returns-in_err-column-clause-only g c =
     let here : IsChosen p m i = subst (λ (k : ℕ). IsChosen p k i) count_is (c.is_chosen.ensures.0 yes) in
     let more = left_more p n m i inside here in
     let fault = c.in_err-column.field-0.0 in
-    failing c.from_residual.result fault (λ e. OwnFault e (IsFaultOfSome ts (chosen p n) e)) c.from_residual.ensures
+    failing c.from_residual-in_err-column.result fault (λ e. OwnFault e (IsFaultOfSome ts (chosen p n) e)) c.from_residual-in_err-column.ensures
     (claims_through fault (IsFaultOf (kind_at ts i) fault) (IsFaultOfSome ts (chosen p n) fault) (fault_among ts (chosen p n) _ _ i fault more c.loop-index.invariant.among)
     (faults_there extra ts is left i place t at (omega (arith, inside, field_count fs is)) same fault c.in_err-column.ensures.only))
 
@@ -200,7 +200,7 @@ returns-in_err-column-clause-step g c =
     let e1 = ap (columns_listed s extra ts) (left_more p n m i inside here) in
     let e2 = listed_there extra ts is left i place t at (omega (arith, inside, field_count fs is)) same s in
     step_err g.R.Failures.still g.R.Failures.memory g.R.Failures.failures g.R.Failures.given c.args.body.now _ _ c.args.reader.now c.loop-index.reader c.read.new.reader c.in_err-column.field-0.0
-    c.from_residual.result c.from_residual.ensures c.loop-index.invariant.monotone (omega (arith, e1, e2, c.loop-index.invariant.given)) c.in_err-column.ensures.step
+    c.from_residual-in_err-column.result c.from_residual-in_err-column.ensures c.loop-index.invariant.monotone (omega (arith, e1, e2, c.loop-index.invariant.given)) c.in_err-column.ensures.step
 
 pub returns-in_err-column-clause-memory : goal.returns-in_err-column-clause-memory
 returns-in_err-column-clause-memory g c = λ k.
@@ -234,7 +234,7 @@ returns-in_err-column-clause-memory g c = λ k.
     (one_on s vs (fields_view fs) ts limit (chosen p n) _ _ c.loop-index.columns.items i more (c.loop-index.invariant.content k) h))
     (c.in_err-column.ensures.memory k)
     in
-    refused c.from_residual.result fault _ _ c.from_residual.ensures denied
+    refused c.from_residual-in_err-column.result fault _ _ c.from_residual-in_err-column.ensures denied
 
 pub returns-in_err-push-clause-step : goal.returns-in_err-push-clause-step
 returns-in_err-push-clause-step g c =
