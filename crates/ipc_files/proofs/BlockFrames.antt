@@ -1,5 +1,5 @@
 -- What a prefix states, and the metadata behind it.
-use Rattle.std.proofs.Common.{◌≡◌, ◌≢◌, ℕ, ◌<◌, ◌≤◌, ◌^◌, ◌==◌, nat_lt, true, false, Bool, cond, List, length, take, drop, None, Some, Result, Ok, Err, OnOk, refl, sym, ap, ◌∙◌, arith, inl, inr, eq-eqb, Option}
+use Rattle.std.proofs.Common.{◌≡◌, ◌≢◌, ℕ, ◌<◌, ◌≤◌, ◌^◌, ◌==◌, nat_lt, true, false, Bool, cond, List, length, take, drop, None, Some, Result, Ok, Err, OnOk, refl, sym, ap, ◌∙◌, arith, inl, inr, eq-eqb}
 use Rattle.std.proofs.lemmas.Bool.{cases_lt, eqb-true, ne_eqb, le-ltb, lt-ltb}
 use Rattle.ipc_devices.specs.Device.{Memory, GoesTo, after}
 use Rattle.ipc_devices.specs.Faults.{OwnFault, Answers}
@@ -74,13 +74,6 @@ pub second-number : (xs ys : List ℕ) (r : Result ℕ Fault) → ys ≡ drop 4 
 second-number xs ys (Ok n) behind long is read = newer-number xs n long is (rw (← behind) read.0) (read.1 ∙ ap word behind)
 second-number xs ys (Err e) behind long is read =
     claims_through e _ _ (λ short. no-newer-number xs long is (is-not 4 (length (drop 4 xs)) (λ far. short (rw behind far)))) read
-
--- no number was read where one is stated
-pub unstated : (e f : Fault) (o : Option ℕ) (n : ℕ) → OwnFault e (o ≡ None) → o ≡ Some n → OwnFault e (e ≡ f)
-unstated e f o n h is = claims_through e _ _ (λ none. let no : None ≡ Some n = sym none ∙ is in absurd cc) h
-
-pub stated-once : (o : Option ℕ) (m n : ℕ) → o ≡ Some m → o ≡ Some n → m ≡ n
-stated-once o m n e f = let both : Some m ≡ Some n = sym e ∙ f in cc
 
 -- the bytes at a place
 pub gone-to : (m m' : Memory) (n : ℕ) → GoesTo m m' n → after m' ≡ drop n m.whole

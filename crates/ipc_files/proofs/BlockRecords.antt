@@ -1,5 +1,5 @@
 -- The record batch at a block.
-use Rattle.std.proofs.Common.{◌^◌, ◌≤◌, ◌≡◌, ℕ, List, [], drop, Option, None, Some, Result, Ok, Err, OnOk, refl, sym, ap, subst, ◌∙◌}
+use Rattle.std.proofs.Common.{◌≡◌, ℕ, List, [], drop, Option, None, Some, Result, Ok, Err, OnOk, refl, sym, ap, subst, ◌∙◌}
 use Rattle.std.specs.Prelude.{slice_get}
 use Rattle.std.specs.Option.{option_and_then}
 use Rattle.lower.specs.declared.datatypes.Field.{Field}
@@ -19,8 +19,8 @@ use Rattle.ipc_files.specs.declared.read.file.block.BlockMessage.{BlockMessage}
 use Rattle.ipc_files.specs.declared.read.file.block.BlockPlace.{BlockPlace}
 use Rattle.ipc_files.specs.declared.read.file.metadata.FileMetadata.{FileMetadata}
 use Rattle.ipc_model.specs.Schemas.{given}
-use Rattle.ipc_files.specs.Batches.{HasNegativeLength, block_metadata, needed_record}
-use Rattle.ipc_files.specs.Blocks.{message_seen, place_seen, prefix_of, stated_metadata}
+use Rattle.ipc_files.specs.Batches.{block_metadata, needed_record}
+use Rattle.ipc_files.specs.Blocks.{message_seen, place_seen, stated_metadata}
 use Rattle.ipc_files.specs.Footers.{GivesPart, file_seen}
 use Rattle.ipc_read.specs.Chunks.{GivesBatch, batch_schema, chunk_seen}
 use Rattle.ipc_files.proofs.BlockHeaders.{no-header}
@@ -130,17 +130,3 @@ module _ (blocks : List Block) (i : ℕ) (b : Block) (listed : slice_get blocks 
 
   pub has-place : {P : Type 0} (p : BlockPlace) → placed b ≡ Some (place_seen p) → option_and_then placed (slice_get blocks i) ≡ None → P
   has-place p stands none = let no : Some (place_seen p) ≡ None = sym stands ∙ sym (ap (option_and_then placed) listed) ∙ none in absurd cc
-
-  -- a block without a place states nothing
-  pub refused-unplaced : (source : List ℕ) (e f : Fault) → OwnFault e (placed b ≡ None) → HasNegativeLength source (slice_get blocks i) → OwnFault e (e ≡ f)
-  refused-unplaced source e f h n =
-      claims_through e _ _ (λ none.
-      let same : b ≡ n.block = let e : Some b ≡ Some n.block = sym listed ∙ n.listed in cc in
-      let no : None ≡ Some n.place = sym none ∙ ap placed same ∙ n.stands in absurd cc) h
-
-  pub states-below-0 : {P : Type 0} (source : List ℕ) (p : BlockPlace) → placed b ≡ Some (place_seen p)
-      → ((n : ℕ) → prefix_of (drop p.message source) ≡ Some n → 2 ^ 31 ≤ n → P) → HasNegativeLength source (slice_get blocks i) → P
-  states-below-0 source p stands f n =
-      let same : b ≡ n.block = let e : Some b ≡ Some n.block = sym listed ∙ n.listed in cc in
-      let place : n.place ≡ place_seen p = let e : Some n.place ≡ Some (place_seen p) = sym n.stands ∙ sym (ap placed same) ∙ stands in cc in
-      f n.number (ap (λ (q : Placed). prefix_of (drop q.message source)) (sym place) ∙ n.stated) n.below

@@ -1,8 +1,10 @@
+pub mod BlockFaults
 pub mod BlockFrames
 pub mod BlockHeaders
 pub mod BlockMeanings
 pub mod BlockRecords
 pub mod BlockDictionaries
+pub mod FirstRefused
 pub mod KnownAlike
 pub mod Openings
 pub mod Tails

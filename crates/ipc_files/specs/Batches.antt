@@ -1,6 +1,6 @@
 -- What reading the record batch at a block answers.
 -- (Arrow columnar format, "IPC File Format" and "RecordBatch message".)
-use Rattle.std.specs.Prelude.{◌≡◌, ◌⊎◌, ℕ, ◌+◌, ◌^◌, ◌≤◌, List, length, drop, Option, None, Some, Result, Ok, Err}
+use Rattle.std.specs.Prelude.{◌≡◌, ◌⊎◌, ℕ, ◌+◌, List, length, Option, None, Some, IsSomeAnd, Result, Ok, Err}
 use Rattle.std.specs.Option.{option_and_then}
 use Rattle.lower_arrays.specs.declared.array.AnyArray.{AnyArray}
 use Rattle.ipc_devices.specs.declared.fault.Fault.{Fault}
@@ -11,10 +11,10 @@ use Rattle.ipc_views.specs.declared.file.Block.{Block}
 use Rattle.ipc_views.specs.declared.message.MessageHeaderRef.{MessageHeaderRef}
 use Rattle.ipc_views.specs.declared.message.MessageHeaderRef.TheVariants.{RecordBatch}
 use Rattle.ipc_model.specs.Batches.{lists_of}
-use Rattle.ipc_model.specs.Files.{BlockHeader, Placed, block_header, metadata_at, placed}
+use Rattle.ipc_model.specs.Files.{BlockHeader, block_header, metadata_at, placed}
 use Rattle.ipc_model.specs.Kinds.{Kinds}
 use Rattle.ipc_model.specs.Schemas.{given}
-use Rattle.ipc_files.specs.Blocks.{IsFrameFault, IsHeaderFault, prefix_of}
+use Rattle.ipc_files.specs.Blocks.{IsFrameFault, IsHeaderFault, MessageReason, block_message}
 use Rattle.ipc_read.specs.HeldChunks.{HoldChosen}
 use Rattle.ipc_read.specs.Refusals.{IsFaultOfBatch}
 use Rattle.ipc_read.specs.Sizes.{chosen_listed}
@@ -27,16 +27,6 @@ needed_record _ = Err (OutOfSpec UnexpectedMessageType)
 -- the metadata of the message at a block of a file
 abbrev pub block_metadata : List ℕ → Option Block → Option (List ℕ)
 block_metadata source b = option_and_then (λ x. given (placed x) (metadata_at source)) b
-
--- The message at a block states a length below 0.
-pub record HasNegativeLength (source : List ℕ) (b : Option Block) : Type 0 where
-  pub block : Block
-  pub listed : b ≡ Some block
-  pub place : Placed
-  pub stands : placed block ≡ Some place
-  pub number : ℕ
-  pub stated : prefix_of (drop place.message source) ≡ Some number
-  pub below : 2 ^ 31 ≤ number
 
 -- ---- how many bytes are needed
 
@@ -68,3 +58,7 @@ abbrev pub IsRecordFault : Kinds → List ℕ → Fault → Type 0
 IsRecordFault ts js e =
     (e ≡ OutOfSpec NegativeFooterLength) ⊎ (IsFrameFault UnexpectedNegativeInteger e ⊎ (IsHeaderFault e
     ⊎ ((e ≡ OutOfSpec UnexpectedMessageType) ⊎ IsFaultOfBatch ts js e)))
+
+-- why a block of a record is refused: its message, which has the tag 3, or its batch
+abbrev pub RecordReason : Kinds → List ℕ → List ℕ → Option Block → Fault → Type 0
+RecordReason ts js source b e = IsSomeAnd b (λ x. MessageReason (block_message 3 NegativeFooterLength UnexpectedNegativeInteger source x) (IsFaultOfBatch ts js) e)

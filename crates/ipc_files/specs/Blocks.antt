@@ -1,20 +1,21 @@
 -- What reading a file's block answers: its message, and what refuses it.
 -- (Arrow columnar format, "IPC File Format" and "Encapsulated message format"; Message.fbs.)
-use Rattle.std.specs.Prelude.{◌≡◌, ◌⊎◌, ◌==◌, ℕ, nat_lt, if◌then◌else◌, List, [], length, drop, Option, Some, None, Result, Ok, Err}
+use Rattle.std.specs.Prelude.{◌≡◌, ◌⊎◌, ◌==◌, ℕ, ◌^◌, nat_eq, nat_lt, if◌then◌else◌, List, [], length, drop, Option, Some, None, ok_or, Result, Ok, Err}
 use Rattle.ipc_devices.specs.Faults.{OwnFault}
 use Rattle.ipc_devices.specs.declared.fault.Fault.{Fault}
 use Rattle.ipc_devices.specs.declared.fault.Fault.TheVariants.{Ended, OutOfSpec}
 use Rattle.ipc_devices.specs.declared.fault.OutOfSpecKind.{OutOfSpecKind}
-use Rattle.ipc_devices.specs.declared.fault.OutOfSpecKind.TheVariants.{InvalidFlatbufferMessage, MissingMessageHeader, InvalidFlatbufferHeader, InvalidFlatbufferVersion}
+use Rattle.ipc_devices.specs.declared.fault.OutOfSpecKind.TheVariants.{InvalidFlatbufferMessage, MissingMessageHeader, InvalidFlatbufferHeader, InvalidFlatbufferVersion, UnexpectedMessageType}
 use Rattle.ipc_devices.specs.declared.fault.TableFault.{TableFault}
 use Rattle.ipc_views.specs.MessageSlots.{message_header, message_version}
 use Rattle.ipc_views.specs.Spot.{Spot}
 use Rattle.ipc_views.specs.Tables.{root_at}
 use Rattle.ipc_views.specs.Unions.{header_parts}
+use Rattle.ipc_views.specs.declared.file.Block.{Block}
 use Rattle.ipc_views.specs.declared.schema.MetadataVersion.{MetadataVersion}
 use Rattle.ipc_model.specs.Batches.{extra_of}
-use Rattle.ipc_model.specs.Files.{BlockHeader, Placed}
-use Rattle.ipc_model.specs.Frame.{Frame, message, mark, waiting, broken, sized, word}
+use Rattle.ipc_model.specs.Files.{BlockHeader, Placed, placed}
+use Rattle.ipc_model.specs.Frame.{Frame, message, mark, waiting, broken, frame, sized, word}
 use Rattle.ipc_files.specs.declared.read.file.block.BlockMessage.{BlockMessage}
 use Rattle.ipc_files.specs.declared.read.file.block.BlockPlace.{BlockPlace}
 
@@ -42,14 +43,14 @@ prefix_of bytes =
     else if word bytes == 0xFFFF_FFFF then (if nat_lt (length (drop 4 bytes)) 4 then None else Some (word (drop 4 bytes)))
     else Some (word bytes)
 
--- The answer is this fault, or memory's or a device's.
-abbrev pub IsRefused : {X : Type 0} → Fault → Result X Fault → Type 0
-IsRefused f (Ok x) = ⊥
-IsRefused f (Err e) = OwnFault e (e ≡ f)
-
 -- of a frame: less bytes than stated, or a length below 0, which has the name that is handed
 abbrev pub IsFrameFault : OutOfSpecKind → Fault → Type 0
 IsFrameFault negative e = (e ≡ Ended) ⊎ (e ≡ OutOfSpec negative)
+
+-- of one that isn't there: the prefix states a length below 0, or less bytes follow than it states, or there is no prefix
+abbrev pub frame_fault : OutOfSpecKind → Option ℕ → Fault
+frame_fault negative (Some n) = if nat_lt n (2 ^ 31) then Ended else OutOfSpec negative
+frame_fault negative None = Ended
 
 -- ---- the header
 
@@ -94,3 +95,30 @@ IsHeaderFault (OutOfSpec MissingMessageHeader) = Unit {0}
 IsHeaderFault (OutOfSpec (InvalidFlatbufferHeader e)) = Unit {0}
 IsHeaderFault (OutOfSpec (InvalidFlatbufferVersion e)) = Unit {0}
 IsHeaderFault _ = ⊥
+
+-- ---- the message at a block, or why it is refused
+
+-- what comes of a value, or the fault in its place
+abbrev pub result_and_then : {A B : Type 0} → (A → Result B Fault) → Result A Fault → Result B Fault
+result_and_then f (Ok x) = f x
+result_and_then f (Err e) = Err e
+
+-- a header of this tag in the union MessageHeader
+abbrev pub needed_kind : ℕ → BlockHeader → Result BlockHeader Fault
+needed_kind tag h = if nat_eq h.tag tag then Ok h else Err (OutOfSpec UnexpectedMessageType)
+
+-- the message of this tag at a place, or the fault in it
+abbrev pub placed_message : ℕ → OutOfSpecKind → List ℕ → Placed → Result BlockHeader Fault
+placed_message tag negative source p =
+    let bytes = drop p.message source in
+    result_and_then (λ metadata. result_and_then (needed_kind tag) (opened_message metadata))
+    (ok_or (stated_metadata (frame bytes)) (frame_fault negative (prefix_of bytes)))
+
+-- The message of this tag at a block, or the fault in it. Numbers of the block that are below 0, and a length below 0, have the names that are handed.
+unfoldable pub block_message : ℕ → (numbers negative : OutOfSpecKind) → List ℕ → Block → Result BlockHeader Fault
+block_message tag numbers negative source b = result_and_then (placed_message tag negative source) (ok_or (placed b) (OutOfSpec numbers))
+
+-- It is the fault in the message, or one of what the message holds.
+abbrev pub MessageReason : Result BlockHeader Fault → (Fault → Type 0) → Fault → Type 0
+MessageReason (Ok h) P e = P e
+MessageReason (Err f) P e = e ≡ f

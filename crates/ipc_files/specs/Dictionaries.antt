@@ -1,6 +1,6 @@
 -- What reading the dictionaries of a file answers.
 -- (Arrow columnar format, "IPC File Format" and "Dictionary messages".)
-use Rattle.std.specs.Prelude.{◌≡◌, ◌⊎◌, ℕ, ℤ, ◌+◌, ◌≤◌, Bool, IsTrue, List, [], ◌∷◌, length, Option, None, Some, Result, Ok, Err}
+use Rattle.std.specs.Prelude.{◌≡◌, ◌⊎◌, ℕ, ℤ, ◌+◌, ◌≤◌, Bool, IsTrue, List, [], ◌∷◌, length, Option, None, Some, MatchOption, Result, Ok, Err}
 use Rattle.lower_arrays.specs.Held.{held}
 use Rattle.lower_arrays.specs.Layouts.{Layout}
 use Rattle.ipc_devices.specs.Faults.{OwnFault}
@@ -13,10 +13,10 @@ use Rattle.ipc_views.specs.declared.message.MessageHeaderRef.{MessageHeaderRef}
 use Rattle.ipc_views.specs.declared.message.MessageHeaderRef.TheVariants.{DictionaryBatch}
 use Rattle.ipc_model.specs.Batches.{Schema}
 use Rattle.ipc_model.specs.Entries.{Dictionaries}
-use Rattle.ipc_model.specs.Files.{BlockHeader, FileMetadata, block_header}
+use Rattle.ipc_model.specs.Files.{BlockHeader, FileMetadata, block_header, dictionaries_at}
 use Rattle.ipc_laws.specs.Agreement.{AreAlike}
 use Rattle.ipc_files.specs.Batches.{block_metadata}
-use Rattle.ipc_files.specs.Blocks.{IsFrameFault, IsHeaderFault}
+use Rattle.ipc_files.specs.Blocks.{IsFrameFault, IsHeaderFault, MessageReason, block_message}
 use Rattle.ipc_read.specs.DictionaryBatches.{IsDictionaryFault, dictionary_head, values_listed}
 use Rattle.ipc_read.specs.HeldChunks.{values_empty, HoldsValues}
 
@@ -36,6 +36,16 @@ abbrev pub IsDictionaryBlockFault : Fault → Type 0
 IsDictionaryBlockFault e =
     (e ≡ OutOfSpec UnexpectedNegativeInteger) ⊎ (IsFrameFault NegativeFooterLength e ⊎ (IsHeaderFault e
     ⊎ ((e ≡ OutOfSpec UnexpectedMessageType) ⊎ IsDictionaryFault e)))
+
+-- why a block of a dictionary is refused: its message, which has the tag 2, or its batch
+abbrev pub DictionaryReason : List ℕ → Block → Fault → Type 0
+DictionaryReason source b e = MessageReason (block_message 2 UnexpectedNegativeInteger NegativeFooterLength source b) IsDictionaryFault e
+
+-- Why some blocks are refused: the first one whose dictionary has no meaning.
+abbrev pub DictionariesReason : FileMetadata → List ℕ → Dictionaries → List Block → Fault → Type 0
+DictionariesReason m source known [] e = ⊥
+DictionariesReason m source known (b ∷ bs) e =
+    MatchOption (dictionaries_at m known source b) (DictionaryReason source b e) (λ after. DictionariesReason m source after bs e)
 
 -- ---- how many bytes are needed
 

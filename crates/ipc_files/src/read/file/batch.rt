@@ -4,14 +4,13 @@ ghost use Rattle.std.specs.Option.{option_and_then, option_copied};
 ghost use Rattle.ipc_devices.specs.Device.{Rises};
 ghost use Rattle.ipc_devices.specs.Faults.{OnIo, OwnFault};
 ghost use Rattle.ipc_devices.specs.declared.fault.Fault.TheVariants.{OutOfSpec};
-ghost use Rattle.ipc_devices.specs.declared.fault.OutOfSpecKind.TheVariants.{NegativeFooterLength, UnexpectedNegativeInteger};
+ghost use Rattle.ipc_devices.specs.declared.fault.OutOfSpecKind.TheVariants.{NegativeFooterLength};
 ghost use Rattle.ipc_model.specs.Batches.{chosen, extra_of, kinds, lists_of, record_meaning};
 ghost use Rattle.ipc_model.specs.Files.{file_chunk, placed};
 ghost use Rattle.ipc_model.specs.ReadChunks.{HaveMeaning};
 ghost use Rattle.ipc_base.specs.IdTrees.{all_ids_view};
 ghost use Rattle.lower_arrays.specs.AnyLayouts.{layout_of};
-ghost use Rattle.ipc_files.specs.Batches.{HasNegativeLength, HoldBatch, IsRecordFault, block_metadata, needed_bytes, needed_record};
-ghost use Rattle.ipc_files.specs.Blocks.{IsRefused};
+ghost use Rattle.ipc_files.specs.Batches.{HoldBatch, IsRecordFault, RecordReason, block_metadata, needed_bytes, needed_record};
 ghost use Rattle.ipc_files.specs.Footers.{GivesPart, file_seen};
 ghost use Rattle.ipc_columns.specs.Bodies.{known_dictionaries};
 ghost use Rattle.ipc_read.specs.Chunks.{chunk_seen};
@@ -101,7 +100,8 @@ fn read_record<R: Reads + Seeks>(
 /// `OutOfSpec(UnexpectedNegativeInteger)` where the length of that is below 0; `InvalidFlatbufferMessage`, `MissingMessageHeader`,
 /// `InvalidFlatbufferHeader`, `InvalidFlatbufferVersion` where it is ill-made, and `UnexpectedMessageType` where it is no record batch,
 /// each `OutOfSpec`; those of [`read_record_batch`]; `Io` and `Memory`. For a length that isn't there no memory is taken. The metadata
-/// of the message are left in `message_scratch`; after a fault the reader stands anywhere, and other blocks can be read.
+/// of the message are left in `message_scratch`, and `data_scratch` isn't used; after a fault the reader stands anywhere, and other
+/// blocks can be read.
 ///
 /// [`read_file_dictionaries`]: crate::read::file::read_file_dictionaries
 #[allow(clippy::too_many_arguments)]
@@ -132,7 +132,9 @@ pub fn read_batch<R: Reads + Seeks>(
         IfOk result (λ xs. HoldBatch (kinds m.schema) js message_scratch.new.items xs) }
     ensures message { IsTrue R.known → OnOk result (block_metadata (R.memory reader.old).whole (slice_get metadata.now.blocks.items index) ≡ Some message_scratch.new.items) }
     ensures numbers { option_and_then placed (slice_get metadata.now.blocks.items index) ≡ None → result ≡ Err (OutOfSpec NegativeFooterLength) }
-    ensures below { IsTrue R.known → HasNegativeLength (R.memory reader.old).whole (slice_get metadata.now.blocks.items index) → IsRefused (OutOfSpec UnexpectedNegativeInteger) result }
+    ensures reason { IsTrue R.known → let m = file_seen metadata.now in
+        let js = chosen (option_copied projection.entry) (length metadata.now.schema.fields.items) in
+        IfErr result (λ e. OwnFault e (RecordReason (kinds m.schema) js (R.memory reader.old).whole (slice_get metadata.now.blocks.items index) e)) }
     ensures memory { IsTrue R.known → GivesPart chunk_seen result
         (file_chunk (file_seen metadata.now) (known_dictionaries dictionaries.now) (R.memory reader.old).whole
         (option_copied projection.entry) limit index) }

@@ -1,5 +1,5 @@
 //! The messages of a file's blocks: the Arrow columnar format, "IPC File Format" and "Encapsulated message format".
-ghost use Rattle.std.specs.Prelude.{◌≡◌, ℕ, ◌+◌, ◌≤◌, ◌^◌, Some, length, drop, IsTrue, IfOk, IfErr, OnOk};
+ghost use Rattle.std.specs.Prelude.{◌≡◌, ◌+◌, ◌≤◌, length, drop, IsTrue, IfErr, OnOk};
 ghost use Rattle.ipc_devices.specs.Device.{Rises, after};
 ghost use Rattle.ipc_devices.specs.Faults.{OnIo, OwnFault, Answers};
 ghost use Rattle.ipc_devices.specs.declared.fault.Fault.TheVariants.{Ended, OutOfSpec};
@@ -7,7 +7,7 @@ ghost use Rattle.ipc_views.specs.MessageSlots.{message_header, message_version};
 ghost use Rattle.ipc_views.specs.Unions.{header_parts};
 ghost use Rattle.ipc_model.specs.Files.{block_header, placed};
 ghost use Rattle.ipc_model.specs.Frame.{frame, word};
-ghost use Rattle.ipc_files.specs.Blocks.{GivesPrefix, IsFrameFault, IsHeaderFault, IsRefused, message_seen, needed_header, opened_message, place_seen, prefix_of, seen, stated_metadata, stated_version};
+ghost use Rattle.ipc_files.specs.Blocks.{GivesPrefix, IsFrameFault, IsHeaderFault, frame_fault, message_seen, needed_header, opened_message, place_seen, prefix_of, seen, stated_metadata, stated_version};
 ghost use Rattle.ipc_files.specs.Footers.{GivesPart};
 
 use crate::read::file::exact::read_exact;
@@ -92,7 +92,7 @@ pub(super) fn read_metadata<R: Reads + Seeks>(
     ensures monotone { R.failures reader.old ≤ R.failures reader.new }
     ensures failed { OnIo result (Rises (R.failures reader.old) (R.failures reader.new)) }
     ensures given { OnOk result (R.given reader.new ≤ R.given reader.old + (8 + length metadata.new.items)) }
-    ensures below { IsTrue R.known → (n : ℕ) → prefix_of (drop place (R.memory reader.old).whole) ≡ Some n → 2 ^ 31 ≤ n → IsRefused (OutOfSpec negative) result }
+    ensures reason { IsTrue R.known → IfErr result (λ e. OwnFault e (e ≡ frame_fault negative (prefix_of (drop place (R.memory reader.old).whole)))) }
     ensures memory { IsTrue R.known → GivesPart (λ _. metadata.new.items) result
         (stated_metadata (frame (drop place (R.memory reader.old).whole))) }
     ensures whole { IsTrue R.still → (R.memory reader.new).whole ≡ (R.memory reader.old).whole }

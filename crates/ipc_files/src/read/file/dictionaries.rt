@@ -1,11 +1,13 @@
 //! Reads the dictionaries of a file.
-ghost use Rattle.std.specs.Prelude.{◌≡◌, ◌+◌, ◌≤◌, Some, IsTrue, IfErr, IfOk, OnOk};
+ghost use Rattle.std.specs.Prelude.{◌≡◌, ◌+◌, ◌≤◌, [], Some, None, Err, IsTrue, IfErr, IfOk, OnOk};
 ghost use Rattle.ipc_devices.specs.Device.{Rises};
 ghost use Rattle.ipc_devices.specs.Faults.{OnIo, OwnFault};
+ghost use Rattle.ipc_devices.specs.declared.fault.Fault.TheVariants.{OutOfSpec};
+ghost use Rattle.ipc_devices.specs.declared.fault.OutOfSpecKind.TheVariants.{UnexpectedNegativeInteger};
 ghost use Rattle.ipc_model.specs.Batches.{dictionary_meaning, extra_of};
-ghost use Rattle.ipc_model.specs.Files.{block_header, dictionaries_at, file_dictionaries};
+ghost use Rattle.ipc_model.specs.Files.{block_header, dictionaries_at, file_dictionaries, placed};
 ghost use Rattle.ipc_files.specs.Batches.{block_metadata};
-ghost use Rattle.ipc_files.specs.Dictionaries.{GivesKnown, HoldListed, HoldsHeader, IsDictionaryBlockFault, ValuesGiven, needed_dictionary, needed_values};
+ghost use Rattle.ipc_files.specs.Dictionaries.{DictionariesReason, DictionaryReason, GivesKnown, HoldListed, HoldsHeader, IsDictionaryBlockFault, ValuesGiven, needed_dictionary, needed_values};
 ghost use Rattle.ipc_files.specs.Footers.{file_seen};
 ghost use Rattle.ipc_columns.specs.Bodies.{array_under, known_dictionaries};
 ghost use Rattle.ipc_read.specs.HeldChunks.{HoldsValues};
@@ -87,6 +89,8 @@ fn read_dictionary_block<R: Reads + Seeks>(
     ensures held { OnOk result (HoldsHeader (file_seen metadata.now).schema (block_header message_scratch.new.items)
         (λ id. array_under dictionaries.old id) (λ id. array_under dictionaries.new id)) }
     ensures message { IsTrue R.known → OnOk result (block_metadata (R.memory reader.old).whole (Some block.now) ≡ Some message_scratch.new.items) }
+    ensures numbers { placed block.now ≡ None → result ≡ Err (OutOfSpec UnexpectedNegativeInteger) }
+    ensures reason { IsTrue R.known → IfErr result (λ e. OwnFault e (DictionaryReason (R.memory reader.old).whole block.now e)) }
     ensures memory { IsTrue R.known → GivesKnown (λ _. known_dictionaries dictionaries.new) result
         (dictionaries_at (file_seen metadata.now) (known_dictionaries dictionaries.old) (R.memory reader.old).whole block.now) }
     ensures whole { IsTrue R.still → (R.memory reader.new).whole ≡ (R.memory reader.old).whole }
@@ -112,11 +116,11 @@ fn read_dictionary_block<R: Reads + Seeks>(
 /// Reads the dictionaries of a file, block by block in the order of its footer (Arrow columnar format, "IPC File Format"). Of an
 /// id that comes again the last values count. Each version is that of the block's own message, and the lengths of bodies aren't used.
 ///
-/// Over memory it is Ok exactly where the dictionaries have a meaning, and the values are then those. Where it is Ok, no more bytes are
-/// taken of the device than the messages of the blocks, their prefixes and what the buffers of the values list, and the array under an
-/// id holds no more than these list in one of its blocks, and one offset for each buffer of offsets that lists nothing. Faults:
-/// `OutOfSpec(UnexpectedNegativeInteger)` where a number of a block is below 0; `Ended` where its message isn't there, and
-/// `OutOfSpec(NegativeFooterLength)` where the length of that is below 0; `InvalidFlatbufferMessage`, `MissingMessageHeader`,
+/// Over memory it is Ok exactly where the dictionaries have a meaning, and the values are then those. No more bytes are taken then than
+/// the messages of the blocks, their prefixes and what the buffers of the values list, and the array under an id holds no more than
+/// these list in one of its blocks, and one offset for each buffer of offsets that lists nothing. The scratch memory isn't used. Faults, of the
+/// first block that is refused: `OutOfSpec(UnexpectedNegativeInteger)` where a number of it is below 0; `Ended` where its message isn't
+/// there, and `OutOfSpec(NegativeFooterLength)` where the length of that is below 0; `InvalidFlatbufferMessage`, `MissingMessageHeader`,
 /// `InvalidFlatbufferHeader`, `InvalidFlatbufferVersion` where it is ill-made, and `UnexpectedMessageType` where it is no dictionary
 /// batch, each `OutOfSpec`; those of [`read_dictionary`]; `Io` and `Memory`. For a length that isn't there no memory is taken. After a
 /// fault the reader stands anywhere.
@@ -131,6 +135,8 @@ pub fn read_file_dictionaries<R: Reads + Seeks>(
     ensures failed { OnIo result (Rises (R.failures reader.old) (R.failures reader.new)) }
     ensures given { OnOk result (ValuesGiven R.known (file_seen metadata.now) (R.memory reader.old).whole (R.given reader.old) (R.given reader.new)) }
     ensures held { IfOk result (λ known. HoldListed R.known (file_seen metadata.now) (R.memory reader.old).whole (λ id. array_under known id)) }
+    ensures reason { IsTrue R.known → let m = file_seen metadata.now in
+        IfErr result (λ e. OwnFault e (DictionariesReason m (R.memory reader.old).whole [] m.dictionaries e)) }
     ensures memory { IsTrue R.known → GivesKnown (λ known. known_dictionaries known) result
         (file_dictionaries (file_seen metadata.now) (R.memory reader.old).whole) }
     ensures whole { IsTrue R.still → (R.memory reader.new).whole ≡ (R.memory reader.old).whole }

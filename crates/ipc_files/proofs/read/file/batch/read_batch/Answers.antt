@@ -1,14 +1,17 @@
-use Rattle.std.proofs.Common.{rules, ◌≡◌, ◌∙◌, Err, sym, ap}
+use Rattle.std.proofs.Common.{rules, ◌≡◌, ◌∙◌, length, Ok, Err, sym, ap}
 use Rattle.std.proofs.lemmas.Option.{slice_get_read}
 use Rattle.std.specs.Prelude.{vec_len}
 use Rattle.std.specs.Option.{option_copied}
-use Rattle.ipc_devices.specs.Faults.{OwnFault}
-use Rattle.ipc_devices.specs.declared.fault.Fault.TheVariants.{OutOfSpec}
-use Rattle.ipc_devices.specs.declared.fault.OutOfSpecKind.TheVariants.{UnexpectedNegativeInteger}
+use Rattle.ipc_devices.specs.declared.fault.OutOfSpecKind.TheVariants.{NegativeFooterLength, UnexpectedNegativeInteger}
+use Rattle.ipc_model.specs.Batches.{chosen, kinds}
 use Rattle.ipc_model.specs.Files.{block_header}
 use Rattle.ipc_columns.specs.Bodies.{known_dictionaries}
+use Rattle.ipc_files.specs.Blocks.{message_seen, place_seen}
+use Rattle.ipc_files.specs.Footers.{file_seen}
+use Rattle.ipc_read.specs.Refusals.{IsFaultOfBatch}
+use Rattle.ipc_files.proofs.BlockFaults.{ill-made, in-batch, no-message, other-kind, record-kind, unplaced}
 use Rattle.ipc_files.proofs.BlockHeaders.{own-none}
-use Rattle.ipc_files.proofs.BlockRecords.{refused-record-place, refused-record-message, refused-record-header, refused-record-kind, read-record, has-place, message-read, on-ok, refused-unplaced, states-below-0}
+use Rattle.ipc_files.proofs.BlockRecords.{refused-record-place, refused-record-message, refused-record-header, refused-record-kind, read-record, has-place, message-read, on-ok}
 use Rattle.ipc_files.proofs.read.file.batch.read_batch.Goals as goal
 
 pub returns-in_err-place-clause-memory : goal.returns-in_err-place-clause-memory
@@ -56,54 +59,65 @@ returns-in_err-place-clause-numbers g c = λ none.
     let is : c.from_residual.result ≡ Err e = search rules in
     is ∙ ap Err c.in_err-place.ensures.only
 
-pub returns-in_err-place-clause-below : goal.returns-in_err-place-clause-below
-returns-in_err-place-clause-below g c = λ k n.
-    let e = c.in_err-place.field-0.0 in
-    let is : c.from_residual.result ≡ Err e = search rules in
-    rw is (refused-unplaced c.args.metadata.now.blocks.items c.args.index c.index-block.result.now (slice_get_read c.args.metadata.now.blocks.items (vec_len c.args.metadata.now.blocks) c.args.index c.index-block.result.now (search rules) c.requires.index c.index-block.ensures)
-    (g.R.Failures.memory c.args.reader.now).whole e (OutOfSpec UnexpectedNegativeInteger) c.in_err-place.ensures.place n)
-
 pub returns-in_err-read_metadata-clause-numbers : goal.returns-in_err-read_metadata-clause-numbers
 returns-in_err-read_metadata-clause-numbers g c = λ none.
     has-place c.args.metadata.now.blocks.items c.args.index c.index-block.result.now (slice_get_read c.args.metadata.now.blocks.items (vec_len c.args.metadata.now.blocks) c.args.index c.index-block.result.now (search rules) c.requires.index c.index-block.ensures) c.in_ok-place.place c.in_ok-place.ensures.place none
-
-pub returns-in_err-read_metadata-clause-below : goal.returns-in_err-read_metadata-clause-below
-returns-in_err-read_metadata-clause-below g c = λ k n.
-    let e = c.in_err-read_metadata.field-0.0 in
-    let is : c.from_residual-in_err-read_metadata.result ≡ Err e = search rules in
-    rw is (states-below-0 c.args.metadata.now.blocks.items c.args.index c.index-block.result.now (slice_get_read c.args.metadata.now.blocks.items (vec_len c.args.metadata.now.blocks) c.args.index c.index-block.result.now (search rules) c.requires.index c.index-block.ensures)
-    {P = OwnFault e (e ≡ OutOfSpec UnexpectedNegativeInteger)} (g.R.Failures.memory c.args.reader.now).whole c.in_ok-place.place c.in_ok-place.ensures.place
-    (λ m stated below. c.in_err-read_metadata.ensures.below k m stated below) n)
 
 pub returns-in_err-message-clause-numbers : goal.returns-in_err-message-clause-numbers
 returns-in_err-message-clause-numbers g c = λ none.
     has-place c.args.metadata.now.blocks.items c.args.index c.index-block.result.now (slice_get_read c.args.metadata.now.blocks.items (vec_len c.args.metadata.now.blocks) c.args.index c.index-block.result.now (search rules) c.requires.index c.index-block.ensures) c.in_ok-place.place c.in_ok-place.ensures.place none
 
-pub returns-in_err-message-clause-below : goal.returns-in_err-message-clause-below
-returns-in_err-message-clause-below g c = λ k n.
-    absurd (states-below-0 c.args.metadata.now.blocks.items c.args.index c.index-block.result.now (slice_get_read c.args.metadata.now.blocks.items (vec_len c.args.metadata.now.blocks) c.args.index c.index-block.result.now (search rules) c.requires.index c.index-block.ensures)
-    {P = ⊥} (g.R.Failures.memory c.args.reader.now).whole c.in_ok-place.place c.in_ok-place.ensures.place (λ m stated below. c.in_ok-read_metadata.ensures.below k m stated below) n)
-
 pub returns-in_err-batch-clause-numbers : goal.returns-in_err-batch-clause-numbers
 returns-in_err-batch-clause-numbers g c = λ none.
     has-place c.args.metadata.now.blocks.items c.args.index c.index-block.result.now (slice_get_read c.args.metadata.now.blocks.items (vec_len c.args.metadata.now.blocks) c.args.index c.index-block.result.now (search rules) c.requires.index c.index-block.ensures) c.in_ok-place.place c.in_ok-place.ensures.place none
 
-pub returns-in_err-batch-clause-below : goal.returns-in_err-batch-clause-below
-returns-in_err-batch-clause-below g c = λ k n.
-    absurd (states-below-0 c.args.metadata.now.blocks.items c.args.index c.index-block.result.now (slice_get_read c.args.metadata.now.blocks.items (vec_len c.args.metadata.now.blocks) c.args.index c.index-block.result.now (search rules) c.requires.index c.index-block.ensures)
-    {P = ⊥} (g.R.Failures.memory c.args.reader.now).whole c.in_ok-place.place c.in_ok-place.ensures.place (λ m stated below. c.in_ok-read_metadata.ensures.below k m stated below) n)
-
 pub returns-clause-numbers : goal.returns-clause-numbers
 returns-clause-numbers g c = λ none.
     has-place c.args.metadata.now.blocks.items c.args.index c.index-block.result.now (slice_get_read c.args.metadata.now.blocks.items (vec_len c.args.metadata.now.blocks) c.args.index c.index-block.result.now (search rules) c.requires.index c.index-block.ensures) c.in_ok-place.place c.in_ok-place.ensures.place none
-
-pub returns-clause-below : goal.returns-clause-below
-returns-clause-below g c = λ k n.
-    absurd (states-below-0 c.args.metadata.now.blocks.items c.args.index c.index-block.result.now (slice_get_read c.args.metadata.now.blocks.items (vec_len c.args.metadata.now.blocks) c.args.index c.index-block.result.now (search rules) c.requires.index c.index-block.ensures)
-    {P = ⊥} (g.R.Failures.memory c.args.reader.now).whole c.in_ok-place.place c.in_ok-place.ensures.place (λ m stated below. c.in_ok-read_metadata.ensures.below k m stated below) n)
 
 pub returns-clause-message : goal.returns-clause-message
 returns-clause-message g c = λ k.
     on-ok c.read_record.result _ (message-read c.args.metadata.now.blocks.items c.args.index c.index-block.result.now (slice_get_read c.args.metadata.now.blocks.items (vec_len c.args.metadata.now.blocks) c.args.index c.index-block.result.now (search rules) c.requires.index c.index-block.ensures) (g.R.Failures.memory c.args.reader.now).whole c.in_ok-place.place
     c.read_metadata.new.metadata.items c.in_ok-message.message c.in_ok-place.ensures.place (c.in_ok-read_metadata.ensures.memory k)
     (ap block_header (sym c.deref.ensures.value) ∙ c.in_ok-message.ensures.meaning))
+
+pub returns-in_err-place-clause-reason : goal.returns-in_err-place-clause-reason
+returns-in_err-place-clause-reason g c = λ k.
+    let e = c.in_err-place.field-0.0 in
+    let is : c.from_residual.result ≡ Err e = search rules in
+    rw is (unplaced 3 NegativeFooterLength UnexpectedNegativeInteger (g.R.Failures.memory c.args.reader.now).whole
+    (slice_get_read c.args.metadata.now.blocks.items (vec_len c.args.metadata.now.blocks) c.args.index c.index-block.result.now (search rules) c.requires.index c.index-block.ensures) (IsFaultOfBatch (kinds (file_seen c.args.metadata.now).schema) (chosen (option_copied c.args.projection) (length c.args.metadata.now.schema.fields.items)))
+    e c.in_err-place.ensures.place c.in_err-place.ensures.only)
+
+pub returns-in_err-read_metadata-clause-reason : goal.returns-in_err-read_metadata-clause-reason
+returns-in_err-read_metadata-clause-reason g c = λ k.
+    let e = c.in_err-read_metadata.field-0.0 in
+    let is : c.from_residual-in_err-read_metadata.result ≡ Err e = search rules in
+    rw is (no-message 3 NegativeFooterLength UnexpectedNegativeInteger (g.R.Failures.memory c.args.reader.now).whole
+    (slice_get_read c.args.metadata.now.blocks.items (vec_len c.args.metadata.now.blocks) c.args.index c.index-block.result.now (search rules) c.requires.index c.index-block.ensures) (IsFaultOfBatch (kinds (file_seen c.args.metadata.now).schema) (chosen (option_copied c.args.projection) (length c.args.metadata.now.schema.fields.items)))
+    (place_seen c.in_ok-place.place) c.in_ok-place.ensures.place e (c.in_err-read_metadata.ensures.memory k) (c.in_err-read_metadata.ensures.reason k))
+
+pub returns-in_err-message-clause-reason : goal.returns-in_err-message-clause-reason
+returns-in_err-message-clause-reason g c = λ k.
+    let e = c.in_err-message.field-0.0 in
+    let is : c.from_residual-in_err-message.result ≡ Err e = search rules in
+    rw is (ill-made 3 NegativeFooterLength UnexpectedNegativeInteger (g.R.Failures.memory c.args.reader.now).whole
+    (slice_get_read c.args.metadata.now.blocks.items (vec_len c.args.metadata.now.blocks) c.args.index c.index-block.result.now (search rules) c.requires.index c.index-block.ensures) (IsFaultOfBatch (kinds (file_seen c.args.metadata.now).schema) (chosen (option_copied c.args.projection) (length c.args.metadata.now.schema.fields.items)))
+    (place_seen c.in_ok-place.place) c.in_ok-place.ensures.place c.read_metadata.new.metadata.items (c.in_ok-read_metadata.ensures.memory k) e
+    (rw c.deref.ensures.value at c.in_err-message.ensures.exact))
+
+pub returns-in_err-batch-clause-reason : goal.returns-in_err-batch-clause-reason
+returns-in_err-batch-clause-reason g c = λ k.
+    let e = c.in_err-batch.field-0.0 in
+    let is : c.from_residual-in_err-batch.result ≡ Err e = search rules in
+    rw is (other-kind 3 NegativeFooterLength UnexpectedNegativeInteger (g.R.Failures.memory c.args.reader.now).whole
+    (slice_get_read c.args.metadata.now.blocks.items (vec_len c.args.metadata.now.blocks) c.args.index c.index-block.result.now (search rules) c.requires.index c.index-block.ensures) (IsFaultOfBatch (kinds (file_seen c.args.metadata.now).schema) (chosen (option_copied c.args.projection) (length c.args.metadata.now.schema.fields.items)))
+    (place_seen c.in_ok-place.place) c.in_ok-place.ensures.place c.read_metadata.new.metadata.items (c.in_ok-read_metadata.ensures.memory k) (message_seen c.in_ok-message.message)
+    (rw c.deref.ensures.value at c.in_ok-message.ensures.exact) e (record-kind c.in_ok-message.message (Err e) c.in_err-batch.ensures))
+
+pub returns-clause-reason : goal.returns-clause-reason
+returns-clause-reason g c = λ k.
+    in-batch 3 NegativeFooterLength UnexpectedNegativeInteger (g.R.Failures.memory c.args.reader.now).whole
+    (slice_get_read c.args.metadata.now.blocks.items (vec_len c.args.metadata.now.blocks) c.args.index c.index-block.result.now (search rules) c.requires.index c.index-block.ensures) (IsFaultOfBatch (kinds (file_seen c.args.metadata.now).schema) (chosen (option_copied c.args.projection) (length c.args.metadata.now.schema.fields.items)))
+    (place_seen c.in_ok-place.place) c.in_ok-place.ensures.place c.read_metadata.new.metadata.items (c.in_ok-read_metadata.ensures.memory k) (message_seen c.in_ok-message.message)
+    (rw c.deref.ensures.value at c.in_ok-message.ensures.exact) c.read_record.result (record-kind c.in_ok-message.message (Ok c.in_ok-batch.batch) c.in_ok-batch.ensures) c.read_record.ensures.only

@@ -1,9 +1,10 @@
-use Rattle.std.proofs.Common.{rules, ◌≡◌, ◌∙◌, Err, sym, ap, arith}
+use Rattle.std.proofs.Common.{rules, ◌≡◌, ◌∙◌, ℕ, List, Err, sym, ap, subst, arith}
 use Rattle.ipc_devices.specs.Device.{after}
-use Rattle.ipc_devices.specs.declared.fault.Fault.TheVariants.{OutOfSpec}
+use Rattle.ipc_devices.specs.Faults.{OwnFault}
 use Rattle.ipc_model.specs.Frame.{frame}
-use Rattle.ipc_files.specs.Blocks.{prefix_of}
-use Rattle.ipc_files.proofs.BlockFrames.{gone-to, negative-sized, read-sized, refused-sized, stated-once, unstated}
+use Rattle.ipc_files.specs.Blocks.{frame_fault, prefix_of}
+use Rattle.ipc_files.proofs.BlockFaults.{length-below-0, less-than-stated, no-prefix}
+use Rattle.ipc_files.proofs.BlockFrames.{gone-to, negative-sized, read-sized, refused-sized}
 use Rattle.ipc_files.proofs.read.file.block.read_metadata.Goals as goal
 
 pub returns-then-length-clause-memory : goal.returns-then-length-clause-memory
@@ -26,21 +27,23 @@ returns-clause-memory g c = λ k.
     read-sized _ c.in_ok-length.length (after (g.R.Failures.memory c.read_prefix.new.reader)) c.read_into.new.bytes.items (ap frame (sym there) ∙ c.in_ok-length.ensures.memory k)
     (omega (arith, c.if-length.false)) read.0 read.1
 
-pub returns-in_err-length-clause-below : goal.returns-in_err-length-clause-below
-returns-in_err-length-clause-below g c = λ k n stated below.
+pub returns-in_err-length-clause-reason : goal.returns-in_err-length-clause-reason
+returns-in_err-length-clause-reason g c = λ k.
     let e = c.in_err-length.field-0.0 in
     let is : c.from_residual-in_err-length.result ≡ Err e = search rules in
     let there = gone-to (g.R.Failures.memory c.args.reader.now) (g.R.Failures.memory c.seek_to.new.self) c.args.place (c.in_ok-seek_to.ensures.memory k) in
-    rw is (unstated e (OutOfSpec c.args.negative) (prefix_of (after (g.R.Failures.memory c.seek_to.new.self))) n (c.in_err-length.ensures.number k) (ap prefix_of there ∙ stated))
+    rw is (subst (λ (xs : List ℕ). OwnFault e (e ≡ frame_fault c.args.negative (prefix_of xs))) there
+    (no-prefix c.args.negative (prefix_of (after (g.R.Failures.memory c.seek_to.new.self))) e c.in_err-length.ensures.only (c.in_err-length.ensures.number k)))
 
-pub returns-in_err-read_into-clause-below : goal.returns-in_err-read_into-clause-below
-returns-in_err-read_into-clause-below g c = λ k n stated below.
+pub returns-then-length-clause-reason : goal.returns-then-length-clause-reason
+returns-then-length-clause-reason g c = λ k.
     let there = gone-to (g.R.Failures.memory c.args.reader.now) (g.R.Failures.memory c.seek_to.new.self) c.args.place (c.in_ok-seek_to.ensures.memory k) in
-    let same = stated-once (prefix_of (after (g.R.Failures.memory c.seek_to.new.self))) c.in_ok-length.length n (c.in_ok-length.ensures.number k) (ap prefix_of there ∙ stated) in
-    absurd (omega (arith, c.if-length.false, same, below))
+    length-below-0 c.args.negative _ c.in_ok-length.length (ap prefix_of (sym there) ∙ c.in_ok-length.ensures.number k) (omega (arith, c.if-length.true))
 
-pub returns-clause-below : goal.returns-clause-below
-returns-clause-below g c = λ k n stated below.
+pub returns-in_err-read_into-clause-reason : goal.returns-in_err-read_into-clause-reason
+returns-in_err-read_into-clause-reason g c = λ k.
+    let e = c.in_err-read_into.field-0.0 in
+    let is : c.from_residual-in_err-read_into.result ≡ Err e = search rules in
     let there = gone-to (g.R.Failures.memory c.args.reader.now) (g.R.Failures.memory c.seek_to.new.self) c.args.place (c.in_ok-seek_to.ensures.memory k) in
-    let same = stated-once (prefix_of (after (g.R.Failures.memory c.seek_to.new.self))) c.in_ok-length.length n (c.in_ok-length.ensures.number k) (ap prefix_of there ∙ stated) in
-    absurd (omega (arith, c.if-length.false, same, below))
+    rw is (less-than-stated c.args.negative _ c.in_ok-length.length e (ap prefix_of (sym there) ∙ c.in_ok-length.ensures.number k)
+    (omega (arith, c.if-length.false)) c.in_err-read_into.ensures.only)

@@ -1,7 +1,11 @@
-use Rattle.std.proofs.Common.{rules, ◌≡◌, ◌∙◌, [], ◌∷◌, Ok, Err, refl, sym, ap}
+use Rattle.std.proofs.Common.{rules, ◌≡◌, ◌∙◌, [], ◌∷◌, Some, Ok, Err, refl, sym, ap}
+use Rattle.ipc_devices.specs.declared.fault.OutOfSpecKind.TheVariants.{NegativeFooterLength, UnexpectedNegativeInteger}
 use Rattle.ipc_model.specs.Files.{block_header}
 use Rattle.ipc_columns.specs.Bodies.{known_dictionaries}
+use Rattle.ipc_files.specs.Blocks.{message_seen, place_seen}
+use Rattle.ipc_read.specs.DictionaryBatches.{IsDictionaryFault}
 use Rattle.ipc_files.proofs.BlockDictionaries.{refused-dictionary-place, refused-dictionary-message, refused-dictionary-header, refused-dictionary-kind, read-dictionary}
+use Rattle.ipc_files.proofs.BlockFaults.{dictionary-kind, ill-made, in-batch, no-message, other-kind, unplaced}
 use Rattle.ipc_files.proofs.BlockHeaders.{own-none}
 use Rattle.ipc_files.proofs.BlockRecords.{message-read}
 use Rattle.ipc_files.proofs.read.file.dictionaries.read_dictionary_block.Goals as goal
@@ -55,3 +59,42 @@ pub returns-clause-message : goal.returns-clause-message
 returns-clause-message g c = λ k.
     message-read (c.args.block.now ∷ []) 0 c.args.block.now refl (g.R.Failures.memory c.args.reader.now).whole c.in_ok-place.place c.read_metadata.new.metadata.items c.in_ok-message.message
     c.in_ok-place.ensures.place (c.in_ok-read_metadata.ensures.memory k) (ap block_header (sym c.deref.ensures.value) ∙ c.in_ok-message.ensures.meaning)
+
+pub returns-in_err-place-clause-reason : goal.returns-in_err-place-clause-reason
+returns-in_err-place-clause-reason g c = λ k.
+    let e = c.in_err-place.field-0.0 in
+    let is : c.from_residual.result ≡ Err e = search rules in
+    rw is (unplaced 2 UnexpectedNegativeInteger NegativeFooterLength (g.R.Failures.memory c.args.reader.now).whole {o = Some c.args.block.now} {b = c.args.block.now} refl IsDictionaryFault
+    e c.in_err-place.ensures.place c.in_err-place.ensures.only)
+
+pub returns-in_err-read_metadata-clause-reason : goal.returns-in_err-read_metadata-clause-reason
+returns-in_err-read_metadata-clause-reason g c = λ k.
+    let e = c.in_err-read_metadata.field-0.0 in
+    let is : c.from_residual-in_err-read_metadata.result ≡ Err e = search rules in
+    rw is (no-message 2 UnexpectedNegativeInteger NegativeFooterLength (g.R.Failures.memory c.args.reader.now).whole {o = Some c.args.block.now} {b = c.args.block.now} refl IsDictionaryFault
+    (place_seen c.in_ok-place.place) c.in_ok-place.ensures.place e (c.in_err-read_metadata.ensures.memory k) (c.in_err-read_metadata.ensures.reason k))
+
+pub returns-in_err-message-clause-reason : goal.returns-in_err-message-clause-reason
+returns-in_err-message-clause-reason g c = λ k.
+    let e = c.in_err-message.field-0.0 in
+    let is : c.from_residual-in_err-message.result ≡ Err e = search rules in
+    rw is (ill-made 2 UnexpectedNegativeInteger NegativeFooterLength (g.R.Failures.memory c.args.reader.now).whole {o = Some c.args.block.now} {b = c.args.block.now} refl IsDictionaryFault
+    (place_seen c.in_ok-place.place) c.in_ok-place.ensures.place c.read_metadata.new.metadata.items (c.in_ok-read_metadata.ensures.memory k) e
+    (rw c.deref.ensures.value at c.in_err-message.ensures.exact))
+
+pub returns-in_err-batch-clause-reason : goal.returns-in_err-batch-clause-reason
+returns-in_err-batch-clause-reason g c = λ k.
+    let e = c.in_err-batch.field-0.0 in
+    let is : c.from_residual-in_err-batch.result ≡ Err e = search rules in
+    rw is (other-kind 2 UnexpectedNegativeInteger NegativeFooterLength (g.R.Failures.memory c.args.reader.now).whole {o = Some c.args.block.now} {b = c.args.block.now} refl IsDictionaryFault
+    (place_seen c.in_ok-place.place) c.in_ok-place.ensures.place c.read_metadata.new.metadata.items (c.in_ok-read_metadata.ensures.memory k)
+    (message_seen c.in_ok-message.message) (rw c.deref.ensures.value at c.in_ok-message.ensures.exact) e (dictionary-kind c.in_ok-message.message (Err e) c.in_err-batch.ensures))
+
+pub returns-in_err-read_values-clause-reason : goal.returns-in_err-read_values-clause-reason
+returns-in_err-read_values-clause-reason g c = λ k.
+    let e = c.in_err-read_values.field-0.0 in
+    let is : c.from_residual-in_err-read_values.result ≡ Err e = search rules in
+    rw is (in-batch 2 UnexpectedNegativeInteger NegativeFooterLength (g.R.Failures.memory c.args.reader.now).whole {o = Some c.args.block.now} {b = c.args.block.now} refl IsDictionaryFault
+    (place_seen c.in_ok-place.place) c.in_ok-place.ensures.place c.read_metadata.new.metadata.items (c.in_ok-read_metadata.ensures.memory k)
+    (message_seen c.in_ok-message.message) (rw c.deref.ensures.value at c.in_ok-message.ensures.exact) {X = Unit {0}} (Err e)
+    (dictionary-kind c.in_ok-message.message (Ok c.in_ok-batch.batch) c.in_ok-batch.ensures) c.in_err-read_values.ensures.only)

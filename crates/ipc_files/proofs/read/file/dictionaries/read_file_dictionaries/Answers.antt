@@ -1,10 +1,12 @@
-use Rattle.std.proofs.Common.{arith, rules, ◌∙◌, ℤ, List, [], Option, Some, subst}
+use Rattle.std.proofs.Common.{arith, rules, ◌≡◌, ◌∙◌, ℤ, List, [], Option, Some, Err, subst}
 use Rattle.lower_arrays.specs.Layouts.{Layout}
 use Rattle.ipc_laws.specs.Agreement.{AreAlike}
 use Rattle.ipc_views.specs.declared.file.Block.{Block}
 use Rattle.ipc_model.specs.Files.{all_of, dictionaries_after}
+use Rattle.ipc_files.specs.Dictionaries.{DictionariesReason}
 use Rattle.ipc_files.specs.Footers.{file_seen}
 use Rattle.ipc_columns.specs.Bodies.{array_under, known_dictionaries}
+use Rattle.ipc_files.proofs.FirstRefused.{behind, from-none, refused-first}
 use Rattle.ipc_files.proofs.HeldValues.{EachListed, none_listed, more_listed, each_listed}
 use Rattle.ipc_files.proofs.NeededValues.{GivenFor, all_given, more_given, none_given}
 use Rattle.ipc_files.proofs.KnownAlike.{next-known, all-known}
@@ -17,6 +19,9 @@ loop-block-init g c = record {
   given = none_given g.R.Failures.known (file_seen c.args.metadata.now).schema (g.R.Failures.memory c.args.reader.now).whole c.dictionary_blocks-blocks.result.now (g.R.Failures.given c.args.reader.now);
   held = none_listed g.R.Failures.known (file_seen c.args.metadata.now).schema (g.R.Failures.memory c.args.reader.now).whole c.new-dictionaries.result (search rules) c.dictionary_blocks-blocks.result.now;
   known = search rules;
+  reason = λ k e.
+      let none : known_dictionaries c.new-dictionaries.result ≡ [] = search rules in
+      from-none (file_seen c.args.metadata.now) (g.R.Failures.memory c.args.reader.now).whole e c.dictionary_blocks-blocks.result.now (known_dictionaries c.new-dictionaries.result) none;
 }
 
 pub loop-block-preserved : goal.loop-block-preserved
@@ -38,7 +43,22 @@ loop-block-preserved g c = record {
       next-known m source bs c.loop-block.block-index _ (known_dictionaries c.loop-block.dictionaries) (dictionaries_after m (all_of source) [] bs) c.loop-block-test.true
       (c.loop-block.invariant.known k) (known_dictionaries c.read_dictionary_block.new.dictionaries) (g.R.Failures.memory c.loop-block.reader).whole
       (c.loop-block.invariant.whole (g.met.R.Seeks.known_still k)) (c.in_ok-read_dictionary_block.ensures.memory k);
+  reason = λ k e h.
+      c.loop-block.invariant.reason k e (behind (file_seen c.args.metadata.now) (g.R.Failures.memory c.args.reader.now).whole e c.dictionary_blocks-blocks.result.now c.loop-block.block-index _
+      (known_dictionaries c.loop-block.dictionaries) c.loop-block-test.true (g.R.Failures.memory c.loop-block.reader).whole (c.loop-block.invariant.whole (g.met.R.Seeks.known_still k))
+      (known_dictionaries c.read_dictionary_block.new.dictionaries) (c.in_ok-read_dictionary_block.ensures.memory k) h);
 }
+
+pub returns-in_err-read_dictionary_block-clause-reason : goal.returns-in_err-read_dictionary_block-clause-reason
+returns-in_err-read_dictionary_block-clause-reason g c = λ k.
+    let m = file_seen c.args.metadata.now in
+    let source = (g.R.Failures.memory c.args.reader.now).whole in
+    let e = c.in_err-read_dictionary_block.field-0.0 in
+    let is : c.from_residual.result ≡ Err e = search rules in
+    rw is (refused-first m source e c.dictionary_blocks-blocks.result.now c.loop-block.block-index _ (known_dictionaries c.loop-block.dictionaries) c.loop-block-test.true
+    (g.R.Failures.memory c.loop-block.reader).whole (c.loop-block.invariant.whole (g.met.R.Seeks.known_still k))
+    (λ h. subst (λ (blocks : List Block). DictionariesReason m source [] blocks e) c.dictionary_blocks-blocks.ensures (c.loop-block.invariant.reason k e h))
+    (c.in_err-read_dictionary_block.ensures.memory k) (c.in_err-read_dictionary_block.ensures.reason k))
 
 pub returns-clause-memory : goal.returns-clause-memory
 returns-clause-memory g c = λ k.

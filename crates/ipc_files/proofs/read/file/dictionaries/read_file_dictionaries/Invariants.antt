@@ -1,6 +1,8 @@
 use Rattle.std.proofs.Common.{◌≡◌, ◌≤◌, [], take, drop, IsTrue}
+use Rattle.ipc_devices.specs.declared.fault.Fault.{Fault}
 use Rattle.ipc_laws.specs.Agreement.{AreAlike}
 use Rattle.ipc_model.specs.Files.{all_of, dictionaries_after}
+use Rattle.ipc_files.specs.Dictionaries.{DictionariesReason}
 use Rattle.ipc_files.specs.Footers.{file_seen}
 use Rattle.ipc_columns.specs.Bodies.{array_under, known_dictionaries}
 use Rattle.ipc_files.proofs.HeldValues.{EachListed}
@@ -16,4 +18,7 @@ invariant-loop-block g l = record {
   known : IsTrue g.R.Failures.known → AreAlike
       (dictionaries_after (file_seen l.metadata) (all_of (g.R.Failures.memory l.fn.reader).whole) (known_dictionaries l.dictionaries) (drop l.block-index l.blocks))
       (dictionaries_after (file_seen l.metadata) (all_of (g.R.Failures.memory l.fn.reader).whole) [] l.blocks);
+  reason : IsTrue g.R.Failures.known → (e : Fault)
+      → DictionariesReason (file_seen l.metadata) (g.R.Failures.memory l.fn.reader).whole (known_dictionaries l.dictionaries) (drop l.block-index l.blocks) e
+      → DictionariesReason (file_seen l.metadata) (g.R.Failures.memory l.fn.reader).whole [] l.blocks e;
 }
