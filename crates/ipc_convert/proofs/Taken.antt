@@ -9,7 +9,6 @@ use Rattle.ipc_base.specs.IdTrees.{IdTrees}
 use Rattle.ipc_devices.specs.Device.{Memory, before}
 use Rattle.ipc_devices.specs.Faults.{OnRefused}
 use Rattle.ipc_devices.specs.declared.fault.Fault.{Fault}
-use Rattle.ipc_devices.specs.declared.fault.Fault.TheVariants as faults
 use Rattle.ipc_laws.specs.Messages.{column_written}
 use Rattle.ipc_model.specs.Batches.{Chunk, Schema}
 use Rattle.ipc_model.specs.Files.{FileMetadata}
@@ -37,6 +36,7 @@ use Rattle.ipc_convert.specs.Steps.{BeginsFile, EndsAsSource, EndsCopy}
 use Rattle.ipc_convert.specs.Sinks.{TookChunks}
 use Rattle.ipc_convert.specs.declared.chunks.Ending.{Ending}
 use Rattle.ipc_convert.specs.declared.chunks.Ending.TheVariants.{Over, Waits}
+use Rattle.ipc_convert.proofs.Handing.{refused_then}
 
 -- ---- one chunk
 
@@ -67,16 +67,7 @@ file_took known memory v w columns (Err e) wrote = tt
 
 if_refused : {P Q : Type 0} (r : Result (Unit {0}) Fault) → ((e : Fault) → r ≡ Err e → P → Q) → OnRefused r P → OnRefused r Q
 if_refused (Ok x) f p = tt
-if_refused (Err (faults.Io e)) f p = tt
-if_refused (Err (faults.OutOfSpec e)) f p = f _ refl p
-if_refused (Err faults.Ended) f p = f _ refl p
-if_refused (Err (faults.NotYetImplemented e)) f p = f _ refl p
-if_refused (Err (faults.Schema e)) f p = f _ refl p
-if_refused (Err (faults.Argument e)) f p = f _ refl p
-if_refused (Err (faults.State e)) f p = f _ refl p
-if_refused (Err faults.TooManyDictionaries) f p = f _ refl p
-if_refused (Err faults.Memory) f p = f _ refl p
-if_refused (Err (faults.Lower e)) f p = f _ refl p
+if_refused (Err e) f p = refused_then (Unit {0}) (Unit {0}) e (f e refl) p
 
 -- nothing was taken where all that it had stands
 none_took : {W : Type 0} (memory : W → Memory) (v w : WriterSeen W) → w.state ≡ v.state

@@ -25,7 +25,8 @@ use std::alloc::Global;
 ///
 /// Faults: those of [`read_stream_metadata`], and the `Argument` faults of a schema that can't be written: nothing is written then. Behind
 /// the schema those of the calls of [`StreamReader`] and [`FileWriter`], and `Argument(TooLarge)` where `2^64 - 1` chunks came and no end:
-/// the file is finished then with the chunks that were taken, unless its device failed.
+/// the file is finished then with the chunks that were taken, unless its device failed. Both devices are dropped with a fault: who wants
+/// what was written lends them.
 pub fn stream_to_file<R: Reads + Drop, W: Writes + Drop>(
     alloc: Global,
     input: R,
@@ -49,10 +50,11 @@ pub fn stream_to_file<R: Reads + Drop, W: Writes + Drop>(
 
 /// Writes the file at `file` again as a file to `out`, which it gives back: its schema, in the normal form and with the ids of its
 /// dictionaries, then the chunk at each block, in their order and each as soon as it is read, and the footer with the file's own pairs.
+/// The dictionaries are read with the first block.
 ///
-/// Faults: those of [`read_file_metadata`], and the `Argument` faults of a schema that can't be written: nothing is written then. Behind
-/// the schema those of the calls of [`FileReader`] and [`FileWriter`]: the file is finished then with the chunks that were taken, unless its
-/// device failed. The dictionaries are read with the first block.
+/// Faults: those of [`read_file_metadata`], and the `Argument` faults of a schema that can't be written, or that is too heavy with the pairs
+/// (`TooLarge`): nothing is written then. Behind the schema those of the calls of [`FileReader`] and [`FileWriter`]: the file is finished then
+/// with the chunks that were taken, unless its device failed. Both devices are dropped with a fault: who wants what was written lends them.
 pub fn file_to_file<F: Reads + Seeks + Drop, W: Writes + Drop>(
     alloc: Global,
     file: F,

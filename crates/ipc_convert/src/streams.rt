@@ -21,7 +21,7 @@ use std::alloc::Global;
 ///
 /// Faults: those of [`read_stream_metadata`] and of the calls of [`StreamReader`] and [`StreamWriter`]; the `Argument` faults
 /// among them tell that a schema or a chunk can't be written, or, as `TooLarge`, that `2^64 - 1` chunks came and no end. What was read by
-/// then has been written, without the mark.
+/// then has been written, without the mark. Both devices are dropped with a fault: who wants what was written lends them.
 pub fn stream_to_stream<R: Reads + Drop, W: Writes + Drop>(
     alloc: Global,
     input: R,
@@ -47,8 +47,8 @@ pub fn stream_to_stream<R: Reads + Drop, W: Writes + Drop>(
 /// are left out: a stream has none.
 ///
 /// Faults: those of [`read_file_metadata`] and of the calls of [`FileReader`] and [`StreamWriter`]; the `Argument` faults
-/// among them tell that the schema or a chunk can't be written. What was read by then has been written, without the mark.
-/// The dictionaries are read with the first block.
+/// among them tell that the schema or a chunk can't be written. What was read by then has been written, without the mark. Both devices are
+/// dropped with a fault: who wants what was written lends them. The dictionaries are read with the first block.
 pub fn file_to_stream<F: Reads + Seeks + Drop, W: Writes + Drop>(
     alloc: Global,
     file: F,

@@ -96,7 +96,7 @@ fn end_session<W: Writes + Drop>(
 /// back then too.
 ///
 /// Faults: those of [`FileWriter::try_from_file`], which change nothing; `Memory` where there is none to keep the answers, and then nothing
-/// was written. After these the device is dropped.
+/// was written. After these the device is dropped; one that was lent may stand anywhere.
 pub fn append_to_file<W: Reads + Writes + Seeks + Drop>(
     alloc: Global,
     device: W,
@@ -119,7 +119,7 @@ pub fn append_to_file<W: Reads + Writes + Seeks + Drop>(
 
 /// A session by the metadata that the file has, which begins with its device: by [`read_file_metadata`] and [`append_to_file`].
 ///
-/// Faults: those of these two. After them nothing was written, and the device is dropped.
+/// Faults: those of these two. After them nothing was written, and the device is dropped; one that was lent may stand anywhere.
 pub fn append_session<W: Reads + Writes + Seeks + Drop>(
     alloc: Global,
     mut device: W,
@@ -162,7 +162,8 @@ fn whole_session<W: Reads + Writes + Seeks + Drop>(
 /// that it had, and behind its chunks exactly those of the writes that were Ok, in order. It is a stream without its first eight bytes
 /// where it was one.
 ///
-/// Faults: those of [`append_session`], and of a `finish` that was refused. After them the device is dropped.
+/// Faults: those of [`append_session`], and of a `finish` that was refused. After them the device is dropped, with what the sessions before
+/// wrote on it; behind the session that was refused the old chunks still stand. A device that was lent keeps them.
 pub fn run_sessions<W: Reads + Writes + Seeks + Drop>(
     alloc: Global,
     mut device: W,

@@ -14,6 +14,8 @@ use ipc_encode::batches::Encoded;
 use ipc_plan::sending::{send_bytes, send_pieces, zeros};
 
 /// Sends all of these bytes. Where that fails, those that went out are the first ones.
+///
+/// `Io` comes only where the device failed, or where it is memory whose growth was refused, and no other fault comes.
 pub fn write_all<W: Writes>(writer: &mut W, bytes: &[u8]) -> Result<(), Fault>
     ensures sends { Sends W.known W.grows (seen_by W.failures W.room W.memory writer.old)
         (seen_by W.failures W.room W.memory writer.new) result bytes.now }

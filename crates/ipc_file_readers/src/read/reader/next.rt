@@ -29,7 +29,7 @@ fn less(limit: Option<usize>, rows: usize) -> Option<usize>
 
 impl<R: Reads + Seeks + Drop> FileReader<R> {
     /// A reader of the chunks of a file, which `metadata` is of. Where columns are chosen, they are there, and none is chosen twice.
-    /// Where none are, it takes no memory. It reads nothing.
+    /// Where none are, it takes no memory. At most `limit` rows come, of all chunks together; without a limit all. It reads nothing.
     ///
     /// It answers `Memory` where there is no memory, and no other fault.
     pub fn new(

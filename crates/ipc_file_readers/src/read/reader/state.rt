@@ -20,8 +20,8 @@ use std::alloc::Global;
 /// Faults of `next`: those of [`read_file_dictionaries`] and [`read_batch`], and no other. Where it answers a chunk, and the dictionaries
 /// were read before, it takes no more bytes of the device than the block's message, its prefix and what the buffers of the given
 /// columns list. The arrays of a chunk hold together no more than these list, and one offset for each buffer of offsets that lists
-/// nothing; so does the array of each dictionary's values, by one of its blocks. The metadata of the message are left in the room for
-/// messages.
+/// nothing; over memory so does the array of each dictionary's values, by one of its blocks. The metadata of the message are left in the
+/// room for messages.
 ///
 /// [`read_file_dictionaries`]: ipc_files::read::file::read_file_dictionaries
 /// [`read_batch`]: ipc_files::read::file::read_batch
