@@ -1,5 +1,5 @@
-//! `ipc_append` goes on with the file at a path by the stream on standard input, as `ipconvert append` does, and then shows the file, as
-//! `ipcat file` does.
+//! `ipc_append PATH` goes on with the file at a path by the stream on standard input, as `ipconvert append` does, and then shows the file,
+//! as `ipcat file` does. Further words are passed over.
 #![tactic(auto)]
 
 use arrow2_ipc::io::ipc::fault::Watched;

@@ -1,0 +1,5 @@
+mod CatRows
+mod ClassRows
+mod ConvertRows
+mod LineRows
+mod PositionRows

@@ -1,5 +1,5 @@
 -- What the words of `ipcat` ask for.
-use Rattle.std.specs.Prelude.{ℕ, List, [], ◌∷◌, Option, None, Some, Bool, codes, if◌then◌else◌, bytes_eq, option_and_then, option_map, eqb, ltb, ◌==◌, not, ◌&&◌, ◌^◌, length}
+use Rattle.std.specs.Prelude.{ℕ, List, [], ◌∷◌, Option, None, Some, Bool, true, false, codes, if◌then◌else◌, bytes_eq, option_and_then, option_map, eqb, ltb, ◌==◌, not, ◌&&◌, ◌^◌, length}
 use Rattle.std.specs.Char.{is_ascii_digit}
 use Rattle.std.specs.List.{list_all, slice_split}
 use Rattle.std.specs.Str.Parse.{digits_value}
@@ -65,6 +65,19 @@ abbrev pub asked_by : Form → Asked
 asked_by Demo = demo
 asked_by (Stream columns) = stream (columns_by columns)
 asked_by (File words) = file words.path.now (columns_by words.columns) words.limit
+
+-- whether the input is read
+abbrev pub reads_input : Asked → Bool
+reads_input demo = false
+reads_input (stream columns) = true
+reads_input (file path columns limit) = false
+
+-- whether the schema judges the columns: of a file also all of them
+abbrev pub judges_columns : Asked → Bool
+judges_columns demo = false
+judges_columns (stream None) = false
+judges_columns (stream (Some columns)) = true
+judges_columns (file path columns limit) = true
 
 -- the path of the file that has to be opened
 abbrev pub opened_for : Asked → Option (List ℕ)

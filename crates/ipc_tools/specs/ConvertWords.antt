@@ -44,6 +44,17 @@ asked_by (Convert Input target options) = copy None target options
 asked_by (Convert (File path) target options) = copy (Some path.now) target options
 asked_by (Append path) = append path.now
 
+-- whether the input is read: not where a file is copied
+abbrev pub reads_input : Asked → Bool
+reads_input (copy None target options) = true
+reads_input (copy (Some path) target options) = false
+reads_input (append path) = true
+
+-- whether the output is written to: not where a file is gone on with
+abbrev pub writes_output : Asked → Bool
+writes_output (copy from target options) = true
+writes_output (append path) = false
+
 -- the path of the file that has to be opened, and whether it is written to
 abbrev pub place_for : Asked → Option (List ℕ × Bool)
 place_for (copy None target options) = None

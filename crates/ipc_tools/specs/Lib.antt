@@ -1,4 +1,10 @@
+pub mod CatRows
 pub mod CatWords
+pub mod ClassRows
 pub mod Classes
+pub mod ConvertRows
 pub mod ConvertWords
+pub mod LineRows
+pub mod Lines
+pub mod PositionRows
 pub mod Positions

@@ -1,6 +1,9 @@
 //! `ipcat`: writes the documented example as an Arrow IPC stream, and shows the streams and files that it is given.
-ghost use Rattle.std.specs.Prelude.{◌≡◌, ◌≤◌, map, option_and_then, option_map, string_bytes, None};
-ghost use Rattle.ipc_tools.specs.CatWords.{asked, opened_for};
+ghost use Rattle.std.specs.Prelude.{◌≡◌, ◌≤◌, codes, map, option_and_then, option_map, string_bytes, false, None, Some, Ok, IfOk, IfSome, IsSome, IsTrue};
+ghost use Rattle.ipc_plan.specs.Sending.{WritesSome};
+ghost use Rattle.ipc_tools.specs.Lines.{Tells};
+ghost use Rattle.ipc_tools.specs.CatWords.{asked, asked_by, judges_columns, opened_for, reads_input};
+ghost use Rattle.ipc_tools.specs.declared.cat.show.Outcome.TheVariants.{Done};
 
 mod demo;
 mod file;
@@ -47,6 +50,13 @@ pub fn run<R: Reads, F: Reads + Seeks + Drop, O: Writes, E: Writes>(
 ) -> u8
     ensures status { result ≤ 2 }
     ensures usage { asked (map string_bytes words.now) ≡ None → result ≡ 2 }
+    ensures unopened { IfSome (option_and_then opened_for (asked (map string_bytes words.now))) (λ path. file ≡ None → result ≡ 1) }
+    ensures unread { IfSome (asked (map string_bytes words.now)) (λ form. reads_input form ≡ false → input.new ≡ input.old) }
+    ensures line { result ≡ 1 → IsTrue E.known → Tells (codes "ipcat") (E.memory err.old) (E.memory err.new) }
+    ensures judged { IfSome (asked (map string_bytes words.now)) (λ form. judges_columns form ≡ false → result ≤ 1) }
+    ensures silent { result ≡ 0 → err.new ≡ err.old }
+    ensures told { asked (map string_bytes words.now) ≡ None → IsTrue E.known
+        → WritesSome (E.memory err.old) (E.memory err.new) USAGE.now }
     ensures untouched { asked (map string_bytes words.now) ≡ None → (input.new ≡ input.old) × (out.new ≡ out.old) }
 {
     let outcome = match form_of(words) {
@@ -72,7 +82,11 @@ fn run_form<R: Reads, F: Reads + Seeks + Drop, O: Writes>(
     input: &mut R,
     file: Option<F>,
     out: &mut O,
-) -> Result<Outcome, Fault> {
+) -> Result<Outcome, Fault>
+    ensures unopened { IfSome (opened_for (asked_by form.entry)) (λ path. IfOk result (λ _. IsSome file)) }
+    ensures judged { judges_columns (asked_by form.entry) ≡ false → IfOk result (λ outcome. outcome ≡ Done) }
+    ensures unread { reads_input (asked_by form.entry) ≡ false → input.new ≡ input.old }
+{
     match form {
         Form::Demo => {
             write_demo(alloc, out)?;
@@ -92,10 +106,9 @@ fn run_form<R: Reads, F: Reads + Seeks + Drop, O: Writes>(
 }
 
 // What came of a form, once all is sent that it printed.
-fn sent<O: Writes>(
-    shown: Result<Outcome, Fault>,
-    mut printer: Printer<O>,
-) -> Result<Outcome, Fault> {
+fn sent<O: Writes>(shown: Result<Outcome, Fault>, mut printer: Printer<O>) -> Result<Outcome, Fault>
+    ensures { IfOk result (λ outcome. shown ≡ Ok outcome) }
+{
     let sent = printer.send();
     let outcome = shown?;
     sent?;
@@ -107,7 +120,9 @@ fn show_opened<F: Reads + Seeks + Drop, O: Writes>(
     file: Option<F>,
     words: FileWords<'_>,
     printer: &mut Printer<O>,
-) -> Result<Outcome, Fault> {
+) -> Result<Outcome, Fault>
+    ensures { IfOk result (λ _. IsSome file) }
+{
     match file {
         Some(mut file) => show_file(alloc, &mut file, words, printer),
         None => Err(Fault::Io(io::Error::from(ErrorKind::NotFound))),

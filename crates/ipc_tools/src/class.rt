@@ -1,6 +1,8 @@
 //! The class of a fault, as the programs tell it.
 ghost use Rattle.std.specs.Prelude.{◌≡◌};
+ghost use Rattle.ipc_plan.specs.Sending.{Sends, seen_by};
 ghost use Rattle.ipc_tools.specs.Classes.{class};
+ghost use Rattle.ipc_tools.specs.Lines.{line_of};
 
 use arrow2_ipc::io::ipc::fault::{Fault, Writes};
 use ipc_write::common_sync::write_all;
@@ -24,7 +26,10 @@ pub fn class_of(fault: &Fault) -> &'static str
 }
 
 /// Writes a line: the name of the program, and the class of the fault that ended it. `Io` where that fails.
-pub fn tell<E: Writes>(err: &mut E, program: &str, fault: &Fault) -> Result<(), Fault> {
+pub fn tell<E: Writes>(err: &mut E, program: &str, fault: &Fault) -> Result<(), Fault>
+    ensures sends { Sends E.known E.grows (seen_by E.failures E.room E.memory err.old)
+        (seen_by E.failures E.room E.memory err.new) result (line_of program.now fault.now) }
+{
     write_all(err, program.as_bytes())?;
     write_all(err, b": ")?;
     write_all(err, class_of(fault).as_bytes())?;

@@ -1,6 +1,8 @@
 //! `ipconvert`: reads an Arrow IPC stream or file and writes it again as a stream or a file, in either byte order; or goes on with a file.
-ghost use Rattle.std.specs.Prelude.{◌≡◌, ◌≤◌, ◌↔◌, map, option_and_then, option_map, string_bytes, None};
-ghost use Rattle.ipc_tools.specs.ConvertWords.{asked, place_for};
+ghost use Rattle.std.specs.Prelude.{◌≡◌, ◌≤◌, codes, ◌↔◌, map, option_and_then, option_map, string_bytes, false, None, Some, IfOk, IfSome, IsSome, IsTrue};
+ghost use Rattle.ipc_plan.specs.Sending.{WritesSome};
+ghost use Rattle.ipc_tools.specs.Lines.{Tells};
+ghost use Rattle.ipc_tools.specs.ConvertWords.{asked, asked_by, place_for, reads_input, writes_output};
 
 mod forms;
 
@@ -47,6 +49,13 @@ pub fn run<R: Reads, F: Reads + Writes + Seeks + Drop, O: Writes, E: Writes>(
 ) -> u8
     ensures status { result ≤ 2 }
     ensures usage { (result ≡ 2) ↔ (asked (map string_bytes words.now) ≡ None) }
+    ensures unopened { IfSome (option_and_then place_for (asked (map string_bytes words.now))) (λ place. file ≡ None → result ≡ 1) }
+    ensures unread { IfSome (asked (map string_bytes words.now)) (λ form. reads_input form ≡ false → input.new ≡ input.old) }
+    ensures unwritten { IfSome (asked (map string_bytes words.now)) (λ form. writes_output form ≡ false → out.new ≡ out.old) }
+    ensures line { result ≡ 1 → IsTrue E.known → Tells (codes "ipconvert") (E.memory err.old) (E.memory err.new) }
+    ensures silent { result ≡ 0 → err.new ≡ err.old }
+    ensures told { asked (map string_bytes words.now) ≡ None → IsTrue E.known
+        → WritesSome (E.memory err.old) (E.memory err.new) USAGE.now }
     ensures untouched { asked (map string_bytes words.now) ≡ None → (input.new ≡ input.old) × (out.new ≡ out.old) }
 {
     let Some(form) = form_of(words) else {
@@ -68,7 +77,11 @@ fn run_form<R: Reads, F: Reads + Writes + Seeks + Drop, O: Writes>(
     input: &mut R,
     file: Option<F>,
     out: &mut O,
-) -> Result<(), Fault> {
+) -> Result<(), Fault>
+    ensures unopened { IfSome (place_for (asked_by form.entry)) (λ place. IfOk result (λ _. IsSome file)) }
+    ensures unread { reads_input (asked_by form.entry) ≡ false → input.new ≡ input.old }
+    ensures unwritten { writes_output (asked_by form.entry) ≡ false → out.new ≡ out.old }
+{
     match form {
         Form::Convert(Source::Input, target, write_options) => {
             let copied = copy_input(alloc, input, &mut *out, target, write_options);
@@ -86,7 +99,9 @@ fn run_form<R: Reads, F: Reads + Writes + Seeks + Drop, O: Writes>(
 }
 
 // What stands at a path, where it could be opened.
-fn opened<F>(file: Option<F>) -> Result<F, Fault> {
+fn opened<F>(file: Option<F>) -> Result<F, Fault>
+    ensures { IfOk result (λ device. file ≡ Some device) }
+{
     match file {
         Some(file) => Ok(file),
         None => Err(Fault::Io(io::Error::from(ErrorKind::NotFound))),

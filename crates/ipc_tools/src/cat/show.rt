@@ -1,4 +1,7 @@
 //! Prints a stream: its schema, and each chunk row by row.
+ghost use Rattle.std.specs.Prelude.{◌≡◌, IfOk, IsSome};
+ghost use Rattle.ipc_tools.specs.declared.cat.forms.Columns.TheVariants.{All};
+ghost use Rattle.ipc_tools.specs.declared.cat.show.Outcome.TheVariants.{Done};
 
 use crate::cat::forms::Columns;
 use crate::cat::printer::{Printer, put_number, put_text};
@@ -34,7 +37,9 @@ pub fn show_stream<R: Reads + Drop, W: Writes>(
     input: R,
     columns: Columns<'_>,
     printer: &mut Printer<W>,
-) -> Result<Outcome, Fault> {
+) -> Result<Outcome, Fault>
+    ensures { columns.entry ≡ All → IfOk result (λ outcome. outcome ≡ Done) }
+{
     let Some(mut reader) = open_stream(alloc, input, columns)? else {
         return Ok(Outcome::WrongWords);
     };
@@ -58,7 +63,9 @@ fn open_stream<R: Reads + Drop>(
     alloc: Global,
     input: R,
     columns: Columns<'_>,
-) -> Result<Option<StreamReader<R>>, Fault> {
+) -> Result<Option<StreamReader<R>>, Fault>
+    ensures { columns.entry ≡ All → IfOk result (λ reader. IsSome reader) }
+{
     let mut input = input;
     let metadata = read_stream_metadata(alloc, &mut input)?;
     let Columns::At(word) = columns else {

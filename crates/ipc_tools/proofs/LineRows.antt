@@ -1,0 +1,6 @@
+-- Each row is computed.
+use Rattle.std.proofs.Common.{refl}
+use Rattle.ipc_tools.specs.LineRows.{LineRows}
+
+pub line_rows : LineRows
+line_rows = record { ended = refl; no_memory = refl }
