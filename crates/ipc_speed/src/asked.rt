@@ -10,6 +10,10 @@ use std::{env, io};
 pub enum Measured {
     /// A stream.
     Stream,
+    /// A file.
+    File,
+    /// The first column of the last block of a file.
+    Block,
     /// The first column of a stream.
     Chosen,
 }
@@ -66,6 +70,10 @@ impl Words {
             self.add(number);
         } else if word == "big" {
             self.options = WriteOptions { big_endian: true };
+        } else if word == "file" {
+            self.measured = Measured::File;
+        } else if word == "block" {
+            self.measured = Measured::Block;
         } else if word == "chosen" {
             self.measured = Measured::Chosen;
         }

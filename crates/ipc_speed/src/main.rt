@@ -1,16 +1,18 @@
-//! How fast streams are written and read, beside plain copies of the same bytes in the same run.
+//! How fast streams and files are written and read, beside plain copies of the same bytes in the same run.
 //!
 //! `ipc_speed KIND ROWS COLUMNS ROUNDS [CHUNKS]` writes a stream of so many columns to memory that is used again, reads
 //! it back, and prints for each the least time of all rounds. Each of its chunks has so many rows; where their number
 //! is left out there is one. KIND says what the columns hold: `int64` (also where it is left out), `nulls`, `bits3`,
-//! `boolean`, `list`, `utf8`, `struct`, `dictionary`, `mixed`; `big` before it writes numbers in big-endian order. What
-//! is written is held beside a copy into memory that is used again, what is read beside one into fresh memory. With
-//! `chosen` before it one column of a stream is read, beside the same column in a stream of its own. With other words it
-//! does nothing.
+//! `boolean`, `list`, `utf8`, `struct`, `dictionary`, `mixed`. Of these words, which stand before it, `big` writes
+//! numbers in big-endian order, and `file` writes and reads a file in place of a stream. What is written is held beside
+//! a copy into memory that is used again, what is read beside one into fresh memory. With `chosen` one column of a
+//! stream is read, beside the same column in a stream of its own; with `block` one column of the last block of a file,
+//! by itself. With other words it does nothing.
 #![tactic(auto)]
 
 mod asked;
 mod columns;
+mod files;
 mod streams;
 mod tables;
 mod times;
@@ -58,19 +60,33 @@ fn run_chosen<R: Runtime>(
     Ok(())
 }
 
+// Reads the first column of the last block of a file.
+fn run_block<R: Runtime>(rt: &R, alloc: Global, table: &Table, asked: &Asked) -> Result<(), Fault> {
+    let (best, _) = best_of(rt, alloc, table, Measured::Block, asked.rounds)?;
+    let micros = best.read.as_secs_f64() * 1e6;
+    println!(rt;
+        "read one of {} columns of one of {} blocks: {micros:.1} us",
+        asked.size.columns, asked.size.chunks
+    )?;
+    Ok(())
+}
+
 fn main(rt: HostRuntime) -> Result<(), Fault> {
     let alloc = rt.alloc();
     let Some(asked) = read_words(&rt)? else {
         return Ok(());
     };
     let table = make_table(alloc, asked.kind, asked.size, asked.options)?;
-    if !matches!(asked.measured, Measured::Chosen) {
-        return run(&rt, alloc, &table, &asked);
+    match asked.measured {
+        Measured::Stream | Measured::File => run(&rt, alloc, &table, &asked),
+        Measured::Block => run_block(&rt, alloc, &table, &asked),
+        Measured::Chosen => {
+            let one = Size {
+                columns: 1,
+                ..asked.size
+            };
+            let alone = make_table(alloc, asked.kind, one, asked.options)?;
+            run_chosen(&rt, alloc, &table, &alone, &asked)
+        }
     }
-    let one = Size {
-        columns: 1,
-        ..asked.size
-    };
-    let alone = make_table(alloc, asked.kind, one, asked.options)?;
-    run_chosen(&rt, alloc, &table, &alone, &asked)
 }

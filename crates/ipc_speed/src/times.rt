@@ -1,6 +1,7 @@
 //! Times of writing, reading and copying.
 
 use crate::asked::Measured;
+use crate::files::{read_file, time_block, write_file};
 use crate::streams::{read_first, read_stream, write_stream};
 use crate::tables::Table;
 use ipc_devices::Fault;
@@ -40,12 +41,16 @@ fn time_write<R: Runtime>(
     rt: &R,
     alloc: Global,
     table: &Table,
+    measured: Measured,
     out: &mut Vec<u8>,
 ) -> Result<Duration, Fault> {
     out.clear();
     let start = Instant::now(rt)?;
     let taken = replace(out, Vec::new(alloc));
-    *out = write_stream(alloc, table, taken)?;
+    *out = match measured {
+        Measured::File | Measured::Block => write_file(alloc, table, taken)?,
+        Measured::Stream | Measured::Chosen => write_stream(alloc, table, taken)?,
+    };
     Ok(start.elapsed(rt)?)
 }
 
@@ -61,8 +66,24 @@ fn time_copy_again<R: Runtime>(
     Ok(start.elapsed(rt)?)
 }
 
-// Reads all chunks. `Ended` where they have not so many rows.
+// Reads what is measured.
 fn time_read<R: Runtime>(
+    rt: &R,
+    alloc: Global,
+    table: &Table,
+    measured: Measured,
+    bytes: &[u8],
+) -> Result<Duration, Fault> {
+    match measured {
+        Measured::Block => time_block(rt, alloc, bytes),
+        Measured::Stream | Measured::File | Measured::Chosen => {
+            time_chunks(rt, alloc, table, measured, bytes)
+        }
+    }
+}
+
+// Reads all chunks. `Ended` where they have not so many rows.
+fn time_chunks<R: Runtime>(
     rt: &R,
     alloc: Global,
     table: &Table,
@@ -72,6 +93,7 @@ fn time_read<R: Runtime>(
     let start = Instant::now(rt)?;
     let rows = match measured {
         Measured::Stream => read_stream(alloc, bytes, table.chunks)?,
+        Measured::File | Measured::Block => read_file(alloc, bytes, table.chunks)?,
         Measured::Chosen => read_first(alloc, bytes, table.chunks)?,
     };
     let time = start.elapsed(rt)?;
@@ -103,7 +125,7 @@ fn measure<R: Runtime>(
     again: &mut Vec<u8>,
 ) -> Result<Times, Fault> {
     Ok(Times {
-        write: time_write(rt, alloc, table, out)?,
+        write: time_write(rt, alloc, table, measured, out)?,
         copy_again: time_copy_again(rt, out, again)?,
         read: time_read(rt, alloc, table, measured, out)?,
         copy: time_copy(rt, alloc, out)?,
