@@ -6,3 +6,4 @@ pub mod Unset
 pub mod UnsetWords
 pub mod OptionSteps
 pub mod SlotRows
+pub mod SameRows

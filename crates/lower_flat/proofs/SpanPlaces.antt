@@ -31,6 +31,12 @@ offset_last os i is h =
 pub offset_within : (os xs : List ℕ) (i : ℕ) → IsOffsets os → EndsWithin os xs → i < length os → slice_index os i ≤ length xs
 offset_within os xs i is ends h = let last = offset_last os i is h in omega (arith, last, ends)
 
+-- the first is past none
+pub offset_first : (os : List ℕ) (i : ℕ) → IsOffsets os → i < length os → slice_index os 0 ≤ slice_index os i
+offset_first os i is h =
+    let there : 0 + i ≡ i = omega arith in
+    subst (λ k. slice_index os 0 ≤ slice_index os k) there (offset_le os 0 i is (omega (arith, h)))
+
 pub offset_next : (os : List ℕ) (i : ℕ) → IsOffsets os → i < span_count os → slice_index os i ≤ slice_index os (i + 1)
 offset_next os i is h = is.rising i (omega (arith, h))
 

@@ -7,7 +7,7 @@ use Rattle.std.proofs.lemmas.Str.{IsUtf8-nil, IsUtf8-append, IsUtf8-drop, IsUtf8
 use Rattle.std.specs.Str.{IsAscii, IsUtf8, IsCharBoundary}
 use Rattle.lower.specs.Offsets.{IsOffsets}
 use Rattle.lower_flat.specs.Spans.{span, EndsWithin, AreTexts, AreCut}
-use Rattle.lower_flat.proofs.SpanPlaces.{offset_le, offset_last, offset_within}
+use Rattle.lower_flat.proofs.SpanPlaces.{offset_first, offset_last, offset_within}
 
 -- a place where the bytes may be cut is one in what is left of them
 boundary-in_rest : (bs : List ℕ) (i j : ℕ) → i ≤ j → IsCharBoundary bs j → IsCharBoundary (drop i bs) (j - i)
@@ -40,11 +40,6 @@ module _ (os bs : List ℕ) (is : IsOffsets os) (all : slice_index os (length os
   place_within : (i : ℕ) → i < length os → slice_index os i ≤ length bs
   place_within i lt = offset_within os bs i is ends lt
 
-  first_le : (i : ℕ) → i < length os → slice_index os 0 ≤ slice_index os i
-  first_le i lt =
-      let there : 0 + i ≡ i = omega arith in
-      subst (λ k. slice_index os 0 ≤ slice_index os k) there (offset_le os 0 i is (omega (arith, lt)))
-
   from_text : (i : ℕ) → i < length os → AreTexts os bs → IsUtf8 (drop (slice_index os i) bs)
   from_text i lt t = tail (length os - 1 - i) i (omega (arith, lt)) t
 
@@ -58,7 +53,7 @@ module _ (os bs : List ℕ) (is : IsOffsets os) (all : slice_index os (length os
   one whole cut i lt =
       let first = slice_index os 0 in
       let o = slice_index os i in
-      let low = first_le i (omega (arith, lt)) in
+      let low = offset_first os i is (omega (arith, lt)) in
       let up = is.rising i lt in
       let there : first + (o - first) ≡ o = omega (arith, low) in
       let same : drop (o - first) (drop first bs) ≡ drop o bs = drop-drop (o - first) first bs ∙ ap (λ k. drop k bs) there in

@@ -10,3 +10,4 @@ pub mod Texts
 pub mod Options
 pub mod Columns
 pub mod ColumnLaws
+pub mod SameValues

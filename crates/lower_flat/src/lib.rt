@@ -11,6 +11,7 @@ pub mod equality;
 mod fixed_size_binary;
 mod null;
 mod primitive;
+mod spans;
 mod texts;
 mod utf8;
 pub mod validity;
