@@ -3,7 +3,7 @@ use Rattle.std.proofs.Common.{arith, ◌≡◌, ℕ, zero, suc, take, get_or, po
 use Rattle.std.specs.Prelude.{OnOk}
 use Rattle.std.specs.Int.{next_multiple_of}
 use Rattle.std.specs.List.{flat_map}
-use Rattle.std.proofs.lemmas.List.{map-append}
+use Rattle.std.proofs.lemmas.List.{map-append, nil_from_length}
 use Rattle.std.proofs.Math.Nat.{add-mul}
 use Rattle.std.proofs.lemmas.Grind.{flat_map-append}
 use Rattle.lower_types.specs.declared.Endianness.{Endianness}
@@ -62,15 +62,23 @@ grows_then p q r ns ms bs cs f g = record {
   small = g.small;
 }
 
+-- one piece more
+pub one_piece : (order : Endianness) (ps qs : List Piece) (x : Piece) → qs ≡ ps ++ x ∷ [] → pieces_bytes order qs ≡ pieces_bytes order ps ++ piece_bytes order x
+one_piece order ps qs x e =
+    ap (pieces_bytes order) e ∙ flat_map-append (piece_bytes order) ps (x ∷ []) ∙ ap (λ xs. pieces_bytes order ps ++ xs) (append-nil (piece_bytes order x))
+
+-- no piece in place of one that has no byte
+pub no_piece : (order : Endianness) (ps : List Piece) (x : Piece) → length (piece_bytes order x) ≡ 0 → pieces_bytes order ps ≡ pieces_bytes order ps ++ piece_bytes order x
+no_piece order ps x e = sym (ap (λ xs. pieces_bytes order ps ++ xs) (nil_from_length _ e) ∙ append-nil (pieces_bytes order ps))
+
 -- one buffer more: its piece, and zeros
-pub one_buffer : (order : Endianness) (ps qs : List Piece) (x : Piece) (n : ℕ) → qs ≡ (ps ++ x ∷ []) ++ Zeros n ∷ [] → n ≡ next_multiple_of (length (piece_bytes order x)) 64 - length (piece_bytes order x)
-    → pieces_bytes order qs ≡ pieces_bytes order ps ++ body (piece_bytes order x ∷ [])
-one_buffer order ps qs x n e count =
+pub one_buffer : (order : Endianness) (ps qs rs : List Piece) (x : Piece) (n : ℕ) → pieces_bytes order qs ≡ pieces_bytes order ps ++ piece_bytes order x
+    → pieces_bytes order rs ≡ pieces_bytes order qs ++ piece_bytes order (Zeros n) → n ≡ next_multiple_of (length (piece_bytes order x)) 64 - length (piece_bytes order x)
+    → pieces_bytes order rs ≡ pieces_bytes order ps ++ body (piece_bytes order x ∷ [])
+one_buffer order ps qs rs x n e f count =
     let zero_byte : ℕ = 0 in
     let bytes = piece_bytes order x in
-    ap (pieces_bytes order) (e ∙ append_assoc ps (x ∷ []) (Zeros n ∷ []))
-    ∙ flat_map-append (piece_bytes order) ps (x ∷ Zeros n ∷ [])
-    ∙ ap (λ xs. pieces_bytes order ps ++ (bytes ++ xs)) (append-nil (replicate n zero_byte))
+    twice (pieces_bytes order ps) (pieces_bytes order qs) (pieces_bytes order rs) bytes (replicate n zero_byte) e f
     ∙ ap (λ k. pieces_bytes order ps ++ (bytes ++ replicate k zero_byte)) count
     ∙ ap (λ xs. pieces_bytes order ps ++ xs) (sym (append-nil (padded bytes)))
 

@@ -1,12 +1,13 @@
 -- Offsets and their bytes, each less the first.
-use Rattle.std.proofs.Common.{arith, ◌≡◌, ℕ, ℤ, zero, suc, pos, ◌+◌, ◌-◌, ◌*◌, ◌^◌, ◌<◌, ◌≤◌, List, [], ◌∷◌, ◌++◌, length, map, take, drop, get_or, refl, sym, ap, ap₂, ◌∙◌, subst, All}
+use Rattle.std.proofs.Common.{arith, ◌≡◌, ℕ, ℤ, zero, suc, pos, ◌+◌, ◌-◌, ◌*◌, ◌^◌, ◌<◌, ◌≤◌, List, [], ◌∷◌, ◌++◌, negsuc, length, map, take, drop, get_or, refl, sym, ap, ap₂, ◌∙◌, subst, All}
 use Rattle.std.specs.Prelude.{slice_index, slice_index_or}
 use Rattle.std.specs.Int.{w32, w64, cast_unsigned, byte_len}
 use Rattle.std.specs.Int.RustNames.{FitsSigned}
 use Rattle.std.specs.List.{flat_map}
 use Rattle.std.proofs.lemmas.List.{drop_at, drop-drop, get_or-map, length-map, map-id}
+use Rattle.std.proofs.lemmas.List.Elements.{All-head, All-tail}
 use Rattle.lower.specs.Offsets.{IsRising}
-use Rattle.lower_types.specs.Numbers.{unsigned_in, unsigned_bytes}
+use Rattle.lower_types.specs.Numbers.{signed_bytes, unsigned_in, unsigned_bytes}
 use Rattle.lower_types.specs.NumberLaws.{length-unsigned_bytes, first_part}
 use Rattle.lower_types.specs.declared.Endianness.{Endianness}
 use Rattle.lower_types.specs.declared.PrimitiveType.TheVariants.{Int32, Int64}
@@ -38,6 +39,22 @@ less_32 a b h k = omega (arith, h, k)
 
 less_64 : (a b : ℕ) → b ≤ a → a < 2 ^ 63 → less w64 (2 ^ 64) (cast_unsigned w64 (pos b)) (pos a) ≡ a - b
 less_64 a b h k = omega (arith, h, k)
+
+-- an offset less 0 is the offset
+less_none_64 : (z : ℤ) → FitsSigned w64 z → less w64 (2 ^ 64) 0 z ≡ cast_unsigned w64 z
+less_none_64 (pos n) h = omega (arith, h)
+less_none_64 (negsuc n) h = omega (arith, h)
+
+stand_from_none_64 : (order : Endianness) (zs : List ℤ) → All (FitsSigned w64) zs
+    → flat_map (signed_bytes w64 order) zs ≡ flat_map (λ z. unsigned_bytes (byte_len w64) order (less w64 (2 ^ 64) 0 z)) zs
+stand_from_none_64 order [] h = refl
+stand_from_none_64 order (z ∷ zs) h =
+    ap₂ (λ (xs ys : List ℕ). xs ++ ys) (ap (unsigned_bytes (byte_len w64) order) (sym (less_none_64 z (All-head (FitsSigned w64) z zs h)))) (stand_from_none_64 order zs (All-tail (FitsSigned w64) z zs h))
+
+-- offsets that begin at 0, as they stand
+pub from_none_64 : (order : Endianness) (zs : List ℤ) → cast_unsigned w64 (slice_index_or zs 0 (pos 0)) ≡ 0 → All (FitsSigned w64) zs → flat_map (signed_bytes w64 order) zs ≡ offset_bytes w64 (2 ^ 64) order zs
+from_none_64 order zs e h =
+    stand_from_none_64 order zs h ∙ ap (λ first. flat_map (λ z. unsigned_bytes (byte_len w64) order (less w64 (2 ^ 64) first z)) zs) (sym e)
 
 below_32 : (z : ℤ) (a : ℕ) → FitsSigned w32 z → z ≡ pos a → a < 2 ^ 31
 below_32 z a h e = let fits : FitsSigned w32 (pos a) = subst (FitsSigned w32) e h in omega (arith, fits)

@@ -1,7 +1,8 @@
 //! The plan of a message: its nodes, its buffers, and the pieces of its body (Arrow columnar format,
 //! "RecordBatch message").
-ghost use Rattle.std.specs.Prelude.{◌≡◌, ◌^◌, ◌<◌, ◌≤◌, pos, [], ◌∷◌, length, OnOk};
-ghost use Rattle.ipc_plan.specs.Pieces.{piece_bytes};
+ghost use Rattle.std.specs.Prelude.{◌≡◌, ◌+◌, ◌^◌, ◌<◌, ◌≤◌, pos, [], ◌∷◌, ◌++◌, length, OnOk};
+ghost use Rattle.lower_types.specs.declared.Endianness.{Endianness};
+ghost use Rattle.ipc_plan.specs.Pieces.{piece_bytes, pieces_bytes};
 ghost use Rattle.ipc_plan.specs.Taking.{TakesBuffers, TakesLevel};
 ghost use Rattle.ipc_plan.specs.Plans.{Grows};
 
@@ -9,6 +10,7 @@ use crate::pieces::Piece;
 use ipc_devices::{ArgFault, Fault};
 use ipc_views::{Buffer as Entry, FieldNode};
 use lower::types::Endianness;
+use std::alloc::AllocError;
 
 /// The nodes and the buffers of a message, and its body in pieces, which borrow the arrays.
 #[derive(Drop)]
@@ -42,6 +44,23 @@ pub(crate) fn push_node(plan: &mut Plan<'_>, len: usize, nulls: usize) -> Result
     Ok(())
 }
 
+// Adds a piece of `len` bytes, but none that has no byte.
+fn push_piece<'a>(
+    pieces: &mut Vec<Piece<'a>>,
+    piece: Piece<'a>,
+    len: usize,
+) -> Result<(), AllocError>
+    ensures bytes { OnOk result ((order : Endianness) → len ≡ length (piece_bytes order piece.entry)
+        → pieces_bytes order pieces.new.items ≡ pieces_bytes order pieces.old.items ++ piece_bytes order piece.entry) }
+    ensures few { OnOk result (length pieces.new.items ≤ length pieces.old.items + 1) }
+{
+    if len == 0 {
+        return Ok(());
+    }
+    pieces.push(piece)?;
+    Ok(())
+}
+
 // Adds a buffer of `len` bytes: its entry, its piece, and zeros up to a multiple of 64 bytes.
 //
 // Faults: `Argument(TooLarge)` where it would end past `2^63 - 1`; `Memory`.
@@ -67,8 +86,9 @@ pub(crate) fn push_buffer<'a>(
         offset: plan.end.cast_signed(),
         length,
     })?;
-    plan.pieces.push(piece)?;
-    plan.pieces.push(Piece::Zeros(padded - len))?;
+    let zeros = padded - len;
+    push_piece(&mut plan.pieces, piece, len)?;
+    push_piece(&mut plan.pieces, Piece::Zeros(zeros), zeros)?;
     plan.end = end;
     Ok(())
 }

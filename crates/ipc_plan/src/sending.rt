@@ -51,6 +51,20 @@ fn send_zeros<W: Writes>(writer: &mut W, count: usize) -> Result<(), Fault>
     Ok(())
 }
 
+// How many numbers are sent at a time: as many as the block has room for. Memory takes those of a long column in smaller parts, each of
+// which is on its way while the next is read.
+fn numbers_at_once<T: NativeType, W: Writes>(count: usize) -> usize
+    ensures some { 0 < result }
+    ensures fit { T.width * result ≤ 4096 }
+{
+    let bytes = if W::GROWS && count > 65_536 {
+        1280
+    } else {
+        4096
+    };
+    bytes / T::width()
+}
+
 // Sends numbers through a block of 4,096 bytes.
 fn send_numbers<T: NativeType, W: Writes>(
     writer: &mut W,
@@ -64,7 +78,7 @@ fn send_numbers<T: NativeType, W: Writes>(
     ensures block { length block.new ≡ 4096 }
 {
     let width = T::width();
-    let most = 4096 / width;
+    let most = numbers_at_once::<T, W>(values.len());
     'pieces: for piece in values.chunks(most) {
         let bytes = &mut block[..width * piece.len()];
         T::put(piece, bytes, order);

@@ -1,11 +1,15 @@
 //! Plans buffers of offsets, and says where slots begin (Arrow columnar format, "Variable-size Binary
 //! Layout" and "Variable-size List Layout").
-ghost use Rattle.std.specs.Prelude.{◌≡◌, ◌-◌, slice_index, ◌+◌, ◌*◌, ◌^◌, ◌<◌, ◌≤◌, [], ◌∷◌, length, OnOk};
+ghost use Rattle.std.specs.Prelude.{◌≡◌, ◌-◌, slice_index, ◌+◌, ◌*◌, ◌^◌, ◌<◌, ◌≤◌, [], ◌∷◌, length, All, OnOk};
+ghost use Rattle.std.specs.Int.{w32, w64};
+ghost use Rattle.std.specs.Int.RustNames.{FitsSigned};
+ghost use Rattle.lower_types.specs.declared.Endianness.{Endianness};
 ghost use Rattle.lower_types.specs.declared.PrimitiveType.TheVariants as Named;
 ghost use Rattle.std.specs.Option.{option_copied};
 ghost use Rattle.lower_flat.specs.Validities.{part, cut_validity, ValidityHolds};
 ghost use Rattle.lower.specs.Offsets.{IsOffsets};
 ghost use Rattle.ipc_plan.specs.OffsetViews.{places_of, type_of_offsets};
+ghost use Rattle.ipc_plan.specs.Pieces.{offset_bytes, piece_bytes};
 ghost use Rattle.lower_rules.specs.AnyOffsets.{list_places, list_width};
 ghost use Rattle.ipc_model.specs.Offers.{offsets_length, validity_length};
 ghost use Rattle.ipc_plan.specs.Taking.{TakesBuffers, TakesLevel};
@@ -13,7 +17,7 @@ ghost use Rattle.ipc_plan.specs.Plans.{AddsHead, AddsOffsets};
 
 use super::numbers::read_ranges;
 use super::validity::plan_start;
-use crate::pieces::Piece;
+use crate::pieces::{NumberSlice, Piece};
 use crate::plan::{Plan, push_buffer};
 use ipc_devices::{ArgFault, Fault};
 use lower::bitmap::Bitmap;
@@ -59,6 +63,20 @@ pub(crate) fn plan_head<'a>(
     }
 }
 
+// Offsets, each less the first of them. Where that is 0, they are sent as they stand.
+fn small_piece(offsets: &[i32]) -> Piece<'_>
+    requires { 0 < length offsets.now }
+    ensures bytes { (order : Endianness) → piece_bytes order result ≡ offset_bytes w32 (2 ^ 32) order offsets.now }
+    ensures range { All (FitsSigned w32) offsets.now }
+{
+    read_ranges(offsets);
+    if offsets[0] == 0 {
+        Piece::Numbers(NumberSlice::Int32(offsets))
+    } else {
+        Piece::SmallOffsets(offsets)
+    }
+}
+
 // Plans the offsets of `len` slots from slot `offset` on: one more than slots, each counted from the first.
 fn plan_small_offsets<'a>(
     plan: &mut Plan<'a>,
@@ -73,11 +91,25 @@ fn plan_small_offsets<'a>(
 {
     let _ = offsets.len();
     let part = &offsets.as_slice()[offset..offset + len + 1];
-    read_ranges(part);
+    let piece = small_piece(part);
     let Some(count) = part.len().checked_mul(4) else {
         return Err(Fault::Argument(ArgFault::TooLarge));
     };
-    push_buffer(plan, Piece::SmallOffsets(part), count)
+    push_buffer(plan, piece, count)
+}
+
+// Offsets, each less the first of them. Where that is 0, they are sent as they stand.
+fn large_piece(offsets: &[i64]) -> Piece<'_>
+    requires { 0 < length offsets.now }
+    ensures bytes { (order : Endianness) → piece_bytes order result ≡ offset_bytes w64 (2 ^ 64) order offsets.now }
+    ensures range { All (FitsSigned w64) offsets.now }
+{
+    read_ranges(offsets);
+    if offsets[0] == 0 {
+        Piece::Numbers(NumberSlice::Int64(offsets))
+    } else {
+        Piece::LargeOffsets(offsets)
+    }
 }
 
 // Plans the offsets of `len` slots from slot `offset` on: one more than slots, each counted from the first.
@@ -94,11 +126,11 @@ fn plan_large_offsets<'a>(
 {
     let _ = offsets.len();
     let part = &offsets.as_slice()[offset..offset + len + 1];
-    read_ranges(part);
+    let piece = large_piece(part);
     let Some(count) = part.len().checked_mul(8) else {
         return Err(Fault::Argument(ArgFault::TooLarge));
     };
-    push_buffer(plan, Piece::LargeOffsets(part), count)
+    push_buffer(plan, piece, count)
 }
 
 // Where `len` slots from slot `offset` on begin and end.

@@ -29,7 +29,8 @@ pub(crate) fn plan_primitive<'a>(
     ensures takes { TakesLevels result (written_levels (any_primitive_layout array.now) offset len) plan.old.end plan.new.end }
 {
     plan_start(plan, array.validity(), offset, len)?;
-    plan_numbers(plan, numbers_in(array, offset, len))
+    plan_numbers(plan, numbers_in(array, offset, len))?;
+    Ok(())
 }
 
 // The numbers of `len` slots from slot `offset` on.

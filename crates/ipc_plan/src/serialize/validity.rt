@@ -28,7 +28,8 @@ pub(crate) fn plan_start<'a>(
 {
     let nulls = nulls_in(validity, offset, len)?;
     push_node(plan, len, nulls)?;
-    plan_validity(plan, validity, offset, len)
+    plan_validity(plan, validity, offset, len)?;
+    Ok(())
 }
 
 // How many slots of some are null. A clone of a bitmap is of no bits, but takes memory.

@@ -1,4 +1,4 @@
-use Rattle.std.proofs.Common.{◌≡◌, ◌/◌, length}
+use Rattle.std.proofs.Common.{◌≡◌, ◌*◌, ◌≤◌, length}
 use Rattle.std.specs.List.{flat_map}
 use Rattle.ipc_plan.specs.Sending.{seen_by}
 use Rattle.ipc_plan.proofs.Sends.{SentBefore}
@@ -7,7 +7,7 @@ use Rattle.ipc_plan.proofs.sending.send_numbers.Given as goal
 -- What was sent, and the numbers that are left, are all numbers.
 abbrev pub invariant-pieces : goal.invariant-pieces
 invariant-pieces g l = record {
-  size : l.piece-iterator.size ≡ 4096 / g.T.NativeType.width;
+  size : g.T.NativeType.width * l.piece-iterator.size ≤ 4096;
   block : length l.block ≡ 4096;
   sent : SentBefore g.W.Failures.known g.W.Writes.grows
       (seen_by g.W.Failures.failures g.W.Writes.room g.W.Failures.memory l.fn.writer)

@@ -7,7 +7,7 @@ use Rattle.ipc_model.specs.Kinds.{number_kind}
 use Rattle.ipc_plan.specs.Levels.{number_form}
 use Rattle.ipc_plan.specs.Pieces.{slice_type}
 use Rattle.ipc_plan.specs.Plans.{AddsStart, AddsNumbers}
-use Rattle.ipc_plan.proofs.Growing.{on_ok, numbers_adds, slice_form}
+use Rattle.ipc_plan.proofs.Growing.{numbers_adds, slice_form}
 use Rattle.ipc_plan.proofs.serialize.primitive.plan_primitive.Goals as goal
 
 pub returns-clause-grows : goal.returns-clause-grows
@@ -22,6 +22,6 @@ returns-clause-grows c =
     let r = c.plan_numbers.new.plan in
     let form : number_form seen.number ≡ number_kind seen.number = subst (λ (t : PrimitiveType). number_form t ≡ number_kind t) c.numbers_in.ensures.form (slice_form ns) in
     let start : AddsStart p q n v = subst (λ (w : Validity). AddsStart p q n (cut_validity o n w)) c.validity.ensures.bits c.in_ok-plan_start.ensures.grows in
-    on_ok c.plan_numbers.result (λ x. numbers_adds p q r n seen.type seen.number (part o n seen.numbers) v form start
+    numbers_adds p q r n seen.type seen.number (part o n seen.numbers) v form start
     (subst (λ (t : PrimitiveType). AddsNumbers q r t (part o n seen.numbers)) c.numbers_in.ensures.form
-    (subst (λ (xs : List Number). AddsNumbers q r (slice_type ns) xs) c.numbers_in.ensures.numbers x))) c.plan_numbers.ensures.grows
+    (subst (λ (xs : List Number). AddsNumbers q r (slice_type ns) xs) c.numbers_in.ensures.numbers c.in_ok-plan_numbers.ensures.grows))
