@@ -1,6 +1,7 @@
 //! Streams and files that are written, read and gone on with on a device that isn't sound, told by letters. A writer's call that was
 //! refused memory is made again.
 
+use crate::alone;
 use crate::fixtures::{end_of, room, roomy};
 use crate::keyed::{Keyed, make_keyed};
 use crate::rough::{Rough, Way, bytes_of, make_rough};
@@ -27,24 +28,29 @@ pub enum Walk {
     ReadStream,
     ReadFile,
     Append,
+    SendAlone,
+    ReadAlone,
 }
 
-/// The chunks `a`, `b` and `c`, the stream of these, and the file of `a`, `b`, `a`, `b` and `a`.
+/// The chunks `a`, `b` and `c`, the stream of these, and the file of `a`, `b`, `a`, `b` and `a`, and with which options they are written.
 #[derive(Drop)]
 pub struct Ready {
     keyed: Keyed,
+    options: WriteOptions,
     stream: Vec<u8>,
     file: Vec<u8>,
 }
 
-pub fn make_ready(alloc: Global) -> Result<Ready, Fault> {
+pub fn make_ready(alloc: Global, big_endian: bool) -> Result<Ready, Fault> {
     let keyed = make_keyed(alloc)?;
-    let mut stream = StreamWriter::new(alloc, room(alloc)?, WriteOptions::default());
+    let options = WriteOptions { big_endian };
+    let mut stream = StreamWriter::new(alloc, room(alloc)?, options);
     put_stream(&mut stream, &keyed, &mut Told::new());
-    let mut file = make_writer(alloc, &keyed, room(alloc)?)?;
+    let mut file = make_writer(alloc, &keyed, options, room(alloc)?)?;
     put_file(&mut file, &keyed, &mut Told::new());
     Ok(Ready {
         keyed,
+        options,
         stream: stream.into_inner(),
         file: file.into_inner(),
     })
@@ -58,6 +64,8 @@ pub fn tell(alloc: Global, ready: &Ready, walk: Walk, way: Way) -> Result<Told, 
         Walk::ReadStream => read_stream(alloc, ready, way),
         Walk::ReadFile => read_file(alloc, ready, way),
         Walk::Append => append(alloc, ready, way),
+        Walk::SendAlone => alone::send(alloc, way),
+        Walk::ReadAlone => alone::read(alloc, &ready.keyed, &ready.file, way),
     }
 }
 
@@ -75,8 +83,8 @@ fn put_stream<W: Writes + Drop>(writer: &mut StreamWriter<W>, keyed: &Keyed, tol
         StreamCall::Finish,
     ];
     for call in &calls {
-        told.put_answer(&match stream_calls::run_call(writer, &keyed.schema, call) {
-            Err(Fault::Memory) => stream_calls::run_call(writer, &keyed.schema, call),
+        told.put_answer(&match stream_calls::run_call(writer, &keyed.schema, None, call) {
+            Err(Fault::Memory) => stream_calls::run_call(writer, &keyed.schema, None, call),
             made => made,
         });
     }
@@ -84,7 +92,7 @@ fn put_stream<W: Writes + Drop>(writer: &mut StreamWriter<W>, keyed: &Keyed, tol
 
 fn write_stream(alloc: Global, ready: &Ready, way: Way) -> Result<Told, Fault> {
     let device = make_rough(room(alloc)?, way);
-    let mut writer = StreamWriter::new(alloc, device, WriteOptions::default());
+    let mut writer = StreamWriter::new(alloc, device, ready.options);
     let mut told = Told::new();
     put_stream(&mut writer, &ready.keyed, &mut told);
     put_device(writer.into_inner(), &ready.stream, &mut told);
@@ -94,10 +102,11 @@ fn write_stream(alloc: Global, ready: &Ready, way: Way) -> Result<Told, Fault> {
 fn make_writer<W: Writes + Drop>(
     alloc: Global,
     keyed: &Keyed,
+    options: WriteOptions,
     device: W,
 ) -> Result<FileWriter<W>, Fault> {
     let schema = keyed.schema.clone()?;
-    FileWriter::new(alloc, device, schema, None, WriteOptions::default())
+    FileWriter::new(alloc, device, schema, None, options)
 }
 
 // The file, whose dictionary can't be replaced by that of `c`, and four calls that come too late.
@@ -125,7 +134,8 @@ fn put_file<W: Writes + Drop>(writer: &mut FileWriter<W>, keyed: &Keyed, told: &
 }
 
 fn write_file(alloc: Global, ready: &Ready, way: Way) -> Result<Told, Fault> {
-    let mut writer = make_writer(alloc, &ready.keyed, make_rough(room(alloc)?, way))?;
+    let device = make_rough(room(alloc)?, way);
+    let mut writer = make_writer(alloc, &ready.keyed, ready.options, device)?;
     let mut told = Told::new();
     put_file(&mut writer, &ready.keyed, &mut told);
     told.put_answer(&writer.set_custom_metadata(Metadata::new(alloc)));

@@ -40,6 +40,8 @@ pub pushed : {R : Type 0} (gives : Gives R) (known : Bool) (memory : R → Memor
     → NextStep gives known memory a (Some (Ok (states.Some chunk))) b → ys ≡ xs ++ chunk ∷ [] → PushesNext known failures memory a xs (Ok true) b ys
 pushed gives known memory failures fails a b chunk xs ys step added = record {
   described = step.described;
+  projected = step.projected;
+  only = tt;
   failed = tt;
   monotone = (next_fails gives known memory failures fails a (Some (Ok (states.Some chunk))) b step).1;
   push = λ k going. (
@@ -63,6 +65,8 @@ pub refused_push : {R : Type 0} (gives : Gives R) (known : Bool) (memory : R →
     → NextStep gives known memory a (Some (Err e)) b → PushesNext known failures memory a xs (Err e) b ys
 refused_push gives known memory failures fails a b e xs ys step = record {
   described = step.described;
+  projected = step.projected;
+  only = step.only;
   failed = other_answer (Option StreamState) Bool e _ (next_fails gives known memory failures fails a (Some (Err e)) b step).0;
   monotone = (next_fails gives known memory failures fails a (Some (Err e)) b step).1;
   push = λ k going. claims_through e _ _ (λ refused m ahead_a. sym (ap (λ (x : Meant). x.end) ahead_a.means) ∙ ap (λ (x : Meant). x.end) (refused ahead_a.known ahead_a.knows))
@@ -74,6 +78,8 @@ pub starved_push : {R : Type 0} (gives : Gives R) (known : Bool) (memory : R →
     → NextStep gives known memory a (Some (Ok (states.Some chunk))) b → PushesNext known failures memory a xs (Err faults.Memory) b ys
 starved_push gives known memory failures fails a b chunk xs ys step = record {
   described = step.described;
+  projected = step.projected;
+  only = tt;
   failed = tt;
   monotone = (next_fails gives known memory failures fails a (Some (Ok (states.Some chunk))) b step).1;
   push = λ k going. tt;
@@ -84,6 +90,8 @@ pub waiting_push : {R : Type 0} (gives : Gives R) (known : Bool) (memory : R →
     → NextStep gives known memory a (Some (Ok states.Waiting)) b → PushesNext known failures memory a xs (Ok false) b xs
 waiting_push gives known memory failures fails a b xs step = record {
   described = step.described;
+  projected = step.projected;
+  only = tt;
   failed = tt;
   monotone = (next_fails gives known memory failures fails a (Some (Ok states.Waiting)) b step).1;
   push = λ k going. (
@@ -100,6 +108,8 @@ pub finished_push : {R : Type 0} (gives : Gives R) (known : Bool) (memory : R �
     → NextStep gives known memory a None b → PushesNext known failures memory a xs (Ok false) b xs
 finished_push gives known memory failures fails a b xs step = record {
   described = step.described;
+  projected = step.projected;
+  only = tt;
   failed = tt;
   monotone = (next_fails gives known memory failures fails a None b step).1;
   push = λ k going. (

@@ -4,12 +4,13 @@ use Rattle.std.specs.Prelude.{◌⊎◌, option_map, Vec, vec_capacity, vec_len}
 use Rattle.std.specs.declared.alloc.Global.{Global}
 use Rattle.std.specs.Result.{result_ok}
 use Rattle.lower.specs.TypeViews.{schema_view}
-use Rattle.ipc_base.specs.IdTrees.{ipc_schema_view}
+use Rattle.ipc_base.specs.IdTrees.{IdTrees, ipc_schema_view}
 use Rattle.std.specs.Borrow.{Bor}
 use Rattle.ipc_devices.specs.Device.{Memory, after, before}
 use Rattle.ipc_devices.specs.declared.memory.MemFile.{MemFile}
 use Rattle.ipc_devices.specs.Faults.{OnIo, OwnFault}
 use Rattle.ipc_devices.specs.Gives.{Gives, MemoryGives}
+use Rattle.ipc_devices.proofs.Stops.{claimed}
 use Rattle.ipc_devices.specs.declared.fault.Fault.{Fault}
 use Rattle.ipc_devices.specs.declared.fault.Fault.TheVariants as faults
 use Rattle.ipc_devices.specs.declared.fault.StateFault.TheVariants.{NotStarted, Failed as StateFailed}
@@ -32,10 +33,11 @@ use Rattle.ipc_read.proofs.Refusals.{claims_through}
 use Rattle.ipc_readers.proofs.OfMemory.{metadata_ahead, metadata_fails, no_failure}
 use Rattle.ipc_readers.proofs.ChosenStreams.{whole_law}
 use Rattle.ipc_readers.specs.ChosenStreams.{Request, chosen_meaning}
+use Rattle.ipc_readers.specs.Refusals.{IsStreamFault}
 use Rattle.ipc_readers.specs.Streams.{Begins, ahead, request_of, device_of, head_of, projection_of}
 use Rattle.ipc_readers.specs.declared.read.stream.metadata.StreamMetadata.{StreamMetadata}
 use Rattle.ipc_readers.specs.declared.read.stream.reader.StreamReader.{StreamReader}
-use Rattle.ipc_round_trip.specs.Reading.{EndsAs, IsReadable, MeansAhead, RefusesAhead, RefusesStream}
+use Rattle.ipc_round_trip.specs.Reading.{BlamesStream, EndsAs, IsReadable, MeansAhead, ReadsStream, RefusesAhead, RefusesStream}
 use Rattle.ipc_write.specs.Agreement.{Agrees, IsClosed, Remains, StreamIs}
 use Rattle.ipc_model.specs.WriterStates.{IsRun}
 use Rattle.ipc_write.specs.Calls.{AreMade, ended_as, state_seen, writer_in}
@@ -125,6 +127,17 @@ unreadable bytes xs rest e same h =
     claims_through e _ _ (λ none readable. let there = sym none ∙ readable.stream in absurd cc)
     (no_stream (frame bytes) e rest (subst (λ ys. GivesMetadata (frame ys) (Err e) rest) same h))
 
+-- both claims of a fault of the input's
+pub own_both : (e : Fault) (P Q : Type 0) → OwnFault e P → OwnFault e Q → OwnFault e (P × Q)
+own_both faults.Memory P Q p q = tt
+own_both (faults.Io x) P Q p q = tt
+own_both _ P Q p q = (p, q)
+
+-- the fault of the front
+pub blames_front : (bytes xs rest : List ℕ) (stream : Option Stream) (p : Option (List ℕ)) (e : Fault) → xs ≡ bytes → GivesMetadata (frame xs) (Err e) rest → OwnFault e (BlamesStream bytes stream p e)
+blames_front bytes xs rest stream p e same h =
+    claimed e (BlamesStream bytes stream p e) (inl (rest, subst (λ ys. GivesMetadata (frame ys) (Err e) rest) same h))
+
 -- ---- a new reader
 
 -- bytes in memory, from the place on that was reached
@@ -171,6 +184,17 @@ new_rest memory device a r h =
 asked_new : {R : Type 0} (device : R) (a b : StreamMetadata) (r : StreamReader R) (p : Option (List ℕ)) → Begins device a r → head_of a ≡ head_of b → projection_of r ≡ p
     → request_of r ≡ record { head = head_of b; projection = p }
 asked_new device a b r p h e asked = let heads = ap head_of h.described ∙ e in λ i. record { head = heads i; projection = asked i }
+
+-- the fault of a message behind it
+pub blames_message : {R : Type 0} (device : R) (bytes : List ℕ) (stream : Option Stream) (meant : Meant) (a b : StreamMetadata) (r : StreamReader R) (p : Option (List ℕ)) (e : Fault) → Begins device a r → head_of a ≡ head_of b
+    → projection_of r ≡ p → stream ≡ Some (record { head = head_of b; meant = meant }) → OwnFault e (IsStreamFault (request_of r) e) → OwnFault e (BlamesStream bytes stream p e)
+blames_message device bytes stream meant a b r p e begins heads asked is own =
+    claims_through e _ _ (λ kind. inr (record {
+      head = head_of b;
+      meant = meant;
+      is = is;
+      kind = subst (λ (g : Request). IsStreamFault g e) (asked_new device a b r p begins heads asked) kind;
+    })) own
 
 -- what is ahead of a new reader is what stands behind the schema, to who knows nothing, by the columns that are asked for
 pub chosen_ahead : {R : Type 0} (memory : R → Memory) (device : R) (a b : StreamMetadata) (r : StreamReader R) (p : Option (List ℕ)) → Begins device a r → head_of a ≡ head_of b
@@ -266,9 +290,9 @@ ends_stream a b v remains over same = record {
 
 -- ---- what the calls leave
 
-pub runs_over_memory : (o : Endianness) (a b : WriterSeen (Vec ℕ Global)) (fs : FieldTrees) (es : Pairs) (calls : List StreamCall) (answers : List (Result (Unit {0}) Fault)) (state : WriterState) → a.state ≡ New → a.order ≡ o → a.device.items ≡ []
-    → AreMade true true (λ v. 0) (λ v. vec_capacity v - vec_len v) vector fs es a calls answers b → b.state ≡ state → RunsOverMemory o fs es calls answers state
-runs_over_memory o a b fs es calls answers state new ordered empty made left = record {
+pub runs_over_memory : (o : Endianness) (a b : WriterSeen (Vec ℕ Global)) (fs : FieldTrees) (es : Pairs) (is : IdTrees) (calls : List StreamCall) (answers : List (Result (Unit {0}) Fault)) (state : WriterState) → a.state ≡ New → a.order ≡ o → a.device.items ≡ []
+    → AreMade true true (λ v. 0) (λ v. vec_capacity v - vec_len v) vector fs es is a calls answers b → b.state ≡ state → RunsOverMemory o fs es is calls answers state
+runs_over_memory o a b fs es is calls answers state new ordered empty made left = record {
   first = a;
   last = b;
   new = new;
@@ -277,8 +301,8 @@ runs_over_memory o a b fs es calls answers state new ordered empty made left = r
   made = made;
   left = left;
   run =
-      let stays = made_order true true (λ v. 0) (λ v. vec_capacity v - vec_len v) vector fs es a b calls answers made in
-      let run = made_run true true (λ v. 0) (λ v. vec_capacity v - vec_len v) vector fs es a b calls answers made in
+      let stays = made_order true true (λ v. 0) (λ v. vec_capacity v - vec_len v) vector fs es is a b calls answers made in
+      let run = made_run true true (λ v. 0) (λ v. vec_capacity v - vec_len v) vector fs es is a b calls answers made in
       subst (λ s. IsRun (writer_in o (state_seen s)) (ended_as calls answers) (writer_in o (state_seen state))) new
       (subst (λ s. IsRun (writer_in o (state_seen a.state)) (ended_as calls answers) (writer_in o (state_seen s))) left
       (subst (λ (q : Endianness). IsRun (writer_in o (state_seen a.state)) (ended_as calls answers) (writer_in q (state_seen b.state))) (stays ∙ ordered)
@@ -286,22 +310,22 @@ runs_over_memory o a b fs es calls answers state new ordered empty made left = r
 }
 
 -- a writer that was ended, or refused to be
-pub runs_to_stream : (o : Endianness) (a b : WriterSeen (Vec ℕ Global)) (fs : FieldTrees) (es : Pairs) (calls : List StreamCall) (answers : List (Result (Unit {0}) Fault)) → a.state ≡ New → a.order ≡ o → a.device.items ≡ []
-    → AreMade true true (λ v. 0) (λ v. vec_capacity v - vec_len v) vector fs es a calls answers b → (b.state ≡ Started) ⊎ (b.state ≡ Finished) → RunsToStream o fs es calls answers
-runs_to_stream o a b fs es calls answers new ordered empty made (inl left) = inl (runs_over_memory o a b fs es calls answers Started new ordered empty made left)
-runs_to_stream o a b fs es calls answers new ordered empty made (inr left) = inr (runs_over_memory o a b fs es calls answers Finished new ordered empty made left)
+pub runs_to_stream : (o : Endianness) (a b : WriterSeen (Vec ℕ Global)) (fs : FieldTrees) (es : Pairs) (is : IdTrees) (calls : List StreamCall) (answers : List (Result (Unit {0}) Fault)) → a.state ≡ New → a.order ≡ o → a.device.items ≡ []
+    → AreMade true true (λ v. 0) (λ v. vec_capacity v - vec_len v) vector fs es is a calls answers b → (b.state ≡ Started) ⊎ (b.state ≡ Finished) → RunsToStream o fs es is calls answers
+runs_to_stream o a b fs es is calls answers new ordered empty made (inl left) = inl (runs_over_memory o a b fs es is calls answers Started new ordered empty made left)
+runs_to_stream o a b fs es is calls answers new ordered empty made (inr left) = inr (runs_over_memory o a b fs es is calls answers Finished new ordered empty made left)
 
-pub refused_end : (o : Endianness) (a b : WriterSeen (Vec ℕ Global)) (fs : FieldTrees) (es : Pairs) (calls : List StreamCall) (answers : List (Result (Unit {0}) Fault)) (e : Fault) → a.state ≡ New → a.order ≡ o → a.device.items ≡ []
-    → AreMade true true (λ v. 0) (λ v. vec_capacity v - vec_len v) vector fs es a calls answers b → RefusesEnd b.state e → RefusesRoundTrip o fs es calls e
-refused_end o a b fs es calls answers (faults.State NotStarted) new ordered empty made h = record { answers = answers; runs = runs_over_memory o a b fs es calls answers New new ordered empty made h }
-refused_end o a b fs es calls answers (faults.State StateFailed) new ordered empty made h = record { answers = answers; runs = runs_over_memory o a b fs es calls answers Failed new ordered empty made h }
-refused_end o a b fs es calls answers (faults.Io x) new ordered empty made h = tt
-refused_end o a b fs es calls answers _ new ordered empty made h = absurd h
+pub refused_end : (o : Endianness) (a b : WriterSeen (Vec ℕ Global)) (fs : FieldTrees) (es : Pairs) (is : IdTrees) (calls : List StreamCall) (answers : List (Result (Unit {0}) Fault)) (e : Fault) → a.state ≡ New → a.order ≡ o → a.device.items ≡ []
+    → AreMade true true (λ v. 0) (λ v. vec_capacity v - vec_len v) vector fs es is a calls answers b → RefusesEnd b.state e → RefusesRoundTrip o fs es is calls e
+refused_end o a b fs es is calls answers (faults.State NotStarted) new ordered empty made h = record { answers = answers; runs = runs_over_memory o a b fs es is calls answers New new ordered empty made h }
+refused_end o a b fs es is calls answers (faults.State StateFailed) new ordered empty made h = record { answers = answers; runs = runs_over_memory o a b fs es is calls answers Failed new ordered empty made h }
+refused_end o a b fs es is calls answers (faults.Io x) new ordered empty made h = tt
+refused_end o a b fs es is calls answers _ new ordered empty made h = absurd h
 
 -- ---- what is never refused
 
 -- a stream that can be read is refused for want of memory, and for nothing else
-pub never_refused : (o : Endianness) (fs : FieldTrees) (es : Pairs) (calls : List StreamCall) (bytes : List ℕ) (e : Fault) → IsReadable bytes → RefusesStream e (¬ (IsReadable bytes)) → RefusesRoundTrip o fs es calls e
-never_refused o fs es calls bytes faults.Memory readable h = tt
-never_refused o fs es calls bytes (faults.Io e) readable h = absurd h
-never_refused o fs es calls bytes _ readable h = absurd (h readable)
+pub never_refused : (o : Endianness) (fs : FieldTrees) (es : Pairs) (is : IdTrees) (calls : List StreamCall) (bytes : List ℕ) (e : Fault) → IsReadable bytes → ReadsStream bytes (Err e) → RefusesRoundTrip o fs es is calls e
+never_refused o fs es is calls bytes faults.Memory readable h = tt
+never_refused o fs es is calls bytes (faults.Io e) readable h = absurd h
+never_refused o fs es is calls bytes _ readable h = absurd (h.0 readable)

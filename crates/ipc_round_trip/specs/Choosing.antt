@@ -13,7 +13,7 @@ use Rattle.ipc_model.specs.WholeStreams.{Stream}
 use Rattle.ipc_model.specs.Writers.{IsFinished, IsStarted}
 use Rattle.ipc_readers.specs.ChosenStreams.{chosen_meaning}
 use Rattle.ipc_readers.specs.Streams.{head_of}
-use Rattle.ipc_round_trip.specs.Reading.{EndsAs, RefusesStream, chunks_seen}
+use Rattle.ipc_round_trip.specs.Reading.{BlamesStream, EndsAs, RefusesStream, chunks_seen}
 use Rattle.ipc_round_trip.specs.RoundTrip.{Reads}
 use Rattle.ipc_round_trip.specs.declared.read.WholeStream.{WholeStream}
 
@@ -53,7 +53,7 @@ pub record NamesOthers (js : List ℕ) (bytes : List ℕ) : Type 0 where
 abbrev pub ReadsColumns : List ℕ → List ℕ → Result (Option WholeStream) Fault → Type 0
 ReadsColumns js bytes (Ok None) = NamesOthers js bytes
 ReadsColumns js bytes (Ok (Some s)) = IsWholeBy (Some js) bytes s
-ReadsColumns js bytes (Err e) = RefusesStream e (¬ (IsReadableBy (Some js) bytes))
+ReadsColumns js bytes (Err e) = RefusesStream e ((¬ (IsReadableBy (Some js) bytes)) × BlamesStream bytes (chosen_stream_of (Some js) bytes) (Some js) e)
 
 -- A stream that was written and ended reads back by any columns, each once: the chosen columns of its chunks, in the order in which they
 -- are asked for.

@@ -1,6 +1,6 @@
 -- What is read of a whole stream.
 -- (Arrow columnar format, "IPC Streaming Format".)
-use Rattle.std.specs.Prelude.{◌≡◌, ◌≢◌, ℕ, ◌≤◌, List, [], map, Bool, true, false, IsTrue, Some, Result, Ok, Err}
+use Rattle.std.specs.Prelude.{◌≡◌, ◌≢◌, ◌⊎◌, ℕ, ◌≤◌, List, [], map, Bool, true, false, IsTrue, Option, None, Some, Result, Ok, Err, IfErr}
 use Rattle.ipc_devices.specs.Device as devices
 use Rattle.ipc_devices.specs.Device.{Rises}
 use Rattle.ipc_devices.specs.Faults.{OnIo, OwnFault}
@@ -8,11 +8,14 @@ use Rattle.ipc_devices.specs.declared.fault.Fault.{Fault}
 use Rattle.ipc_devices.specs.declared.fault.Fault.TheVariants.{Io, Memory}
 use Rattle.lower_arrays.specs.declared.array.AnyArray.{AnyArray}
 use Rattle.ipc_model.specs.Batches.{Chunk}
+use Rattle.ipc_model.specs.Frame.{frame}
 use Rattle.ipc_model.specs.Streams.{Head, Known, End, marked, waits, faulty, Meant, with_chunks}
-use Rattle.ipc_model.specs.WholeStreams.{stream_of}
+use Rattle.ipc_model.specs.WholeStreams.{Stream, stream_of}
 use Rattle.ipc_read.specs.Chunks.{chunk_seen}
 use Rattle.ipc_readers.specs.ChosenStreams.{chosen_meaning}
-use Rattle.ipc_readers.specs.Streams.{Knows, ahead, request_of, device_of, head_of, is_over, metadata_of}
+use Rattle.ipc_readers.specs.Metadata.{GivesMetadata}
+use Rattle.ipc_readers.specs.Refusals.{IsStreamFault}
+use Rattle.ipc_readers.specs.Streams.{Knows, ahead, chosen_of, request_of, device_of, head_of, is_over, metadata_of}
 use Rattle.ipc_readers.specs.declared.read.stream.reader.StreamReader.{StreamReader}
 use Rattle.ipc_round_trip.specs.declared.read.WholeStream.{WholeStream}
 
@@ -49,6 +52,8 @@ GivesPush memory a xs (Err e) b ys = RefusesAhead memory a e
 
 pub record PushesNext {R : Type 0} (known : Bool) (failures : R → ℕ) (memory : R → devices.Memory) (a : StreamReader R) (xs : List (List AnyArray)) (r : Result Bool Fault) (b : StreamReader R) (ys : List (List AnyArray)) : Type 0 where
   pub described : metadata_of b ≡ metadata_of a
+  pub projected : chosen_of b ≡ chosen_of a
+  pub only : IfErr r (λ e. OwnFault e (IsStreamFault (request_of a) e))
   pub push : IsTrue known → is_over a ≡ false → GivesPush memory a xs r b ys
   pub failed : OnIo r (Rises (failures (device_of a)) (failures (device_of b)))
   pub monotone : failures (device_of a) ≤ failures (device_of b)
@@ -80,7 +85,19 @@ RefusesStream Memory P = Unit {0}
 RefusesStream (Io e) P = ⊥
 RefusesStream _ P = P
 
+-- A message behind the schema message of this stream, of which these columns are asked for, can have this fault.
+pub record BlamesMessages (stream : Option Stream) (p : Option (List ℕ)) (e : Fault) : Type 0 where
+  pub head : Head
+  pub meant : Meant
+  pub is : stream ≡ Some (record { head = head; meant = meant })
+  pub kind : IsStreamFault (record { head = head; projection = p }) e
+
+-- Whose fault it is that bytes can't be read: that of their front, as the reader of the schema message tells it, or that of a message
+-- behind it.
+abbrev pub BlamesStream : List ℕ → Option Stream → Option (List ℕ) → Fault → Type 0
+BlamesStream bytes stream p e = ((rest : List ℕ) × GivesMetadata (frame bytes) (Err e) rest) ⊎ BlamesMessages stream p e
+
 -- All of a stream was read, or, memory aside, it can't be read.
 abbrev pub ReadsStream : List ℕ → Result WholeStream Fault → Type 0
 ReadsStream bytes (Ok s) = IsWhole bytes s
-ReadsStream bytes (Err e) = RefusesStream e (¬ (IsReadable bytes))
+ReadsStream bytes (Err e) = RefusesStream e ((¬ (IsReadable bytes)) × BlamesStream bytes (stream_of bytes) None e)

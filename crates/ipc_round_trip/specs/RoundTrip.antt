@@ -2,6 +2,7 @@
 -- (Arrow columnar format, "IPC Streaming Format".)
 use Rattle.std.specs.Prelude.{◌≡◌, ℕ, ◌-◌, ◌⊎◌, List, [], Bool, true, false, Result, Vec, vec_capacity, vec_len}
 use Rattle.std.specs.declared.alloc.Global.{Global}
+use Rattle.ipc_base.specs.IdTrees.{IdTrees}
 use Rattle.ipc_devices.specs.Device as devices
 use Rattle.ipc_devices.specs.declared.fault.Fault.{Fault}
 use Rattle.ipc_devices.specs.declared.fault.Fault.TheVariants.{Io, Memory, State}
@@ -57,24 +58,24 @@ pub record EndsStream (w : WriterSeen (Vec ℕ Global)) (bytes : List ℕ) : Typ
 
 -- Calls of a writer over an empty memory that writes in this order of bytes, each of the writer that the one before it left, with these
 -- answers: they leave it in this state.
-pub record RunsOverMemory (order : Endianness) (fields : FieldTrees) (metadata : Pairs) (calls : List StreamCall) (answers : List (Result Unit Fault)) (state : WriterState) : Type 0 where
+pub record RunsOverMemory (order : Endianness) (fields : FieldTrees) (metadata : Pairs) (ids : IdTrees) (calls : List StreamCall) (answers : List (Result Unit Fault)) (state : WriterState) : Type 0 where
   pub first : WriterSeen (Vec ℕ Global)
   pub last : WriterSeen (Vec ℕ Global)
   pub new : first.state ≡ writer.New
   pub order_is : first.order ≡ order
   pub empty : first.device.items ≡ []
-  pub made : AreMade true true (λ v. 0) (λ v. vec_capacity v - vec_len v) vector fields metadata first calls answers last
+  pub made : AreMade true true (λ v. 0) (λ v. vec_capacity v - vec_len v) vector fields metadata ids first calls answers last
   pub left : last.state ≡ state
   pub run : IsRun (writer_in order new_writer) (ended_as calls answers) (writer_in order (state_seen state))
 
 -- They leave a stream that is ended, or can be.
-abbrev pub RunsToStream : Endianness → FieldTrees → Pairs → List StreamCall → List (Result Unit Fault) → Type 0
-RunsToStream order fields metadata calls answers = RunsOverMemory order fields metadata calls answers writer.Started ⊎ RunsOverMemory order fields metadata calls answers writer.Finished
+abbrev pub RunsToStream : Endianness → FieldTrees → Pairs → IdTrees → List StreamCall → List (Result Unit Fault) → Type 0
+RunsToStream order fields metadata ids calls answers = RunsOverMemory order fields metadata ids calls answers writer.Started ⊎ RunsOverMemory order fields metadata ids calls answers writer.Finished
 
 -- with some answers they leave the writer in this state
-pub record MayLeave (order : Endianness) (fields : FieldTrees) (metadata : Pairs) (calls : List StreamCall) (state : WriterState) : Type 0 where
+pub record MayLeave (order : Endianness) (fields : FieldTrees) (metadata : Pairs) (ids : IdTrees) (calls : List StreamCall) (state : WriterState) : Type 0 where
   pub answers : List (Result Unit Fault)
-  pub runs : RunsOverMemory order fields metadata calls answers state
+  pub runs : RunsOverMemory order fields metadata ids calls answers state
 
 -- why a stream isn't ended
 abbrev pub RefusesEnd : WriterState → Fault → Type 0
@@ -85,9 +86,9 @@ RefusesEnd s _ = ⊥
 
 -- Why a round trip is refused: memory, of which a device that is memory tells by its own fault, or a writer that the calls left
 -- not started or failed. What was written is never refused where it is read.
-abbrev pub RefusesRoundTrip : Endianness → FieldTrees → Pairs → List StreamCall → Fault → Type 0
-RefusesRoundTrip order fs es calls Memory = Unit {0}
-RefusesRoundTrip order fs es calls (Io e) = Unit {0}
-RefusesRoundTrip order fs es calls (State NotStarted) = MayLeave order fs es calls writer.New
-RefusesRoundTrip order fs es calls (State Failed) = MayLeave order fs es calls writer.Failed
-RefusesRoundTrip order fs es calls _ = ⊥
+abbrev pub RefusesRoundTrip : Endianness → FieldTrees → Pairs → IdTrees → List StreamCall → Fault → Type 0
+RefusesRoundTrip order fs es is calls Memory = Unit {0}
+RefusesRoundTrip order fs es is calls (Io e) = Unit {0}
+RefusesRoundTrip order fs es is calls (State NotStarted) = MayLeave order fs es is calls writer.New
+RefusesRoundTrip order fs es is calls (State Failed) = MayLeave order fs es is calls writer.Failed
+RefusesRoundTrip order fs es is calls _ = ⊥

@@ -12,7 +12,8 @@ use std::alloc::Global;
 /// schema hasn't one of them, or one is named twice (see [`is_projection`]); then no chunk was read.
 ///
 /// Faults: those of [`read_stream_metadata`] and of the calls of [`StreamReader`], each of which but `Memory`
-/// says that the bytes mean no stream, or by these columns one that ends in a fault. `Io` never comes.
+/// says that the bytes mean no stream, or by these columns one that ends in a fault: of those of a message only one that a stream of its
+/// schema, read by these columns, can have comes. `Io` never does.
 pub fn read_stream_columns(
     alloc: Global,
     bytes: &[u8],

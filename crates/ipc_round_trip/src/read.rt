@@ -1,8 +1,9 @@
 //! Reads whole streams.
 ghost use Rattle.std.specs.Prelude.{◌≡◌, ◌<◌, ◌≤◌, false, IsTrue, IfErr, IfOk, vec_len};
 ghost use Rattle.ipc_devices.specs.Device.{Rises};
-ghost use Rattle.ipc_devices.specs.Faults.{OnIo};
-ghost use Rattle.ipc_readers.specs.Streams.{device_of, is_over, metadata_of};
+ghost use Rattle.ipc_devices.specs.Faults.{OnIo, OwnFault};
+ghost use Rattle.ipc_readers.specs.Refusals.{IsStreamFault};
+ghost use Rattle.ipc_readers.specs.Streams.{device_of, is_over, metadata_of, request_of};
 ghost use Rattle.ipc_round_trip.specs.Reading.{GivesAll, PushesNext, ReadsStream, RefusesAhead};
 
 use ipc_base::chunk::Chunk;
@@ -51,6 +52,7 @@ pub(crate) fn read_chunks<R: Reads + Drop>(
     ensures memory { IsTrue R.known → is_over reader.old ≡ false
         → IfOk result (λ chunks. GivesAll R.memory reader.old chunks.items reader.new) }
     ensures refused { IsTrue R.known → is_over reader.old ≡ false → IfErr result (RefusesAhead R.memory reader.old) }
+    ensures only { IfErr result (λ e. OwnFault e (IsStreamFault (request_of reader.old) e)) }
 {
     let mut chunks = Vec::new(alloc);
     while push_next(reader, &mut chunks)? {}
@@ -60,7 +62,8 @@ pub(crate) fn read_chunks<R: Reads + Drop>(
 /// Reads a stream to its mark, or to where it waits for more.
 ///
 /// Faults: those of [`read_stream_metadata`] and of the calls of [`StreamReader`], each of which but `Memory`
-/// says that the bytes mean no stream, or one that ends in a fault. `Io` never comes.
+/// says that the bytes mean no stream, or one that ends in a fault: of those of a message only one that a stream of its schema can have
+/// comes. `Io` never does.
 pub fn read_stream(alloc: Global, bytes: &[u8]) -> Result<WholeStream, Fault>
     ensures { ReadsStream bytes.now result }
 {

@@ -3,14 +3,14 @@ ghost use Rattle.std.specs.Prelude.{◌≡◌, ◌⊎◌, IfErr, IfOk, OnOk};
 ghost use Rattle.lower.specs.TypeViews.{fields_view, pairs_of};
 ghost use Rattle.ipc_model.specs.WriterStates.{answered};
 ghost use Rattle.ipc_model.specs.Writers.{taken};
-ghost use Rattle.ipc_schema_write.specs.DefaultIds.{default_all};
 ghost use Rattle.ipc_schema_write.specs.WriterAnswers.{written_head_as};
 ghost use Rattle.ipc_write.specs.Calls.{ended_as};
-ghost use Rattle.ipc_write.specs.Writers.{order_of, seen};
+ghost use Rattle.ipc_write.specs.Writers.{chosen_ids, order_of, seen};
 ghost use Rattle.ipc_write.specs.declared.stream.WriterState.TheVariants.{Finished, Started};
 ghost use Rattle.ipc_round_trip.specs.RoundTrip.{ComesBack, EndsStream, FinishedLaw, OpenLaw, ReadableLaw, RefusesEnd, RefusesRoundTrip, RunsToStream};
 
 use crate::read::{WholeStream, read_stream};
+use ipc_base::ipc::IpcField;
 use ipc_devices::{Fault, StateFault};
 use ipc_write::calls::{StreamCall, run_calls};
 use ipc_write::common::WriteOptions;
@@ -40,8 +40,8 @@ fn ended(mut writer: StreamWriter<Vec<u8>>) -> Result<Vec<u8>, Fault>
 }
 
 /// Makes these calls of a writer with these options over memory, also those behind a refused one, ends the stream where none
-/// of them did, and reads it back: it has the schema in its normal form, and exactly the chunks of the
-/// writes that were Ok.
+/// of them did, and reads it back: it has the schema in its normal form, with the ids that are handed in, or 0, 1, 2 and on, and exactly
+/// the chunks of the writes that were Ok.
 ///
 /// Faults: `State(NotStarted)` where no `start` was Ok, `State(Failed)` where a call answered `Io`, `Io`
 /// where the end can't be written, both of which come only where the memory that is written to was refused
@@ -49,19 +49,22 @@ fn ended(mut writer: StreamWriter<Vec<u8>>) -> Result<Vec<u8>, Fault>
 pub fn round_trip(
     alloc: Global,
     schema: &Schema,
+    ipc_fields: Option<Vec<IpcField>>,
     calls: &[StreamCall],
     write_options: WriteOptions,
 ) -> Result<RoundTrip, Fault>
     ensures back { let fields = fields_view schema.now.fields.items in
         IfOk result (λ r. ComesBack r.stream
-        (written_head_as (order_of write_options) fields (pairs_of schema.now.metadata.entries) (default_all 0 fields))
+        (written_head_as (order_of write_options) fields (pairs_of schema.now.metadata.entries) (chosen_ids ipc_fields fields))
         (taken (answered (ended_as calls.now r.answers.items)))) }
-    ensures run { IfOk result (λ r. RunsToStream (order_of write_options) (fields_view schema.now.fields.items) (pairs_of schema.now.metadata.entries)
+    ensures run { let fields = fields_view schema.now.fields.items in
+        IfOk result (λ r. RunsToStream (order_of write_options) fields (pairs_of schema.now.metadata.entries) (chosen_ids ipc_fields fields)
         calls.now r.answers.items) }
-    ensures only { IfErr result (RefusesRoundTrip (order_of write_options) (fields_view schema.now.fields.items) (pairs_of schema.now.metadata.entries) calls.now) }
+    ensures only { let fields = fields_view schema.now.fields.items in
+        IfErr result (RefusesRoundTrip (order_of write_options) fields (pairs_of schema.now.metadata.entries) (chosen_ids ipc_fields fields) calls.now) }
 {
     let mut writer = StreamWriter::new(alloc, Vec::new(alloc), write_options);
-    let answers = run_calls(alloc, &mut writer, schema, calls)?;
+    let answers = run_calls(alloc, &mut writer, schema, ipc_fields, calls)?;
     let bytes = ended(writer)?;
     let stream = read_stream(alloc, &bytes)?;
     Ok(RoundTrip { stream, answers })

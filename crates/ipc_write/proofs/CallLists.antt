@@ -1,6 +1,7 @@
 -- What calls do, one after the other.
 use Rattle.std.proofs.Common.{◌≡◌, ℕ, Bool, true, false, List, [], ◌∷◌, ◌++◌, Result, Ok, Err, refl, sym, ap, ◌∙◌, subst, append_assoc, append-nil}
-use Rattle.std.specs.Prelude.{OnErr}
+use Rattle.std.specs.Prelude.{Option, OnErr, Vec}
+use Rattle.std.specs.declared.alloc.Global.{Global}
 use Rattle.ipc_devices.specs.Device.{Memory}
 use Rattle.ipc_devices.specs.declared.fault.Fault.{Fault}
 use Rattle.ipc_devices.specs.declared.fault.Fault.TheVariants.{Io}
@@ -10,11 +11,12 @@ use Rattle.ipc_model.specs.Batches.{Chunk}
 use Rattle.ipc_model.specs.Streams.{Head}
 use Rattle.ipc_model.specs.WriterStates.{IsRun, MayEnd, answered, state_after}
 use Rattle.ipc_model.specs.Writers.{Call, added_by, taken}
-use Rattle.ipc_schema_write.specs.DefaultIds.{default_all}
+use Rattle.ipc_base.specs.IdTrees.{IdTrees}
+use Rattle.ipc_base.specs.declared.ipc.IpcField.{IpcField}
 use Rattle.ipc_schema_write.specs.WriterAnswers.{written_head_as}
 use Rattle.ipc_write.specs.Agreement.{Agrees, Follows}
-use Rattle.ipc_write.specs.Calls.{AreMade, IsMade, call_seen, ended_as, outcome, state_seen, writer_in}
-use Rattle.ipc_write.specs.Writers.{StateComesFirst, WriterSeen, fault_unless_new, fault_unless_started}
+use Rattle.ipc_write.specs.Calls.{AreMade, HandsIds, IsMade, call_seen, ended_as, outcome, state_seen, writer_in}
+use Rattle.ipc_write.specs.Writers.{StateComesFirst, WriterSeen, chosen_ids, fault_unless_new, fault_unless_started}
 use Rattle.ipc_write.specs.declared.calls.StreamCall.{StreamCall}
 use Rattle.ipc_write.specs.declared.calls.StreamCall.TheVariants.{Start, Write, Finish}
 use Rattle.ipc_write.specs.declared.stream.WriterState.{WriterState}
@@ -40,15 +42,15 @@ was_started Started a b x h = refl
 was_started Finished a b x h = let other = h.0 in absurd cc
 was_started Failed a b x h = let other = h.0 in absurd cc
 
-module _ {W : Type 0} (known grows : Bool) (failures room : W → ℕ) (memory : W → Memory) (fs : FieldTrees) (es : Pairs) where
+module _ {W : Type 0} (known grows : Bool) (failures room : W → ℕ) (memory : W → Memory) (fs : FieldTrees) (es : Pairs) (is : IdTrees) where
   abbrev Made : WriterSeen W → StreamCall → Result (Unit {0}) Fault → WriterSeen W → Type 0
-  Made = IsMade known grows failures room memory fs es
+  Made = IsMade known grows failures room memory fs es is
 
   abbrev AllMade : WriterSeen W → List StreamCall → List (Result (Unit {0}) Fault) → WriterSeen W → Type 0
-  AllMade = AreMade known grows failures room memory fs es
+  AllMade = AreMade known grows failures room memory fs es is
 
   abbrev head : Endianness → Head
-  head o = written_head_as o fs es (default_all 0 fs)
+  head o = written_head_as o fs es is
 
   -- no call changes the order of bytes
   order_stays : (a b : WriterSeen W) (call : StreamCall) (r : Result (Unit {0}) Fault) → Made a call r b → b.order ≡ a.order
@@ -130,3 +132,11 @@ module _ {W : Type 0} (known grows : Bool) (failures room : W → ℕ) (memory :
   made_more a m b [] (x ∷ rs) call r h last = absurd h
   made_more a m b (c ∷ calls) [] call r h last = absurd h
   made_more a m b (c ∷ calls) (x ∷ rs) call r h last = (h.0, (h.1.0, made_more h.0 m b calls rs call r h.1.1 last))
+
+-- a call with the ids that it was handed is one with those that are chosen
+pub made_with : {W : Type 0} (known grows : Bool) (failures room : W → ℕ) (memory : W → Memory) (fs : FieldTrees) (es : Pairs) (all handed : Option (Vec IpcField Global)) (a b : WriterSeen W) (call : StreamCall)
+    (r : Result (Unit {0}) Fault) → HandsIds call all handed → IsMade known grows failures room memory fs es (chosen_ids handed fs) a call r b → IsMade known grows failures room memory fs es (chosen_ids all fs) a call r b
+made_with known grows failures room memory fs es all handed a b Start r same h =
+    subst (λ (is : IdTrees). IsMade known grows failures room memory fs es is a Start r b) (same fs) h
+made_with known grows failures room memory fs es all handed a b (Write chunk) r same h = h
+made_with known grows failures room memory fs es all handed a b Finish r same h = h

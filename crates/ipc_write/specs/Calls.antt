@@ -1,7 +1,9 @@
 -- What the calls of a writer of streams do, one and many, and what is seen of them in the words of `ipc_model`.
 -- (Arrow columnar format, "IPC Streaming Format".)
-use Rattle.std.specs.Prelude.{◌≡◌, ℕ, pos, Bool, List, [], ◌∷◌, take, Option, None, Result, Ok, Err, IfErr, OnOk}
+use Rattle.std.specs.Prelude.{◌≡◌, ℕ, pos, Bool, List, [], ◌∷◌, take, Option, None, Result, Ok, Err, IfErr, OnOk, Vec}
+use Rattle.std.specs.declared.alloc.Global.{Global}
 use Rattle.ipc_base.specs.IdTrees.{IdTrees}
+use Rattle.ipc_base.specs.declared.ipc.IpcField.{IpcField}
 use Rattle.ipc_devices.specs.Device.{Memory}
 use Rattle.ipc_devices.specs.declared.fault.Fault.{Fault}
 use Rattle.ipc_devices.specs.declared.fault.Fault.TheVariants.{Io}
@@ -10,12 +12,11 @@ use Rattle.lower_arrays.specs.declared.array.AnyArray.{AnyArray}
 use Rattle.lower_types.specs.declared.Endianness.{Endianness}
 use Rattle.ipc_model.specs.WriterStates.{State, Writer, new_writer, started_writer, finished_writer, failed_writer, Outcome, is_taken, is_refused, is_broken}
 use Rattle.ipc_model.specs.Writers.{Call, start_call, write_call, finish_call}
-use Rattle.ipc_schema_write.specs.DefaultIds.{default_all}
 use Rattle.ipc_schema_write.specs.WriterAnswers.{written_head_as}
 use Rattle.ipc_write.specs.Agreement.{Appends, Begins, Remains}
 use Rattle.ipc_write.specs.Framing.{prefix_bytes}
 use Rattle.ipc_write.specs.Meaning.{chunk_written}
-use Rattle.ipc_write.specs.Writers.{RefusesFinish, RefusesStart, RefusesWrite, SendStep, SendsChunk, SendsSchema, StartsWith, StateComesFirst, TakesChunk, WriterSeen, WritesExactly, fault_unless_new, fault_unless_started}
+use Rattle.ipc_write.specs.Writers.{RefusesFinish, RefusesStart, RefusesWrite, SendStep, SendsChunk, SendsSchema, StartsWith, StateComesFirst, TakesChunk, WriterSeen, WritesExactly, chosen_ids, fault_unless_new, fault_unless_started}
 use Rattle.ipc_write.specs.declared.calls.StreamCall.{StreamCall}
 use Rattle.ipc_write.specs.declared.calls.StreamCall.TheVariants.{Start, Write, Finish}
 use Rattle.ipc_write.specs.declared.stream.WriterState.{WriterState}
@@ -76,23 +77,28 @@ pub record DoesFinish {W : Type 0} (known grows : Bool) (failures room : W → �
   pub only : IfErr r (RefusesFinish a.state)
   pub means : Remains known memory a b
 
--- A call of a writer is made and answers this: each `start` is of this schema, with ids by default.
-abbrev pub IsMade : {W : Type 0} → (known grows : Bool) (failures room : W → ℕ) (memory : W → Memory) (fields : FieldTrees) (metadata : Pairs) → WriterSeen W → StreamCall → Result Unit Fault → WriterSeen W → Type 0
-IsMade known grows failures room memory fs es a Start r b = DoesStart known grows failures room memory a fs es (default_all 0 fs) r b
-IsMade known grows failures room memory fs es a (Write chunk) r b = DoesWrite known grows failures room memory a chunk.now None r b
-IsMade known grows failures room memory fs es a Finish r b = DoesFinish known grows failures room memory a r b
+-- A call of a writer is made and answers this: each `start` is of this schema, with these ids.
+abbrev pub IsMade : {W : Type 0} → (known grows : Bool) (failures room : W → ℕ) (memory : W → Memory) (fields : FieldTrees) (metadata : Pairs) (ids : IdTrees) → WriterSeen W → StreamCall → Result Unit Fault → WriterSeen W → Type 0
+IsMade known grows failures room memory fs es is a Start r b = DoesStart known grows failures room memory a fs es is r b
+IsMade known grows failures room memory fs es is a (Write chunk) r b = DoesWrite known grows failures room memory a chunk.now None r b
+IsMade known grows failures room memory fs es is a Finish r b = DoesFinish known grows failures room memory a r b
+
+-- What is handed to a call: to `start` the ids that are chosen for the fields, whatever these are.
+abbrev pub HandsIds : StreamCall → (all handed : Option (Vec IpcField Global)) → Type 0
+HandsIds Start all handed = (fs : FieldTrees) → chosen_ids handed fs ≡ chosen_ids all fs
+HandsIds _ all handed = Unit {0}
 
 -- ---- calls one after the other
 
 -- Each call is made of the writer that the one before it left, and these are their answers.
-abbrev pub AreMade : {W : Type 0} → (known grows : Bool) (failures room : W → ℕ) (memory : W → Memory) (fields : FieldTrees) (metadata : Pairs) → WriterSeen W → List StreamCall → List (Result Unit Fault) → WriterSeen W → Type 0
-AreMade known grows failures room memory fs es a [] [] b = b ≡ a
-AreMade {W = W} known grows failures room memory fs es a (call ∷ calls) (r ∷ rs) b =
-    (m : WriterSeen W) × (IsMade known grows failures room memory fs es a call r m × AreMade known grows failures room memory fs es m calls rs b)
-AreMade known grows failures room memory fs es a _ _ b = ⊥
+abbrev pub AreMade : {W : Type 0} → (known grows : Bool) (failures room : W → ℕ) (memory : W → Memory) (fields : FieldTrees) (metadata : Pairs) (ids : IdTrees) → WriterSeen W → List StreamCall → List (Result Unit Fault) → WriterSeen W → Type 0
+AreMade known grows failures room memory fs es is a [] [] b = b ≡ a
+AreMade {W = W} known grows failures room memory fs es is a (call ∷ calls) (r ∷ rs) b =
+    (m : WriterSeen W) × (IsMade known grows failures room memory fs es is a call r m × AreMade known grows failures room memory fs es is m calls rs b)
+AreMade known grows failures room memory fs es is a _ _ b = ⊥
 
 -- The first of some calls are made.
-pub record FirstAreMade {W : Type 0} (known grows : Bool) (failures room : W → ℕ) (memory : W → Memory) (fields : FieldTrees) (metadata : Pairs) (a : WriterSeen W) (calls : List StreamCall) (b : WriterSeen W) : Type 0 where
+pub record FirstAreMade {W : Type 0} (known grows : Bool) (failures room : W → ℕ) (memory : W → Memory) (fields : FieldTrees) (metadata : Pairs) (ids : IdTrees) (a : WriterSeen W) (calls : List StreamCall) (b : WriterSeen W) : Type 0 where
   pub count : ℕ
   pub answers : List (Result Unit Fault)
-  pub made : AreMade known grows failures room memory fields metadata a (take count calls) answers b
+  pub made : AreMade known grows failures room memory fields metadata ids a (take count calls) answers b

@@ -167,9 +167,9 @@ impl<W: Writes + Drop> StreamWriter<W> {
     ///
     /// Faults: `State(AlreadyStarted)`, `State(Finished)`, `State(Failed)` by the writer's state;
     /// `Argument(FieldsShape)` where the ids don't fit the fields; `Argument(NotWritable)` where the schema can't be written with
-    /// these ids, as [`schema_to_bytes_as`] says; `Memory`: after these nothing was sent and the writer is as it was. `Io` where the device failed, or where it is memory whose growth was refused: then
-    /// some of the first bytes may have been sent, and each later `start`, `write` and `finish` answers
-    /// `State(Failed)`.
+    /// these ids, as [`schema_to_bytes_as`] says; `Memory`: after these nothing was sent and the writer is as it was. `Io`
+    /// where the device failed, or where it is memory whose growth was refused: then some of the first bytes may have been
+    /// sent, and each later `start`, `write` and `finish` answers `State(Failed)`.
     pub fn start(&mut self, schema: &Schema, ipc_fields: Option<Vec<IpcField>>) -> Result<(), Fault>
         ensures first { StateComesFirst (fault_unless_new (seen self.old).state) (seen self.old) result (seen self.new) }
         ensures step { let fields = fields_view schema.now.fields.items in

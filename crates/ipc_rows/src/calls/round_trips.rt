@@ -1,5 +1,5 @@
 //! Streams that are written and read by one call. `"round_trip_of": {"fields": [FIELD, ..], "calls": [CALL, ..]}`, with the calls and the order of bytes of `written.rt`, gives
-//! `{"answers": ["ok" or a fault, ..], "chunks": [CHUNK, ..], "is_finished": true, "is_schema_same": true}`; `"whole_of": STREAM` reads one, and gives
+//! `{"answers": ["ok" or a fault, ..], "chunks": [CHUNK, ..], "is_finished": true, "is_schema_same": true}`, and where there are `"ids": [ID, ..]`, `"are_ids_same": true`; `"whole_of": STREAM` reads one, and gives
 //! `{"chunks": [CHUNK, ..], "is_finished": true}`. `"stream_columns_of": {"stream": STREAM, "chosen": [2, 0]}` gives the same of these columns, or null where the
 //! stream hasn't one of them, or one is named twice.
 
@@ -11,12 +11,12 @@ use crate::schemas::schema;
 use crate::text::Text;
 use crate::trouble::Trouble;
 use crate::types::LEVELS;
-use crate::written::{options, stream};
+use crate::written::{given_ids, options, stream};
 use ipc_base::chunk::Chunk;
 use ipc_devices::Fault;
 use ipc_round_trip::columns::read_stream_columns;
 use ipc_round_trip::read::{WholeStream, read_stream};
-use ipc_round_trip::round_trip::round_trip;
+use ipc_round_trip::round_trip::{RoundTrip, round_trip};
 use ipc_write::calls::StreamCall;
 use lower::datatypes::Field;
 use lower_arrays::array::AnyArray;
@@ -68,14 +68,31 @@ pub fn borrowed<'a>(alloc: Global, calls: &'a [Call]) -> Result<Vec<StreamCall<'
 pub fn round_trip_of(alloc: Global, out: &mut Text, value: &Value) -> Result<(), Trouble> {
     let schema = schema(alloc, value)?;
     let calls = calls_of(alloc, value)?;
-    let trip = round_trip(alloc, &schema, &borrowed(alloc, &calls)?, options(value))?;
+    let calls = borrowed(alloc, &calls)?;
+    let ids = given_ids(alloc, value)?;
+    let trip = round_trip(alloc, &schema, ids, &calls, options(value))?;
     out.put("{\"answers\":");
     put_answers(out, &trip.answers);
     out.put(",");
     put_whole_stream(out, &trip.stream, &schema.fields);
     out.put(",\"is_schema_same\":");
     out.show(&(trip.stream.metadata.schema == schema));
+    put_same_ids(alloc, out, value, &trip)?;
     out.put("}");
+    Ok(())
+}
+
+// Appends whether the ids that a row hands in came back, as a further member.
+fn put_same_ids(
+    alloc: Global,
+    out: &mut Text,
+    value: &Value,
+    trip: &RoundTrip,
+) -> Result<(), Trouble> {
+    if let Some(ids) = given_ids(alloc, value)? {
+        out.put(",\"are_ids_same\":");
+        out.show(&(trip.stream.metadata.ipc_schema.fields == ids));
+    }
     Ok(())
 }
 

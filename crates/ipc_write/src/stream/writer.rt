@@ -10,7 +10,7 @@ use std::alloc::Global;
 
 /// Writes a stream: a schema, then chunks, then the mark that ends it (Arrow columnar format, "IPC Streaming Format").
 ///
-/// The order of its calls is `start`, any number of `write`, `finish`; any other call is refused, and
+/// The order of its calls is `start`, any number of `write`, `finish`; one of these out of its turn is refused, and
 /// a refused call leaves the device, the writer's state and the dictionaries that it remembers as they were. After an `Io` fault each of
 /// these three answers `State(Failed)`; `into_inner` still hands out the device.
 #[derive(Drop)]

@@ -1,12 +1,13 @@
 use Rattle.std.proofs.Common.{◌≡◌, ◌≤◌, ◌-◌, ◌^◌, IsTrue, false, vec_len}
 use Rattle.ipc_model.specs.Streams.{Meant, with_chunks}
-use Rattle.ipc_readers.specs.Streams.{device_of, is_over, metadata_of}
+use Rattle.ipc_readers.specs.Streams.{device_of, is_over, metadata_of, request_of}
 use Rattle.ipc_round_trip.specs.Reading.{MeansAhead, chunks_seen}
 use Rattle.ipc_round_trip.proofs.read.read_chunks.Given as goal
 
 abbrev pub invariant-loop-chunks : goal.invariant-loop-chunks
 invariant-loop-chunks g l = record {
   described : metadata_of l.reader ≡ metadata_of l.fn.reader;
+  asked : request_of l.reader ≡ request_of l.fn.reader;
   monotone : g.R.Failures.failures (device_of l.fn.reader) ≤ g.R.Failures.failures (device_of l.reader);
   same : IsTrue g.R.Failures.known → is_over l.fn.reader ≡ false
       → (is_over l.reader ≡ false)
