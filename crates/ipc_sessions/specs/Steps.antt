@@ -1,6 +1,6 @@
 -- The calls of a session: what its writes do, what its end leaves, and which calls are made of which writers.
 -- (Arrow columnar format, "IPC File Format".)
-use Rattle.std.specs.Prelude.{◌≡◌, ◌⊎◌, ℕ, ◌≤◌, Bool, IsTrue, true, List, [], ◌∷◌, ◌++◌, length, Some, None, Result, Ok, OnOk, Vec}
+use Rattle.std.specs.Prelude.{◌≡◌, ◌⊎◌, ℕ, ◌≤◌, Bool, IsTrue, true, List, [], ◌∷◌, ◌++◌, length, Some, None, Result, Ok, Err, OnOk, Vec}
 use Rattle.std.specs.declared.alloc.Global.{Global}
 use Rattle.lower.specs.TypeTrees.{FieldTrees, Pairs}
 use Rattle.lower_types.specs.declared.Endianness.{Endianness}
@@ -8,6 +8,7 @@ use Rattle.lower_arrays.specs.declared.array.AnyArray.{AnyArray}
 use Rattle.ipc_base.specs.Fitting.{AllFit}
 use Rattle.ipc_base.specs.IdTrees.{IdTrees}
 use Rattle.ipc_devices.specs.Device.{Memory}
+use Rattle.ipc_devices.specs.Faults.{OwnFault}
 use Rattle.ipc_devices.specs.declared.fault.ArgFault.TheVariants.{FieldsShape, NotWritable, TooLarge}
 use Rattle.ipc_devices.specs.declared.fault.Fault.{Fault}
 use Rattle.ipc_devices.specs.declared.fault.Fault.TheVariants.{Argument, Io, Memory as NoMemory, State}
@@ -22,13 +23,14 @@ use Rattle.ipc_schema_write.specs.WriterAnswers.{max_weight, written_as}
 use Rattle.ipc_write.specs.Calls.{outcome, state_seen}
 use Rattle.ipc_write.specs.Meaning.{chunk_written}
 use Rattle.ipc_write.specs.declared.stream.WriterState.TheVariants.{Failed, Started}
+use Rattle.ipc_files.specs.Files.{FileFault}
 use Rattle.ipc_file_write.specs.AppendLaws.{NoMore, Onward}
 use Rattle.ipc_file_write.specs.Appends.{GoesOn}
 use Rattle.ipc_file_write.specs.Calls.{vector}
 use Rattle.ipc_file_write.specs.FileWriters.{Agrees, AnswersFinish, FileSeen, HoldsBytes, IsFileOf, IsSameFile, head_of_file}
 use Rattle.ipc_file_write.specs.Writes.{WritesExactly}
 use Rattle.ipc_file_write.specs.WrittenFiles.{HasTooMany}
-use Rattle.ipc_sessions.specs.Sessions.{IsEndedFile, taken_of}
+use Rattle.ipc_sessions.specs.Sessions.{CantGoOn, IsEndedFile, taken_of}
 
 -- ---- what they do
 
@@ -123,6 +125,26 @@ AreSessions known memory device [] [] left = left ≡ device
 AreSessions {W = W} known memory device (cs ∷ rest) (rs ∷ answers) left = (next : W) × (IsSessionOn known memory device cs.items rs.items (Ok tt) next × AreSessions known memory next rest answers left)
 AreSessions known memory device _ _ left = ⊥
 
+-- Why one session is refused: the file has no metadata, or can't be gone on with; or this is what its end answered, behind its writes.
+pub record EndsRefused {W : Type 0} (known : Bool) (memory : W → Memory) (device : W) (chunks : List (List AnyArray)) (e : Fault) : Type 0 where
+  pub answers : List (Result Unit Fault)
+  pub left : W
+  pub session : IsSessionOn known memory device chunks answers (Err e) left
+
+abbrev pub RefusesWhole : {W : Type 0} → Bool → (W → Memory) → W → List (List AnyArray) → Fault → Type 0
+RefusesWhole known memory device chunks e = (FileFault e ⊎ CantGoOn known (memory device).whole e) ⊎ EndsRefused known memory device chunks e
+
+-- Why some sessions are refused: those in front of one of them ended their file, and on what they left that one is refused.
+pub record RefusesInTurn {W : Type 0} (known : Bool) (memory : W → Memory) (device : W) (sessions : List (Vec (List AnyArray) Global)) (e : Fault) : Type 0 where
+  pub done : List (Vec (List AnyArray) Global)
+  pub refused : Vec (List AnyArray) Global
+  pub rest : List (Vec (List AnyArray) Global)
+  pub sessions_are : sessions ≡ done ++ refused ∷ rest
+  pub answers : List (Vec (Result Unit Fault) Global)
+  pub left : W
+  pub made : AreSessions known memory device done answers left
+  pub why : RefusesWhole known memory left refused.items e
+
 -- All sessions on a file in memory: the first created it, and each later one went on with it; these bytes are what the last one left.
 pub record AreAllSessions (fields : FieldTrees) (metadata : Pairs) (ids : IdTrees) (order : Endianness) (pairs : Pairs) (first : List (List AnyArray)) (answers : List (Result Unit Fault))
     (later : List (Vec (List AnyArray) Global)) (others : List (Vec (Result Unit Fault) Global)) (bytes : List ℕ) : Type 0 where
@@ -132,3 +154,15 @@ pub record AreAllSessions (fields : FieldTrees) (metadata : Pairs) (ids : IdTree
   pub left : MemFile (Vec ℕ Global)
   pub sessions : AreSessions true in_memory created later others left
   pub bytes_are : left.inner.items ≡ bytes
+
+-- Why a later one is refused: the first created the file.
+pub record RefusesLater (fields : FieldTrees) (metadata : Pairs) (ids : IdTrees) (order : Endianness) (pairs : Pairs) (first : List (List AnyArray)) (later : List (Vec (List AnyArray) Global)) (e : Fault) : Type 0 where
+  pub answers : List (Result Unit Fault)
+  pub creation : IsCreation fields metadata ids order pairs first answers
+  pub created : MemFile (Vec ℕ Global)
+  pub file : IsEndedFile true created.inner.items (written_as order fields metadata ids) pairs (taken_of first answers)
+  pub refused : RefusesInTurn true in_memory created later e
+
+-- Why they are refused, memory aside: the file isn't created, or a later one is refused.
+abbrev pub RefusesSessions : FieldTrees → Pairs → IdTrees → Endianness → Pairs → List (List AnyArray) → List (Vec (List AnyArray) Global) → Fault → Type 0
+RefusesSessions fs es is order ps first later e = OwnFault e (RefusesCreation fs es is order ps first e ⊎ RefusesLater fs es is order ps first later e)

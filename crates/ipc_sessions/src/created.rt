@@ -5,7 +5,7 @@ ghost use Rattle.ipc_schema_write.specs.WriterAnswers.{byte_order, written_as};
 ghost use Rattle.ipc_write.specs.Writers.{chosen_ids};
 ghost use Rattle.ipc_file_write.specs.Calls.{IsWrittenFile};
 ghost use Rattle.ipc_sessions.specs.Sessions.{IsEndedFile, all_taken_of, taken_of};
-ghost use Rattle.ipc_sessions.specs.Steps.{AreAllSessions, IsCreation, RefusesCreation};
+ghost use Rattle.ipc_sessions.specs.Steps.{AreAllSessions, IsCreation, RefusesCreation, RefusesSessions};
 
 use crate::sessions::{Sessions, run_sessions, write_chunks};
 use ipc_base::chunk::Chunk;
@@ -84,6 +84,8 @@ pub fn write_sessions(
     ensures reads { let fields = fields_view schema.fields.items in
         IfOk result (λ f. IsWrittenFile f.bytes.items (byte_order (not options.big_endian)) fields (pairs_of schema.metadata.entries) (chosen_ids ipc_fields fields)
         (pairs_of custom_metadata.entries) (taken_of first.now f.first.items ++ all_taken_of later.now f.later.items)) }
+    ensures only { let fields = fields_view schema.fields.items in
+        IfErr result (RefusesSessions fields (pairs_of schema.metadata.entries) (chosen_ids ipc_fields fields) (byte_order (not options.big_endian)) (pairs_of custom_metadata.entries) first.now later.now) }
 {
     let created = create_file(alloc, schema, ipc_fields, custom_metadata, options, first)?;
     let WrittenFile { bytes, answers } = created;

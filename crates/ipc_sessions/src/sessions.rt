@@ -1,12 +1,13 @@
 //! Sessions on a file that is there: chunks are written behind those that it has, and it is ended again.
 ghost use Rattle.std.specs.Prelude.{◌≡◌, length, IfErr, IfOk, IsTrue, Ok, OnErr, OnOk, Some};
+ghost use Rattle.ipc_devices.specs.Faults.{OwnFault};
 ghost use Rattle.ipc_devices.specs.declared.fault.Fault.TheVariants.{Memory};
 ghost use Rattle.ipc_files.specs.Footers.{file_seen};
 ghost use Rattle.ipc_model.specs.Files.{FileMetadata as FileMeaning, metadata_of};
 ghost use Rattle.ipc_file_write.specs.Appends.{RefusesFile};
 ghost use Rattle.ipc_file_write.specs.FileWriters.{seen};
 ghost use Rattle.ipc_sessions.specs.Sessions.{Adds, AddsInTurn, KeepsOld, RefusesNoOld, RefusesSession, all_taken_of, taken_of};
-ghost use Rattle.ipc_sessions.specs.Steps.{AreSessions, AreWritten, EndsSession, IsSession, IsSessionOn, TakesChunks, WritesChunk};
+ghost use Rattle.ipc_sessions.specs.Steps.{AreSessions, AreWritten, EndsSession, IsSession, IsSessionOn, RefusesInTurn, RefusesWhole, TakesChunks, WritesChunk};
 
 use ipc_base::chunk::Chunk;
 use ipc_devices::{Fault, Reads, Seeks, Writes};
@@ -47,7 +48,7 @@ fn write_chunk<W: Writes + Drop>(
 }
 
 /// Writes chunks, one after the other, those behind a refused one too, and answers what each write answered. In memory, the file then has
-/// the chunks of the writes that were Ok, and no others, and nothing before the writer's place was changed.
+/// the chunks that it had, behind them those of the writes that were Ok, and no others; and nothing before the writer's place was changed.
 ///
 /// `AllocError` where no memory was left to keep the answers: then nothing was written.
 pub fn write_chunks<W: Writes + Drop>(
@@ -96,7 +97,7 @@ fn end_session<W: Writes + Drop>(
 /// back then too.
 ///
 /// Faults: those of [`FileWriter::try_from_file`], which change nothing; `Memory` where there is none to keep the answers, and then nothing
-/// was written. After these the device is dropped; one that was lent may stand anywhere.
+/// was written. After these the device is dropped; one that was lent may stand at any place.
 pub fn append_to_file<W: Reads + Writes + Seeks + Drop>(
     alloc: Global,
     device: W,
@@ -117,9 +118,11 @@ pub fn append_to_file<W: Reads + Writes + Seeks + Drop>(
     Ok(session)
 }
 
-/// A session by the metadata that the file has, which begins with its device: by [`read_file_metadata`] and [`append_to_file`].
+/// A session on the file that begins where its device begins: its metadata are read ([`read_file_metadata`]), and by them goes
+/// [`append_to_file`].
 ///
-/// Faults: those of these two. After them nothing was written, and the device is dropped; one that was lent may stand anywhere.
+/// Faults: those of these two, and `Io` where the device can't go to its beginning. After them nothing was written, and the device is
+/// dropped; one that was lent may stand at any place.
 pub fn append_session<W: Reads + Writes + Seeks + Drop>(
     alloc: Global,
     mut device: W,
@@ -147,6 +150,7 @@ fn whole_session<W: Reads + Writes + Seeks + Drop>(
 ) -> Result<(W, Vec<Result<(), Fault>>), Fault>
     ensures adds { IsTrue W.known → IfOk result (λ left. Adds (W.memory device).whole (W.memory left.0).whole (taken_of chunks.now left.1.items)) }
     ensures made { IfOk result (λ left. IsSessionOn W.known W.memory device chunks.now left.1.items (Ok tt) left.0) }
+    ensures only { IfErr result (λ e. OwnFault e (RefusesWhole W.known W.memory device chunks.now e)) }
 {
     let session = append_session(alloc, device, chunks)?;
     let Session {
@@ -162,8 +166,9 @@ fn whole_session<W: Reads + Writes + Seeks + Drop>(
 /// that it had, and behind its chunks exactly those of the writes that were Ok, in order. It is a stream without its first eight bytes
 /// where it was one.
 ///
-/// Faults: those of [`append_session`], and of a `finish` that was refused. After them the device is dropped, with what the sessions before
-/// wrote on it; behind the session that was refused the old chunks still stand. A device that was lent keeps them.
+/// Faults: those of [`append_session`], and of a `finish` that was refused. After them the device is dropped, with all that was written on
+/// it. On one that was lent the chunks of the sessions before still stand, where the metadata say that the last of these left; the file
+/// itself may be without a footer then.
 pub fn run_sessions<W: Reads + Writes + Seeks + Drop>(
     alloc: Global,
     mut device: W,
@@ -172,6 +177,7 @@ pub fn run_sessions<W: Reads + Writes + Seeks + Drop>(
     ensures made { IfOk result (λ left. AreSessions W.known W.memory device sessions.now left.answers.items left.device) }
     ensures adds { IsTrue W.known → IfOk result (λ left. AddsInTurn (length sessions.now) (W.memory device).whole (W.memory left.device).whole
         (all_taken_of sessions.now left.answers.items)) }
+    ensures only { IfErr result (λ e. OwnFault e (RefusesInTurn W.known W.memory device sessions.now e)) }
 {
     let mut answers = Vec::new(alloc);
     for chunks in sessions {
