@@ -20,11 +20,11 @@ use Rattle.ipc_projections.specs.ChosenColumns.{AreAsMany, AreOrdered, AreShuffl
 use Rattle.ipc_projections.specs.declared.read.chosen.ChosenColumns.{ChosenColumns}
 use Rattle.ipc_read.proofs.AskedColumns.{AreArrays, as_many_read, values_in_order}
 use Rattle.ipc_read.specs.Chunks.{chunk_seen}
-use Rattle.ipc_files.specs.Batches.{HoldBatch, IsRecordFault, block_metadata, needed_bytes}
+use Rattle.ipc_files.specs.Batches.{HoldBatch, IsRecordFault, RecordReason, block_metadata, needed_bytes}
 use Rattle.ipc_files.specs.Footers.{GivesPart, file_seen}
 use Rattle.ipc_files.specs.declared.read.file.metadata.FileMetadata.{FileMetadata}
 use Rattle.ipc_read.proofs.Refusals.{claims_through}
-use Rattle.ipc_file_readers.proofs.AskedFaults.{bytes_asked, fault_asked, held_asked, many_asked}
+use Rattle.ipc_file_readers.proofs.AskedFaults.{bytes_asked, fault_asked, held_asked, many_asked, reason_asked}
 use Rattle.ipc_file_readers.proofs.Chunks.{chunk_alike, given_in_order, refused_in_order}
 use Rattle.ipc_file_readers.specs.Readers.{AreKnown, HoldValues, values_in}
 use Rattle.ipc_file_readers.specs.Steps.{WasChunk}
@@ -105,10 +105,13 @@ module _ (known : Bool) (q : Option ChosenColumns) (m : FileMetadata) (limit : L
 
   -- it was refused
   pub refused_chunk : (r : Result (List AnyArray) Fault) (e : Fault) → r ≡ Err e → OwnFault e (IsRecordFault (kinds (file_seen m).schema) (chosen o N) e)
+      → (IsTrue known → OwnFault e (RecordReason (kinds (file_seen m).schema) (chosen o N) source (slice_get m.blocks.items i) e))
       → (IsTrue known → OwnFault e (file_chunk (file_seen m) d source o limit i ≡ None)) → WasChunk known m (asked_by q) limit i ds source old new metadata r
-  refused_chunk r e is only means = rw is (record {
+  refused_chunk r e is only why means = rw is (record {
     many = tt;
     only = claims_through e _ _ (fault_asked q N (kinds (file_seen m).schema) e same) (subst (λ (p : Option (List ℕ)). OwnFault e (IsRecordFault (kinds (file_seen m).schema) (chosen p N) e)) rising only);
+    reason = λ k. claims_through e _ _ (reason_asked q N (kinds (file_seen m).schema) e source (slice_get m.blocks.items i) same)
+        (subst (λ (p : Option (List ℕ)). OwnFault e (RecordReason (kinds (file_seen m).schema) (chosen p N) source (slice_get m.blocks.items i) e)) rising (why k));
     message = λ k. tt;
     bytes = tt;
     holds = tt;
@@ -131,6 +134,7 @@ module _ (known : Bool) (q : Option ChosenColumns) (m : FileMetadata) (limit : L
       record {
         many = given_many q N read r same many order;
         only = memory_only r _ only;
+        reason = λ k. memory_only r _ only;
         message = λ k. on_ok r _ (message k);
         bytes = on_ok r _ (subst (λ (n : ℕ). new ≤ old + n) (bytes_asked q N (kinds (file_seen m).schema) metadata same) bound);
         holds = held_given q N (kinds (file_seen m).schema) metadata read r same (as_many_read N q (length read) many) order

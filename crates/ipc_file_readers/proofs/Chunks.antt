@@ -1,5 +1,5 @@
 -- The chunk of a block, by the columns that are asked for, and by dictionaries that are known alike.
-use Rattle.std.proofs.Common.{◌≡◌, ℕ, List, length, Bool, true, false, cond, nat_eq, Option, None, Some, Ok, refl, sym, ap, ◌∙◌, subst}
+use Rattle.std.proofs.Common.{◌≡◌, ℕ, List, length, Bool, true, false, cond, nat_eq, Option, None, Some, Ok, refl, sym, ap, ◌∙◌}
 use Rattle.std.specs.Option.{option_and_then}
 use Rattle.std.specs.Prelude.{slice_get}
 use Rattle.std.specs.List.Sorted.{IsPermutation}
@@ -15,7 +15,7 @@ use Rattle.ipc_model.specs.Kinds.{count}
 use Rattle.ipc_model.specs.Schemas.{given}
 use Rattle.ipc_laws.specs.Agreement.{KnowAlike}
 use Rattle.ipc_laws.proofs.Agreeing.{agree_chosen, alike_record_law}
-use Rattle.ipc_projections.specs.AskedOrder.{Asked, IsInAskedOrder, AreInAskedOrder}
+use Rattle.ipc_projections.specs.AskedOrder.{Asked, AreInAskedOrder}
 use Rattle.ipc_projections.specs.ChosenColumns.{AreAsMany, AreOrdered, AreShuffled, asked_by, rising_by}
 use Rattle.ipc_projections.specs.declared.read.chosen.ChosenColumns.{ChosenColumns}
 use Rattle.ipc_projections.proofs.AskedOrder.{asked_images, asked_record_law, given_as_asked, then_asked}

@@ -1,9 +1,9 @@
 -- What a call of `next` gave, by its steps.
-use Rattle.std.proofs.Common.{◌≡◌, ℕ, ℤ, ◌+◌, ◌-◌, ◌≤◌, List, Bool, true, false, IsTrue, Option, None, Some, Result, Ok, Err, OnOk, refl, sym, ap, ◌∙◌, subst, arith, inr}
+use Rattle.std.proofs.Common.{◌≡◌, ℕ, ℤ, ◌+◌, ◌-◌, ◌≤◌, List, Bool, true, false, IsTrue, Option, None, Some, Result, Ok, Err, IfErr, OnOk, refl, sym, ap, ◌∙◌, subst, arith, inr}
 use Rattle.lower_arrays.specs.Layouts.{Layout}
 use Rattle.lower_arrays.specs.declared.array.AnyArray.{AnyArray}
 use Rattle.ipc_devices.specs.Device.{Memory, Rises}
-use Rattle.ipc_devices.specs.Faults.{OnIo}
+use Rattle.ipc_devices.specs.Faults.{OnIo, OwnFault}
 use Rattle.ipc_devices.specs.declared.fault.Fault.{Fault}
 use Rattle.ipc_devices.specs.declared.fault.Fault.TheVariants as faults
 use Rattle.std.specs.Prelude.{slice_get}
@@ -11,8 +11,8 @@ use Rattle.ipc_model.specs.Batches.{kinds}
 use Rattle.ipc_model.specs.Entries.{Dictionaries, Limit}
 use Rattle.ipc_model.specs.Files.{file_chunk}
 use Rattle.ipc_read.specs.Chunks.{chunk_seen}
-use Rattle.ipc_files.specs.Batches.{block_metadata, needed_bytes}
-use Rattle.ipc_files.specs.Footers.{GivesPart, file_seen}
+use Rattle.ipc_files.specs.Batches.{RecordReason, block_metadata, needed_bytes}
+use Rattle.ipc_files.specs.Footers.{GivesPart}
 use Rattle.ipc_files.specs.declared.read.file.metadata.FileMetadata.{FileMetadata}
 use Rattle.ipc_file_readers.specs.Readers.{HasNext, HoldValues, NextStep, WasNext, asked_of, block_of, columns_asked, device_of, file_of, is_over, known_of, less, message_of, metadata_of, next_result, remaining_of, rows_given, values_of}
 use Rattle.ipc_file_readers.specs.Steps.{DictionariesGave, NextGave, WasChunk}
@@ -61,6 +61,9 @@ module _ {R : Type 0} (known still : Bool) (memory : R → Memory) (failures giv
     remaining = second.remaining ∙ ap (λ (l : Limit). less l (rows_given r)) first.remaining;
     many = here.many;
     only = here.only;
+    reason = λ k.
+        let why = λ (xs : List ℕ) (e : Fault). OwnFault e (RecordReason (kinds (file_of a).schema) (columns_asked (metadata_of a) (asked_of a)) xs (slice_get (metadata_of a).blocks.items (block_of a)) e) in
+        subst (λ (xs : List ℕ). IfErr r (why xs)) (same_source k) (here.reason k);
     message = λ k.
         subst (λ (xs : List ℕ). OnOk r (block_metadata xs (slice_get (metadata_of a).blocks.items (block_of a)) ≡ Some (message_of b))) (same_source k) (here.message k);
     bytes = λ ds is.

@@ -28,11 +28,11 @@ same_items m n ds xs ys p q l k i j c rs e f g h d are =
     (subst (λ (x : Limit). AreItems n ds ys q x i c rs) h
     (subst (λ (x : ℕ). AreItems n ds ys q k x c rs) d are))))
 
-held_before : (known : Bool) (o file : Option Dictionaries) (es d : Dictionaries) → o ≡ Some es → AreKnown known o file d → es ≡ d
+pub held_before : (known : Bool) (o file : Option Dictionaries) (es d : Dictionaries) → o ≡ Some es → AreKnown known o file d → es ≡ d
 held_before known None file es d e h = absurd cc
 held_before known (Some x) file es d e h = let same : x ≡ es = cc in sym same ∙ h
 
-read_now : (known : Bool) (o file : Option Dictionaries) (ds d : Dictionaries) → IsTrue known → o ≡ None → file ≡ Some ds → AreKnown known o file d → KnowAlike d ds
+pub read_now : (known : Bool) (o file : Option Dictionaries) (ds d : Dictionaries) → IsTrue known → o ≡ None → file ≡ Some ds → AreKnown known o file d → KnowAlike d ds
 read_now known None file ds d k e f h =
     let alike : AreAlike (Some ds) (Some d) = subst (λ (x : Option Dictionaries). AreAlike x (Some d)) f (h k) in
     record { each = λ id. sym (alike.each id) }

@@ -1,6 +1,6 @@
 -- What a reader of a file holds and answers.
 -- (Arrow columnar format, "IPC File Format".)
-use Rattle.std.specs.Prelude.{◌≡◌, ◌⊎◌, ℕ, ℤ, ◌+◌, ◌-◌, ◌≤◌, nat_le, Bool, true, false, IsTrue, IfOk, IfErr, OnOk, List, map, length, Option, None, Some, option_map, slice_get, Result, Ok, Err, vec_len, Vec}
+use Rattle.std.specs.Prelude.{◌≡◌, ◌⊎◌, ℕ, ℤ, ◌+◌, ◌-◌, ◌≤◌, nat_le, Bool, true, false, IsTrue, IfOk, IfErr, OnOk, List, [], map, length, Option, None, Some, option_map, slice_get, Result, Ok, Err, vec_len, Vec}
 use Rattle.std.specs.HashMap.{HashMap}
 use Rattle.std.specs.declared.alloc.Global.{Global}
 use Rattle.std.specs.declared.rc.Rc.{Rc}
@@ -21,8 +21,8 @@ use Rattle.ipc_laws.specs.Agreement.{AreAlike, KnowAlike}
 use Rattle.ipc_columns.specs.Bodies.{array_under, known_dictionaries, no_values}
 use Rattle.ipc_projections.specs.ChosenColumns.{ShowsColumns, asked_by, shown_by}
 use Rattle.ipc_read.specs.Chunks.{chunk_seen}
-use Rattle.ipc_files.specs.Batches.{HoldBatch, IsRecordFault, block_metadata, needed_bytes}
-use Rattle.ipc_files.specs.Dictionaries.{HoldListed, IsDictionaryBlockFault}
+use Rattle.ipc_files.specs.Batches.{HoldBatch, IsRecordFault, RecordReason, block_metadata, needed_bytes}
+use Rattle.ipc_files.specs.Dictionaries.{DictionariesReason, HoldListed, IsDictionaryBlockFault}
 use Rattle.ipc_files.specs.Footers.{GivesPart, file_seen}
 use Rattle.ipc_files.specs.declared.read.file.metadata.FileMetadata.{FileMetadata}
 use Rattle.ipc_file_readers.specs.declared.read.reader.state.FileReader.{FileReader}
@@ -148,14 +148,16 @@ HoldValues known m source None before after = HoldListed known m source after
 abbrev pub HaveKnownValues : FileMetadata → Option (List ℕ) → Dictionaries → List AnyArray → Type 0
 HaveKnownValues m asked ds xs = HaveMeaning ds (all_ids_view m.ipc_schema.fields.items) (columns_asked m asked) (chunk_seen xs) (map layout_of xs)
 
--- The dictionaries were refused: it is told once, and nothing comes after it.
+-- The dictionaries were refused: it is told once, by the fault of the first block that is refused, and nothing comes after it.
 pub record WereRefused {R : Type 0} (known : Bool) (memory : R → Memory) (a : FileReader R) (e : Fault) (b : FileReader R) : Type 0 where
   pub unread : known_of a ≡ None
+  pub stay_unread : known_of b ≡ None
   pub only : OwnFault e (IsDictionaryBlockFault e)
   pub meaning : IsTrue known → OwnFault e (file_dictionaries (file_of a) (memory (device_of a)).whole ≡ None)
+  pub reason : IsTrue known → OwnFault e (DictionariesReason (file_of a) (memory (device_of a)).whole [] (file_of a).dictionaries e)
   pub over : is_over b ≡ true
 
--- The chunk of the next block was given, or its fault, which leaves the limit as it was. The block behind it is the next then. The
+-- The chunk of the next block was given, or its fault, which says why, and leaves the limit as it was. The block behind it is the next then. The
 -- metadata of the block's message are kept. Where the dictionaries were known before, no more was given than this message, its prefix and
 -- what the buffers of the columns that are asked for list; and the arrays hold no more than these list, and one offset for each buffer of
 -- offsets that lists nothing.
@@ -168,6 +170,8 @@ pub record WasNext {R : Type 0} (known : Bool) (memory : R → Memory) (given : 
   pub remaining : remaining_of b ≡ less (remaining_of a) (rows_given r)
   pub many : IfOk r (λ xs. length xs ≡ length (columns_asked (metadata_of a) (asked_of a)))
   pub only : IfErr r (λ e. OwnFault e (IsRecordFault (kinds (file_of a).schema) (columns_asked (metadata_of a) (asked_of a)) e))
+  pub reason : IsTrue known
+      → IfErr r (λ e. OwnFault e (RecordReason (kinds (file_of a).schema) (columns_asked (metadata_of a) (asked_of a)) (memory (device_of a)).whole (slice_get (metadata_of a).blocks.items (block_of a)) e))
   pub message : IsTrue known
       → OnOk r (block_metadata (memory (device_of a)).whole (slice_get (metadata_of a).blocks.items (block_of a)) ≡ Some (message_of b))
   pub bytes : (ds : Dictionaries) → known_of a ≡ Some ds

@@ -1,6 +1,6 @@
 -- What the steps of a call of `next` do, one by one.
 -- (Arrow columnar format, "IPC File Format".)
-use Rattle.std.specs.Prelude.{◌≡◌, ℕ, ◌+◌, ◌≤◌, Bool, IsTrue, IfOk, IfErr, OnOk, List, length, Option, None, Some, Result, slice_get}
+use Rattle.std.specs.Prelude.{◌≡◌, ℕ, ◌+◌, ◌≤◌, Bool, IsTrue, IfOk, IfErr, OnOk, List, [], length, Option, None, Some, Result, slice_get}
 use Rattle.lower_arrays.specs.declared.array.AnyArray.{AnyArray}
 use Rattle.ipc_devices.specs.Device.{Memory, Rises}
 use Rattle.ipc_devices.specs.Faults.{OnIo, OwnFault}
@@ -10,8 +10,8 @@ use Rattle.ipc_model.specs.Entries.{Dictionaries, Limit}
 use Rattle.ipc_model.specs.Files.{file_dictionaries, file_chunk}
 use Rattle.ipc_laws.specs.Agreement.{KnowAlike}
 use Rattle.ipc_read.specs.Chunks.{chunk_seen}
-use Rattle.ipc_files.specs.Batches.{HoldBatch, IsRecordFault, block_metadata, needed_bytes}
-use Rattle.ipc_files.specs.Dictionaries.{IsDictionaryBlockFault}
+use Rattle.ipc_files.specs.Batches.{HoldBatch, IsRecordFault, RecordReason, block_metadata, needed_bytes}
+use Rattle.ipc_files.specs.Dictionaries.{DictionariesReason, IsDictionaryBlockFault}
 use Rattle.ipc_files.specs.Footers.{GivesPart, file_seen}
 use Rattle.ipc_files.specs.declared.read.file.metadata.FileMetadata.{FileMetadata}
 use Rattle.ipc_file_readers.specs.Readers.{AreKnown, HaveKnownValues, HoldValues, IsOfSameFile, asked_of, block_of, columns_asked, device_of, file_of, known_of, less, message_of, metadata_of, remaining_of, rows_given, values_of}
@@ -34,14 +34,17 @@ pub record DictionariesGave {R : Type 0} (known still : Bool) (memory : R → Me
   pub holds : IfOk r (λ _. HoldValues known (file_of a) (memory (device_of a)).whole (known_of a) (values_of a) (values_of b))
   pub left_alone : (ds : Dictionaries) → known_of a ≡ Some ds → device_of b ≡ device_of a
   pub unread : IfErr r (λ e. known_of a ≡ None)
+  pub stay_unread : IfErr r (λ e. known_of b ≡ None)
   pub only : IfErr r (λ e. OwnFault e (IsDictionaryBlockFault e))
   pub refused : IsTrue known → IfErr r (λ e. OwnFault e (file_dictionaries (file_of a) (memory (device_of a)).whole ≡ None))
+  pub reason : IsTrue known → IfErr r (λ e. OwnFault e (DictionariesReason (file_of a) (memory (device_of a)).whole [] (file_of a).dictionaries e))
 
 -- The chunk of block i was given, by the dictionaries that are known, or its fault. The message that was read has these metadata.
 pub record WasChunk (known : Bool) (m : FileMetadata) (asked : Option (List ℕ)) (limit : Limit) (i : ℕ) (ds : Dictionaries) (source : List ℕ) (old new : ℕ) (metadata : List ℕ)
     (r : Result (List AnyArray) Fault) : Type 0 where
   pub many : IfOk r (λ xs. length xs ≡ length (columns_asked m asked))
   pub only : IfErr r (λ e. OwnFault e (IsRecordFault (kinds (file_seen m).schema) (columns_asked m asked) e))
+  pub reason : IsTrue known → IfErr r (λ e. OwnFault e (RecordReason (kinds (file_seen m).schema) (columns_asked m asked) source (slice_get m.blocks.items i) e))
   pub message : IsTrue known → OnOk r (block_metadata source (slice_get m.blocks.items i) ≡ Some metadata)
   pub bytes : OnOk r (new ≤ old + needed_bytes (kinds (file_seen m).schema) (columns_asked m asked) metadata)
   pub holds : IfOk r (HoldBatch (kinds (file_seen m).schema) (columns_asked m asked) metadata)

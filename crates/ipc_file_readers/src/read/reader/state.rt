@@ -17,7 +17,7 @@ use std::alloc::Global;
 /// limit, which is one for all chunks together: a chunk of no rows comes for each block behind the last row. Chunks share the values
 /// of the dictionaries. Behind the last block `next` answers None, reads nothing and takes no memory.
 ///
-/// Faults of `next`: those of [`read_file_dictionaries`] and [`read_batch`], and no other. Where it answers a chunk, and the dictionaries
+/// Faults of `next`: those of [`read_file_dictionaries`] and [`read_batch`], each where these have it, and no other. Where it answers a chunk, and the dictionaries
 /// were read before, it takes no more bytes of the device than the block's message, its prefix and what the buffers of the given
 /// columns list. The arrays of a chunk hold together no more than these list, and one offset for each buffer of offsets that lists
 /// nothing; over memory so does the array of each dictionary's values, by one of its blocks. The metadata of the message are left in the

@@ -34,7 +34,7 @@ returns-in_err-chunk g c =
             refused_chunk g.R.Failures.known c.args.self.now.projection c.args.self.now.metadata c.args.self.now.remaining c.args.block
             (known_dictionaries c.in-Some.dictionaries) ds (g.R.Failures.memory c.args.self.now.reader).whole _ _ _ _ c.rising.ensures.same c.rising.ensures.columns
             (same_known known_dictionaries c.args.self.now.dictionaries c.in-Some.dictionaries ds c.in-Some.is e) c.from_residual.result fault is
-            c.in_err-chunk.ensures.only c.in_err-chunk.ensures.memory;
+            c.in_err-chunk.ensures.only c.in_err-chunk.ensures.reason c.in_err-chunk.ensures.memory;
       };
     }
 

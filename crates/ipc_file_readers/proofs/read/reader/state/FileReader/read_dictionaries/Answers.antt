@@ -14,7 +14,9 @@ returns-then-is_some g c = record {
     holds = values_already c.args.self.now.dictionaries g.R.Failures.known _ _ (search rules);
     left_alone = λ ds e. refl;
     unread = tt;
+    stay_unread = tt;
     only = tt;
     refused = λ k. tt;
+    reason = λ k. tt;
   };
 }
