@@ -1,5 +1,6 @@
 //! `ipcat`: writes the documented example as an Arrow IPC stream, and shows the streams and files that it is given.
-ghost use Rattle.std.specs.Prelude.{◌≡◌, ◌≤◌, codes, map, option_and_then, option_map, string_bytes, false, None, Some, Ok, IfOk, IfSome, IsSome, IsTrue};
+ghost use Rattle.std.specs.Prelude.{◌≡◌, ◌≤◌, codes, map, option_and_then, option_map, string_bytes, false, None, Some, Ok, Err, IfErr, IfOk, IfSome, IsSome, IsTrue};
+ghost use Rattle.ipc_devices.specs.Faults.{IsIo};
 ghost use Rattle.ipc_plan.specs.Sending.{WritesSome};
 ghost use Rattle.ipc_tools.specs.Lines.{Tells};
 ghost use Rattle.ipc_tools.specs.CatWords.{asked, asked_by, judges_columns, opened_for, reads_input};
@@ -55,6 +56,7 @@ pub fn run<R: Reads, F: Reads + Seeks + Drop, O: Writes, E: Writes>(
     ensures line { result ≡ 1 → IsTrue E.known → Tells (codes "ipcat") (E.memory err.old) (E.memory err.new) }
     ensures judged { IfSome (asked (map string_bytes words.now)) (λ form. judges_columns form ≡ false → result ≤ 1) }
     ensures silent { result ≡ 0 → err.new ≡ err.old }
+    ensures usage_told { result ≡ 2 → IsTrue E.known → WritesSome (E.memory err.old) (E.memory err.new) USAGE.now }
     ensures told { asked (map string_bytes words.now) ≡ None → IsTrue E.known
         → WritesSome (E.memory err.old) (E.memory err.new) USAGE.now }
     ensures untouched { asked (map string_bytes words.now) ≡ None → (input.new ≡ input.old) × (out.new ≡ out.old) }
@@ -84,6 +86,7 @@ fn run_form<R: Reads, F: Reads + Seeks + Drop, O: Writes>(
     out: &mut O,
 ) -> Result<Outcome, Fault>
     ensures unopened { IfSome (opened_for (asked_by form.entry)) (λ path. IfOk result (λ _. IsSome file)) }
+    ensures missing { IfSome (opened_for (asked_by form.entry)) (λ path. file ≡ None → IfErr result IsIo) }
     ensures judged { judges_columns (asked_by form.entry) ≡ false → IfOk result (λ outcome. outcome ≡ Done) }
     ensures unread { reads_input (asked_by form.entry) ≡ false → input.new ≡ input.old }
 {
@@ -107,7 +110,8 @@ fn run_form<R: Reads, F: Reads + Seeks + Drop, O: Writes>(
 
 // What came of a form, once all is sent that it printed.
 fn sent<O: Writes>(shown: Result<Outcome, Fault>, mut printer: Printer<O>) -> Result<Outcome, Fault>
-    ensures { IfOk result (λ outcome. shown ≡ Ok outcome) }
+    ensures same { IfOk result (λ outcome. shown ≡ Ok outcome) }
+    ensures first { IfErr shown (λ fault. result ≡ Err fault) }
 {
     let sent = printer.send();
     let outcome = shown?;
@@ -121,7 +125,8 @@ fn show_opened<F: Reads + Seeks + Drop, O: Writes>(
     words: FileWords<'_>,
     printer: &mut Printer<O>,
 ) -> Result<Outcome, Fault>
-    ensures { IfOk result (λ _. IsSome file) }
+    ensures opened { IfOk result (λ _. IsSome file) }
+    ensures missing { file ≡ None → IfErr result IsIo }
 {
     match file {
         Some(mut file) => show_file(alloc, &mut file, words, printer),

@@ -1,5 +1,6 @@
 //! `ipconvert`: reads an Arrow IPC stream or file and writes it again as a stream or a file, in either byte order; or goes on with a file.
-ghost use Rattle.std.specs.Prelude.{◌≡◌, ◌≤◌, codes, ◌↔◌, map, option_and_then, option_map, string_bytes, false, None, Some, IfOk, IfSome, IsSome, IsTrue};
+ghost use Rattle.std.specs.Prelude.{◌≡◌, ◌≤◌, codes, ◌↔◌, map, option_and_then, option_map, string_bytes, false, None, Some, IfOk, IfSome, IsSome, IsTrue, IfErr};
+ghost use Rattle.ipc_devices.specs.Faults.{IsIo};
 ghost use Rattle.ipc_plan.specs.Sending.{WritesSome};
 ghost use Rattle.ipc_tools.specs.Lines.{Tells};
 ghost use Rattle.ipc_tools.specs.ConvertWords.{asked, asked_by, place_for, reads_input, writes_output};
@@ -54,6 +55,8 @@ pub fn run<R: Reads, F: Reads + Writes + Seeks + Drop, O: Writes, E: Writes>(
     ensures unwritten { IfSome (asked (map string_bytes words.now)) (λ form. writes_output form ≡ false → out.new ≡ out.old) }
     ensures line { result ≡ 1 → IsTrue E.known → Tells (codes "ipconvert") (E.memory err.old) (E.memory err.new) }
     ensures silent { result ≡ 0 → err.new ≡ err.old }
+    ensures spared { IfSome (option_and_then place_for (asked (map string_bytes words.now)))
+        (λ place. file ≡ None → (input.new ≡ input.old) × (out.new ≡ out.old)) }
     ensures told { asked (map string_bytes words.now) ≡ None → IsTrue E.known
         → WritesSome (E.memory err.old) (E.memory err.new) USAGE.now }
     ensures untouched { asked (map string_bytes words.now) ≡ None → (input.new ≡ input.old) × (out.new ≡ out.old) }
@@ -79,6 +82,8 @@ fn run_form<R: Reads, F: Reads + Writes + Seeks + Drop, O: Writes>(
     out: &mut O,
 ) -> Result<(), Fault>
     ensures unopened { IfSome (place_for (asked_by form.entry)) (λ place. IfOk result (λ _. IsSome file)) }
+    ensures missing { IfSome (place_for (asked_by form.entry)) (λ place. file ≡ None → IfErr result IsIo) }
+    ensures spared { IfSome (place_for (asked_by form.entry)) (λ place. file ≡ None → (input.new ≡ input.old) × (out.new ≡ out.old)) }
     ensures unread { reads_input (asked_by form.entry) ≡ false → input.new ≡ input.old }
     ensures unwritten { writes_output (asked_by form.entry) ≡ false → out.new ≡ out.old }
 {
@@ -100,7 +105,8 @@ fn run_form<R: Reads, F: Reads + Writes + Seeks + Drop, O: Writes>(
 
 // What stands at a path, where it could be opened.
 fn opened<F>(file: Option<F>) -> Result<F, Fault>
-    ensures { IfOk result (λ device. file ≡ Some device) }
+    ensures there { IfOk result (λ device. file ≡ Some device) }
+    ensures missing { IfErr result IsIo }
 {
     match file {
         Some(file) => Ok(file),
