@@ -1,15 +1,18 @@
 //! Chunks as messages, which are those of a stream. Where memory is refused, a call leaves the tracker as it was: made again, it answers as
 //! if it had been made once. In an ordinary run no call is refused any; `make refused` refuses each allocation in its turn.
 
-use crate::fixtures::refusal;
+use crate::fixtures::{int32, refusal};
 use crate::keyed::{make_chunk, make_schema};
-use arrow2_ipc::array::{AnyArray, is_dictionary};
+use arrow2_ipc::array::{AnyArray, ListArray, ListOffsets, is_dictionary};
+use arrow2_ipc::buffer::Buffer;
 use arrow2_ipc::chunk::Chunk;
+use arrow2_ipc::datatypes::{DataType, Field};
 use arrow2_ipc::io::ipc::IpcField;
 use arrow2_ipc::io::ipc::fault::{ArgFault, Fault};
 use arrow2_ipc::io::ipc::write::{
-    DictionaryTracker, StreamWriter, WriteOptions, encode_chunk, write_message,
+    DictionaryTracker, StreamWriter, WriteOptions, default_ipc_fields, encode_chunk, write_message,
 };
+use arrow2_ipc::offset::OffsetsBuffer;
 use std::alloc::Global;
 
 fn make_ids(alloc: Global) -> Result<Vec<IpcField>, Fault> {
@@ -125,5 +128,44 @@ fn a_stream_has_the_messages_of_its_chunks(rt: HostRuntime) -> Result<(), Fault>
     writer.write(&chunk, None)?;
     let sent = send(alloc, &chunk, start(alloc)?.into_inner())?;
     assert!(rt; writer.into_inner() == sent);
+    Ok(())
+}
+
+// No list of this child's slots.
+fn list_of(alloc: Global, child: AnyArray) -> Result<AnyArray, Fault> {
+    let item = Field::new(String::new(alloc), child.data_type().clone()?, true);
+    let data_type = DataType::List(Box::new(alloc, item)?);
+    let offsets = OffsetsBuffer::try_new(Buffer::new(Vec::from_slice(alloc, &[0i32])?)?)?;
+    let child = Box::new(alloc, child)?;
+    let array = ListArray::try_new(data_type, ListOffsets::Small(offsets), child, None)?;
+    Ok(array.boxed())
+}
+
+// No list of lists, so many levels above numbers.
+fn lists(alloc: Global, levels: usize) -> Result<AnyArray, Fault> {
+    let mut array = int32(alloc, &[])?;
+    for _ in 0..levels {
+        array = list_of(alloc, array)?;
+    }
+    Ok(array)
+}
+
+// How many dictionaries are written with a column of such lists.
+fn dictionaries_of_lists(alloc: Global, levels: usize) -> Result<usize, Fault> {
+    let column = lists(alloc, levels)?;
+    let field = Field::new(String::new(alloc), column.data_type().clone()?, true);
+    let ids = default_ipc_fields(alloc, &vec![in alloc; field]?)?;
+    let chunk = Chunk::try_new(vec![in alloc; column]?)?;
+    let mut tracker = DictionaryTracker::new(alloc, false);
+    dictionaries(alloc, &chunk, &ids, &mut tracker)
+}
+
+// A row could name no ids of so many levels: JSON is read to 127 levels, of which each takes two.
+#[test]
+fn a_column_of_65_levels_is_refused(rt: HostRuntime) -> Result<(), Fault> {
+    let alloc = rt.alloc();
+    let refused = refusal(dictionaries_of_lists(alloc, 64))?;
+    assert!(rt; matches!(refused, Some(Fault::Argument(ArgFault::NotWritable))));
+    assert_eq!(rt; dictionaries_of_lists(alloc, 63)?, 0);
     Ok(())
 }

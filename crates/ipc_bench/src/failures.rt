@@ -1,4 +1,5 @@
-//! Devices that fail, and memory that is refused, while streams and files are written, read and gone on with.
+//! Devices that fail, and memory that is refused, while streams and files are written, read and gone on with, in either order of bytes, and
+//! while messages are sent and batches read by themselves.
 
 use crate::rough::Way;
 use crate::told::Told;
@@ -9,7 +10,7 @@ use std::alloc::Global;
 // What a walk tells where the first call of its device fails, where the second does, and on; what is told again isn't said again, and in the last one
 // none fails. Writers answer `Io` once, and then `State(Failed)`; what went out is a first part. A reader of a stream answers a fault once, and
 // then None; one of a file that of the dictionaries so, and where a block can't be read the next still come. A session keeps the old chunks.
-const FAILING: [(&str, Walk, &[&str]); 5] = [
+const FAILING: [(&str, Walk, &[&str]); 7] = [
     (
         "a stream is written",
         Walk::WriteStream,
@@ -68,6 +69,16 @@ const FAILING: [(&str, Walk, &[&str]); 5] = [
             "ooxo0=ababa.",
         ],
     ),
+    (
+        "messages are sent by themselves",
+        Walk::SendAlone,
+        &["ioo1", "oio1", "ooi1", "ooo0"],
+    ),
+    (
+        "batches are read by themselves",
+        Walk::ReadAlone,
+        &["i0o1aa1", "o1i1aa1", "o1o1ia1", "o1o1ai1", "o1o1aa0"],
+    ),
 ];
 
 // How many runs there are: more than a device is called.
@@ -106,10 +117,12 @@ fn first_other(
 #[test]
 fn a_device_fails_at_each_call(rt: HostRuntime) -> Result<(), Fault> {
     let alloc = rt.alloc();
-    let ready = make_ready(alloc)?;
-    for (name, tried, wanted) in FAILING {
-        let other = first_other(alloc, &ready, tried, wanted)?;
-        assert_eq!(rt; other, None, "{name}");
+    for big_endian in [false, true] {
+        let ready = make_ready(alloc, big_endian)?;
+        for (name, tried, wanted) in FAILING {
+            let other = first_other(alloc, &ready, tried, wanted)?;
+            assert_eq!(rt; other, None, "{name}");
+        }
     }
     Ok(())
 }
@@ -117,18 +130,20 @@ fn a_device_fails_at_each_call(rt: HostRuntime) -> Result<(), Fault> {
 #[test]
 fn a_device_moves_a_byte_a_call(rt: HostRuntime) -> Result<(), Fault> {
     let alloc = rt.alloc();
-    let ready = make_ready(alloc)?;
-    for (name, tried, wanted) in FAILING {
-        let told = tell(alloc, &ready, tried, Way::OneByte)?.ample()?;
-        let last = wanted.len().saturating_sub(1);
-        assert!(rt; is_at(&told, wanted, last), "{name}");
+    for big_endian in [false, true] {
+        let ready = make_ready(alloc, big_endian)?;
+        for (name, tried, wanted) in FAILING {
+            let told = tell(alloc, &ready, tried, Way::OneByte)?.ample()?;
+            let last = wanted.len().saturating_sub(1);
+            assert!(rt; is_at(&told, wanted, last), "{name}");
+        }
     }
     Ok(())
 }
 
 // What a walk tells on a sound device, and then what else it may tell where an allocation is refused: a writer's call is made again, a reader of
 // a stream ends, one of a file goes on with the next block, and a session goes on with the next chunk. No memory is taken at the end.
-const REFUSED: [(&str, Walk, &[&str]); 5] = [
+const REFUSED: [(&str, Walk, &[&str]); 7] = [
     ("a stream is written", Walk::WriteStream, &["oooooddd0="]),
     ("a file is written", Walk::WriteFile, &["oooxoooodddd0="]),
     (
@@ -163,6 +178,16 @@ const REFUSED: [(&str, Walk, &[&str]); 5] = [
             "ooxm0=ababa.",
         ],
     ),
+    (
+        "messages are sent by themselves",
+        Walk::SendAlone,
+        &["ooo0"],
+    ),
+    (
+        "batches are read by themselves",
+        Walk::ReadAlone,
+        &["o1o1aa0", "m0o1aa0", "o1m1aa0", "o1o1ma0", "o1o1am0"],
+    ),
 ];
 
 fn is_among(told: &Told, wanted: &[&str]) -> bool {
@@ -177,7 +202,7 @@ fn is_among(told: &Told, wanted: &[&str]) -> bool {
 #[test]
 fn an_allocation_is_refused(rt: HostRuntime) -> Result<(), Fault> {
     let alloc = rt.alloc();
-    let ready = make_ready(alloc)?;
+    let ready = make_ready(alloc, false)?;
     for (name, tried, wanted) in REFUSED {
         let told = tell(alloc, &ready, tried, Way::Fails(0))?;
         assert!(rt; is_among(&told, wanted), "{name}");

@@ -1,14 +1,20 @@
 //! Worked examples that data can't say, as proved tests over the public calls: devices with breaks, devices that fail and devices that
-//! count, memory that is refused, memory that is shared, files that begin in the midst of a device, chunks of a type that is no array, batches
-//! of a thousand columns. What data can say is in `ipc_rows`.
+//! count, memory that is refused, memory that is shared, files that begin in the midst of a device, files that are too long, chunks of a
+//! type that is no array, batches of a thousand columns, and what is public for one batch. What data can say is in `ipc_rows`.
 #![tactic(auto)]
 
+#[cfg(test)]
+mod alone;
+#[cfg(test)]
+mod asked;
 #[cfg(test)]
 mod barred;
 #[cfg(test)]
 mod batches;
 #[cfg(test)]
 mod blanks;
+#[cfg(test)]
+mod bytewise;
 #[cfg(test)]
 mod devices;
 #[cfg(test)]
@@ -24,6 +30,8 @@ mod handed;
 #[cfg(test)]
 mod keyed;
 #[cfg(test)]
+mod long;
+#[cfg(test)]
 mod pieces;
 #[cfg(test)]
 mod printing;
@@ -35,6 +43,8 @@ mod rough;
 mod sessions;
 #[cfg(test)]
 mod shared;
+#[cfg(test)]
+mod spare;
 #[cfg(test)]
 mod told;
 #[cfg(test)]

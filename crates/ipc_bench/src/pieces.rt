@@ -3,6 +3,11 @@ ghost use Rattle.std.specs.Prelude.{◌≡◌, drop, true, false, IfOk};
 ghost use Rattle.ipc_bench.specs.Pieces.{PiecesGive, pieces_nothing, pieces_in_order};
 ghost use Rattle.ipc_devices.specs.GivesLaws.{never};
 
+use crate::bytewise::next_letter;
+use crate::fixtures::{Example, make_example};
+use crate::told::Told;
+use arrow2_ipc::io::ipc::read::{StreamReader, read_stream_metadata};
+use arrow2_ipc::io::ipc::write::{StreamWriter, WriteOptions};
 use ipc_devices::{Failures, Fault, MemFile, Reads};
 use ipc_readers::read::begun::{Begun, Frame};
 use ipc_readers::read::frame::read_frame;
@@ -112,5 +117,57 @@ fn a_prefix_in_pieces_waits(rt: HostRuntime) -> Result<(), Fault> {
     let frames = three_frames(&mut device, &mut metadata)?;
     assert!(rt; frames == [Frame::Waiting, Frame::Waiting, Frame::Message]);
     assert_eq!(rt; metadata.as_slice(), [7, 8].as_slice());
+    Ok(())
+}
+
+// The schema message of the example's stream.
+fn head(alloc: Global, example: &Example) -> Result<Vec<u8>, Fault> {
+    let mut writer = StreamWriter::new(alloc, Vec::new(alloc), WriteOptions::default());
+    writer.start(&example.schema, None)?;
+    Ok(writer.into_inner())
+}
+
+// The example's stream, of one chunk.
+fn stream(alloc: Global, example: &Example) -> Result<Vec<u8>, Fault> {
+    let mut writer = StreamWriter::new(alloc, Vec::new(alloc), WriteOptions::default());
+    writer.start(&example.schema, None)?;
+    writer.write(&example.chunk, None)?;
+    writer.finish()?;
+    Ok(writer.into_inner())
+}
+
+fn part(bytes: &[u8], from: usize, to: usize) -> &[u8] {
+    bytes.get(from..to).unwrap_or(&[])
+}
+
+// What six calls of a reader answer.
+fn tell(alloc: Global, mut device: Pieces, example: &Example) -> Result<Told, Fault> {
+    let metadata = read_stream_metadata(alloc, &mut device)?;
+    let mut reader = StreamReader::new(alloc, device, metadata, None)?;
+    let mut told = Told::new();
+    for _ in 0..6 {
+        told.put(next_letter(&mut reader, example));
+    }
+    told.ample()
+}
+
+// A record behind whose first byte, second and third the device pauses: the reader waits each time, and then gives the chunk.
+#[test]
+fn a_reader_waits_inside_of_a_prefix(rt: HostRuntime) -> Result<(), Fault> {
+    let alloc = rt.alloc();
+    let example = make_example(alloc)?;
+    let bytes = stream(alloc, &example)?;
+    let at = head(alloc, &example)?.len();
+    let one = at.saturating_add(1);
+    let two = at.saturating_add(2);
+    let three = at.saturating_add(3);
+    let pieces: [&[u8]; 4] = [
+        part(&bytes, 0, one),
+        part(&bytes, one, two),
+        part(&bytes, two, three),
+        part(&bytes, three, bytes.len()),
+    ];
+    let device = Pieces::new(alloc, &pieces)?;
+    assert!(rt; tell(alloc, device, &example)?.is("wwwa.."));
     Ok(())
 }

@@ -1,5 +1,6 @@
 //! A file that sessions write, one after the other.
 
+use crate::fixtures::room;
 use crate::keyed::{Keyed, make_chunk, make_keyed};
 use crate::told::Told;
 use arrow2_ipc::array::AnyArray;
@@ -7,7 +8,9 @@ use arrow2_ipc::chunk::Chunk;
 use arrow2_ipc::datatypes::{Metadata, Schema};
 use arrow2_ipc::io::ipc::fault::Fault;
 use arrow2_ipc::io::ipc::read::{read_file, read_stream};
-use arrow2_ipc::io::ipc::write::{WriteOptions, WrittenSessions, write_sessions};
+use arrow2_ipc::io::ipc::write::{
+    FileWriter, WriteOptions, WrittenSessions, write_chunks, write_sessions,
+};
 use std::alloc::Global;
 
 // Sessions of the chunk `a`; of `a`, `b` and `c`, whose dictionary can't take the place of the file's; of none; and of `a`.
@@ -53,5 +56,30 @@ fn a_file_of_four_sessions(rt: HostRuntime) -> Result<(), Fault> {
         return Err(Fault::Memory);
     };
     assert!(rt; tell(alloc, &keyed, &made)?.is("oox,,o,aaba,aaba"));
+    Ok(())
+}
+
+// A file that a writer which is made started writes by one call: `a`, `b`, and `c`, whose dictionary can't take the place of theirs.
+fn write_at_once(alloc: Global, keyed: &Keyed, told: &mut Told) -> Result<Vec<u8>, Fault> {
+    let schema = keyed.schema.clone()?;
+    let options = WriteOptions::default();
+    let mut writer = FileWriter::try_new(alloc, room(alloc)?, schema, None, options)?;
+    for answer in &write_chunks(alloc, &mut writer, &keyed.chunks)? {
+        told.put_answer(answer);
+    }
+    told.put_answer(&writer.finish());
+    Ok(writer.into_inner())
+}
+
+#[test]
+fn chunks_are_written_by_one_call(rt: HostRuntime) -> Result<(), Fault> {
+    let alloc = rt.alloc();
+    let keyed = make_keyed(alloc)?;
+    let mut told = Told::new();
+    let bytes = write_at_once(alloc, &keyed, &mut told)?;
+    assert!(rt; told.ample()?.is("ooxo"));
+    let mut read = Told::new();
+    put_chunks(&keyed, &read_file(alloc, &bytes)?.chunks, &mut read);
+    assert!(rt; read.is("ab"));
     Ok(())
 }

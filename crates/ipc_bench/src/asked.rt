@@ -1,0 +1,193 @@
+//! One batch by the public calls alone: the dictionary that its columns of keys share, and columns that are asked for.
+
+use crate::fixtures::{Example, int32, make_example};
+use crate::keyed::{make_chunk, make_schema};
+use arrow2_ipc::array::{AnyArray, equal};
+use arrow2_ipc::chunk::Chunk;
+use arrow2_ipc::datatypes::Field;
+use arrow2_ipc::io::ipc::IpcSchema;
+use arrow2_ipc::io::ipc::fault::{Fault, MemFile, OutOfSpecKind};
+use arrow2_ipc::io::ipc::format::{
+    DictionaryBatchRef, MessageHeaderRef, MessageRef, MetadataVersion, RecordBatchRef,
+};
+use arrow2_ipc::io::ipc::read::{
+    Dictionaries, ProjectionIter, ProjectionResult, apply_projection, is_prepared, is_projection,
+    is_reordering, prepare_projection, read_dictionary, read_record_batch,
+};
+use arrow2_ipc::io::ipc::write::{
+    DictionaryTracker, EncodedData, WriteOptions, default_ipc_fields, encode_chunk,
+};
+use std::alloc::{AllocError, Global};
+use std::collections::HashMap;
+use std::rc::Rc;
+
+// The example's columns, brought into the order in which they are asked for: the second comes first.
+fn turned(alloc: Global) -> Result<Chunk<AnyArray>, Fault> {
+    let Example { schema, chunk } = make_example(alloc)?;
+    let asked = Vec::from_slice(alloc, &[1usize, 0])?;
+    if !is_projection(&asked, schema.fields.len()) {
+        return Err(Fault::Ended);
+    }
+    let (_rising, places, _fields) = prepare_projection(alloc, &schema.fields, asked)?;
+    if !is_reordering(&places, chunk.arrays().len()) {
+        return Err(Fault::Ended);
+    }
+    apply_projection(alloc, chunk, &places)
+}
+
+fn is_first(chunk: &Chunk<AnyArray>, column: &AnyArray) -> bool {
+    match chunk.arrays().first() {
+        Some(first) => equal(first, column),
+        None => false,
+    }
+}
+
+#[test]
+fn columns_come_as_they_are_asked_for(rt: HostRuntime) -> Result<(), Fault> {
+    let alloc = rt.alloc();
+    let second = int32(alloc, &[1, -1])?;
+    assert!(rt; is_first(&turned(alloc)?, &second));
+    Ok(())
+}
+
+// A number that is chosen, else 0.
+fn chosen(item: ProjectionResult<&u32>) -> u32 {
+    match item {
+        ProjectionResult::Selected(number) => *number,
+        ProjectionResult::NotSelected(_) => 0,
+    }
+}
+
+// The sum of the numbers that a projection chooses.
+fn sum_of_chosen(projection: &[usize], numbers: &[u32]) -> u32 {
+    if !is_prepared(projection, numbers.len()) {
+        return 0;
+    }
+    let mut sum = 0u32;
+    for item in ProjectionIter::new(projection, numbers.iter()) {
+        sum = sum.saturating_add(chosen(item));
+    }
+    sum
+}
+
+#[test]
+fn items_are_told_as_chosen(rt: HostRuntime) -> Result<(), Fault> {
+    assert_eq!(rt;
+        sum_of_chosen(&[0, 2, 4], &[1, 20, 300, 4000, 50000]),
+        50301
+    );
+    assert_eq!(rt; sum_of_chosen(&[], &[1, 20]), 0);
+    Ok(())
+}
+
+fn dictionary_in(message: &[u8]) -> Result<DictionaryBatchRef<'_>, Fault> {
+    let message = match MessageRef::read_as_root(message) {
+        Ok(message) => message,
+        Err(e) => return Err(Fault::OutOfSpec(OutOfSpecKind::InvalidFlatbufferMessage(e))),
+    };
+    match message.header() {
+        Ok(Some(MessageHeaderRef::DictionaryBatch(batch))) => Ok(batch),
+        _ => Err(Fault::OutOfSpec(OutOfSpecKind::MissingMessageHeader)),
+    }
+}
+
+fn record_in(message: &[u8]) -> Result<RecordBatchRef<'_>, Fault> {
+    let message = match MessageRef::read_as_root(message) {
+        Ok(message) => message,
+        Err(e) => return Err(Fault::OutOfSpec(OutOfSpecKind::InvalidFlatbufferMessage(e))),
+    };
+    match message.header() {
+        Ok(Some(MessageHeaderRef::RecordBatch(batch))) => Ok(batch),
+        _ => Err(Fault::OutOfSpec(OutOfSpecKind::MissingMessageHeader)),
+    }
+}
+
+// Puts the values of a dictionary's message to those that are known.
+fn know(
+    alloc: Global,
+    encoded: &EncodedData,
+    fields: &[Field],
+    ids: &IpcSchema,
+    known: &mut Dictionaries,
+) -> Result<(), Fault> {
+    let body = encoded.arrow_data.as_slice();
+    read_dictionary(
+        alloc,
+        dictionary_in(&encoded.ipc_message)?,
+        fields,
+        ids,
+        known,
+        MetadataVersion::V5,
+        &mut MemFile::new(body),
+        0,
+        body.len() as u64,
+        &mut Vec::new(alloc),
+    )
+}
+
+// The columns of a record's message.
+fn read(
+    alloc: Global,
+    encoded: &EncodedData,
+    fields: &[Field],
+    ids: &IpcSchema,
+    known: &Dictionaries,
+) -> Result<Chunk<AnyArray>, Fault> {
+    let body = encoded.arrow_data.as_slice();
+    read_record_batch(
+        alloc,
+        record_in(&encoded.ipc_message)?,
+        fields,
+        ids,
+        None,
+        None,
+        known,
+        MetadataVersion::V5,
+        &mut MemFile::new(body),
+        0,
+        body.len() as u64,
+        &mut Vec::new(alloc),
+    )
+}
+
+// Whether each column is one of keys whose values are these, in the same memory.
+fn share(chunk: &Chunk<AnyArray>, values: Option<&Rc<AnyArray>>) -> Result<bool, AllocError> {
+    let Some(values) = values else {
+        return Ok(false);
+    };
+    for column in chunk.iter() {
+        let AnyArray::Dictionary(keys) = column else {
+            return Ok(false);
+        };
+        if !Rc::ptr_eq(&keys.shared_values()?, values) {
+            return Ok(false);
+        }
+    }
+    Ok(true)
+}
+
+// Whether the columns that are read of a chunk's messages are the chunk's, and share the values that are known.
+fn comes_back(alloc: Global, chunk: &Chunk<AnyArray>) -> Result<bool, Fault> {
+    let schema = make_schema(alloc)?;
+    let ids = IpcSchema {
+        fields: default_ipc_fields(alloc, &schema.fields)?,
+        is_little_endian: true,
+    };
+    let mut tracker = DictionaryTracker::new(alloc, false);
+    let options = WriteOptions::default();
+    let (dictionaries, record) = encode_chunk(alloc, chunk, &ids.fields, &mut tracker, &options)?;
+    let mut known: Dictionaries = HashMap::new(alloc);
+    for dictionary in &dictionaries {
+        know(alloc, dictionary, &schema.fields, &ids, &mut known)?;
+    }
+    let back = read(alloc, &record, &schema.fields, &ids, &known)?;
+    Ok(back == *chunk && share(&back, known.get(&0))?)
+}
+
+#[test]
+fn keys_that_are_read_share_the_values_that_are_known(rt: HostRuntime) -> Result<(), Fault> {
+    let alloc = rt.alloc();
+    let chunk = make_chunk(alloc, &[1, 0], &[5, 6])?;
+    assert!(rt; comes_back(alloc, &chunk)?);
+    Ok(())
+}
