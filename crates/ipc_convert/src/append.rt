@@ -23,8 +23,8 @@ use std::alloc::Global;
 ///
 /// Faults: those of [`read_file_metadata`], `try_from_file` and [`read_stream_metadata`]; `Argument(FieldsDiffer)` where the stream's schema
 /// isn't the file's, both in their normal form, or its ids aren't: the file is as it was then. Behind the schema those of the calls of
-/// [`StreamReader`] and [`FileWriter`]: the file is finished then with the chunks that were taken, unless its device failed; and then its
-/// old chunks still stand.
+/// [`StreamReader`] and [`FileWriter`], and `Argument(TooLarge)` where `2^64 - 1` chunks came and no end: the file is finished then with the
+/// chunks that were taken, unless its device failed; and then its old chunks still stand.
 pub fn append_stream<F: Reads + Writes + Seeks + Drop, R: Reads + Drop>(
     alloc: Global,
     file: F,

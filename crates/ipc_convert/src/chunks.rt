@@ -65,8 +65,8 @@ pub trait Sink {
 
 /// Reads all chunks that come, and writes each as soon as it is read: just these were taken then.
 ///
-/// Faults: those of the source and of the sink, by which it ends behind the chunks that were taken, `Io` aside: the first ones that came;
-/// `Argument(TooLarge)` where `2^64 - 1` chunks came and no end.
+/// Faults: the first of the source or of the sink, and `Argument(TooLarge)` where `2^64 - 1` chunks came and no end. What was taken by
+/// then are the first chunks that came; `Io` alone leaves that open.
 pub fn copy_chunks<S: Source, T: Sink>(source: &mut S, sink: &mut T) -> Result<Ending, Fault>
     ensures copied { IfOk result (λ ending. Copied S.came S.stopped T.took source.old sink.old ending source.new sink.new) }
     ensures refused { OnRefused result (TookWhatCame S.came T.took source.old sink.old sink.new) }

@@ -39,7 +39,7 @@ pub fn run_call<W: Writes + Drop>(
 }
 
 /// Makes all calls, one after the other, those that come after a refused one too, and answers what each
-/// answered. In memory, the file then has the chunks of the writes that were Ok, and no others.
+/// answered. In memory, the file then has the chunks that it had, behind them those of the writes that were Ok, and no others.
 ///
 /// `AllocError` where no memory was left to keep an answer: the calls up to that one were made, and no
 /// other was.

@@ -14,8 +14,9 @@ use std::alloc::Global;
 
 /// Writes a file: a schema, then chunks, then the footer that says where they stand (Arrow columnar format, "IPC File Format").
 ///
-/// The order of its calls is `start`, any number of `write`, `finish`; any other call is refused, and a refused call leaves the device
-/// and the writer as they were. After an `Io` fault each of these three answers `State(Failed)`; `into_inner` still hands out the device.
+/// The order of its calls is `start`, any number of `write`, `finish`; one that is made with `try_new` or `try_from_file` is started. Any of
+/// the three out of this order is refused, and a refused call leaves the device and the writer as they were. After an `Io` fault each of
+/// them answers `State(Failed)`; `into_inner` still hands out the device.
 #[derive(Drop)]
 pub struct FileWriter<W> {
     pub(crate) alloc: Global,

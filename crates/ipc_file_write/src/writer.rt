@@ -139,7 +139,8 @@ impl<W: Writes + Drop> FileWriter<W> {
         replace(&mut self.encoded_message, EncodedData::empty(self.alloc))
     }
 
-    /// Takes memory that another writer used.
+    /// Takes memory that another writer has handed out, in place of what this one holds. No call writes by it: it is kept for
+    /// [`get_scratches`](FileWriter::get_scratches) alone.
     pub fn set_scratches(&mut self, scratches: EncodedData)
         ensures handed { scratches_of self.new ≡ scratches }
         ensures same { seen self.new ≡ seen self.old }
@@ -263,10 +264,10 @@ impl<W: Writes + Drop> FileWriter<W> {
     /// form; `Argument(SharedDictionary)` with the id where dictionaries of one id have other values; `Argument(DictionaryReplaced)` with
     /// the id where its values are others than were written before; `Argument(TooLong)` where an array, also one in the values of a
     /// dictionary, has more than `2^63 - 1` slots that would be written; `Argument(TooLarge)` where the body of a message would have more
-    /// than `2^63 - 1` bytes or end behind there, or the file would have more than `2^25` blocks; `Memory`: after these nothing was sent,
-    /// and the writer, its blocks and the dictionaries that it remembers are as they were. `Io` where the device failed, or where it is
-    /// memory whose growth was refused: then some of the first bytes may have been sent, and each later `start`, `write` and `finish`
-    /// answers `State(Failed)`.
+    /// than `2^63 - 1` bytes, or end at a place past that, or the file would have more than `2^25` blocks; `Memory`: after these nothing
+    /// was sent, and the writer, its blocks and the dictionaries that it remembers are as they were. `Io` where the device failed, or
+    /// where it is memory whose growth was refused: then some of the first bytes may have been sent, and each later `start`, `write` and
+    /// `finish` answers `State(Failed)`.
     pub fn write(
         &mut self,
         columns: &Chunk<AnyArray>,

@@ -30,7 +30,7 @@ use std::slice;
 /// Faults: `Argument(FieldsShape)` where an array of keys has no id; `Argument(SharedDictionary)` with
 /// the id where two of one id have other values; `Argument(DictionaryReplaced)` with the id where the
 /// values are others than those that the tracker knows, which have to stay; `Memory`. Where several
-/// are so, the first that is met comes.
+/// are so, any of these may come.
 pub fn list_dictionaries(
     alloc: Global,
     tracker: &DictionaryTracker,

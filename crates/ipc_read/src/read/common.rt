@@ -240,8 +240,8 @@ pub fn read_columns<R: Reads + Seeks>(
 /// take, `ExpectedBuffer` where there are too few buffers, `NegativeFooterLength` where a length is below
 /// 0, `InvalidBuffersLength` where the buffers list more than `file_size` bytes. Then
 /// `NotYetImplemented(Compressed)`, `Argument(UnequalRows)`, and those of [`read_columns`]. `Io` and
-/// `Memory` come too, and no other. After a fault the reader stands anywhere. The scratch memory isn't
-/// used.
+/// `Memory` come too, and no other. After a fault the reader may stand at any place. The scratch
+/// memory isn't used.
 #[allow(clippy::too_many_arguments)]
 #[tactic(auto, using(crate::proofs::Refusals::batch_faults))]
 pub fn read_record_batch<R: Reads + Seeks>(

@@ -193,7 +193,7 @@ fn head_of<'a>(batch: &DictionaryBatchRef<'a>) -> Result<(i64, RecordBatchRef<'a
 /// `InvalidFlatbufferCompression`, `InvalidFlatbufferBuffers`, `InvalidFlatbufferNodes`, `MissingMessageBuffers`,
 /// `MissingMessageNodes`, `ExpectedBuffer`, `NegativeFooterLength`, `InvalidBuffersLength`. Then `NotYetImplemented(Delta)`
 /// where the values are to follow others, `NotYetImplemented(Compressed)`, and those of their column ([`read`]). `Io` and
-/// `Memory` come too, and no other. After a fault the reader stands anywhere. The scratch memory isn't used.
+/// `Memory` come too, and no other. After a fault the reader may stand at any place. The scratch memory isn't used.
 #[allow(clippy::too_many_arguments)]
 #[tactic(auto, using(crate::proofs::DictionaryMeanings::dictionary_faults))]
 pub fn read_dictionary<R: Reads + Seeks>(

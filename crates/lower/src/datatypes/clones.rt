@@ -1,4 +1,4 @@
-//! Clones. One that is Ok is the same type, field or schema as its source; one can find no memory.
+//! Clones. One that is Ok is the same type, field or schema as its source; one fails only where there is no memory.
 ghost use Rattle.std.specs.Prelude.{◌≡◌, IfOk};
 ghost use Rattle.lower.specs.TypeViews.{type_view, field_view, fields_view, pairs_of, ids_of, schema_view};
 

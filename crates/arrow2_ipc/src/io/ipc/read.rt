@@ -1,4 +1,5 @@
-//! Reading.
+//! Reading: the chunks of a stream (`StreamReader`) and of a file (`FileReader`), from any device; all of a stream or a file that lies
+//! in memory (`read_stream`, `read_file`); and the calls below them, for a schema, a batch, a dictionary, a footer.
 pub use ipc_devices::OutOfSpecKind;
 pub use ipc_file_readers::read::reader::FileReader;
 pub use ipc_file_round_trip::read::{WholeFile, read_file, read_file_columns};

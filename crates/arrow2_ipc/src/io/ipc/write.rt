@@ -1,4 +1,5 @@
-//! Writing.
+//! Writing: streams (`StreamWriter`) and files (`FileWriter`), to any device; files in sessions (`create_file`, `append_session`); and the
+//! calls below them, for a schema, a chunk, an array, a message.
 pub use ipc_chunks::common::{encode_chunk, encode_chunk_amortized};
 pub use ipc_encode::common::{EncodedData, Record, WriteOptions};
 pub use ipc_encode::serialize::write;

@@ -158,7 +158,7 @@ fn read_footer_len<R: Reads + Seeks>(reader: &mut R) -> Result<(u64, u32), Fault
 /// Reads what the footer of a file says. The file begins where the reader stands, and ends where the device does.
 ///
 /// Over memory it is Ok exactly where the file's metadata have a meaning; its size is counted from where it begins. No more bytes are
-/// taken then than the head, the tail and the footer. Faults, over memory only where they hold: `Ended` where
+/// taken then than the head, the tail and the footer. Faults, over memory each only where it is so: `Ended` where
 /// the file is shorter than its head, the device shorter than the tail, or than that and the footer that it states;
 /// `NotYetImplemented(FeatherV1)` and `OutOfSpec(InvalidHeader)` where it begins with `FEA1`, or with anything else but
 /// `ARROW1`; `OutOfSpec(InvalidFooter)` where it doesn't end with that; `OutOfSpec(NegativeFooterLength)` where the
