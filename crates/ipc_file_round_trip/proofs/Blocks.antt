@@ -27,17 +27,17 @@ use Rattle.ipc_file_round_trip.specs.Steps.{answers_of}
 -- ---- lists
 
 -- what stands at the front of what is left of a list
-at_front : {X : Type 0} (xs : List X) (i : ℕ) (x : X) (rest : List X) → drop i xs ≡ x ∷ rest → (slice_get xs i ≡ Some x) × (drop (suc i) xs ≡ rest)
+pub at_front : {X : Type 0} (xs : List X) (i : ℕ) (x : X) (rest : List X) → drop i xs ≡ x ∷ rest → (slice_get xs i ≡ Some x) × (drop (suc i) xs ≡ rest)
 at_front [] zero x rest e = absurd cc
 at_front [] (suc i) x rest e = absurd cc
 at_front (y ∷ ys) zero x rest e = (let same : y ≡ x = cc in ap Some same, let others : ys ≡ rest = cc in others)
 at_front (y ∷ ys) (suc i) x rest e = at_front ys i x rest e
 
-then_next : {X : Type 0} (xs : List X) (i : ℕ) (rest : List X) → drop (suc i) xs ≡ rest → drop (i + 1) xs ≡ rest
+pub then_next : {X : Type 0} (xs : List X) (i : ℕ) (rest : List X) → drop (suc i) xs ≡ rest → drop (i + 1) xs ≡ rest
 then_next xs i rest e = rw add-one e
 
 -- as many rows as were given are seen
-rows_seen : (xs : List AnyArray) → rows_given (Ok xs) ≡ rows_of (chunk_seen xs)
+pub rows_seen : (xs : List AnyArray) → rows_given (Ok xs) ≡ rows_of (chunk_seen xs)
 rows_seen [] = refl
 rows_seen (x ∷ xs) = sym (length-slots_from _ 0 (len_of (layout_of x)))
 
@@ -51,7 +51,7 @@ module _ (m : Meaning) (ds : Dictionaries) (source : List ℕ) (p : Option (List
   abbrev Behind : Limit → List Block → Chunk → Option (List Chunk)
   Behind limit bs c = option_map (λ cs. c ∷ cs) (By (less limit (rows_of c)) bs)
 
-  found_at : (i : ℕ) (b : Block) (limit : Limit) (o : Option Chunk) → slice_get m.blocks i ≡ Some b
+  pub found_at : (i : ℕ) (b : Block) (limit : Limit) (o : Option Chunk) → slice_get m.blocks i ≡ Some b
       → option_and_then (λ c. chunk_at m ds source c p limit) (slice_get m.blocks i) ≡ o → chunk_at m ds source b p limit ≡ o
   found_at i b limit o at e = sym (ap (option_and_then (λ c. chunk_at m ds source c p limit)) at) ∙ e
 

@@ -1,10 +1,11 @@
 -- What is read of a whole file is what its bytes mean.
-use Rattle.std.proofs.Common.{◌≡◌, ℕ, List, length, Option, None, Some, Result, Ok, Err, IfOk, sym, ap, ◌∙◌, subst}
+use Rattle.std.proofs.Common.{◌≡◌, ℕ, List, length, Option, None, Some, MatchOption, Result, Ok, Err, IfOk, IfErr, sym, ap, ◌∙◌, subst}
 use Rattle.std.specs.Borrow.{Bor}
 use Rattle.std.specs.Option.{option_map}
 use Rattle.lower.specs.TypeViews.{pairs_of, schema_view}
 use Rattle.ipc_base.specs.IdTrees.{all_ids_view, ipc_schema_view}
-use Rattle.ipc_devices.specs.Faults.{OwnFault}
+use Rattle.ipc_devices.specs.Device.{Rises}
+use Rattle.ipc_devices.specs.Faults.{OnIo, OwnFault}
 use Rattle.ipc_devices.specs.declared.fault.Fault.{Fault}
 use Rattle.ipc_devices.specs.declared.memory.MemFile.{MemFile}
 use Rattle.ipc_model.specs.Batches.{Chunk, IsProjection, kinds}
@@ -13,11 +14,13 @@ use Rattle.ipc_model.specs.Files.{FileMetadata as Meaning, metadata_of, or_no_bl
 use Rattle.ipc_model.specs.Kinds.{count}
 use Rattle.ipc_model.specs.Schemas.{given}
 use Rattle.ipc_read.proofs.Fields.{field_count}
-use Rattle.ipc_read.proofs.Refusals.{claims_through}
+use Rattle.ipc_read.proofs.Refusals.{claims_own, claims_through}
 use Rattle.ipc_read.specs.Chunks.{order_of}
+use Rattle.ipc_readers.proofs.OfMemory.{no_failure}
+use Rattle.ipc_files.specs.Files.{FileReason}
 use Rattle.ipc_files.specs.Footers.{GivesPart, file_seen, optional_blocks}
 use Rattle.ipc_files.specs.declared.read.file.metadata.FileMetadata.{FileMetadata}
-use Rattle.ipc_file_round_trip.specs.Reading.{HasRows, IsUnreadable, NamesOthers, ReadsColumns, chunks_of, file_by, file_chunks, file_read}
+use Rattle.ipc_file_round_trip.specs.Reading.{ChunksReason, HasRows, IsUnreadable, NamesOthers, ReadingReason, ReadsColumns, chunks_of, file_by, file_chunks, file_read}
 use Rattle.ipc_file_round_trip.specs.declared.read.WholeFile.{WholeFile}
 
 -- ---- what is read
@@ -94,6 +97,34 @@ rows_same p limit bytes m n gs same h = subst (λ (x : Meaning). HasRows x bytes
 -- ---- the metadata
 
 -- what is read from the beginning of bytes in memory
-pub metadata_at : (bytes : List ℕ) (input : MemFile (Bor (List ℕ))) (r : Result FileMetadata Fault) → input.position ≡ 0 → input.inner.now ≡ bytes
-    → (input.position ≡ 0 → GivesPart file_seen r (metadata_of input.inner.now)) → GivesPart file_seen r (metadata_of bytes)
-metadata_at bytes input r place whole gives = subst (λ (xs : List ℕ). GivesPart file_seen r (metadata_of xs)) whole (gives place)
+module _ (bytes : List ℕ) (input : MemFile (Bor (List ℕ))) (r : Result FileMetadata Fault) (place : input.position ≡ 0) (whole : input.inner.now ≡ bytes) where
+  pub metadata_at : (input.position ≡ 0 → GivesPart file_seen r (metadata_of input.inner.now)) → GivesPart file_seen r (metadata_of bytes)
+  metadata_at gives = subst (λ (xs : List ℕ). GivesPart file_seen r (metadata_of xs)) whole (gives place)
+
+  abbrev Told : ℕ → List ℕ → Type 0
+  Told n xs = IfErr r (λ e. OwnFault e (FileReason n xs e))
+
+  pub reason_at : Told input.position input.inner.now → Told 0 bytes
+  reason_at why = subst (λ (n : ℕ). Told n bytes) place (subst (Told input.position) whole why)
+
+-- memory fails in no call
+pub no_device : (r : Result FileMetadata Fault) → OnIo r (Rises 0 0) → OnIo r ⊥
+no_device (Ok m) h = tt
+no_device (Err e) h = no_failure FileMetadata FileMetadata e h
+
+-- ---- why it isn't read
+
+module _ (p : Option (List ℕ)) (limit : Limit) (bytes : List ℕ) where
+  abbrev By : Fault → Option Meaning → Type 0
+  By e o = MatchOption o (FileReason 0 bytes e) (λ m. ChunksReason m bytes p limit e)
+
+  pub metadata_reason : (e : Fault) → OwnFault e (metadata_of bytes ≡ None) → OwnFault e (FileReason 0 bytes e) → OwnFault e (ReadingReason p limit bytes e)
+  metadata_reason e none why = claims_own e _ _ (λ is. claims_through e _ _ (λ w. subst (By e) (sym is) w) why) none
+
+  pub chunks_reason : (m : Meaning) (e : Fault) → metadata_of bytes ≡ Some m → OwnFault e (ChunksReason m bytes p limit e) → OwnFault e (ReadingReason p limit bytes e)
+  chunks_reason m e there why = claims_through e _ _ (λ w. subst (By e) (sym there) w) why
+
+  pub answer_reason : (m : Meaning) (r : Result WholeFile Fault) → metadata_of bytes ≡ Some m → IfErr r (λ e. OwnFault e (ChunksReason m bytes p limit e))
+      → IfErr r (λ e. OwnFault e (ReadingReason p limit bytes e))
+  answer_reason m (Ok f) there why = tt
+  answer_reason m (Err e) there why = chunks_reason m e there why

@@ -4,4 +4,5 @@ pub mod Files
 pub mod Pushes
 pub mod ReadBack
 pub mod Readings
+pub mod Reasons
 pub mod Trips

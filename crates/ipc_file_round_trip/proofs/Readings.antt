@@ -34,7 +34,7 @@ none_given : (xs : List (List AnyArray)) → AreNone (answers_of xs ++ None ∷ 
 none_given [] h = refl
 none_given (x ∷ xs) h = let no = h.0 in absurd cc
 
-none_broken : (xs : List (List AnyArray)) (e : Fault) → AreNone (answers_of xs ++ Some (Err e) ∷ []) → ⊥
+pub none_broken : (xs : List (List AnyArray)) (e : Fault) → AreNone (answers_of xs ++ Some (Err e) ∷ []) → ⊥
 none_broken [] e h = let no = h.0 in absurd cc
 none_broken (x ∷ xs) e h = let no = h.0 in absurd cc
 
@@ -180,7 +180,7 @@ module _ {R : Type 0} (known still : Bool) (memory : R → Memory) (failures giv
 
 -- ---- by what was asked of it
 
-moved : (P : Meaning → List ℕ → Option (List ℕ) → Limit → Type 0) (m n : Meaning) (xs ys : List ℕ) (p q : Option (List ℕ)) (l k : Limit) → m ≡ n → xs ≡ ys → p ≡ q → l ≡ k → P m xs p l → P n ys q k
+pub moved : (P : Meaning → List ℕ → Option (List ℕ) → Limit → Type 0) (m n : Meaning) (xs ys : List ℕ) (p q : Option (List ℕ)) (l k : Limit) → m ≡ n → xs ≡ ys → p ≡ q → l ≡ k → P m xs p l → P n ys q k
 moved P m n xs ys p q l k e f g h x =
     subst (λ (v : Meaning). P v ys q k) e (subst (λ (v : List ℕ). P m v q k) f (subst (λ (v : Option (List ℕ)). P m xs v k) g (subst (λ (v : Limit). P m xs p v) h x)))
 
@@ -189,7 +189,7 @@ module _ {R : Type 0} (known still : Bool) (memory : R → Memory) (failures giv
   to_source : (memory (device_of a)).whole ≡ source
   to_source = ap (λ (d : R). (memory d).whole) begins.device ∙ whole
 
-  as_asked : (P : Meaning → List ℕ → Option (List ℕ) → Limit → Type 0) → P (file_of a) (memory (device_of a)).whole (asked_of a) (remaining_of a) → P (file_seen m) source p limit
+  pub as_asked : (P : Meaning → List ℕ → Option (List ℕ) → Limit → Type 0) → P (file_of a) (memory (device_of a)).whole (asked_of a) (remaining_of a) → P (file_seen m) source p limit
   as_asked P = moved P (file_of a) (file_seen m) (memory (device_of a)).whole source (asked_of a) p (remaining_of a) limit (ap file_seen begins.described) to_source begins.asked_for begins.remaining
 
   pub chunks_read : (xs : List (List AnyArray)) → GivesAll known still memory failures given a xs → file_chunks (file_seen m) source p limit ≡ Some (chunks_seen xs)

@@ -1,6 +1,6 @@
 -- What is read of a whole file.
 -- (Arrow columnar format, "IPC File Format".)
-use Rattle.std.specs.Prelude.{◌≡◌, ℕ, List, [], ◌∷◌, map, length, Option, None, Some, slice_get, Result, Ok, Err}
+use Rattle.std.specs.Prelude.{◌≡◌, ℕ, List, [], ◌∷◌, map, length, Option, None, Some, MatchOption, slice_get, Result, Ok, Err}
 use Rattle.std.specs.Option.{option_map}
 use Rattle.lower_arrays.specs.declared.array.AnyArray.{AnyArray}
 use Rattle.ipc_base.specs.Chunks.{row_count}
@@ -14,6 +14,9 @@ use Rattle.ipc_model.specs.Files.{FileMetadata as Meaning, all_of, chunk_at, chu
 use Rattle.ipc_model.specs.Kinds.{count}
 use Rattle.ipc_model.specs.Schemas.{given}
 use Rattle.ipc_read.specs.Chunks.{chunk_seen}
+use Rattle.ipc_files.specs.Batches.{RecordReason}
+use Rattle.ipc_files.specs.Dictionaries.{DictionariesReason}
+use Rattle.ipc_files.specs.Files.{FileReason}
 use Rattle.ipc_files.specs.Footers.{file_seen}
 use Rattle.ipc_file_readers.specs.Readers.{less}
 use Rattle.ipc_file_readers.specs.Rows.{first_of, joined}
@@ -54,6 +57,24 @@ file_by p limit bytes =
 abbrev pub all_pruned : Option (List ℕ) → Limit → List Chunk → List Chunk
 all_pruned p limit [] = []
 all_pruned p limit (c ∷ cs) = pruned p limit c ∷ all_pruned p (less limit (rows_of (pruned p limit c))) cs
+
+-- ---- why it isn't read
+
+-- Why the chunks of some blocks aren't read: the first block that has none, by what those before it leave of the limit.
+abbrev pub BlocksReason : Meaning → Dictionaries → List ℕ → Option (List ℕ) → Limit → List Block → Fault → Type 0
+BlocksReason m ds source p limit [] e = ⊥
+BlocksReason m ds source p limit (b ∷ bs) e =
+    MatchOption (chunk_at m ds source b p limit) (RecordReason (kinds m.schema) (chosen p (count (kinds m.schema))) source (Some b) e)
+    (λ c. BlocksReason m ds source p (less limit (rows_of c)) bs e)
+
+-- Why those of a file aren't: its dictionaries have no meaning, or one of its blocks has none.
+abbrev pub ChunksReason : Meaning → List ℕ → Option (List ℕ) → Limit → Fault → Type 0
+ChunksReason m source p limit e =
+    MatchOption (dictionaries_for m.blocks m source) (DictionariesReason m source [] m.dictionaries e) (λ ds. BlocksReason m ds source p limit m.blocks e)
+
+-- Why a file isn't: its metadata have no meaning, or its chunks have none.
+abbrev pub ReadingReason : Option (List ℕ) → Limit → List ℕ → Fault → Type 0
+ReadingReason p limit bytes e = MatchOption (metadata_of bytes) (FileReason 0 bytes e) (λ m. ChunksReason m bytes p limit e)
 
 -- ---- what was read
 

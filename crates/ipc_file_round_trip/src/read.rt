@@ -1,12 +1,14 @@
 //! Reads whole files.
 ghost use Rattle.std.specs.Prelude.{◌≡◌, ◌<◌, ◌≤◌, ◌↔◌, IsTrue, IfErr, IfOk, length, vec_len};
 ghost use Rattle.ipc_devices.specs.Device.{Rises};
-ghost use Rattle.ipc_devices.specs.Faults.{OnIo};
+ghost use Rattle.ipc_devices.specs.Faults.{OnIo, OwnFault};
 ghost use Rattle.ipc_model.specs.Batches.{IsProjection};
+ghost use Rattle.ipc_model.specs.Files.{metadata_of};
+ghost use Rattle.ipc_files.specs.Files.{FileReason};
 ghost use Rattle.ipc_files.specs.Footers.{GivesPart, file_seen};
 ghost use Rattle.ipc_projections.specs.ChosenColumns.{items_of};
 ghost use Rattle.ipc_file_readers.specs.Readers.{device_of};
-ghost use Rattle.ipc_file_round_trip.specs.Reading.{HasRows, HaveRows, ReadsColumns, chunks_of, file_by, file_chunks, file_read};
+ghost use Rattle.ipc_file_round_trip.specs.Reading.{ChunksReason, HasRows, HaveRows, ReadingReason, ReadsColumns, chunks_of, file_by, file_chunks, file_read};
 ghost use Rattle.ipc_file_round_trip.specs.Steps.{GivesAll, PushesNext, RefusesAll};
 
 use ipc_base::chunk::Chunk;
@@ -71,6 +73,7 @@ fn read_by(
     ensures described { IfOk result (λ f. file_seen f.metadata ≡ file_seen metadata) }
     ensures chunks { GivesPart chunks_of result (file_chunks (file_seen metadata) bytes.now (items_of projection) limit) }
     ensures rows { IfOk result (λ f. HasRows (file_seen metadata) bytes.now (items_of projection) limit (chunks_of f)) }
+    ensures reason { IfErr result (λ e. OwnFault e (ChunksReason (file_seen metadata) bytes.now (items_of projection) limit e)) }
     ensures device { OnIo result ⊥ }
 {
     let copy = metadata.clone()?;
@@ -83,17 +86,31 @@ fn read_by(
     })
 }
 
-/// Reads a file, from its first block to its last.
-///
-/// Ok exactly where the file has a meaning, and each of its blocks has, memory aside; then these are its metadata and its chunks. As
-/// [`FileReader`] reads the dictionaries with the first block, those of a file without one aren't judged. Faults: those of
-/// [`read_file_metadata`], and of the calls of [`FileReader`], the first that comes; `Io` never comes.
-pub fn read_file(alloc: Global, bytes: &[u8]) -> Result<WholeFile, Fault>
-    ensures meaning { GivesPart file_read result (file_by None None bytes.now) }
+// What the footer of a file in memory says.
+fn read_metadata(alloc: Global, bytes: &[u8]) -> Result<FileMetadata, Fault>
+    ensures meaning { GivesPart file_seen result (metadata_of bytes.now) }
+    ensures reason { IfErr result (λ e. OwnFault e (FileReason 0 bytes.now e)) }
     ensures device { OnIo result ⊥ }
 {
     let mut input = MemFile::new(bytes);
-    let metadata = read_file_metadata(alloc, &mut input)?;
+    read_file_metadata(alloc, &mut input)
+}
+
+/// Reads a file, from its first block to its last.
+///
+/// Ok exactly where the file has a meaning, and each of its blocks has, memory aside; then these are its metadata and its chunks. As
+/// [`FileReader`] reads the dictionaries with the first block, those of a file without one aren't judged. Faults, but for `Memory`: that of
+/// [`read_file_metadata`] where the metadata have no meaning; where they have, that of [`read_file_dictionaries`] where the dictionaries
+/// have none; and then that of [`read_batch`] at the first block that has none. `Io` never comes.
+///
+/// [`read_file_dictionaries`]: ipc_files::read::file::read_file_dictionaries
+/// [`read_batch`]: ipc_files::read::file::read_batch
+pub fn read_file(alloc: Global, bytes: &[u8]) -> Result<WholeFile, Fault>
+    ensures meaning { GivesPart file_read result (file_by None None bytes.now) }
+    ensures reason { IfErr result (λ e. OwnFault e (ReadingReason None None bytes.now e)) }
+    ensures device { OnIo result ⊥ }
+{
+    let metadata = read_metadata(alloc, bytes)?;
     read_by(alloc, bytes, metadata, None, None)
 }
 
@@ -112,7 +129,8 @@ fn are_there(projection: &Option<Vec<usize>>, count: usize) -> bool
 /// one of them, or one is named twice; then no chunk was read.
 ///
 /// Ok exactly where the metadata and, by these columns and the limit, each block have a meaning, memory aside. The rows, joined, are the
-/// first rows of these columns. Faults: those of [`read_file`].
+/// first rows of these columns. Faults: those of [`read_file`], of the first block that has no meaning by these columns and by what the
+/// blocks before it leave of the limit.
 pub fn read_file_columns(
     alloc: Global,
     bytes: &[u8],
@@ -121,10 +139,10 @@ pub fn read_file_columns(
 ) -> Result<Option<WholeFile>, Fault>
     ensures columns { ReadsColumns (items_of projection) limit bytes.now result }
     ensures rows { IfOk result (HaveRows (items_of projection) limit bytes.now) }
+    ensures reason { IfErr result (λ e. OwnFault e (ReadingReason (items_of projection) limit bytes.now e)) }
     ensures device { OnIo result ⊥ }
 {
-    let mut input = MemFile::new(bytes);
-    let metadata = read_file_metadata(alloc, &mut input)?;
+    let metadata = read_metadata(alloc, bytes)?;
     if !are_there(&projection, metadata.schema.fields.len()) {
         return Ok(None);
     }

@@ -8,6 +8,7 @@ use Rattle.ipc_round_trip.proofs.Streams.{slice_memory}
 use Rattle.ipc_projections.specs.ChosenColumns.{items_of}
 use Rattle.ipc_file_round_trip.proofs.Files.{file_same}
 use Rattle.ipc_file_round_trip.proofs.Readings.{chunks_read, chunks_refused, rows_read}
+use Rattle.ipc_file_round_trip.proofs.Reasons.{all_reason}
 use Rattle.ipc_file_round_trip.specs.declared.read.WholeFile.{WholeFile}
 use Rattle.ipc_file_round_trip.proofs.read.read_by.Goals as goal
 
@@ -24,6 +25,7 @@ returns c =
       rows =
           rows_read true true slice_memory (λ f. 0) (λ f. f.given) (λ k. refl) refl c.in_ok-reader.reader c.new-input.result c.args.metadata asked c.args.limit c.args.bytes.now
           c.in_ok-reader.ensures.ok whole c.in_ok-chunks.chunks.items c.in_ok-chunks.ensures.all;
+      reason = tt;
       device = tt;
     }
 
@@ -38,5 +40,8 @@ returns-in_err-chunks c =
           chunks_refused true true slice_memory (λ f. 0) (λ f. f.given) (λ k. refl) refl c.in_ok-reader.reader c.new-input.result c.args.metadata (items_of c.args.projection) c.args.limit
           c.args.bytes.now c.in_ok-reader.ensures.ok whole fault c.in_err-chunks.ensures.refused;
       rows = tt;
+      reason =
+          all_reason true true slice_memory (λ f. 0) (λ f. f.given) (λ k. refl) refl c.in_ok-reader.reader c.new-input.result c.args.metadata (items_of c.args.projection) c.args.limit
+          c.args.bytes.now c.in_ok-reader.ensures.ok whole fault c.in_err-chunks.ensures.refused;
       device = no_failure (Vec (List AnyArray) Global) WholeFile fault c.in_err-chunks.ensures.failed;
     })

@@ -1,12 +1,12 @@
-use Rattle.std.proofs.Common.{rules, ◌≡◌, ℕ, length, Option, Ok, Err, refl, sym, ap, subst}
+use Rattle.std.proofs.Common.{rules, ◌≡◌, ℕ, length, Option, sym, subst}
 use Rattle.std.proofs.lemmas.Bool.{false≢true}
 use Rattle.std.proofs.lemmas.Result.{err_from_is_err_and}
 use Rattle.ipc_model.specs.Batches.{IsProjection}
-use Rattle.ipc_readers.proofs.OfMemory.{no_failure, other_answer}
+use Rattle.ipc_readers.proofs.OfMemory.{other_answer}
 use Rattle.ipc_files.specs.Footers.{file_seen}
 use Rattle.ipc_files.specs.declared.read.file.metadata.FileMetadata.{FileMetadata}
 use Rattle.ipc_projections.specs.ChosenColumns.{items_of}
-use Rattle.ipc_file_round_trip.proofs.Files.{columns_given, columns_refused, metadata_at, metadata_refused, names_others, rows_same}
+use Rattle.ipc_file_round_trip.proofs.Files.{chunks_reason, columns_given, columns_refused, metadata_reason, metadata_refused, names_others, rows_same}
 use Rattle.ipc_file_round_trip.specs.Reading.{chunks_of}
 use Rattle.ipc_file_round_trip.specs.declared.read.WholeFile.{WholeFile}
 use Rattle.ipc_file_round_trip.proofs.read.read_file_columns.Goals as goal
@@ -14,55 +14,55 @@ use Rattle.ipc_file_round_trip.proofs.read.read_file_columns.Goals as goal
 pub returns-in_err-metadata : goal.returns-in_err-metadata
 returns-in_err-metadata c =
     let fault = c.in_err-metadata.field-0.0 in
-    let input = c.new-input in
+    let said = c.in_err-metadata.ensures in
+    let asked = items_of c.args.projection in
     let p = err_from_is_err_and c.from_residual.result c.from_residual.ensures.1 in
     rw (p.1, p.2) (record {
-      columns =
-          metadata_refused (items_of c.args.projection) c.args.limit c.args.bytes.now fault
-          (metadata_at c.args.bytes.now input.result (Err fault) (ap (λ f. f.position) input.ensures) (ap (λ f. f.inner.now) input.ensures) (c.in_err-metadata.ensures.memory refl));
+      columns = metadata_refused asked c.args.limit c.args.bytes.now fault said.meaning;
       rows = tt;
-      device = no_failure FileMetadata (Option WholeFile) fault c.in_err-metadata.ensures.failed;
+      reason = metadata_reason asked c.args.limit c.args.bytes.now fault said.meaning said.reason;
+      device = other_answer FileMetadata (Option WholeFile) fault _ said.device;
     })
 
 pub returns-then-not-are_there : goal.returns-then-not-are_there
 returns-then-not-are_there c =
-    let input = c.new-input in
     let m = c.in_ok-metadata.metadata in
-    let there = metadata_at c.args.bytes.now input.result (Ok m) (ap (λ f. f.position) input.ensures) (ap (λ f. f.inner.now) input.ensures) (c.in_ok-metadata.ensures.memory refl) in
     let asked = items_of c.args.projection in
     let many : c.len.result ≡ length m.schema.fields.items = search rules in
     record {
-      columns = names_others asked c.args.bytes.now m there (λ is. false≢true (c.if-not-are_there.ensures.1 (subst (λ (n : ℕ). IsProjection asked n) (sym many) is)));
+      columns =
+          names_others asked c.args.bytes.now m c.in_ok-metadata.ensures.meaning
+          (λ is. false≢true (c.if-not-are_there.ensures.1 (subst (λ (n : ℕ). IsProjection asked n) (sym many) is)));
       rows = tt;
+      reason = tt;
       device = tt;
     }
 
 pub returns : goal.returns
 returns c =
-    let input = c.new-input in
     let m = c.in_ok-metadata.metadata in
-    let there = metadata_at c.args.bytes.now input.result (Ok m) (ap (λ f. f.position) input.ensures) (ap (λ f. f.inner.now) input.ensures) (c.in_ok-metadata.ensures.memory refl) in
     let asked = items_of c.args.projection in
     let is : IsProjection asked (length m.schema.fields.items) = search rules in
     let f = c.in_ok-file.file in
     let gave = c.in_ok-file.ensures in
     record {
-      columns = columns_given asked c.args.limit c.args.bytes.now m f is there gave.described gave.chunks;
+      columns = columns_given asked c.args.limit c.args.bytes.now m f is c.in_ok-metadata.ensures.meaning gave.described gave.chunks;
       rows = rows_same asked c.args.limit c.args.bytes.now (file_seen m) (file_seen f.metadata) (chunks_of f) gave.described gave.rows;
+      reason = tt;
       device = tt;
     }
 
 pub returns-in_err-file : goal.returns-in_err-file
 returns-in_err-file c =
     let fault = c.in_err-file.field-0.0 in
-    let input = c.new-input in
     let m = c.in_ok-metadata.metadata in
-    let there = metadata_at c.args.bytes.now input.result (Ok m) (ap (λ f. f.position) input.ensures) (ap (λ f. f.inner.now) input.ensures) (c.in_ok-metadata.ensures.memory refl) in
+    let there = c.in_ok-metadata.ensures.meaning in
     let asked = items_of c.args.projection in
     let is : IsProjection asked (length m.schema.fields.items) = search rules in
     let p = err_from_is_err_and c.from_residual-in_err-file.result c.from_residual-in_err-file.ensures.1 in
     rw (p.1, p.2) (record {
       columns = columns_refused asked c.args.limit c.args.bytes.now m fault is there c.in_err-file.ensures.chunks;
       rows = tt;
+      reason = chunks_reason asked c.args.limit c.args.bytes.now (file_seen m) fault there c.in_err-file.ensures.reason;
       device = other_answer WholeFile (Option WholeFile) fault _ c.in_err-file.ensures.device;
     })
