@@ -35,7 +35,7 @@ appends_to {F = F} known grows failures room memory file device end m schema cs 
     let ds = normal_chunks cs in
     let read : metadata_of (memory device).whole ≡ Some m = ap metadata_of same ∙ is in
     let leaves : Leaves known memory (seen v) (seen x).device (Ok tt) ds =
-    session_leaves known grows failures room memory (seen v) (seen w) (seen x) ds took (Ok tt) ends.sends ends.ends ends.reaches ends.remains in
+    session_leaves known grows failures room memory (seen v) (seen w) (seen x) ds took.takes (Ok tt) ends.sends ends.ends ends.reaches ends.remains in
     let adds : Adds (memory device).whole (memory (seen x).device).whole ds = adds_ok known memory m device (seen v) (seen x).device ds goes k read (Ok tt) leaves again means in
     let keeps : KeepsOld m (memory device).whole (memory (seen x).device).whole = keeps_old known memory m device (seen v) (seen x).device ds goes k read (Ok tt) leaves in
     record {

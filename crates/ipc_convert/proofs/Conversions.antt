@@ -45,7 +45,7 @@ module _ {W : Type 0} (known : Bool) (memory : W → Memory) (order : Endianness
       → (copied : Copied came stopped (StreamTook known memory) a v ending c w) → EndsAsSource known memory ending (seen w) (seen x)
       → LeftAt (is_end ending) (seen x).state × Holds memory order out schema copied.handed.chunks (seen x)
   to_stream came stopped a c fs es ids u v w x ending y k f m i at ordered fresh begun started copied ends =
-      let took = copied.handed.took_all k in
+      let took = copied.handed.took_all in
       let cs = copied.handed.chunks in
       let head : written_head_as (seen u).order fs es ids ≡ written_head_as order schema.fields schema.metadata ids = λ j. written_head_as (ordered j) (f j) (m j) ids in
       let starts = subst (λ (h : _). streams.Begins known memory (seen u) (Ok y) (seen v) h) head begun in
@@ -110,7 +110,7 @@ stream_filed gives known grows failures room memory order law input device last 
     let cs = copied.handed.chunks in
     was_copied gives input (device_of c) last m cs (is_end ending) (λ schema chunks e. WritesFile order (memory out) (memory end) schema [] chunks) same_last
     (was_read gives law input device m r copied.last c cs ending front begins whole copied.handed.came_all copied.stops)
-    (λ e so. file_written_so known grows failures room memory order out end schema [] given fs es ids cs result ending (files.seen v) (files.seen w) (files.seen x) k f s i none same_end begun copied.handed.took_all ends)
+    (λ e so. file_written_so known grows failures room memory order out end schema [] given fs es ids cs result ending (files.seen v) (files.seen w) (files.seen x) k f s i none same_end begun copied.handed.took_all.takes ends)
 
 pub file_filed : {F W : Type 0} (there : Bool) (held : F → Memory) (known grows : Bool) (failures room : W → ℕ) (memory : W → Memory) (order : Endianness)
     → (file device : F) (out end : W) (m : FileMetadata) (r c : FileReader F) (fields : FieldTrees) (metadata : Pairs) (ids : IdTrees) (given : Pairs) (v w x : FileWriter W) (result : Result Ending Fault) (ending : Ending)
@@ -126,4 +126,4 @@ file_filed there held known grows failures room memory order file device out end
     let cs = copied.handed.chunks in
     file_copied (held file).whole (file_seen m) cs (WritesFile order (memory out) (memory end)) read
     (chunks_of there held (FileTook known memory) file device m r c v w ending t same begins copied)
-    (file_written_so known grows failures room memory order out end schema (file_seen m).pairs given fs es ids cs result ending (files.seen v) (files.seen w) (files.seen x) k f s i p same_end begun copied.handed.took_all ends)
+    (file_written_so known grows failures room memory order out end schema (file_seen m).pairs given fs es ids cs result ending (files.seen v) (files.seen w) (files.seen x) k f s i p same_end begun copied.handed.took_all.takes ends)

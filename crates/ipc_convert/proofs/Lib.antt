@@ -1,6 +1,10 @@
+pub mod AppendFaults
 pub mod Appended
 pub mod Conversions
+pub mod CopyFaults
 pub mod Handing
+pub mod Own
 pub mod ReadFiles
 pub mod ReadStreams
+pub mod Refused
 pub mod Taken

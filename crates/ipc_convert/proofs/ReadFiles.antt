@@ -1,23 +1,31 @@
 -- The chunks of a file that are read, block by block, are those of the file.
-use Rattle.std.proofs.Common.{◌≡◌, ℕ, ◌+◌, ◌<◌, ◌≤◌, List, [], ◌∷◌, ◌++◌, length, map, take, None, Some, Option, Ok, Bool, true, false, IsTrue, inl, inr, refl, sym, ap, subst, ◌∙◌, take_all, get_or, arith}
-use Rattle.std.specs.Prelude.{IsSome, pos, slice_get, vec_len}
+use Rattle.std.proofs.Common.{◌≡◌, ℕ, ◌+◌, ◌<◌, ◌≤◌, List, [], ◌∷◌, ◌++◌, length, map, take, None, Some, Option, Ok, Err, Bool, true, false, IsTrue, inl, inr, refl, sym, ap, subst, ◌∙◌, take_all, get_or, arith}
+use Rattle.std.specs.Prelude.{◌⊎◌, IsSome, pos, slice_get, vec_len}
 use Rattle.std.specs.Option.{option_and_then}
 use Rattle.std.proofs.lemmas.List.{map-append, take_more}
 use Rattle.std.proofs.lemmas.Option.{slice_get-get_or, slice_get_cases}
 use Rattle.ipc_devices.specs.Device.{Memory}
+use Rattle.ipc_devices.specs.Faults.{OwnFault}
+use Rattle.ipc_devices.specs.declared.fault.Fault.{Fault}
+use Rattle.ipc_base.specs.IdTrees.{all_ids_view}
 use Rattle.lower_arrays.specs.declared.array.AnyArray.{AnyArray}
 use Rattle.ipc_laws.specs.Agreement.{AreAlike, KnowAlike}
-use Rattle.ipc_model.specs.Batches.{Chunk}
+use Rattle.ipc_model.specs.Batches.{Chunk, chosen, kinds}
 use Rattle.ipc_model.specs.Entries.{Dictionaries, Limit}
-use Rattle.ipc_model.specs.Files.{FileMetadata, all_of, chunk_at, chunks_at, file_chunk, file_dictionaries, metadata_of}
+use Rattle.ipc_model.specs.Files.{FileMetadata, all_of, chunk_at, chunks_at, file_chunk, file_dictionaries, metadata_of as metadata_in}
+use Rattle.ipc_model.specs.Kinds.{count}
 use Rattle.ipc_views.specs.declared.file.Block.{Block}
+use Rattle.ipc_read.proofs.Fields.{field_count}
 use Rattle.ipc_read.specs.Chunks.{chunk_seen}
+use Rattle.ipc_files.specs.Batches.{RecordReason}
 use Rattle.ipc_files.specs.Footers.{file_seen}
-use Rattle.ipc_file_readers.specs.Readers.{Answer, AreKnown, Begins, NextStep, WasNext, asked_of, block_of, file_of, is_over, known_of, less, remaining_of, rows_given}
+use Rattle.ipc_file_readers.specs.Readers.{Answer, AreKnown, Begins, NextStep, WasNext, WereRefused, asked_of, block_of, file_of, is_over, known_of, less, metadata_of, remaining_of, rows_given}
 use Rattle.ipc_files.specs.declared.read.file.metadata.FileMetadata as files
 use Rattle.ipc_file_readers.specs.declared.read.reader.state.FileReader.{FileReader}
+use Rattle.ipc_convert.proofs.Own.{own}
 use Rattle.ipc_convert.specs.Copies.{CopiesFile, HasChunks}
-use Rattle.ipc_convert.specs.Sources.{AreOfFile, FileCame, FirstAre, GaveBlocks, ReadsWhole, bytes_of}
+use Rattle.ipc_convert.specs.Refusals.{AreFirstBlocks}
+use Rattle.ipc_convert.specs.Sources.{AreOfFile, FileBreaks, FileCame, FirstAre, GaveBlocks, LacksChunk, LacksPart, ReadsWhole, bytes_of}
 
 -- ---- one block
 
@@ -114,6 +122,55 @@ module _ {R : Type 0} (known still : Bool) (memory : R → Memory) (failures giv
   pub blocks_over : (a b : FileReader R) → Step a None b → is_over a ≡ true
   blocks_over a b step = over_none a b (is_over a) refl step
 
+  -- ---- one that isn't there
+
+  -- the dictionaries have a meaning, and the next block hasn't
+  lacks_chunk : (a b : FileReader R) (e : Fault) (o : Option Dictionaries) → ((P : Type 0) → OwnFault e P → P) → IsTrue known → ReadsWhole memory a → (w : WasNext known memory given a (Err e) b)
+      → file_dictionaries (file_of a) (bytes_of memory a) ≡ o → AreAlike o (Some w.dictionaries) → LacksChunk (file_of a) (bytes_of memory a) e
+  lacks_chunk a b e None it k whole w is alike = absurd alike
+  lacks_chunk a b e (Some es) it k whole w is alike =
+      let none : file_chunk (file_of a) es (bytes_of memory a) (asked_of a) (remaining_of a) (block_of a) ≡ None = it _ (w.meaning k es (alike_to (Some es) w.dictionaries es refl alike)) in
+      let many : count (kinds (file_of a).schema) ≡ length (metadata_of a).schema.fields.items = field_count (metadata_of a).schema.fields.items (all_ids_view (metadata_of a).ipc_schema.fields.items) in
+      record {
+        block = block_of a;
+        known = es;
+        dictionaries = is;
+        none = sym (λ i. file_chunk (file_of a) es (bytes_of memory a) (whole.columns i) (whole.rows i) (block_of a)) ∙ none;
+        reason = subst (λ (js : List ℕ). RecordReason (kinds (file_of a).schema) js (bytes_of memory a) (slice_get (file_of a).blocks (block_of a)) e)
+            (λ i. chosen (whole.columns i) (sym many i)) (it _ (w.reason k));
+      }
+
+  lacks_part : (a b : FileReader R) (e : Fault) → ((P : Type 0) → OwnFault e P → P) → IsTrue known → ReadsWhole memory a → WereRefused known memory a e b ⊎ WasNext known memory given a (Err e) b
+      → LacksPart (file_of a) (bytes_of memory a) e
+  lacks_part a b e it k whole (inl refused) = inl (record { none = it _ (refused.meaning k); reason = it _ (refused.reason k) })
+  lacks_part a b e it k whole (inr was) =
+      let file = file_dictionaries (file_of a) (bytes_of memory a) in
+      inr (lacks_chunk a b e file it k whole was refl (known_alike known (known_of a) file was.dictionaries k whole.known was.are))
+
+  pub block_broken : (a b : FileReader R) (e : Fault) → Step a (Some (Err e)) b → OwnFault e (FileBreaks known memory a e)
+  block_broken a b e step = own e (FileBreaks known memory a e) (λ it k whole. lacks_part a b e it k whole (step.next (unfinished (is_over a) (Err e) (λ over. (step.over over).0))))
+
+-- ---- the first ones
+
+no_first : (m : FileMetadata) (bytes : List ℕ) (cs : List Chunk) → cs ≡ [] → AreFirstBlocks bytes m cs
+no_first m bytes cs none = subst (λ (ds : List Chunk). AreFirstBlocks bytes m ds) (sym none) (record { known = []; dictionaries = inl refl; chunks = refl })
+
+some_first : (m : FileMetadata) (bytes : List ℕ) (cs : List Chunk) (o : Option Dictionaries) → file_dictionaries m bytes ≡ o → IsSome o
+    → ((known : Dictionaries) → file_dictionaries m bytes ≡ Some known → FirstAre m known bytes (length cs) cs) → AreFirstBlocks bytes m cs
+some_first m bytes cs None is some chunks = absurd (cc some)
+some_first m bytes cs (Some ds) is some chunks = record { known = ds; dictionaries = inr is; chunks = chunks ds is }
+
+-- what a reader gave from the first block on
+pub first_blocks : {R : Type 0} (memory : R → Memory) (a b : FileReader R) (cs : List Chunk) → block_of a ≡ 0 → GaveBlocks memory a cs b → AreFirstBlocks (bytes_of memory a) (file_of a) cs
+first_blocks memory a b cs front gave =
+    let behind : block_of b ≡ length cs = omega (arith, gave.block, front) in
+    elim gave.some [
+      | inl none ↦ no_first (file_of a) (bytes_of memory a) cs none
+      | inr some ↦ some_first (file_of a) (bytes_of memory a) cs (file_dictionaries (file_of a) (bytes_of memory a)) refl some
+          (λ ds found. subst (λ (i : ℕ). FirstAre (file_of a) ds (bytes_of memory a) i cs) behind
+          (gave.chunks ds [] found (subst (λ (j : ℕ). FirstAre (file_of a) ds (bytes_of memory a) j []) (sym front) refl)))
+    ]
+
 -- ---- all of them
 
 -- a new reader that all of each chunk is asked of
@@ -149,8 +206,8 @@ all_blocks {R = R} memory device m a b cs begins gave over =
     let behind : length (file_of a).blocks ≤ block_of b = omega (arith, past, long, b.metadata.blocks.ok) in
     let has : HasChunks (bytes_of memory a) (file_of a) cs = elim gave.some [
       | inl none ↦
-          (let count = ap (λ (l : List Chunk). length l) none in
-          without (file_of a) (bytes_of memory a) cs none (no_items (file_of a).blocks (omega (arith, behind, gave.block, begins.block, count))))
+          (let size = ap (λ (l : List Chunk). length l) none in
+          without (file_of a) (bytes_of memory a) cs none (no_items (file_of a).blocks (omega (arith, behind, gave.block, begins.block, size))))
       | inr some ↦ with_known (file_of a) (bytes_of memory a) cs (file_dictionaries (file_of a) (bytes_of memory a)) refl some
           (λ ds found. all_at (file_of a) ds (bytes_of memory a) (block_of b) cs behind
           (gave.chunks ds [] found (none_at (file_of a) ds (bytes_of memory a) (block_of a) begins.block)))
@@ -164,6 +221,6 @@ all_blocks {R = R} memory device m a b cs begins gave over =
     none_at : (m : FileMetadata) (ds : Dictionaries) (bytes : List ℕ) (i : ℕ) → i ≡ 0 → FirstAre m ds bytes i []
     none_at m ds bytes i e = subst (λ (j : ℕ). FirstAre m ds bytes j []) (sym e) refl
 
-pub file_copied : (bytes : List ℕ) (m : FileMetadata) (cs : List Chunk) (Writes : _ → _ → List Chunk → Type 0) → metadata_of bytes ≡ Some m → HasChunks bytes m cs → Writes m.schema m.pairs cs
+pub file_copied : (bytes : List ℕ) (m : FileMetadata) (cs : List Chunk) (Writes : _ → _ → List Chunk → Type 0) → metadata_in bytes ≡ Some m → HasChunks bytes m cs → Writes m.schema m.pairs cs
     → CopiesFile bytes Writes
 file_copied bytes m cs Writes read has writes = record { metadata = m; read = read; chunks = cs; has = has; written = writes }

@@ -1,6 +1,7 @@
 -- A stream that was read to its end, or to where it waits.
-use Rattle.std.proofs.Common.{◌≡◌, ℕ, List, [], ◌∷◌, ◌++◌, Option, None, Some, Result, Ok, Bool, true, false, refl, sym, ap, subst, ◌∙◌, append-nil, append_assoc, zero, suc}
+use Rattle.std.proofs.Common.{◌≡◌, ℕ, List, [], ◌∷◌, ◌++◌, Option, None, Some, Result, Ok, Err, Bool, true, false, refl, sym, ap, subst, ◌∙◌, append-nil, append_assoc, zero, suc}
 use Rattle.ipc_devices.specs.Device.{Memory}
+use Rattle.ipc_devices.specs.Faults.{OwnFault}
 use Rattle.ipc_devices.specs.Gives.{Stop, going, ended, Follows, Gives, GivesInOrder}
 use Rattle.ipc_devices.specs.declared.fault.Fault.{Fault}
 use Rattle.lower_arrays.specs.declared.array.AnyArray.{AnyArray}
@@ -9,10 +10,12 @@ use Rattle.ipc_model.specs.Frame.{frame}
 use Rattle.ipc_model.specs.Streams.{End, Known, Meant, faulty, marked, meaning, nothing_known, waits, with_chunks}
 use Rattle.ipc_model.specs.WholeStreams.{stream_of}
 use Rattle.ipc_read.specs.Chunks.{chunk_seen}
+use Rattle.ipc_read.proofs.Refusals.{claims_through}
 use Rattle.ipc_readers.proofs.ChosenStreams.{chosen_done, chosen_more, whole_law}
 use Rattle.ipc_readers.proofs.Loops.{same_request}
 use Rattle.ipc_readers.specs.ChosenStreams.{Request, chosen_meaning}
 use Rattle.ipc_readers.specs.Metadata.{GivesMetadata, MetadataGave}
+use Rattle.ipc_readers.specs.Refusals.{IsStreamFault}
 use Rattle.ipc_readers.specs.Streams.{Begins, GivesNext, ItemStop, ItemsGave, Knows, NextStep, ReadsItem, ReadsNext, begun_of, device_of, head_of, is_over, known_of, last_found, next_result, projection_of, request_of}
 use Rattle.ipc_readers.specs.declared.read.stream.metadata.StreamMetadata.{StreamMetadata}
 use Rattle.ipc_readers.specs.declared.read.stream.reader.StreamReader.{StreamReader}
@@ -20,38 +23,41 @@ use Rattle.ipc_readers.specs.declared.read.stream.reader.StreamState.{StreamStat
 use Rattle.ipc_readers.specs.declared.read.stream.reader.StreamState.TheVariants as states
 use Rattle.ipc_round_trip.proofs.Streams.{whole_stream}
 use Rattle.ipc_round_trip.specs.Reading.{EndsAs, EndsNow}
+use Rattle.ipc_convert.proofs.Own.{own}
 use Rattle.ipc_convert.specs.Copies.{CopiesStream, IsSound}
-use Rattle.ipc_convert.specs.Sources.{GaveChunks, GaveNoMore, StreamCame, StreamStopped, is_end, meant_by}
+use Rattle.ipc_convert.specs.Sources.{GaveChunks, GaveNoMore, StreamBreaks, StreamCame, StreamStopped, is_end, meant_by}
 use Rattle.ipc_convert.specs.declared.chunks.Ending.{Ending}
 
 -- ---- what a device gave
 
-follows_going : (s : Stop) (ys : List ℕ) → s ≡ going → Follows s ys
+pub follows_going : (s : Stop) (ys : List ℕ) → s ≡ going → Follows s ys
 follows_going s ys e = subst (λ (x : Stop). Follows x ys) (sym e) tt
 
 follows_end : (s : Stop) → s ≡ ended → Follows s []
 follows_end s e = subst (λ (x : Stop). Follows x []) (sym e) refl
 
-front_says : (h : Request) (s : Known) (xs : List ℕ) (x : Option StreamState) (l : Known) (begun ys : List ℕ) → ReadsItem h s xs (last_found (Ok x)) l begun ys → ReadsNext h s xs (Ok x) l begun ys
-front_says h s xs (Some (states.Some chunk)) l begun ys g = (g.0, g.1, chosen_more h s xs (Some (chunk_seen chunk)) g.0 ys g.2)
-front_says h s xs (Some states.Waiting) l begun ys g = (s, g.0, chosen_done h s xs (waits s begun) g.1)
-front_says h s xs None l begun ys g = chosen_done h s xs marked g.0
+front_says : (h : Request) (s : Known) (xs : List ℕ) (r : Result (Option StreamState) Fault) (l : Known) (begun ys : List ℕ) → ReadsItem h s xs (last_found r) l begun ys → ReadsNext h s xs r l begun ys
+front_says h s xs (Ok (Some (states.Some chunk))) l begun ys g = (g.0, g.1, chosen_more h s xs (Some (chunk_seen chunk)) g.0 ys g.2)
+front_says h s xs (Ok (Some states.Waiting)) l begun ys g = (s, g.0, chosen_done h s xs (waits s begun) g.1)
+front_says h s xs (Ok None) l begun ys g = chosen_done h s xs marked g.0
+front_says h s xs (Err e) l begun ys g = claims_through e _ _ (λ p. chosen_done h s xs faulty p.0) g
 
-passed_says : (h : Request) (s t : Known) (xs zs : List ℕ) (x : Option StreamState) (l : Known) (begun ys : List ℕ) → chosen_meaning h s xs ≡ chosen_meaning h t zs → ReadsNext h t zs (Ok x) l begun ys → ReadsNext h s xs (Ok x) l begun ys
-passed_says h s t xs zs (Some (states.Some chunk)) l begun ys e g = (g.0, g.1, e ∙ g.2)
-passed_says h s t xs zs (Some states.Waiting) l begun ys e g = (g.0, g.1, e ∙ g.2)
-passed_says h s t xs zs None l begun ys e g = e ∙ g
+passed_says : (h : Request) (s t : Known) (xs zs : List ℕ) (r : Result (Option StreamState) Fault) (l : Known) (begun ys : List ℕ) → chosen_meaning h s xs ≡ chosen_meaning h t zs → ReadsNext h t zs r l begun ys → ReadsNext h s xs r l begun ys
+passed_says h s t xs zs (Ok (Some (states.Some chunk))) l begun ys e g = (g.0, g.1, e ∙ g.2)
+passed_says h s t xs zs (Ok (Some states.Waiting)) l begun ys e g = (g.0, g.1, e ∙ g.2)
+passed_says h s t xs zs (Ok None) l begun ys e g = e ∙ g
+passed_says h s t xs zs (Err x) l begun ys e g = claims_through x _ _ (λ p. e ∙ p) g
 
 -- What was given before an answer: whatever may follow it, it means what the answer says.
-record GaveNext {S : Type 0} (gives : Gives S) (h : Request) (k : Known) (p : List ℕ) (a : S) (x : Option StreamState) (l : Known) (q : List ℕ) (b : S) : Type 0 where
+record GaveNext {S : Type 0} (gives : Gives S) (h : Request) (k : Known) (p : List ℕ) (a : S) (r : Result (Option StreamState) Fault) (l : Known) (q : List ℕ) (b : S) : Type 0 where
   bytes : List ℕ
   stop : Stop
-  stops : ItemStop (last_found (Ok x)) stop
+  stops : ItemStop (last_found r) stop
   gave : gives a bytes stop b
-  next : (ys : List ℕ) → Follows stop ys → GivesNext h k (p ++ (bytes ++ ys)) (Ok x) l q (q ++ ys)
+  next : (ys : List ℕ) → Follows stop ys → GivesNext h k (p ++ (bytes ++ ys)) r l q (q ++ ys)
 
-module _ {S : Type 0} (gives : Gives S) (law : GivesInOrder gives) (h : Request) (x : Option StreamState) where
-  items_gave : (n : ℕ) (k l : Known) (p q : List ℕ) (a b : S) → ItemsGave gives h n k p a (Ok x) l q b → GaveNext gives h k p a x l q b
+module _ {S : Type 0} (gives : Gives S) (law : GivesInOrder gives) (h : Request) (r : Result (Option StreamState) Fault) where
+  items_gave : (n : ℕ) (k l : Known) (p q : List ℕ) (a b : S) → ItemsGave gives h n k p a r l q b → GaveNext gives h k p a r l q b
   items_gave zero k l p q a b g =
       let run = g.0.run in
       record {
@@ -59,7 +65,7 @@ module _ {S : Type 0} (gives : Gives S) (law : GivesInOrder gives) (h : Request)
         stop = g.0.stop;
         stops = g.0.stops;
         gave = run.gave;
-        next = λ ys f. record { each = λ s at. front_says h s (p ++ (run.bytes ++ ys)) x l q (q ++ ys) ((run.holds ys f).each s at) };
+        next = λ ys f. record { each = λ s at. front_says h s (p ++ (run.bytes ++ ys)) r l q (q ++ ys) ((run.holds ys f).each s at) };
       }
   items_gave (suc n) k l p q a b g =
       let u = g.0 in
@@ -76,13 +82,13 @@ module _ {S : Type 0} (gives : Gives S) (law : GivesInOrder gives) (h : Request)
           each = λ s at.
               let read = (run.holds (rest.bytes ++ ys) (follows_going g.3.stop (rest.bytes ++ ys) g.3.stops)).each s at in
               let more = (rest.next ys f).each read.0 read.1 in
-              subst (λ (zs : List ℕ). ReadsNext h s (p ++ zs) (Ok x) l q (q ++ ys)) (sym (append_assoc run.bytes rest.bytes ys))
-              (passed_says h s read.0 (p ++ (run.bytes ++ (rest.bytes ++ ys))) (v ++ (rest.bytes ++ ys)) x l q (q ++ ys)
+              subst (λ (zs : List ℕ). ReadsNext h s (p ++ zs) r l q (q ++ ys)) (sym (append_assoc run.bytes rest.bytes ys))
+              (passed_says h s read.0 (p ++ (run.bytes ++ (rest.bytes ++ ys))) (v ++ (rest.bytes ++ ys)) r l q (q ++ ys)
               (chosen_more h s (p ++ (run.bytes ++ (rest.bytes ++ ys))) None read.0 (v ++ (rest.bytes ++ ys)) read.2) more);
         };
       }
 
-step_gave : {R : Type 0} (gives : Gives R) (known : Bool) (memory : R → Memory) → GivesInOrder gives → (a b : StreamReader R) (x : Option StreamState) (r : Option (Result StreamState Fault)) → next_result r ≡ Ok x
+step_gave : {R : Type 0} (gives : Gives R) (known : Bool) (memory : R → Memory) → GivesInOrder gives → (a b : StreamReader R) (x : Result (Option StreamState) Fault) (r : Option (Result StreamState Fault)) → next_result r ≡ x
     → NextStep gives known memory a r b → is_over a ≡ false
     → GaveNext gives (request_of a) (known_of a) (begun_of a) (device_of a) x (known_of b) (begun_of b) (device_of b)
 step_gave gives known memory law a b x r is step unfinished =
@@ -98,7 +104,7 @@ same_reader a b t ys asked = ap (λ (h : Request). chosen_meaning h t (begun_of 
 pub one_gave : {R : Type 0} (gives : Gives R) (known : Bool) (memory : R → Memory) → GivesInOrder gives → (a b : StreamReader R) (chunk : List AnyArray)
     → NextStep gives known memory a (Some (Ok (states.Some chunk))) b → is_over a ≡ false → GaveChunks gives a (chunk_seen chunk ∷ []) b
 one_gave gives known memory law a b chunk step unfinished =
-    let g = step_gave gives known memory law a b (Some (states.Some chunk)) (Some (Ok (states.Some chunk))) refl step unfinished in
+    let g = step_gave gives known memory law a b (Ok (Some (states.Some chunk))) (Some (Ok (states.Some chunk))) refl step unfinished in
     let asked = same_request a b step.described step.projected in
     record {
       unfinished = step.finished unfinished;
@@ -118,7 +124,7 @@ ends_now over e m is ends = subst (λ (x : Meant). EndsNow over x) (sym is) (ref
 pub none_waits : {R : Type 0} (gives : Gives R) (known : Bool) (memory : R → Memory) → GivesInOrder gives → (a b : StreamReader R)
     → NextStep gives known memory a (Some (Ok states.Waiting)) b → is_over a ≡ false → GaveNoMore gives a false b
 none_waits gives known memory law a b step unfinished =
-    let g = step_gave gives known memory law a b (Some states.Waiting) (Some (Ok states.Waiting)) refl step unfinished in
+    let g = step_gave gives known memory law a b (Ok (Some states.Waiting)) (Some (Ok states.Waiting)) refl step unfinished in
     record {
       bytes = g.bytes;
       stop = g.stop;
@@ -131,13 +137,28 @@ none_waits gives known memory law a b step unfinished =
 pub none_over : {R : Type 0} (gives : Gives R) (known : Bool) (memory : R → Memory) → GivesInOrder gives → (a b : StreamReader R)
     → NextStep gives known memory a None b → is_over a ≡ false → GaveNoMore gives a true b
 none_over gives known memory law a b step unfinished =
-    let g = step_gave gives known memory law a b None None refl step unfinished in
+    let g = step_gave gives known memory law a b (Ok None) None refl step unfinished in
     record {
       bytes = g.bytes;
       stop = g.stop;
       gave = g.gave;
       ends = λ s at. ends_now true marked (meant_by a s g.bytes) (ap (meant_by a s) (sym (append-nil g.bytes)) ∙ (g.next [] (follows_going g.stop [] g.stops)).each s at) refl;
     }
+
+-- ---- a fault
+
+pub one_fault : {R : Type 0} (gives : Gives R) (known : Bool) (memory : R → Memory) → GivesInOrder gives → (a b : StreamReader R) (e : Fault)
+    → NextStep gives known memory a (Some (Err e)) b → OwnFault e (StreamBreaks gives a e)
+one_fault gives known memory law a b e step = own e (StreamBreaks gives a e) (λ it unfinished.
+    let g = step_gave gives known memory law a b (Err e) (Some (Err e)) refl step unfinished in
+    record {
+      bytes = g.bytes;
+      stop = g.stop;
+      left = device_of b;
+      gave = g.gave;
+      kind = it (IsStreamFault (request_of a) e) step.only;
+      means = λ s ys at f. it (meant_by a s (g.bytes ++ ys) ≡ record { chunks = []; end = faulty }) ((g.next ys f).each s at);
+    })
 
 -- ---- all chunks
 
@@ -151,11 +172,15 @@ all_given gives a b c cs over one none s at =
       subst (λ (x : End). EndsAs over x) (sym (ap (λ (x : Meant). x.end) p.2)) now.1,
     )
 
--- a new reader that all columns are asked of means what its device has ahead
-new_meant : {R : Type 0} (device : R) (m : StreamMetadata) (r : StreamReader R) (bytes : List ℕ) → Begins device m r → projection_of r ≡ None
+-- all is asked of a new reader
+pub new_request : {R : Type 0} (device : R) (m : StreamMetadata) (r : StreamReader R) → Begins device m r → projection_of r ≡ None → request_of r ≡ record { head = head_of m; projection = None }
+new_request device m r begins all = λ i. record { head = head_of (begins.described i); projection = all i }
+
+-- so it means what its device has ahead
+pub new_meant : {R : Type 0} (device : R) (m : StreamMetadata) (r : StreamReader R) (bytes : List ℕ) → Begins device m r → projection_of r ≡ None
     → meant_by r nothing_known bytes ≡ meaning (head_of m) nothing_known bytes
 new_meant device m r bytes begins all =
-    let asked : request_of r ≡ record { head = head_of m; projection = None } = λ i. record { head = head_of (begins.described i); projection = all i } in
+    let asked = new_request device m r begins all in
     ap (λ (h : Request). chosen_meaning h nothing_known (begun_of r ++ bytes)) asked
     ∙ ap (λ (xs : List ℕ). chosen_meaning (record { head = head_of m; projection = None }) nothing_known (xs ++ bytes)) begins.begun
     ∙ whole_law (head_of m) nothing_known bytes

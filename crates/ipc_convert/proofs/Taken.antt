@@ -1,5 +1,5 @@
 -- What a writer takes is written in the normal form.
-use Rattle.std.proofs.Common.{◌≡◌, ℕ, List, [], ◌∷◌, ◌++◌, length, Option, Result, Ok, Err, OnOk, OnErr, Bool, true, false, not, IsTrue, if◌then◌else◌, refl, sym, ap, subst, ◌∙◌, append-nil}
+use Rattle.std.proofs.Common.{◌≡◌, ℕ, List, [], ◌∷◌, ◌++◌, length, None, Option, Result, Ok, Err, IfErr, OnOk, OnErr, Bool, true, false, not, IsTrue, if◌then◌else◌, refl, sym, ap, subst, ◌∙◌, append-nil}
 use Rattle.lower.specs.TypeTrees.{FieldTrees, Pairs}
 use Rattle.lower_types.specs.declared.Endianness.{Endianness}
 use Rattle.lower_types.specs.declared.Endianness.TheVariants.{Big, Little}
@@ -7,7 +7,8 @@ use Rattle.lower_arrays.specs.AnyLayouts.{layout_of}
 use Rattle.lower_arrays.specs.declared.array.AnyArray.{AnyArray}
 use Rattle.ipc_base.specs.IdTrees.{IdTrees}
 use Rattle.ipc_devices.specs.Device.{Memory, before}
-use Rattle.ipc_devices.specs.Faults.{OnRefused}
+use Rattle.ipc_devices.specs.Faults.{OnRefused, OwnFault}
+use Rattle.ipc_devices.proofs.Stops.{claimed}
 use Rattle.ipc_devices.specs.declared.fault.Fault.{Fault}
 use Rattle.ipc_laws.specs.Messages.{column_written}
 use Rattle.ipc_model.specs.Batches.{Chunk, Schema}
@@ -18,7 +19,7 @@ use Rattle.ipc_schema_write.specs.WriterAnswers.{byte_order, written_head_as}
 use Rattle.ipc_write.specs.Agreement as streams
 use Rattle.ipc_write.specs.Agreement.{Agrees, Begins, IsClosed, IsFresh, IsOpen, StreamIs}
 use Rattle.ipc_write.specs.Meaning.{chunk_written}
-use Rattle.ipc_write.specs.Writers.{SendsChunk, TakesChunk, WriterSeen}
+use Rattle.ipc_write.specs.Writers.{SendsChunk, TakesChunk, WriterSeen, WritesExactly}
 use Rattle.ipc_write.specs.declared.stream.WriterState.{WriterState}
 use Rattle.ipc_write.specs.declared.stream.WriterState.TheVariants.{Started, Finished}
 use Rattle.ipc_footers.specs.Footers.{file_written}
@@ -33,7 +34,7 @@ use Rattle.ipc_sessions.specs.Steps.{TakesChunks, WritesChunk}
 use Rattle.ipc_convert.specs.Copies.{EndsSo, WritesFile, WritesStream, normal_chunks, normal_head}
 use Rattle.ipc_convert.specs.Sources.{is_end}
 use Rattle.ipc_convert.specs.Steps.{BeginsFile, EndsAsSource, EndsCopy}
-use Rattle.ipc_convert.specs.Sinks.{TookChunks}
+use Rattle.ipc_convert.specs.Sinks.{TookBlocks, TookChunks}
 use Rattle.ipc_convert.specs.declared.chunks.Ending.{Ending}
 use Rattle.ipc_convert.specs.declared.chunks.Ending.TheVariants.{Over, Waits}
 use Rattle.ipc_convert.proofs.Handing.{refused_then}
@@ -46,22 +47,27 @@ written_seen [] = refl
 written_seen (x ∷ xs) = ap (λ (cs : Chunk). column_written (layout_of x) ∷ cs) (written_seen xs)
 
 one_took : {W : Type 0} (known : Bool) (memory : W → Memory) (v w : WriterSeen W) (columns : List AnyArray) (ids : Option IdTrees) (x : Unit {0})
-    → streams.Appends known memory v (Ok x) w (chunk_written columns) → TakesChunk v w columns ids → IsTrue known → TookChunks memory v (chunk_seen columns ∷ []) w
-one_took known memory v w columns ids x appends takes k = record {
+    → streams.Appends known memory v (Ok x) w (chunk_written columns) → TakesChunk v w columns ids → TookChunks known memory v (chunk_seen columns ∷ []) w
+one_took known memory v w columns ids x appends takes = record {
   state = takes.is ∙ sym takes.was;
-  stream = λ base head so_far agrees.
+  types = takes.types;
+  ids = takes.ids_stay;
+  stream = λ k base head so_far agrees.
       subst (λ (c : Chunk). Agrees memory w base head (so_far ++ c ∷ [])) (written_seen columns) (appends.appended k base head so_far agrees);
 }
 
 pub stream_took : {W : Type 0} (known : Bool) (memory : W → Memory) (v w : WriterSeen W) (columns : List AnyArray) (ids : Option IdTrees) (r : Result (Unit {0}) Fault)
-    → streams.Appends known memory v r w (chunk_written columns) → OnOk r (TakesChunk v w columns ids) → OnOk r (IsTrue known → TookChunks memory v (chunk_seen columns ∷ []) w)
+    → streams.Appends known memory v r w (chunk_written columns) → OnOk r (TakesChunk v w columns ids) → OnOk r (TookChunks known memory v (chunk_seen columns ∷ []) w)
 stream_took known memory v w columns ids (Ok x) appends takes = one_took known memory v w columns ids x appends takes
 stream_took known memory v w columns ids (Err e) appends takes = tt
 
-pub file_took : {W : Type 0} (known : Bool) (memory : W → Memory) (v w : FileSeen W) (columns : List AnyArray) (r : Result (Unit {0}) Fault) → WritesChunk known memory v columns r w
-    → OnOk r (TakesChunks known memory v w (normal_chunks (chunk_seen columns ∷ [])))
-file_took known memory v w columns (Ok x) wrote = subst (λ (c : Chunk). TakesChunks known memory v w (c ∷ [])) (written_seen columns) wrote.takes
-file_took known memory v w columns (Err e) wrote = tt
+pub file_took : {W : Type 0} (known grows : Bool) (failures room : W → ℕ) (memory : W → Memory) (v w : FileSeen W) (columns : List AnyArray) (r : Result (Unit {0}) Fault)
+    → WritesChunk known memory v columns r w → writes.SendsColumns known grows failures room memory v r w columns → OnOk r (TookBlocks known memory v (chunk_seen columns ∷ []) w)
+file_took known grows failures room memory v w columns (Ok x) wrote sends = record {
+  state = sends.takes.is ∙ sym sends.takes.was;
+  takes = subst (λ (c : Chunk). TakesChunks known memory v w (c ∷ [])) (written_seen columns) wrote.takes;
+}
+file_took known grows failures room memory v w columns (Err e) wrote sends = tt
 
 -- ---- a refused one
 
@@ -70,28 +76,42 @@ if_refused (Ok x) f p = tt
 if_refused (Err e) f p = refused_then (Unit {0}) (Unit {0}) e (f e refl) p
 
 -- nothing was taken where all that it had stands
-none_took : {W : Type 0} (memory : W → Memory) (v w : WriterSeen W) → w.state ≡ v.state
-    → ((base : List ℕ) (head : Head) (so_far : List Chunk) → Agrees memory v base head so_far → Agrees memory w base head so_far) → TookChunks memory v [] w
-none_took memory v w state stays = record {
+none_took : {W : Type 0} (known : Bool) (memory : W → Memory) (v w : WriterSeen W) → w.state ≡ v.state → w.types ≡ v.types → w.ids ≡ v.ids
+    → (IsTrue known → (base : List ℕ) (head : Head) (so_far : List Chunk) → Agrees memory v base head so_far → Agrees memory w base head so_far) → TookChunks known memory v [] w
+none_took known memory v w state types ids stays = record {
   state = state;
-  stream = λ base head so_far agrees. subst (λ (cs : List Chunk). Agrees memory w base head cs) (sym (append-nil so_far)) (stays base head so_far agrees);
+  types = types;
+  ids = ids;
+  stream = λ k base head so_far agrees. subst (λ (cs : List Chunk). Agrees memory w base head cs) (sym (append-nil so_far)) (stays k base head so_far agrees);
 }
 
 pub stream_kept : {W : Type 0} (known grows : Bool) (failures room : W → ℕ) (memory : W → Memory) (v w : WriterSeen W) (columns : List AnyArray) (r : Result (Unit {0}) Fault)
-    → streams.Appends known memory v r w (chunk_written columns) → SendsChunk known grows failures room memory v r w columns → OnRefused r (IsTrue known → TookChunks memory v [] w)
+    → streams.Appends known memory v r w (chunk_written columns) → SendsChunk known grows failures room memory v r w columns → OnRefused r (TookChunks known memory v [] w)
 stream_kept known grows failures room memory v w columns r appends sends =
-    if_refused r (λ e is kept k.
-    none_took memory v w kept.state
-    (λ base head so_far agrees. subst (λ (x : Result (Unit {0}) Fault). OnErr x (Agrees memory w base head so_far)) is (appends.kept k base head so_far agrees)))
+    if_refused r (λ e is kept.
+    none_took known memory v w kept.state kept.types kept.ids
+    (λ k base head so_far agrees. subst (λ (x : Result (Unit {0}) Fault). OnErr x (Agrees memory w base head so_far)) is (appends.kept k base head so_far agrees)))
     sends.step.refused
 
 took_none : {W : Type 0} (known : Bool) (memory : W → Memory) (v w : FileSeen W) (columns : List AnyArray) (e : Fault) → WritesChunk known memory v columns (Err e) w → TakesChunks known memory v w []
 took_none known memory v w columns e wrote = wrote.takes
 
 pub file_kept : {W : Type 0} (known grows : Bool) (failures room : W → ℕ) (memory : W → Memory) (v w : FileSeen W) (columns : List AnyArray) (r : Result (Unit {0}) Fault)
-    → WritesChunk known memory v columns r w → writes.SendsColumns known grows failures room memory v r w columns → OnRefused r (TakesChunks known memory v w [])
+    → WritesChunk known memory v columns r w → writes.SendsColumns known grows failures room memory v r w columns → OnRefused r (TookBlocks known memory v [] w)
 file_kept known grows failures room memory v w columns r wrote sends =
-    if_refused r (λ e is kept. took_none known memory v w columns e (subst (λ (x : Result (Unit {0}) Fault). WritesChunk known memory v columns x w) is wrote)) sends.step.refused
+    if_refused r (λ e is kept. record {
+      state = kept.state;
+      takes = took_none known memory v w columns e (subst (λ (x : Result (Unit {0}) Fault). WritesChunk known memory v columns x w) is wrote);
+    }) sends.step.refused
+
+-- why it is, as the call says it
+pub stream_refuses : {W : Type 0} (v : WriterSeen W) (columns : List AnyArray) (r : Result (Unit {0}) Fault) → WritesExactly v columns None r → IfErr r (λ e. OwnFault e (WritesExactly v columns None (Err e)))
+stream_refuses v columns (Ok x) exact = tt
+stream_refuses v columns (Err e) exact = claimed e (WritesExactly v columns None (Err e)) exact
+
+pub file_refuses : {W : Type 0} (v : FileSeen W) (columns : List AnyArray) (r : Result (Unit {0}) Fault) → writes.WritesExactly v columns None r → IfErr r (λ e. OwnFault e (writes.WritesExactly v columns None (Err e)))
+file_refuses v columns (Ok x) exact = tt
+file_refuses v columns (Err e) exact = claimed e (writes.WritesExactly v columns None (Err e)) exact
 
 -- ---- a stream
 
@@ -101,13 +121,13 @@ Holds memory order out schema cs w = Agrees memory w (before (memory out)) (norm
 
 pub begun_stream : {W : Type 0} (known : Bool) (memory : W → Memory) (order : Endianness) (out : W) (schema : Schema) (ids : IdTrees) (u v w : WriterSeen W) (cs : List Chunk) (x : Unit {0})
     → IsTrue known → ids ≡ schema.ids → u.device ≡ out → IsFresh memory u → Begins known memory u (Ok x) v (written_head_as order schema.fields schema.metadata ids)
-    → TookChunks memory v cs w → Holds memory order out schema cs w
+    → TookChunks known memory v cs w → Holds memory order out schema cs w
 begun_stream {W = W} known memory order out schema ids u v w cs x k same at fresh begun took =
     let head_with : IdTrees → Head = λ is. written_head_as order schema.fields schema.metadata is in
     let new : Agrees memory u (before (memory out)) (head_with ids) [] =
     subst (λ (y : W). Agrees memory u (before (memory y)) (head_with ids) []) at (fresh.agrees (head_with ids)) in
     let started : Agrees memory v (before (memory out)) (head_with ids) [] = begun.begun k (before (memory out)) [] new in
-    took.stream (before (memory out)) (normal_head order schema) [] (subst (λ (is : IdTrees). Agrees memory v (before (memory out)) (head_with is) []) same started)
+    took.stream k (before (memory out)) (normal_head order schema) [] (subst (λ (is : IdTrees). Agrees memory v (before (memory out)) (head_with is) []) same started)
 
 -- how a started writer is left where what was read ends so
 abbrev pub LeftAt : Bool → WriterState → Type 0

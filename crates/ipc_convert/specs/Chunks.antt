@@ -1,5 +1,9 @@
 -- Chunks that come from somewhere, and go to somewhere else.
-use Rattle.std.specs.Prelude.{◌≡◌, List, [], ◌∷◌, ◌++◌, Option, Some, None}
+use Rattle.std.specs.Prelude.{◌≡◌, ◌⊎◌, ◌-◌, ◌^◌, ◌≤◌, List, [], ◌∷◌, ◌++◌, length, Option, Some, None}
+use Rattle.lower_arrays.specs.declared.array.AnyArray.{AnyArray}
+use Rattle.ipc_devices.specs.declared.fault.ArgFault.TheVariants.{TooLarge}
+use Rattle.ipc_devices.specs.declared.fault.Fault.{Fault}
+use Rattle.ipc_devices.specs.declared.fault.Fault.TheVariants.{Argument}
 use Rattle.ipc_model.specs.Batches.{Chunk}
 use Rattle.ipc_read.specs.Chunks.{chunk_seen}
 use Rattle.ipc_convert.specs.declared.chunks.Ending.{Ending}
@@ -9,6 +13,14 @@ use Rattle.ipc_convert.specs.declared.chunks.Next.TheVariants as nexts
 -- `moved a cs b`: these chunks went from or to something, which was in state a before and in state b then
 abbrev pub Moved : Type 0 → Type 1
 Moved S = S → List Chunk → S → Type 0
+
+-- `breaks a e`: in state a this fault comes in place of the next chunk
+abbrev pub BreaksAt : Type 0 → Type 1
+BreaksAt S = S → Fault → Type 0
+
+-- `refuses v columns e`: in state v the chunk of these columns isn't taken, by this fault
+abbrev pub RefusesAt : Type 0 → Type 1
+RefusesAt T = T → List AnyArray → Fault → Type 0
 
 -- where nothing was done, no chunk moved
 abbrev pub Nothing : {S : Type 0} → Moved S → Type 0
@@ -34,9 +46,15 @@ pub record TookWhatCame {S T : Type 0} (came : Moved S) (took : Moved T) (a : S)
   pub last : S
   pub handed : Handed came took a v last w
 
+-- One chunk came, and was taken.
+pub record HandedOne {S T : Type 0} (came : Moved S) (took : Moved T) (a : S) (v : T) (b : S) (w : T) : Type 0 where
+  pub chunk : Chunk
+  pub came_one : came a (chunk ∷ []) b
+  pub took_one : took v (chunk ∷ []) w
+
 -- one was handed on, or none came, and so it ended
 abbrev pub CopiedOne : {S T : Type 0} → Moved S → (S → Ending → S → Type 0) → Moved T → S → T → Option Ending → S → T → Type 0
-CopiedOne came stopped took a v None b w = Handed came took a v b w
+CopiedOne came stopped took a v None b w = HandedOne came took a v b w
 CopiedOne came stopped took a v (Some ending) b w = stopped a ending b × (w ≡ v)
 
 -- All chunks that came were taken, up to where it ended so.
@@ -44,3 +62,27 @@ pub record Copied {S T : Type 0} (came : Moved S) (stopped : S → Ending → S 
   pub last : S
   pub handed : Handed came took a v last w
   pub stops : stopped last ending b
+
+-- ---- why not all are copied
+
+-- A chunk came that isn't taken.
+pub record ComesRefused {S T : Type 0} (came : Moved S) (refuses : RefusesAt T) (a : S) (v : T) (e : Fault) : Type 0 where
+  pub columns : List AnyArray
+  pub next : S
+  pub came_one : came a (chunk_seen columns ∷ []) next
+  pub refused : refuses v columns e
+
+-- why the next one isn't: a fault comes in its place, or it isn't taken
+abbrev pub StopsOne : {S T : Type 0} → Moved S → BreaksAt S → RefusesAt T → S → T → Fault → Type 0
+StopsOne came breaks refuses a v e = breaks a e ⊎ ComesRefused came refuses a v e
+
+-- so many chunks that the loop over them ends
+abbrev pub AreTooMany : List Chunk → Fault → Type 0
+AreTooMany cs e = (e ≡ Argument TooLarge) × (2 ^ 64 - 1 ≤ length cs)
+
+-- Behind the first chunks, which were taken, the next one isn't copied, or there are too many.
+pub record StopsCopy {S T : Type 0} (came : Moved S) (breaks : BreaksAt S) (took : Moved T) (refuses : RefusesAt T) (a : S) (v : T) (e : Fault) : Type 0 where
+  pub last : S
+  pub left : T
+  pub handed : Handed came took a v last left
+  pub why : StopsOne came breaks refuses last left e ⊎ AreTooMany handed.chunks e

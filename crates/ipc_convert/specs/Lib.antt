@@ -1,5 +1,6 @@
 pub mod Chunks
 pub mod Copies
+pub mod Refusals
 pub mod SinkLaws
 pub mod Sinks
 pub mod SourceLaws

@@ -18,27 +18,33 @@ more_taken so_far xs ys =
     append_assoc so_far (normal_chunks xs) (normal_chunks ys)
     ∙ ap (λ (cs : List Chunk). so_far ++ cs) (sym (map-append normal_chunk xs ys))
 
-took_chunks : {W : Type 0} (memory : W → Memory) (u v w : WriterSeen W) (xs ys : List Chunk) → TookChunks memory u xs v → TookChunks memory v ys w → TookChunks memory u (xs ++ ys) w
-took_chunks memory u v w xs ys one more = record {
+took_chunks : {W : Type 0} (known : Bool) (memory : W → Memory) (u v w : WriterSeen W) (xs ys : List Chunk) → TookChunks known memory u xs v → TookChunks known memory v ys w → TookChunks known memory u (xs ++ ys) w
+took_chunks known memory u v w xs ys one more = record {
   state = more.state ∙ one.state;
-  stream = λ base head so_far agrees.
+  types = more.types ∙ one.types;
+  ids = more.ids ∙ one.ids;
+  stream = λ k base head so_far agrees.
       subst (λ (cs : List Chunk). Agrees memory w base head cs) (more_taken so_far xs ys)
-      (more.stream base head (so_far ++ normal_chunks xs) (one.stream base head so_far agrees));
+      (more.stream k base head (so_far ++ normal_chunks xs) (one.stream k base head so_far agrees));
 }
 
 pub stream_took_nothing : {W : Type 0} (known : Bool) (memory : W → Memory) → Nothing (StreamTook known memory)
-stream_took_nothing known memory a = λ k. record {
+stream_took_nothing known memory a = record {
   state = refl;
-  stream = λ base head so_far agrees. subst (λ (cs : List Chunk). Agrees memory (seen a) base head cs) (sym (append-nil so_far)) agrees;
+  types = refl;
+  ids = refl;
+  stream = λ k base head so_far agrees. subst (λ (cs : List Chunk). Agrees memory (seen a) base head cs) (sym (append-nil so_far)) agrees;
 }
 
 pub stream_took_in_order : {W : Type 0} (known : Bool) (memory : W → Memory) → InOrder (StreamTook known memory)
-stream_took_in_order known memory a xs b ys c one more = λ k. took_chunks memory (seen a) (seen b) (seen c) xs ys (one k) (more k)
+stream_took_in_order known memory a xs b ys c one more = took_chunks known memory (seen a) (seen b) (seen c) xs ys one more
 
 pub file_took_nothing : {W : Type 0} (known : Bool) (memory : W → Memory) → Nothing (FileTook known memory)
-file_took_nothing known memory a = takes_none known memory (files.seen a)
+file_took_nothing known memory a = record { state = refl; takes = takes_none known memory (files.seen a) }
 
 pub file_took_in_order : {W : Type 0} (known : Bool) (memory : W → Memory) → InOrder (FileTook known memory)
-file_took_in_order known memory a xs b ys c one more =
-    subst (λ (cs : List Chunk). TakesChunks known memory (files.seen a) (files.seen c) cs) (sym (map-append normal_chunk xs ys))
-    (takes_both known memory (files.seen a) (files.seen b) (files.seen c) (normal_chunks xs) (normal_chunks ys) one more)
+file_took_in_order known memory a xs b ys c one more = record {
+  state = more.state ∙ one.state;
+  takes = subst (λ (cs : List Chunk). TakesChunks known memory (files.seen a) (files.seen c) cs) (sym (map-append normal_chunk xs ys))
+      (takes_both known memory (files.seen a) (files.seen b) (files.seen c) (normal_chunks xs) (normal_chunks ys) one.takes more.takes);
+}

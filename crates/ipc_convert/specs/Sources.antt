@@ -1,20 +1,25 @@
 -- Chunks that come from a stream, and from a file.
 -- (Arrow columnar format, "IPC Streaming Format" and "IPC File Format".)
-use Rattle.std.specs.Prelude.{◌≡◌, ◌⊎◌, ℕ, ◌+◌, Bool, true, false, IsSome, IsTrue, List, [], ◌++◌, length, map, take, Option, None, Some}
+use Rattle.std.specs.Prelude.{◌≡◌, ◌⊎◌, ℕ, ◌+◌, Bool, true, false, IsSome, IsTrue, List, [], ◌++◌, length, map, slice_get, take, Option, None, Some}
 use Rattle.ipc_devices.specs.Device.{Memory}
-use Rattle.ipc_devices.specs.Gives.{Stop, going, Gives}
+use Rattle.ipc_devices.specs.Gives.{Follows, Stop, going, Gives}
+use Rattle.ipc_devices.specs.declared.fault.Fault.{Fault}
 use Rattle.ipc_laws.specs.Agreement.{AreAlike}
-use Rattle.ipc_model.specs.Batches.{Chunk}
+use Rattle.ipc_model.specs.Batches.{Chunk, chosen, kinds}
 use Rattle.ipc_model.specs.Entries.{Dictionaries}
-use Rattle.ipc_model.specs.Files.{FileMetadata, all_of, chunks_at, file_dictionaries}
-use Rattle.ipc_model.specs.Streams.{Known, Meant, with_chunks}
+use Rattle.ipc_model.specs.Files.{FileMetadata, all_of, chunks_at, file_chunk, file_dictionaries}
+use Rattle.ipc_model.specs.Kinds.{count}
+use Rattle.ipc_model.specs.Streams.{Known, Meant, faulty, with_chunks}
 use Rattle.ipc_readers.specs.ChosenStreams.{chosen_meaning}
+use Rattle.ipc_readers.specs.Refusals.{IsStreamFault}
 use Rattle.ipc_readers.specs.Streams.{Knows, begun_of, device_of, is_over, request_of}
 use Rattle.ipc_readers.specs.declared.read.stream.reader.StreamReader.{StreamReader}
+use Rattle.ipc_files.specs.Batches.{RecordReason}
+use Rattle.ipc_files.specs.Dictionaries.{DictionariesReason}
 use Rattle.ipc_file_readers.specs.Readers as files
 use Rattle.ipc_file_readers.specs.declared.read.reader.state.FileReader.{FileReader}
 use Rattle.ipc_round_trip.specs.Reading.{EndsNow}
-use Rattle.ipc_convert.specs.Chunks.{Moved}
+use Rattle.ipc_convert.specs.Chunks.{BreaksAt, Moved}
 use Rattle.ipc_convert.specs.declared.chunks.Ending.{Ending}
 use Rattle.ipc_convert.specs.declared.chunks.Ending.TheVariants.{Over, Waits}
 
@@ -39,6 +44,15 @@ pub record GaveNoMore {R : Type 0} (gives : Gives R) (a : StreamReader R) (over 
   pub gave : gives (device_of a) bytes stop (device_of b)
   pub ends : (s : Known) → Knows a s → EndsNow over (meant_by a s bytes)
 
+-- From a on a device gave bytes that mean a fault to a reader, whatever follows them, and no chunk; the fault is one of a stream's.
+pub record GaveFault {R : Type 0} (gives : Gives R) (a : StreamReader R) (e : Fault) : Type 0 where
+  pub bytes : List ℕ
+  pub stop : Stop
+  pub left : R
+  pub gave : gives (device_of a) bytes stop left
+  pub kind : IsStreamFault (request_of a) e
+  pub means : (s : Known) (ys : List ℕ) → Knows a s → Follows stop ys → meant_by a s (bytes ++ ys) ≡ record { chunks = []; end = faulty }
+
 abbrev pub is_end : Ending → Bool
 is_end Waits = false
 is_end Over = true
@@ -48,6 +62,9 @@ StreamCame gives a cs b = is_over a ≡ false → GaveChunks gives a cs b
 
 abbrev pub StreamStopped : {R : Type 0} → Gives R → StreamReader R → Ending → StreamReader R → Type 0
 StreamStopped gives a ending b = is_over a ≡ false → GaveNoMore gives a (is_end ending) b
+
+abbrev pub StreamBreaks : {R : Type 0} → Gives R → BreaksAt (StreamReader R)
+StreamBreaks gives a e = is_over a ≡ false → GaveFault gives a e
 
 -- ---- a file
 
@@ -87,3 +104,23 @@ FileCame known memory a cs b = IsTrue known → ReadsWhole memory a → GaveBloc
 -- behind the last block nothing comes
 abbrev pub FileStopped : {R : Type 0} → FileReader R → Ending → FileReader R → Type 0
 FileStopped a ending b = (ending ≡ Over) × (files.is_over a ≡ true)
+
+-- The dictionaries of a file have no meaning, and the fault is that of the first of their blocks that has none.
+pub record LacksDictionaries (m : FileMetadata) (bytes : List ℕ) (e : Fault) : Type 0 where
+  pub none : file_dictionaries m bytes ≡ None
+  pub reason : DictionariesReason m bytes [] m.dictionaries e
+
+-- A block of a file has no chunk, and the fault is that of its message.
+pub record LacksChunk (m : FileMetadata) (bytes : List ℕ) (e : Fault) : Type 0 where
+  pub block : ℕ
+  pub known : Dictionaries
+  pub dictionaries : file_dictionaries m bytes ≡ Some known
+  pub none : file_chunk m known bytes None None block ≡ None
+  pub reason : let ts = kinds m.schema in RecordReason ts (chosen None (count ts)) bytes (slice_get m.blocks block) e
+
+-- its dictionaries or one of its blocks
+abbrev pub LacksPart : FileMetadata → List ℕ → Fault → Type 0
+LacksPart m bytes e = LacksDictionaries m bytes e ⊎ LacksChunk m bytes e
+
+abbrev pub FileBreaks : {R : Type 0} → Bool → (R → Memory) → BreaksAt (FileReader R)
+FileBreaks known memory a e = IsTrue known → ReadsWhole memory a → LacksPart (files.file_of a) (bytes_of memory a) e

@@ -1,11 +1,15 @@
 -- How a stream is ended, and how a file is begun and ended, that is written again.
 -- (Arrow columnar format, "IPC Streaming Format" and "IPC File Format".)
-use Rattle.std.specs.Prelude.{◌≡◌, ℕ, Bool, IsTrue, [], OnOk, Result, Ok, Err}
+use Rattle.std.specs.Prelude.{◌≡◌, ◌⊎◌, ℕ, ◌≤◌, Bool, IsTrue, [], OnOk, Result, Ok, Err}
 use Rattle.lower.specs.TypeTrees.{FieldTrees, Pairs}
 use Rattle.lower_types.specs.declared.Endianness.{Endianness}
 use Rattle.ipc_base.specs.IdTrees.{IdTrees}
 use Rattle.ipc_devices.specs.Device.{Memory, before}
+use Rattle.ipc_devices.specs.declared.fault.ArgFault.TheVariants.{TooLarge}
 use Rattle.ipc_devices.specs.declared.fault.Fault.{Fault}
+use Rattle.ipc_devices.specs.declared.fault.Fault.TheVariants.{Argument}
+use Rattle.ipc_model.specs.Writable.{file_weight}
+use Rattle.ipc_schema_write.specs.WriterAnswers.{RefusesSchema, max_weight}
 use Rattle.ipc_write.specs.Agreement as streams
 use Rattle.ipc_write.specs.Writers.{WriterSeen}
 use Rattle.ipc_write.specs.declared.stream.WriterState.TheVariants.{Started, Finished}
@@ -27,6 +31,10 @@ pub record BeginsFile {W : Type 0} (known : Bool) (memory : W → Memory) (out :
   pub ids_are : w.ids ≡ ids
   pub pairs_are : w.pairs ≡ pairs
   pub agrees : IsTrue known → Agrees memory w (before (memory out)) []
+
+-- why one isn't begun: the schema can't be written with its ids, or it and the pairs weigh too much together
+abbrev pub RefusesWithPairs : FieldTrees → Pairs → IdTrees → Pairs → Fault → Type 0
+RefusesWithPairs fs es is pairs e = RefusesSchema e fs es is ⊎ ((e ≡ Argument TooLarge) × ¬ (file_weight fs es pairs ≤ max_weight))
 
 -- All chunks were taken, and the file that has them was ended.
 pub record EndsCopy {W : Type 0} (known grows : Bool) (failures room : W → ℕ) (memory : W → Memory) (copied : Result Ending Fault) (ending : Ending) (a b : FileSeen W) : Type 0 where

@@ -1,9 +1,12 @@
 //! Goes on with a file by the chunks of a stream.
-ghost use Rattle.std.specs.Prelude.{◌≡◌, IfOk, IsTrue};
+ghost use Rattle.std.specs.Prelude.{◌≡◌, ◌⊎◌, IfErr, IfOk, IsTrue};
 ghost use Rattle.lower.specs.TypeViews.{schema_view};
 ghost use Rattle.ipc_base.specs.IdTrees.{all_ids_view};
-ghost use Rattle.ipc_devices.specs.Faults.{Answers};
+ghost use Rattle.ipc_devices.specs.Faults.{Answers, OwnFault};
+ghost use Rattle.ipc_devices.specs.declared.fault.ArgFault.TheVariants.{FieldsDiffer};
+ghost use Rattle.ipc_devices.specs.declared.fault.Fault.TheVariants.{Argument};
 ghost use Rattle.ipc_convert.specs.Copies.{AppendsTo, AreSame, CopiesStream};
+ghost use Rattle.ipc_convert.specs.Refusals.{GoesOnWithNone, RefusesAppended};
 
 use crate::chunks::copy_chunks;
 use crate::files::finish_file;
@@ -21,17 +24,20 @@ use std::alloc::Global;
 /// Writes the chunks of the stream at `input` behind those of the file at `file`, each as soon as it is read, and a footer with all of
 /// them. The file's byte order and its pairs stay. Both devices are given back.
 ///
-/// Faults: those of [`read_file_metadata`], `try_from_file` and [`read_stream_metadata`]; `Argument(FieldsDiffer)` where the stream's schema
-/// isn't the file's, both in their normal form, or its ids aren't: the file is as it was then. Behind the schema those of the calls of
-/// [`StreamReader`] and [`FileWriter`], and `Argument(TooLarge)` where `2^64 - 1` chunks came and no end: the file is finished then with the
-/// chunks that were taken, unless its device failed; and then its old chunks still stand.
+/// Faults, those of memory and of devices aside each, of a file in memory, only where it is so: those of [`read_file_metadata`],
+/// `try_from_file` and [`read_stream_metadata`]; `Argument(FieldsDiffer)` where the stream's schema isn't the file's, both in their normal
+/// form, or its ids aren't: the file is as it was then. Behind the schema those of the calls of [`StreamReader`] and [`FileWriter`], and
+/// `Argument(TooLarge)` where `2^64 - 1` chunks came and no end: the file is finished then with the chunks that were taken, unless its device
+/// failed; and then its old chunks still stand.
 pub fn append_stream<F: Reads + Writes + Seeks + Drop, R: Reads + Drop>(
     alloc: Global,
     file: F,
     input: R,
 ) -> Result<(F, R), Fault>
-    ensures { IsTrue F.known → (F.memory file).place ≡ 0 → IfOk result (λ devices. CopiesStream R.gives input devices.1
+    ensures appends { IsTrue F.known → (F.memory file).place ≡ 0 → IfOk result (λ devices. CopiesStream R.gives input devices.1
         (λ schema chunks _. AppendsTo (F.memory file).whole (F.memory devices.0).whole schema chunks)) }
+    ensures refused { IsTrue F.known → (F.memory file).place ≡ 0 → IfErr result (λ e. OwnFault e
+        (GoesOnWithNone F.known (F.memory file).whole e ⊎ RefusesAppended F.known F.memory file R.gives R.known R.memory input e)) }
 {
     let mut file = file;
     let metadata = read_file_metadata(alloc, &mut file)?;
@@ -48,7 +54,8 @@ pub fn append_stream<F: Reads + Writes + Seeks + Drop, R: Reads + Drop>(
 
 // Refuses a stream whose schema, in the normal form, isn't this one, or whose ids aren't these.
 fn check_schema(metadata: &StreamMetadata, schema: &Schema, ids: &[IpcField]) -> Result<(), Fault>
-    ensures { Answers result (AreSame (schema_view metadata.now.schema) (all_ids_view metadata.now.ipc_schema.fields.items) (schema_view schema.now) (all_ids_view ids.now)) (λ _. Unit {0}) }
+    ensures exact { Answers result (AreSame (schema_view metadata.now.schema) (all_ids_view metadata.now.ipc_schema.fields.items) (schema_view schema.now) (all_ids_view ids.now)) (λ _. Unit {0}) }
+    ensures only { IfErr result (λ e. OwnFault e (e ≡ Argument FieldsDiffer)) }
 {
     let normal = metadata.schema.normal()?;
     if is_same_schema(&normal, &schema.normal()?)

@@ -1,9 +1,9 @@
 //! Chunks that are copied, one after the other.
-ghost use Rattle.std.specs.Prelude.{◌≡◌, ◌∷◌, [], IfOk, List, OnOk};
-ghost use Rattle.ipc_devices.specs.Faults.{OnRefused};
+ghost use Rattle.std.specs.Prelude.{◌≡◌, ◌∷◌, [], IfErr, IfOk, List, OnOk};
+ghost use Rattle.ipc_devices.specs.Faults.{OnRefused, OwnFault};
 ghost use Rattle.ipc_model.specs.Batches.{Chunk as ChunkMeant};
 ghost use Rattle.ipc_read.specs.Chunks.{chunk_seen};
-ghost use Rattle.ipc_convert.specs.Chunks.{CameNext, Copied, CopiedOne, InOrder, Nothing, TookWhatCame};
+ghost use Rattle.ipc_convert.specs.Chunks.{CameNext, Copied, CopiedOne, InOrder, Nothing, StopsCopy, StopsOne, TookWhatCame};
 
 use ipc_base::chunk::Chunk;
 use ipc_devices::fault::{ArgFault, Fault};
@@ -30,6 +30,7 @@ pub enum Next {
 /// What chunks are read from.
 pub trait Source {
     ghost use Rattle.ipc_convert.specs.declared.chunks.Ending.{Ending};
+    ghost use Rattle.ipc_devices.specs.declared.fault.Fault.{Fault};
 
     // Which chunks came from one state to another.
     ghost came: { Self → List ChunkMeant → Self → Type 0 };
@@ -37,9 +38,13 @@ pub trait Source {
     // From one state to another no chunk came, and so it ended.
     ghost stopped: { Self → Ending → Self → Type 0 };
 
-    /// The next chunk, or that none comes.
+    // In one state this fault comes in place of the next chunk.
+    ghost breaks: { Self → Fault → Type 0 };
+
+    /// The next chunk, or that none comes. A fault, `Memory` and `Io` aside, comes only where `breaks` says it.
     fn next_chunk(&mut self) -> Result<Next, Fault>
-        ensures { IfOk result (λ next. CameNext came stopped self.old next self.new) };
+        ensures came { IfOk result (λ next. CameNext came stopped self.old next self.new) }
+        ensures broken { IfErr result (λ e. OwnFault e (breaks self.old e)) };
 
     // Laws: at first none came, and what came twice stands one behind the other.
     ghost came_nothing: { Nothing came };
@@ -49,13 +54,20 @@ pub trait Source {
 
 /// What chunks are written to.
 pub trait Sink {
+    ghost use Rattle.ipc_devices.specs.declared.fault.Fault.{Fault};
+    ghost use Rattle.lower_arrays.specs.declared.array.AnyArray.{AnyArray};
+
     // Which chunks were taken from one state to another.
     ghost took: { Self → List ChunkMeant → Self → Type 0 };
 
-    /// Takes a chunk. A fault, `Io` aside, leaves all as it was.
+    // In one state the chunk of these columns isn't taken, by this fault.
+    ghost refuses: { Self → List AnyArray → Fault → Type 0 };
+
+    /// Takes a chunk. A fault, `Io` aside, leaves all as it was, and comes, `Memory` aside too, only where `refuses` says it.
     fn take_chunk(&mut self, chunk: &Chunk<AnyArray>) -> Result<(), Fault>
         ensures taken { OnOk result (took self.old (chunk_seen chunk.now ∷ []) self.new) }
-        ensures kept { OnRefused result (took self.old [] self.new) };
+        ensures kept { OnRefused result (took self.old [] self.new) }
+        ensures refused { IfErr result (λ e. OwnFault e (refuses self.old chunk.now e)) };
 
     // Laws: at first none were taken, and what was taken twice stands one behind the other.
     ghost took_nothing: { Nothing took };
@@ -65,11 +77,13 @@ pub trait Sink {
 
 /// Reads all chunks that come, and writes each as soon as it is read: just these were taken then.
 ///
-/// Faults: the first of the source or of the sink, and `Argument(TooLarge)` where `2^64 - 1` chunks came and no end. What was taken by
-/// then are the first chunks that came; `Io` alone leaves that open.
+/// Faults: that of the source where one came in place of a chunk, that of the sink where it refused the chunk that came, and
+/// `Argument(TooLarge)` where `2^64 - 1` chunks came and no end. What was taken by then are the first chunks that came; `Io` alone leaves
+/// that open.
 pub fn copy_chunks<S: Source, T: Sink>(source: &mut S, sink: &mut T) -> Result<Ending, Fault>
     ensures copied { IfOk result (λ ending. Copied S.came S.stopped T.took source.old sink.old ending source.new sink.new) }
     ensures refused { OnRefused result (TookWhatCame S.came T.took source.old sink.old sink.new) }
+    ensures stops { IfErr result (λ e. OwnFault e (StopsCopy S.came S.breaks T.took T.refuses source.old sink.old e)) }
 {
     for _ in 0..u64::MAX {
         if let Some(ending) = copy_next(source, sink)? {
@@ -83,6 +97,7 @@ pub fn copy_chunks<S: Source, T: Sink>(source: &mut S, sink: &mut T) -> Result<E
 fn copy_next<S: Source, T: Sink>(source: &mut S, sink: &mut T) -> Result<Option<Ending>, Fault>
     ensures copied { IfOk result (λ ending. CopiedOne S.came S.stopped T.took source.old sink.old ending source.new sink.new) }
     ensures refused { OnRefused result (T.took sink.old [] sink.new) }
+    ensures stops { IfErr result (λ e. OwnFault e (StopsOne S.came S.breaks T.refuses source.old sink.old e)) }
 {
     match source.next_chunk()? {
         Next::Chunk(chunk) => {

@@ -1,9 +1,11 @@
 //! Writes streams and files as files.
-ghost use Rattle.std.specs.Prelude.{[], IfOk, IsTrue};
+ghost use Rattle.std.specs.Prelude.{◌≡◌, [], IfErr, IfOk, IsTrue};
 ghost use Rattle.lower.specs.TypeViews.{fields_view, pairs_of};
 ghost use Rattle.ipc_base.specs.IdTrees.{all_ids_view};
+ghost use Rattle.ipc_devices.specs.Faults.{OwnFault};
 ghost use Rattle.ipc_convert.specs.Copies.{CopiesFileOf, CopiesStream, WritesFile};
-ghost use Rattle.ipc_convert.specs.Steps.{BeginsFile, EndsAnyway, EndsCopy};
+ghost use Rattle.ipc_convert.specs.Refusals.{CopiesNoFile, CopiesNoStream, HoldsOfGiven, RefusesAsFile};
+ghost use Rattle.ipc_convert.specs.Steps.{BeginsFile, EndsAnyway, EndsCopy, RefusesWithPairs};
 ghost use Rattle.ipc_file_write.specs.FileWriters.{seen};
 ghost use Rattle.ipc_write.specs.Writers.{order_of};
 
@@ -23,18 +25,20 @@ use std::alloc::Global;
 /// Writes the stream at `input` as a file to `out`: its schema, in the normal form and with the ids of its dictionaries, then each chunk
 /// as soon as it is read, and the footer, without pairs, where the stream ends by its mark or waits for more. Both devices are given back.
 ///
-/// Faults: those of [`read_stream_metadata`], and the `Argument` faults of a schema that can't be written: nothing is written then. Behind
-/// the schema those of the calls of [`StreamReader`] and [`FileWriter`], and `Argument(TooLarge)` where `2^64 - 1` chunks came and no end:
-/// the file is finished then with the chunks that were taken, unless its device failed. Both devices are dropped with a fault: who wants
-/// what was written lends them.
+/// Faults, those of memory and of devices aside each only where it is so: those of [`read_stream_metadata`], and the `Argument` faults of a
+/// schema that can't be written: nothing is written then. Behind the schema those of the calls of [`StreamReader`] and [`FileWriter`], and
+/// `Argument(TooLarge)` where `2^64 - 1` chunks came and no end: the file is finished then with the chunks that were taken, unless its device
+/// failed. Both devices are dropped with a fault: who wants what was written lends them.
 pub fn stream_to_file<R: Reads + Drop, W: Writes + Drop>(
     alloc: Global,
     input: R,
     out: W,
     write_options: WriteOptions,
 ) -> Result<(R, W), Fault>
-    ensures { IsTrue W.known → IfOk result (λ devices. CopiesStream R.gives input devices.0
+    ensures copies { IsTrue W.known → IfOk result (λ devices. CopiesStream R.gives input devices.0
         (λ schema chunks _. WritesFile (order_of write_options) (W.memory out) (W.memory devices.1) schema [] chunks)) }
+    ensures refused { IfErr result (λ e. OwnFault e (HoldsOfGiven R.gives R.known R.memory input
+        (λ bytes. CopiesNoStream (RefusesAsFile W.known W.memory out (order_of write_options) []) bytes e))) }
 {
     let mut input = input;
     let metadata = read_stream_metadata(alloc, &mut input)?;
@@ -52,17 +56,20 @@ pub fn stream_to_file<R: Reads + Drop, W: Writes + Drop>(
 /// dictionaries, then the chunk at each block, in their order and each as soon as it is read, and the footer with the file's own pairs.
 /// The dictionaries are read with the first block.
 ///
-/// Faults: those of [`read_file_metadata`], and the `Argument` faults of a schema that can't be written, or that is too heavy with the pairs
-/// (`TooLarge`): nothing is written then. Behind the schema those of the calls of [`FileReader`] and [`FileWriter`]: the file is finished then
-/// with the chunks that were taken, unless its device failed. Both devices are dropped with a fault: who wants what was written lends them.
+/// Faults, those of memory and of devices aside each, of a file in memory, only where it is so: those of [`read_file_metadata`], and the
+/// `Argument` faults of a schema that can't be written, or that is too heavy with the pairs (`TooLarge`): nothing is written then. Behind the
+/// schema those of the calls of [`FileReader`] and [`FileWriter`]: the file is finished then with the chunks that were taken, unless its device
+/// failed. Both devices are dropped with a fault: who wants what was written lends them.
 pub fn file_to_file<F: Reads + Seeks + Drop, W: Writes + Drop>(
     alloc: Global,
     file: F,
     out: W,
     write_options: WriteOptions,
 ) -> Result<W, Fault>
-    ensures { IsTrue W.known → IfOk result (λ device. CopiesFileOf F.known F.memory file
+    ensures copies { IsTrue W.known → IfOk result (λ device. CopiesFileOf F.known F.memory file
         (WritesFile (order_of write_options) (W.memory out) (W.memory device))) }
+    ensures refused { IsTrue F.known → (F.memory file).place ≡ 0 → IfErr result (λ e. OwnFault e (CopiesNoFile
+        (λ first schema pairs. RefusesAsFile W.known W.memory out (order_of write_options) pairs first schema) (F.memory file).whole e)) }
 {
     let mut file = file;
     let metadata = read_file_metadata(alloc, &mut file)?;
@@ -85,8 +92,10 @@ fn begin_file<W: Writes + Drop>(
     pairs: Metadata,
     write_options: WriteOptions,
 ) -> Result<FileWriter<W>, Fault>
-    ensures { IfOk result (λ w. BeginsFile W.known W.memory out (order_of write_options) (fields_view schema.fields.items)
+    ensures begins { IfOk result (λ w. BeginsFile W.known W.memory out (order_of write_options) (fields_view schema.fields.items)
         (pairs_of schema.metadata.entries) (all_ids_view ids.items) (pairs_of pairs.entries) (seen w)) }
+    ensures only { IfErr result (λ e. OwnFault e (RefusesWithPairs (fields_view schema.fields.items) (pairs_of schema.metadata.entries)
+        (all_ids_view ids.items) (pairs_of pairs.entries) e)) }
 {
     let mut writer = FileWriter::new(alloc, out, schema, Some(ids), write_options)?;
     writer.set_custom_metadata(pairs)?;

@@ -1,6 +1,6 @@
 //! Streams and files that chunks are written to.
 ghost use Rattle.ipc_convert.specs.SinkLaws.{file_took_in_order, file_took_nothing, stream_took_in_order, stream_took_nothing};
-ghost use Rattle.ipc_convert.specs.Sinks.{FileTook, StreamTook};
+ghost use Rattle.ipc_convert.specs.Sinks.{FileRefuses, FileTook, StreamRefuses, StreamTook};
 
 use crate::chunks::Sink;
 use ipc_base::chunk::Chunk;
@@ -13,6 +13,8 @@ use lower_arrays::array::AnyArray;
 impl<W: Writes + Drop> Sink for StreamWriter<W> {
     ghost took = { StreamTook W.known W.memory };
 
+    ghost refuses = { StreamRefuses };
+
     ghost took_nothing = { stream_took_nothing W.known W.memory };
 
     ghost took_in_order = { stream_took_in_order W.known W.memory };
@@ -24,6 +26,8 @@ impl<W: Writes + Drop> Sink for StreamWriter<W> {
 
 impl<W: Writes + Drop> Sink for FileWriter<W> {
     ghost took = { FileTook W.known W.memory };
+
+    ghost refuses = { FileRefuses };
 
     ghost took_nothing = { file_took_nothing W.known W.memory };
 

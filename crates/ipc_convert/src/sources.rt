@@ -1,6 +1,6 @@
 //! Streams and files that chunks are read from.
 ghost use Rattle.ipc_convert.specs.SourceLaws.{file_came_in_order, file_came_nothing, stream_came_in_order, stream_came_nothing};
-ghost use Rattle.ipc_convert.specs.Sources.{FileCame, FileStopped, StreamCame, StreamStopped};
+ghost use Rattle.ipc_convert.specs.Sources.{FileBreaks, FileCame, FileStopped, StreamBreaks, StreamCame, StreamStopped};
 
 use crate::chunks::{Ending, Next, Source};
 use ipc_devices::fault::Fault;
@@ -12,6 +12,8 @@ impl<R: Reads + Drop> Source for StreamReader<R> {
     ghost came = { StreamCame R.gives };
 
     ghost stopped = { StreamStopped R.gives };
+
+    ghost breaks = { StreamBreaks R.gives };
 
     ghost came_nothing = { stream_came_nothing R.gives R.gives_nothing };
 
@@ -31,6 +33,8 @@ impl<F: Reads + Seeks + Drop> Source for FileReader<F> {
     ghost came = { FileCame F.known F.memory };
 
     ghost stopped = { FileStopped };
+
+    ghost breaks = { FileBreaks F.known F.memory };
 
     ghost came_nothing = { file_came_nothing F.known F.memory };
 

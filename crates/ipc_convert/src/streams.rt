@@ -1,9 +1,11 @@
 //! Writes streams and files as streams.
-ghost use Rattle.std.specs.Prelude.{IfOk, IsTrue, OnOk};
+ghost use Rattle.std.specs.Prelude.{◌≡◌, IfErr, IfOk, IsTrue, OnOk};
+ghost use Rattle.ipc_devices.specs.Faults.{OwnFault};
 ghost use Rattle.ipc_model.specs.Streams.{marked};
 ghost use Rattle.ipc_convert.specs.Copies.{CopiesFileOf, CopiesStream, WritesStream};
+ghost use Rattle.ipc_convert.specs.Refusals.{CopiesNoFile, CopiesNoStream, HoldsOfGiven, RefusesAsStream};
 ghost use Rattle.ipc_convert.specs.Steps.{EndsAsSource};
-ghost use Rattle.ipc_write.specs.Writers.{order_of, seen};
+ghost use Rattle.ipc_write.specs.Writers.{RefusesFinish, order_of, seen};
 
 use crate::chunks::{Ending, copy_chunks};
 use ipc_devices::fault::Fault;
@@ -19,17 +21,20 @@ use std::alloc::Global;
 /// chunk as soon as it is read, and the mark where the stream ends by one. Where the stream waits for more, so does what is written.
 /// Both devices are given back.
 ///
-/// Faults: those of [`read_stream_metadata`] and of the calls of [`StreamReader`] and [`StreamWriter`]; the `Argument` faults
-/// among them tell that a schema or a chunk can't be written, or, as `TooLarge`, that `2^64 - 1` chunks came and no end. What was read by
-/// then has been written, without the mark. Both devices are dropped with a fault: who wants what was written lends them.
+/// Faults, those of memory and of devices aside each only where it is so: those of [`read_stream_metadata`] and of the calls of
+/// [`StreamReader`] and [`StreamWriter`]; the `Argument` faults among them tell that a schema or a chunk can't be written, or, as `TooLarge`,
+/// that `2^64 - 1` chunks came and no end. What was read by then has been written, without the mark. Both devices are dropped with a fault: who
+/// wants what was written lends them.
 pub fn stream_to_stream<R: Reads + Drop, W: Writes + Drop>(
     alloc: Global,
     input: R,
     out: W,
     write_options: WriteOptions,
 ) -> Result<(R, W), Fault>
-    ensures { IsTrue W.known → IfOk result (λ devices. CopiesStream R.gives input devices.0
+    ensures copies { IsTrue W.known → IfOk result (λ devices. CopiesStream R.gives input devices.0
         (WritesStream (order_of write_options) (W.memory out) (W.memory devices.1))) }
+    ensures refused { IfErr result (λ e. OwnFault e (HoldsOfGiven R.gives R.known R.memory input
+        (λ bytes. CopiesNoStream RefusesAsStream bytes e))) }
 {
     let mut input = input;
     let metadata = read_stream_metadata(alloc, &mut input)?;
@@ -46,17 +51,20 @@ pub fn stream_to_stream<R: Reads + Drop, W: Writes + Drop>(
 /// dictionaries, then the chunk at each block, in their order and each as soon as it is read, and the mark. The pairs of the file itself
 /// are left out: a stream has none.
 ///
-/// Faults: those of [`read_file_metadata`] and of the calls of [`FileReader`] and [`StreamWriter`]; the `Argument` faults
-/// among them tell that the schema or a chunk can't be written. What was read by then has been written, without the mark. Both devices are
-/// dropped with a fault: who wants what was written lends them. The dictionaries are read with the first block.
+/// Faults, those of memory and of devices aside each, of a file in memory, only where it is so: those of [`read_file_metadata`] and of the
+/// calls of [`FileReader`] and [`StreamWriter`]; the `Argument` faults among them tell that the schema or a chunk can't be written. What was
+/// read by then has been written, without the mark. Both devices are dropped with a fault: who wants what was written lends them. The
+/// dictionaries are read with the first block.
 pub fn file_to_stream<F: Reads + Seeks + Drop, W: Writes + Drop>(
     alloc: Global,
     file: F,
     out: W,
     write_options: WriteOptions,
 ) -> Result<W, Fault>
-    ensures { IsTrue W.known → IfOk result (λ device. CopiesFileOf F.known F.memory file
+    ensures copies { IsTrue W.known → IfOk result (λ device. CopiesFileOf F.known F.memory file
         (λ schema _ chunks. WritesStream (order_of write_options) (W.memory out) (W.memory device) schema chunks marked)) }
+    ensures refused { IsTrue F.known → (F.memory file).place ≡ 0 → IfErr result (λ e. OwnFault e (CopiesNoFile
+        (λ first schema _ fault. RefusesAsStream first schema fault) (F.memory file).whole e)) }
 {
     let mut file = file;
     let metadata = read_file_metadata(alloc, &mut file)?;
@@ -71,7 +79,8 @@ pub fn file_to_stream<F: Reads + Seeks + Drop, W: Writes + Drop>(
 
 // Ends a stream by the mark where its source is over.
 fn end_stream<W: Writes + Drop>(ending: Ending, writer: &mut StreamWriter<W>) -> Result<(), Fault>
-    ensures { OnOk result (EndsAsSource W.known W.memory ending (seen writer.old) (seen writer.new)) }
+    ensures ends { OnOk result (EndsAsSource W.known W.memory ending (seen writer.old) (seen writer.new)) }
+    ensures only { IfErr result (RefusesFinish (seen writer.old).state) }
 {
     match ending {
         Ending::Waits => Ok(()),

@@ -1,14 +1,22 @@
-use Rattle.std.proofs.Common.{ap, ◌∙◌}
+use Rattle.std.proofs.Common.{ap, inr, subst, ◌∙◌}
+use Rattle.std.proofs.lemmas.Result.{err_from_is_err_and}
+use Rattle.ipc_devices.specs.Faults.{OwnFault}
+use Rattle.ipc_file_write.specs.Appends.{GoesOn}
 use Rattle.lower.specs.Normal.{norm_schema}
 use Rattle.ipc_base.specs.IdTrees.{all_ids_view}
 use Rattle.ipc_files.specs.Footers.{file_seen}
+use Rattle.ipc_files.specs.Files.{FileReason}
+use Rattle.ipc_convert.proofs.AppendFaults.{appended_refused, file_not_gone_on, no_metadata, other_schema}
 use Rattle.ipc_convert.proofs.Appended.{stream_appended}
+use Rattle.ipc_convert.proofs.CopyFaults.{memory_alone, stream_blocks_stop}
+use Rattle.ipc_convert.proofs.Refused.{front_refused}
+use Rattle.ipc_convert.specs.Refusals.{RefusesBehind}
 use Rattle.ipc_convert.proofs.append.append_stream.Goals as goal
 
-pub returns : goal.returns
-returns g c = λ k front.
+pub returns-clause-appends : goal.returns-clause-appends
+returns-clause-appends g c = λ k front.
     let made = c.in_ok-writer.ensures in
-    let same = c.in_ok-check_schema.ensures in
+    let same = c.in_ok-check_schema.ensures.exact in
     stream_appended g.R.Reads.gives g.F.Failures.known g.F.Writes.grows g.F.Failures.failures g.F.Writes.room g.F.Failures.memory g.met.R.Reads.gives_in_order
     c.args.file c.read_file_metadata.new.reader _ c.args.input c.read_stream_metadata.new.reader _ (file_seen c.in_ok-metadata.metadata) c.in_ok-metadata-2.metadata c.in_ok-reader.reader c.copy_chunks-copied.new.source
     c.in_ok-writer.writer c.copy_chunks-copied.new.sink c.finish_file.new.writer c.copy_chunks-copied.result c.in_ok-finish_file.field-0
@@ -16,3 +24,51 @@ returns g c = λ k front.
     c.in_ok-metadata-2.ensures.gives c.in_ok-reader.ensures.ok c.in_ok-reader.ensures.asked
     (same.0.0 ∙ ap norm_schema (c.schema.ensures ∙ (λ i. (made.ok.fields i, made.ok.metadata i))), same.0.1 ∙ ap all_ids_view c.deref.ensures.value ∙ ap (λ x. x.0) c.in_ok-ids.ensures)
     c.copy_chunks-copied.ensures.copied c.in_ok-finish_file.ensures.ends c.into_inner-2.ensures c.into_inner.ensures
+
+pub returns-in_err-metadata-clause-refused : goal.returns-in_err-metadata-clause-refused
+returns-in_err-metadata-clause-refused g c = λ k front.
+    let p = err_from_is_err_and c.from_residual.result c.from_residual.ensures.1 in
+    let reason = subst (λ n. OwnFault c.in_err-metadata.field-0.0 (FileReason n (g.F.Failures.memory c.args.file).whole c.in_err-metadata.field-0.0)) front (c.in_err-metadata.ensures.reason k) in
+    rw (p.1, p.2) (no_metadata _ _ c.in_err-metadata.field-0.0 _ (c.in_err-metadata.ensures.memory k front) reason)
+
+pub returns-in_err-writer-clause-refused : goal.returns-in_err-writer-clause-refused
+returns-in_err-writer-clause-refused g c = λ k front.
+    let p = err_from_is_err_and c.from_residual-in_err-writer.result c.from_residual-in_err-writer.ensures.1 in
+    rw (p.1, p.2) (file_not_gone_on g.F.Failures.known g.F.Failures.memory c.args.file c.read_file_metadata.new.reader (file_seen c.in_ok-metadata.metadata) c.in_err-writer.field-0.0 _
+    (c.in_ok-metadata.ensures.memory k front) (c.in_ok-metadata.ensures.whole (g.met.F.Seeks.known_still k)) c.in_err-writer.ensures.only)
+
+pub returns-in_err-metadata-2-clause-refused : goal.returns-in_err-metadata-2-clause-refused
+returns-in_err-metadata-2-clause-refused g c = λ k front.
+    let p = err_from_is_err_and c.from_residual-in_err-metadata-2.result c.from_residual-in_err-metadata-2.ensures.1 in
+    rw (p.1, p.2) (appended_refused g.F.Failures.known g.F.Failures.memory c.args.file c.read_file_metadata.new.reader (file_seen c.in_ok-metadata.metadata) g.R.Reads.gives g.R.Failures.known g.R.Failures.memory c.args.input c.in_err-metadata-2.field-0.0 _
+    (c.in_ok-metadata.ensures.memory k front) (c.in_ok-metadata.ensures.whole (g.met.F.Seeks.known_still k))
+    (front_refused g.R.Reads.gives g.R.Failures.known g.R.Failures.memory g.met.R.Reads.gives_ahead c.args.input _ c.in_err-metadata-2.field-0.0
+    (RefusesBehind g.F.Failures.known g.F.Failures.memory (file_seen c.in_ok-metadata.metadata) c.read_file_metadata.new.reader) c.in_err-metadata-2.ensures.gives))
+
+pub returns-in_err-check_schema-clause-refused : goal.returns-in_err-check_schema-clause-refused
+returns-in_err-check_schema-clause-refused g c = λ k front.
+    let p = err_from_is_err_and c.from_residual-in_err-check_schema.result c.from_residual-in_err-check_schema.ensures.1 in
+    let made = c.in_ok-writer.ensures in
+    rw (p.1, p.2) (appended_refused g.F.Failures.known g.F.Failures.memory c.args.file c.read_file_metadata.new.reader (file_seen c.in_ok-metadata.metadata) g.R.Reads.gives g.R.Failures.known g.R.Failures.memory c.args.input c.in_err-check_schema.field-0.0 _
+    (c.in_ok-metadata.ensures.memory k front) (c.in_ok-metadata.ensures.whole (g.met.F.Seeks.known_still k))
+    (other_schema g.F.Failures.known g.F.Failures.memory (file_seen c.in_ok-metadata.metadata) c.read_file_metadata.new.reader g.R.Reads.gives g.R.Failures.known g.R.Failures.memory g.met.R.Reads.gives_ahead c.args.input _ c.in_ok-metadata-2.metadata c.in_err-check_schema.field-0.0
+    _ _ c.in_ok-metadata-2.ensures.gives (c.schema.ensures ∙ (λ i. (made.ok.fields i, made.ok.metadata i))) (ap all_ids_view c.deref.ensures.value ∙ ap (λ x. x.0) c.in_ok-ids.ensures)
+    c.in_err-check_schema.ensures.only c.in_err-check_schema.ensures.exact))
+
+pub returns-in_err-reader-clause-refused : goal.returns-in_err-reader-clause-refused
+returns-in_err-reader-clause-refused g c = λ k front.
+    let p = err_from_is_err_and c.from_residual-in_err-reader.result c.from_residual-in_err-reader.ensures.1 in
+    rw (p.1, p.2) (memory_alone c.in_err-reader.field-0.0 _ c.in_err-reader.ensures.only.0)
+
+pub returns-in_err-finish_file-clause-refused : goal.returns-in_err-finish_file-clause-refused
+returns-in_err-finish_file-clause-refused g c = λ k front.
+    let p = err_from_is_err_and c.from_residual-in_err-finish_file.result c.from_residual-in_err-finish_file.ensures.1 in
+    let m = file_seen c.in_ok-metadata.metadata in
+    let device = c.read_file_metadata.new.reader in
+    rw (p.1, p.2) (appended_refused g.F.Failures.known g.F.Failures.memory c.args.file device m g.R.Reads.gives g.R.Failures.known g.R.Failures.memory c.args.input c.in_err-finish_file.field-0.0 _
+    (c.in_ok-metadata.ensures.memory k front) (c.in_ok-metadata.ensures.whole (g.met.F.Seeks.known_still k))
+    (stream_blocks_stop g.F.Failures.known g.F.Failures.memory (GoesOn g.F.Failures.known g.F.Failures.memory m device)
+    c.in_ok-writer.writer c.copy_chunks-copied.new.sink c.finish_file.new.writer c.in_err-finish_file.field-0.0 c.in_ok-writer.ensures.ok
+    g.R.Reads.gives g.R.Failures.known g.R.Failures.memory g.met.R.Reads.gives_in_order g.met.R.Reads.gives_ahead c.args.input c.read_stream_metadata.new.reader c.in_ok-metadata-2.metadata c.in_ok-reader.reader c.copy_chunks-copied.new.source
+    c.in_ok-metadata-2.ensures.gives c.in_ok-reader.ensures.ok c.in_ok-reader.ensures.asked (RefusesBehind g.F.Failures.known g.F.Failures.memory m device) (λ first no. inr no)
+    c.copy_chunks-copied.result c.copy_chunks-copied.ensures.stops c.copy_chunks-copied.ensures.copied c.in_err-finish_file.ensures.anyway))

@@ -1,12 +1,29 @@
+use Rattle.std.proofs.Common.{◌∙◌}
+use Rattle.std.proofs.lemmas.Result.{err_from_is_err_and}
 use Rattle.lower.specs.TypeViews.{fields_view, pairs_of}
 use Rattle.ipc_base.specs.IdTrees.{all_ids_view}
 use Rattle.ipc_file_write.specs.FileWriters.{seen}
+use Rattle.ipc_convert.proofs.CopyFaults.{begin_refused, pairs_refused}
 use Rattle.ipc_convert.proofs.Taken.{file_begun}
 use Rattle.ipc_convert.proofs.files.begin_file.Goals as goal
 
-pub returns : goal.returns
-returns g c =
+pub returns-clause-begins : goal.returns-clause-begins
+returns-clause-begins g c =
     let made = c.in_ok-writer.ensures in
     file_begun g.W.Failures.known g.W.Writes.grows g.W.Failures.failures g.W.Writes.room g.W.Failures.memory c.args.out c.args.write_options.big_endian (fields_view c.args.schema.fields.items)
     (pairs_of c.args.schema.metadata.entries) (all_ids_view c.args.ids.items) (pairs_of c.args.pairs.entries) (seen c.in_ok-writer.writer) (seen c.set_custom_metadata.new.self) (seen c.start.new.self) _
     made.device made.means made.file c.in_ok-set_custom_metadata.ensures.ok c.in_ok-set_custom_metadata.ensures.means c.in_ok-start.ensures.step c.in_ok-start.ensures.ok c.in_ok-start.ensures.means
+
+pub returns-in_err-set_custom_metadata-clause-only : goal.returns-in_err-set_custom_metadata-clause-only
+returns-in_err-set_custom_metadata-clause-only g c =
+    let p = err_from_is_err_and c.from_residual-in_err-set_custom_metadata.result c.from_residual-in_err-set_custom_metadata.ensures.1 in
+    let made = c.in_ok-writer.ensures in
+    rw (p.1, p.2) (pairs_refused (seen c.in_ok-writer.writer) _ _ (all_ids_view c.args.ids.items) (pairs_of c.args.pairs.entries) c.in_err-set_custom_metadata.field-0.0 made.state made.file.fields_are made.file.metadata_are c.in_err-set_custom_metadata.ensures.only)
+
+pub returns-in_err-start-clause-only : goal.returns-in_err-start-clause-only
+returns-in_err-start-clause-only g c =
+    let p = err_from_is_err_and c.from_residual-in_err-start.result c.from_residual-in_err-start.ensures.1 in
+    let made = c.in_ok-writer.ensures in
+    let takes = c.in_ok-set_custom_metadata.ensures.ok in
+    rw (p.1, p.2) (begin_refused (seen c.set_custom_metadata.new.self) _ _ (all_ids_view c.args.ids.items) (pairs_of c.args.pairs.entries) c.in_err-start.field-0.0
+    (takes.state ∙ made.state) (takes.fields ∙ made.file.fields_are) (takes.metadata ∙ made.file.metadata_are) (takes.chosen ∙ made.file.chosen_are) c.in_err-start.ensures.only)

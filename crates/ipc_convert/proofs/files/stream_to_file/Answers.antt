@@ -1,13 +1,52 @@
-use Rattle.std.proofs.Common.{ap}
+use Rattle.std.proofs.Common.{[], ap, inl, inr}
+use Rattle.std.proofs.lemmas.Result.{err_from_is_err_and}
+use Rattle.ipc_read.proofs.Refusals.{claims_through}
 use Rattle.lower.specs.TypeViews.{pairs_of}
 use Rattle.ipc_write.specs.Writers.{order_of}
+use Rattle.ipc_readers.specs.Streams.{head_of}
 use Rattle.ipc_convert.proofs.Conversions.{stream_filed}
+use Rattle.ipc_convert.proofs.CopyFaults.{memory_alone, same_begun, same_refused, stream_blocks_stop}
+use Rattle.ipc_convert.proofs.Refused.{front_refused, schema_refused}
+use Rattle.ipc_convert.specs.Refusals.{RefusesAsFile}
+use Rattle.ipc_convert.specs.Steps.{BeginsFile}
 use Rattle.ipc_convert.proofs.files.stream_to_file.Goals as goal
 
-pub returns : goal.returns
-returns g c = λ k.
+pub returns-clause-copies : goal.returns-clause-copies
+returns-clause-copies g c = λ k.
     stream_filed g.R.Reads.gives g.W.Failures.known g.W.Writes.grows g.W.Failures.failures g.W.Writes.room g.W.Failures.memory (order_of c.args.write_options) g.met.R.Reads.gives_in_order
     c.args.input c.read_stream_metadata.new.reader _ c.args.out _ c.in_ok-metadata.metadata c.in_ok-reader.reader c.copy_chunks-copied.new.source _ _ _ _
     c.in_ok-writer.writer c.copy_chunks-copied.new.sink c.finish_file.new.writer c.copy_chunks-copied.result c.in_ok-finish_file.field-0
     k c.in_ok-metadata.ensures.gives c.in_ok-reader.ensures.ok c.in_ok-reader.ensures.asked (ap (λ x. x.0) c.in_ok-schema.ensures) (ap (λ x. x.1) c.in_ok-schema.ensures) (ap (λ x. x.0) c.in_ok-ids.ensures)
-    (ap pairs_of c.new-pairs.ensures.empty) c.in_ok-writer.ensures c.copy_chunks-copied.ensures.copied c.in_ok-finish_file.ensures.ends c.into_inner.ensures c.into_inner-2.ensures
+    (ap pairs_of c.new-pairs.ensures.empty) c.in_ok-writer.ensures.begins c.copy_chunks-copied.ensures.copied c.in_ok-finish_file.ensures.ends c.into_inner.ensures c.into_inner-2.ensures
+
+pub returns-in_err-metadata-clause-refused : goal.returns-in_err-metadata-clause-refused
+returns-in_err-metadata-clause-refused g c =
+    let p = err_from_is_err_and c.from_residual.result c.from_residual.ensures.1 in
+    rw (p.1, p.2) (front_refused g.R.Reads.gives g.R.Failures.known g.R.Failures.memory g.met.R.Reads.gives_ahead c.args.input _ c.in_err-metadata.field-0.0
+    (RefusesAsFile g.W.Failures.known g.W.Failures.memory c.args.out (order_of c.args.write_options) []) c.in_err-metadata.ensures.gives)
+
+pub returns-in_err-reader-clause-refused : goal.returns-in_err-reader-clause-refused
+returns-in_err-reader-clause-refused g c =
+    let p = err_from_is_err_and c.from_residual-in_err-reader.result c.from_residual-in_err-reader.ensures.1 in
+    rw (p.1, p.2) (memory_alone c.in_err-reader.field-0.0 _ c.in_err-reader.ensures.only.0)
+
+pub returns-in_err-writer-clause-refused : goal.returns-in_err-writer-clause-refused
+returns-in_err-writer-clause-refused g c =
+    let p = err_from_is_err_and c.from_residual-in_err-writer.result c.from_residual-in_err-writer.ensures.1 in
+    rw (p.1, p.2) (claims_through c.in_err-writer.field-0.0 _ _ (λ no.
+    schema_refused g.R.Reads.gives g.R.Failures.known g.R.Failures.memory g.met.R.Reads.gives_ahead c.args.input c.read_stream_metadata.new.reader c.in_ok-metadata.metadata c.in_err-writer.field-0.0
+    (RefusesAsFile g.W.Failures.known g.W.Failures.memory c.args.out (order_of c.args.write_options) []) c.in_ok-metadata.ensures.gives
+    (λ first. inl (same_refused _ _ _ _ _ _ _ _ c.in_err-writer.field-0.0 (ap (λ x. x.0) c.in_ok-schema.ensures) (ap (λ x. x.1) c.in_ok-schema.ensures) (ap (λ x. x.0) c.in_ok-ids.ensures) (ap pairs_of c.new-pairs.ensures.empty) no)))
+    c.in_err-writer.ensures.only)
+
+pub returns-in_err-finish_file-clause-refused : goal.returns-in_err-finish_file-clause-refused
+returns-in_err-finish_file-clause-refused g c =
+    let p = err_from_is_err_and c.from_residual-in_err-finish_file.result c.from_residual-in_err-finish_file.ensures.1 in
+    let m = c.in_ok-metadata.metadata in
+    rw (p.1, p.2) (stream_blocks_stop g.W.Failures.known g.W.Failures.memory
+    (BeginsFile g.W.Failures.known g.W.Failures.memory c.args.out (order_of c.args.write_options) (head_of m).schema.fields (head_of m).schema.metadata (head_of m).schema.ids [])
+    c.in_ok-writer.writer c.copy_chunks-copied.new.sink c.finish_file.new.writer c.in_err-finish_file.field-0.0
+    (same_begun _ _ _ _ _ _ _ _ _ _ _ _ _ (ap (λ x. x.0) c.in_ok-schema.ensures) (ap (λ x. x.1) c.in_ok-schema.ensures) (ap (λ x. x.0) c.in_ok-ids.ensures) (ap pairs_of c.new-pairs.ensures.empty) c.in_ok-writer.ensures.begins)
+    g.R.Reads.gives g.R.Failures.known g.R.Failures.memory g.met.R.Reads.gives_in_order g.met.R.Reads.gives_ahead c.args.input c.read_stream_metadata.new.reader m c.in_ok-reader.reader c.copy_chunks-copied.new.source
+    c.in_ok-metadata.ensures.gives c.in_ok-reader.ensures.ok c.in_ok-reader.ensures.asked (RefusesAsFile g.W.Failures.known g.W.Failures.memory c.args.out (order_of c.args.write_options) []) (λ first no. inr no)
+    c.copy_chunks-copied.result c.copy_chunks-copied.ensures.stops c.copy_chunks-copied.ensures.copied c.in_err-finish_file.ensures.anyway)

@@ -1,15 +1,50 @@
 use Rattle.std.proofs.Common.{ap, ◌∙◌}
+use Rattle.std.proofs.lemmas.Result.{err_from_is_err_and}
 use Rattle.ipc_write.specs.Writers.{order_of}
 use Rattle.ipc_convert.proofs.Conversions.{stream_streamed}
+use Rattle.ipc_convert.proofs.CopyFaults.{memory_alone, stream_copy_stops, stream_start_stops}
+use Rattle.ipc_convert.proofs.Refused.{front_refused, mark_refused}
+use Rattle.ipc_convert.specs.Refusals.{RefusesAsStream}
 use Rattle.ipc_convert.proofs.streams.stream_to_stream.Goals as goal
 
-pub returns : goal.returns
-returns g c = λ k.
+pub returns-clause-copies : goal.returns-clause-copies
+returns-clause-copies g c = λ k.
     let begins = c.in_ok-reader.ensures.ok in
     let made = c.new-writer.ensures in
     stream_streamed g.R.Reads.gives g.W.Failures.known g.W.Failures.memory (order_of c.args.write_options) g.met.R.Reads.gives_in_order
     c.args.input c.read_stream_metadata.new.reader _ c.args.out _ c.in_ok-metadata.metadata c.metadata.result.now c.in_ok-reader.reader c.copy_chunks.new.source _
     c.new-writer.result c.start.new.self c.copy_chunks.new.sink c.end_stream.new.writer c.in_ok-ending.ending _
     k c.in_ok-metadata.ensures.gives begins c.in_ok-reader.ensures.asked (c.metadata.ensures ∙ begins.described) (ap (λ x. x.0) c.in_ok-ids.ensures)
-    made.device made.order made.means c.in_ok-start.ensures.means c.in_ok-start.ensures.ok.is c.in_ok-ending.ensures.copied c.in_ok-end_stream.ensures
+    made.device made.order made.means c.in_ok-start.ensures.means c.in_ok-start.ensures.ok.is c.in_ok-ending.ensures.copied c.in_ok-end_stream.ensures.ends
     c.into_inner.ensures c.into_inner-2.ensures
+
+pub returns-in_err-metadata-clause-refused : goal.returns-in_err-metadata-clause-refused
+returns-in_err-metadata-clause-refused g c =
+    let p = err_from_is_err_and c.from_residual.result c.from_residual.ensures.1 in
+    rw (p.1, p.2) (front_refused g.R.Reads.gives g.R.Failures.known g.R.Failures.memory g.met.R.Reads.gives_ahead c.args.input _ c.in_err-metadata.field-0.0 RefusesAsStream c.in_err-metadata.ensures.gives)
+
+pub returns-in_err-reader-clause-refused : goal.returns-in_err-reader-clause-refused
+returns-in_err-reader-clause-refused g c =
+    let p = err_from_is_err_and c.from_residual-in_err-reader.result c.from_residual-in_err-reader.ensures.1 in
+    rw (p.1, p.2) (memory_alone c.in_err-reader.field-0.0 _ c.in_err-reader.ensures.only.0)
+
+pub returns-in_err-start-clause-refused : goal.returns-in_err-start-clause-refused
+returns-in_err-start-clause-refused g c =
+    let p = err_from_is_err_and c.from_residual-in_err-start.result c.from_residual-in_err-start.ensures.1 in
+    let begins = c.in_ok-reader.ensures.ok in
+    rw (p.1, p.2) (stream_start_stops g.W.Failures.known g.W.Failures.memory g.R.Reads.gives g.R.Failures.known g.R.Failures.memory g.met.R.Reads.gives_in_order g.met.R.Reads.gives_ahead
+    c.args.input c.read_stream_metadata.new.reader c.in_ok-metadata.metadata c.in_ok-reader.reader c.in_err-start.field-0.0 c.in_ok-metadata.ensures.gives begins c.in_ok-reader.ensures.asked
+    c.metadata.result.now _ (c.metadata.ensures ∙ begins.described) (ap (λ x. x.0) c.in_ok-ids.ensures) _ c.new-writer.ensures.state c.in_err-start.ensures.only)
+
+pub returns-in_err-ending-clause-refused : goal.returns-in_err-ending-clause-refused
+returns-in_err-ending-clause-refused g c =
+    let p = err_from_is_err_and c.from_residual-in_err-ending.result c.from_residual-in_err-ending.ensures.1 in
+    let begins = c.in_ok-reader.ensures.ok in
+    rw (p.1, p.2) (stream_copy_stops g.W.Failures.known g.W.Failures.memory g.R.Reads.gives g.R.Failures.known g.R.Failures.memory g.met.R.Reads.gives_in_order g.met.R.Reads.gives_ahead
+    c.args.input c.read_stream_metadata.new.reader c.in_ok-metadata.metadata c.in_ok-reader.reader c.in_err-ending.field-0.0 c.in_ok-metadata.ensures.gives begins c.in_ok-reader.ensures.asked
+    c.metadata.result.now _ (c.metadata.ensures ∙ begins.described) (ap (λ x. x.0) c.in_ok-ids.ensures) c.new-writer.result c.start.new.self c.in_ok-start.ensures.ok c.in_err-ending.ensures.stops)
+
+pub returns-in_err-end_stream-clause-refused : goal.returns-in_err-end_stream-clause-refused
+returns-in_err-end_stream-clause-refused g c =
+    let p = err_from_is_err_and c.from_residual-in_err-end_stream.result c.from_residual-in_err-end_stream.ensures.1 in
+    rw (p.1, p.2) (mark_refused _ c.in_err-end_stream.field-0.0 _ (c.in_ok-ending.ensures.copied.handed.took_all.state ∙ c.in_ok-start.ensures.ok.is) c.in_err-end_stream.ensures.only)

@@ -1,13 +1,14 @@
 use Rattle.ipc_file_write.specs.FileWriters.{seen}
 use Rattle.ipc_sessions.proofs.Writes.{writes_chunk}
-use Rattle.ipc_convert.proofs.Taken.{file_kept, file_took}
+use Rattle.ipc_convert.proofs.Taken.{file_kept, file_refuses, file_took}
 use Rattle.ipc_convert.proofs.sinks.FileWriterSink.take_chunk.Goals as goal
 
 pub returns-clause-taken : goal.returns-clause-taken
 returns-clause-taken g c =
-    file_took g.W.Failures.known g.W.Failures.memory (seen c.args.self.now) (seen c.write.new.self) _ c.write.result
+    file_took g.W.Failures.known g.W.Writes.grows g.W.Failures.failures g.W.Writes.room g.W.Failures.memory (seen c.args.self.now) (seen c.write.new.self) _ c.write.result
     (writes_chunk g.W.Failures.known g.W.Writes.grows g.W.Failures.failures g.W.Writes.room g.W.Failures.memory (seen c.args.self.now) (seen c.write.new.self) _ c.write.result c.write.ensures.step
     c.write.ensures.exact c.write.ensures.means)
+    c.write.ensures.step
 
 pub returns-clause-kept : goal.returns-clause-kept
 returns-clause-kept g c =
@@ -15,3 +16,6 @@ returns-clause-kept g c =
     (writes_chunk g.W.Failures.known g.W.Writes.grows g.W.Failures.failures g.W.Writes.room g.W.Failures.memory (seen c.args.self.now) (seen c.write.new.self) _ c.write.result c.write.ensures.step
     c.write.ensures.exact c.write.ensures.means)
     c.write.ensures.step
+
+pub returns-clause-refused : goal.returns-clause-refused
+returns-clause-refused g c = file_refuses (seen c.args.self.now) _ c.write.result c.write.ensures.exact

@@ -1,5 +1,5 @@
 use Rattle.ipc_write.specs.Writers.{seen}
-use Rattle.ipc_convert.proofs.Taken.{stream_kept, stream_took}
+use Rattle.ipc_convert.proofs.Taken.{stream_kept, stream_refuses, stream_took}
 use Rattle.ipc_convert.proofs.sinks.StreamWriterSink.take_chunk.Goals as goal
 
 pub returns-clause-taken : goal.returns-clause-taken
@@ -8,3 +8,6 @@ returns-clause-taken g c = stream_took g.W.Failures.known g.W.Failures.memory (s
 pub returns-clause-kept : goal.returns-clause-kept
 returns-clause-kept g c =
     stream_kept g.W.Failures.known g.W.Writes.grows g.W.Failures.failures g.W.Writes.room g.W.Failures.memory (seen c.args.self.now) (seen c.write.new.self) _ c.write.result c.write.ensures.means c.write.ensures.step
+
+pub returns-clause-refused : goal.returns-clause-refused
+returns-clause-refused g c = stream_refuses (seen c.args.self.now) _ c.write.result c.write.ensures.exact

@@ -1,13 +1,18 @@
 use Rattle.std.proofs.Common.{rules, ◌≡◌, None, refl}
-use Rattle.ipc_convert.proofs.ReadFiles.{block_came, blocks_over}
+use Rattle.ipc_convert.proofs.ReadFiles.{block_broken, block_came, blocks_over}
 use Rattle.ipc_convert.proofs.sources.FileReaderSource.next_chunk.Goals as goal
 
-pub returns-in-None : goal.returns-in-None
-returns-in-None g c =
+pub returns-in-None-clause-came : goal.returns-in-None-clause-came
+returns-in-None-clause-came g c =
     let e : c.next.result ≡ None = search rules in
     (refl, blocks_over g.F.Failures.known g.F.Failures.still g.F.Failures.memory g.F.Failures.failures g.F.Failures.given g.met.F.Seeks.known_still c.args.self.now c.next.new.self (rw e at c.next.ensures.steps))
 
-pub returns-in-Some-Ok : goal.returns-in-Some-Ok
-returns-in-Some-Ok g c =
+pub returns-in-Some-Ok-clause-came : goal.returns-in-Some-Ok-clause-came
+returns-in-Some-Ok-clause-came g c =
     let step = rw c.in-Some-Ok.field-0-is at c.in-Some-Ok.ensures.steps in
     block_came g.F.Failures.known g.F.Failures.still g.F.Failures.memory g.F.Failures.failures g.F.Failures.given g.met.F.Seeks.known_still c.args.self.now c.next.new.self _ step
+
+pub returns-in-Some-Err-clause-broken : goal.returns-in-Some-Err-clause-broken
+returns-in-Some-Err-clause-broken g c =
+    let step = rw c.in-Some-Err.field-0-is at c.in-Some-Err.ensures.steps in
+    block_broken g.F.Failures.known g.F.Failures.still g.F.Failures.memory g.F.Failures.failures g.F.Failures.given g.met.F.Seeks.known_still c.args.self.now c.next.new.self _ step

@@ -1,19 +1,24 @@
 use Rattle.std.proofs.Common.{rules, ◌≡◌, None, Some, Ok}
 use Rattle.ipc_readers.specs.declared.read.stream.reader.StreamState.TheVariants as states
-use Rattle.ipc_convert.proofs.ReadStreams.{none_over, none_waits, one_gave}
+use Rattle.ipc_convert.proofs.ReadStreams.{none_over, none_waits, one_fault, one_gave}
 use Rattle.ipc_convert.proofs.sources.StreamReaderSource.next_chunk.Goals as goal
 
-pub returns-in-None : goal.returns-in-None
-returns-in-None g c = λ unfinished.
+pub returns-in-None-clause-came : goal.returns-in-None-clause-came
+returns-in-None-clause-came g c = λ unfinished.
     let e : c.next.result ≡ None = search rules in
     none_over g.R.Reads.gives g.R.Failures.known g.R.Failures.memory g.met.R.Reads.gives_in_order c.args.self.now c.next.new.self (rw e at c.next.ensures.steps) unfinished
 
-pub returns-in-Some-Ok-Waiting : goal.returns-in-Some-Ok-Waiting
-returns-in-Some-Ok-Waiting g c = λ unfinished.
+pub returns-in-Some-Ok-Waiting-clause-came : goal.returns-in-Some-Ok-Waiting-clause-came
+returns-in-Some-Ok-Waiting-clause-came g c = λ unfinished.
     let e : c.next.result ≡ Some (Ok states.Waiting) = search rules in
     none_waits g.R.Reads.gives g.R.Failures.known g.R.Failures.memory g.met.R.Reads.gives_in_order c.args.self.now c.next.new.self (rw e at c.next.ensures.steps) unfinished
 
-pub returns-in-Some-Ok-Some : goal.returns-in-Some-Ok-Some
-returns-in-Some-Ok-Some g c = λ unfinished.
+pub returns-in-Some-Ok-Some-clause-came : goal.returns-in-Some-Ok-Some-clause-came
+returns-in-Some-Ok-Some-clause-came g c = λ unfinished.
     let step = rw (c.in-Some-Ok-Some.field-0-is, c.in-Some-Ok-Some.field-0-0-is) at c.in-Some-Ok-Some.ensures.steps in
     one_gave g.R.Reads.gives g.R.Failures.known g.R.Failures.memory g.met.R.Reads.gives_in_order c.args.self.now c.next.new.self _ step unfinished
+
+pub returns-in-Some-Err-clause-broken : goal.returns-in-Some-Err-clause-broken
+returns-in-Some-Err-clause-broken g c =
+    let step = rw c.in-Some-Err.field-0-is at c.in-Some-Err.ensures.steps in
+    one_fault g.R.Reads.gives g.R.Failures.known g.R.Failures.memory g.met.R.Reads.gives_in_order c.args.self.now c.next.new.self _ step
