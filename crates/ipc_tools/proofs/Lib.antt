@@ -1,5 +1,8 @@
 mod CatRows
 mod ClassRows
 mod ConvertRows
+mod IoLines
+mod Lending
 mod LineRows
 mod PositionRows
+mod WrittenRows

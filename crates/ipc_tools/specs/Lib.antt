@@ -6,5 +6,8 @@ pub mod ConvertRows
 pub mod ConvertWords
 pub mod LineRows
 pub mod Lines
+pub mod Named
 pub mod PositionRows
 pub mod Positions
+pub mod Written
+pub mod WrittenRows

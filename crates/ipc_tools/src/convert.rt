@@ -1,20 +1,20 @@
 //! `ipconvert`: reads an Arrow IPC stream or file and writes it again as a stream or a file, in either byte order; or goes on with a file.
-ghost use Rattle.std.specs.Prelude.{◌≡◌, ◌≤◌, codes, ◌↔◌, map, option_and_then, option_map, string_bytes, false, None, Some, IfOk, IfSome, IsSome, IsTrue, IfErr};
+ghost use Rattle.std.specs.Prelude.{◌≡◌, ◌≤◌, codes, ◌↔◌, map, option_and_then, option_map, string_bytes, false, None, Some, Ok, IfErr, IfOk, IfSome, IsSome, IsTrue, OnOk};
 ghost use Rattle.ipc_devices.specs.Faults.{IsIo};
 ghost use Rattle.ipc_plan.specs.Sending.{WritesSome};
 ghost use Rattle.ipc_tools.specs.Lines.{Tells};
 ghost use Rattle.ipc_tools.specs.ConvertWords.{asked, asked_by, place_for, reads_input, writes_output};
+ghost use Rattle.ipc_tools.specs.Written.{Appended, Copied};
 
+mod copies;
 mod forms;
+mod lent;
 
 use crate::class::tell;
 use arrow2_ipc::io::ipc::fault::{Fault, Reads, Seeks, Writes};
-use arrow2_ipc::io::ipc::write::WriteOptions;
+use copies::{append_input, copy_file, copy_input};
 pub use forms::Place;
-use forms::{Form, Source, Target, form_of, place_in};
-use ipc_convert::append::append_stream;
-use ipc_convert::files::{file_to_file, stream_to_file};
-use ipc_convert::streams::{file_to_stream, stream_to_stream};
+use forms::{Form, Source, form_of, place_in};
 use ipc_write::common_sync::write_all;
 use std::alloc::Global;
 use std::io;
@@ -57,6 +57,13 @@ pub fn run<R: Reads, F: Reads + Writes + Seeks + Drop, O: Writes, E: Writes>(
     ensures silent { result ≡ 0 → err.new ≡ err.old }
     ensures spared { IfSome (option_and_then place_for (asked (map string_bytes words.now)))
         (λ place. file ≡ None → (input.new ≡ input.old) × (out.new ≡ out.old)) }
+    ensures unopened_told { IfSome (option_and_then place_for (asked (map string_bytes words.now)))
+        (λ place. file ≡ None → IsTrue E.known
+        → WritesSome (E.memory err.old) (E.memory err.new) (codes "ipconvert: input or output failed\n")) }
+    ensures copied { result ≡ 0 → IsTrue O.known → IfSome (asked (map string_bytes words.now))
+        (λ form. Copied R.gives F.known F.memory form input.old input.new file (O.memory out.old) (O.memory out.new)) }
+    ensures appended { result ≡ 0 → IfSome (asked (map string_bytes words.now))
+        (λ form. Appended R.gives F.known F.memory form input.old input.new file) }
     ensures told { asked (map string_bytes words.now) ≡ None → IsTrue E.known
         → WritesSome (E.memory err.old) (E.memory err.new) USAGE.now }
     ensures untouched { asked (map string_bytes words.now) ≡ None → (input.new ≡ input.old) × (out.new ≡ out.old) }
@@ -86,6 +93,9 @@ fn run_form<R: Reads, F: Reads + Writes + Seeks + Drop, O: Writes>(
     ensures spared { IfSome (place_for (asked_by form.entry)) (λ place. file ≡ None → (input.new ≡ input.old) × (out.new ≡ out.old)) }
     ensures unread { reads_input (asked_by form.entry) ≡ false → input.new ≡ input.old }
     ensures unwritten { writes_output (asked_by form.entry) ≡ false → out.new ≡ out.old }
+    ensures copied { IsTrue O.known → OnOk result
+        (Copied R.gives F.known F.memory (asked_by form.entry) input.old input.new file (O.memory out.old) (O.memory out.new)) }
+    ensures appended { OnOk result (Appended R.gives F.known F.memory (asked_by form.entry) input.old input.new file) }
 {
     match form {
         Form::Convert(Source::Input, target, write_options) => {
@@ -97,7 +107,7 @@ fn run_form<R: Reads, F: Reads + Writes + Seeks + Drop, O: Writes>(
             flushed(copied, out)
         }
         Form::Append(_) => {
-            append_stream(alloc, opened(file)?, input)?;
+            append_input(alloc, opened(file)?, input)?;
             Ok(())
         }
     }
@@ -115,45 +125,12 @@ fn opened<F>(file: Option<F>) -> Result<F, Fault>
 }
 
 // What came of a copy, once all is sent that was written.
-fn flushed<O: Writes>(copied: Result<(), Fault>, out: &mut O) -> Result<(), Fault> {
+fn flushed<O: Writes>(copied: Result<(), Fault>, out: &mut O) -> Result<(), Fault>
+    ensures same { IfOk result (λ done. copied ≡ Ok done) }
+    ensures memory { IsTrue O.known → O.memory out.new ≡ O.memory out.old }
+{
     let sent = out.flush();
     copied?;
     sent?;
-    Ok(())
-}
-
-fn copy_input<R: Reads, O: Writes>(
-    alloc: Global,
-    input: &mut R,
-    out: &mut O,
-    target: Target,
-    write_options: WriteOptions,
-) -> Result<(), Fault> {
-    match target {
-        Target::Stream => {
-            stream_to_stream(alloc, input, out, write_options)?;
-        }
-        Target::File => {
-            stream_to_file(alloc, input, out, write_options)?;
-        }
-    }
-    Ok(())
-}
-
-fn copy_file<F: Reads + Seeks + Drop, O: Writes>(
-    alloc: Global,
-    file: F,
-    out: &mut O,
-    target: Target,
-    write_options: WriteOptions,
-) -> Result<(), Fault> {
-    match target {
-        Target::Stream => {
-            file_to_stream(alloc, file, out, write_options)?;
-        }
-        Target::File => {
-            file_to_file(alloc, file, out, write_options)?;
-        }
-    }
     Ok(())
 }

@@ -1,4 +1,4 @@
-use Rattle.std.proofs.Common.{rules, ◌≡◌, ℕ, Bool, List, ◌++◌, codes, sym, Result, Err}
+use Rattle.std.proofs.Common.{rules, ◌≡◌, ℕ, Bool, List, ◌++◌, sym, Result, Err}
 use Rattle.std.proofs.lemmas.Result.{err_from_is_err_and}
 use Rattle.ipc_devices.specs.declared.fault.Fault.{Fault}
 use Rattle.ipc_plan.specs.Sending.{DeviceSeen, Sends}

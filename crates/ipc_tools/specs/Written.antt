@@ -1,0 +1,37 @@
+-- What `ipconvert` has written, where it ended well.
+use Rattle.std.specs.Prelude.{◌≡◌, Bool, IsTrue, [], Option, None, Some}
+use Rattle.ipc_devices.specs.Device.{Memory}
+use Rattle.ipc_devices.specs.Gives.{Gives}
+use Rattle.ipc_encode.specs.declared.common.WriteOptions.{WriteOptions}
+use Rattle.ipc_model.specs.Streams.{marked}
+use Rattle.ipc_write.specs.Writers.{order_of}
+use Rattle.ipc_convert.specs.Copies.{AppendsTo, CopiesFileOf, CopiesStream, WritesFile, WritesStream}
+use Rattle.ipc_tools.specs.ConvertWords.{Asked, copy, append}
+use Rattle.ipc_tools.specs.declared.convert.forms.Target.{Target}
+use Rattle.ipc_tools.specs.declared.convert.forms.Target.TheVariants.{Stream, File as FileTarget}
+
+-- As a target says, the stream was written that an input gave from one state to another: as a stream that ends as it does, or as a file without pairs.
+abbrev pub CopiesInput : {R : Type 0} → Gives R → (a b : R) → Target → WriteOptions → (old new : Memory) → Type 0
+CopiesInput gives a b Stream options old new = CopiesStream gives a b (WritesStream (order_of options) old new)
+CopiesInput gives a b FileTarget options old new = CopiesStream gives a b (λ schema cs _. WritesFile (order_of options) old new schema [] cs)
+
+-- The same of the file that a device in memory has at its beginning: as a stream that ends by the mark, or as a file with its pairs.
+abbrev pub CopiesOpened : {F : Type 0} → Bool → (F → Memory) → F → Target → WriteOptions → (old new : Memory) → Type 0
+CopiesOpened known memory file Stream options old new = CopiesFileOf known memory file (λ schema _ cs. WritesStream (order_of options) old new schema cs marked)
+CopiesOpened known memory file FileTarget options old new = CopiesFileOf known memory file (WritesFile (order_of options) old new)
+
+-- To who knows which bytes an input gives, and which a device of a file holds where it is memory (`known`):
+module _ {R F : Type 0} (gives : Gives R) (known : Bool) (memory : F → Memory) where
+  -- where a copy was asked for, it was written behind what stood at the output, of the input or of the file that was opened
+  abbrev pub Copied : Asked → (a b : R) → Option F → (old new : Memory) → Type 0
+  Copied (copy None target options) a b file old new = CopiesInput gives a b target options old new
+  Copied (copy (Some path) target options) a b (Some device) old new = CopiesOpened known memory device target options old new
+  Copied (copy (Some path) target options) a b None old new = ⊥
+  Copied (append path) a b file old new = Unit {0}
+
+  -- where it was asked to go on with a file, one was opened, and to it, in a state of its device, the stream was appended that the input gave
+  abbrev pub Appended : Asked → (a b : R) → Option F → Type 0
+  Appended (copy from target options) a b file = Unit {0}
+  Appended (append path) a b None = ⊥
+  Appended (append path) a b (Some device) = IsTrue known → (memory device).place ≡ 0
+      → (last : F) × CopiesStream gives a b (λ schema cs _. AppendsTo (memory device).whole (memory last).whole schema cs)
