@@ -54,6 +54,9 @@ pub fn run<R: Reads, F: Reads + Seeks + Drop, O: Writes, E: Writes>(
     ensures unopened { IfSome (option_and_then opened_for (asked (map string_bytes words.now))) (λ path. file ≡ None → result ≡ 1) }
     ensures unread { IfSome (asked (map string_bytes words.now)) (λ form. reads_input form ≡ false → input.new ≡ input.old) }
     ensures line { result ≡ 1 → IsTrue E.known → Tells (codes "ipcat") (E.memory err.old) (E.memory err.new) }
+    ensures unopened_told { IfSome (option_and_then opened_for (asked (map string_bytes words.now)))
+        (λ path. file ≡ None → IsTrue E.known
+        → WritesSome (E.memory err.old) (E.memory err.new) (codes "ipcat: input or output failed\n")) }
     ensures judged { IfSome (asked (map string_bytes words.now)) (λ form. judges_columns form ≡ false → result ≤ 1) }
     ensures silent { result ≡ 0 → err.new ≡ err.old }
     ensures usage_told { result ≡ 2 → IsTrue E.known → WritesSome (E.memory err.old) (E.memory err.new) USAGE.now }
