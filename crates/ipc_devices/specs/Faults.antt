@@ -9,6 +9,12 @@ OnIo (Ok x) P = Unit {0}
 OnIo (Err (Io e)) P = P
 OnIo (Err _) P = Unit {0}
 
+-- no error of a device is answered: P holds
+abbrev pub UnlessIo : {X : Type 0} → Result X Fault → Type 0 → Type 0
+UnlessIo (Ok x) P = P
+UnlessIo (Err (Io e)) P = Unit {0}
+UnlessIo (Err _) P = P
+
 -- a refusal that isn't a device's, one of memory too: P holds
 abbrev pub OnRefused : {X : Type 0} → Result X Fault → Type 0 → Type 0
 OnRefused (Ok x) P = Unit {0}

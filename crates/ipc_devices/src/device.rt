@@ -124,6 +124,7 @@ pub trait Writes: Failures {
         ensures monotone { Self.failures self.old ≤ Self.failures self.new }
         ensures failed { OnErr result (Rises (Self.failures self.old) (Self.failures self.new)
             ⊎ (IsTrue grows × (room self.old < length buf.now))) }
+        ensures done { OnOk result (Self.failures self.new ≡ Self.failures self.old) }
         ensures memory { IsTrue Self.known → IfOk result (λ n.
             WritesOver (Self.memory self.old) (Self.memory self.new) (take n buf.now)) }
         ensures nothing { IsTrue Self.known → IfOk result (λ n.
@@ -136,6 +137,7 @@ pub trait Writes: Failures {
     fn flush(&mut self) -> io::Result<()>
         ensures monotone { Self.failures self.old ≤ Self.failures self.new }
         ensures failed { OnErr result (Rises (Self.failures self.old) (Self.failures self.new)) }
+        ensures done { OnOk result (Self.failures self.new ≡ Self.failures self.old) }
         ensures memory { IsTrue Self.known → Self.memory self.new ≡ Self.memory self.old };
 }
 
@@ -145,6 +147,7 @@ pub trait Seeks: Failures {
     fn seek_to(&mut self, place: u64) -> io::Result<()>
         ensures monotone { Self.failures self.old ≤ Self.failures self.new }
         ensures failed { OnErr result (Rises (Self.failures self.old) (Self.failures self.new)) }
+        ensures done { OnOk result (Self.failures self.new ≡ Self.failures self.old) }
         ensures given { Self.given self.new ≡ Self.given self.old }
         ensures memory { IsTrue Self.known → OnOk result
             (GoesTo (Self.memory self.old) (Self.memory self.new) place) }
@@ -155,6 +158,7 @@ pub trait Seeks: Failures {
     fn seek_end(&mut self) -> io::Result<u64>
         ensures monotone { Self.failures self.old ≤ Self.failures self.new }
         ensures failed { OnErr result (Rises (Self.failures self.old) (Self.failures self.new)) }
+        ensures done { OnOk result (Self.failures self.new ≡ Self.failures self.old) }
         ensures given { Self.given self.new ≡ Self.given self.old }
         ensures memory { IsTrue Self.known → IfOk result (λ n.
             (n ≡ length (Self.memory self.old).whole)
@@ -166,6 +170,7 @@ pub trait Seeks: Failures {
     fn position(&mut self) -> io::Result<u64>
         ensures monotone { Self.failures self.old ≤ Self.failures self.new }
         ensures failed { OnErr result (Rises (Self.failures self.old) (Self.failures self.new)) }
+        ensures done { OnOk result (Self.failures self.new ≡ Self.failures self.old) }
         ensures given { Self.given self.new ≡ Self.given self.old }
         ensures place { IsTrue Self.known → IfOk result (λ n. n ≡ (Self.memory self.old).place) }
         ensures stays { IsTrue Self.known → Self.memory self.new ≡ Self.memory self.old }

@@ -1,7 +1,7 @@
 //! Reads runs of bytes from a device.
 ghost use Rattle.std.specs.Prelude.{◌≡◌, ◌+◌, ◌^◌, ◌<◌, ◌≤◌, length, take, drop, IsTrue, IfOk, IfErr, OnOk, OnErr, MatchResult};
 ghost use Rattle.ipc_devices.specs.Device.{Rises, after};
-ghost use Rattle.ipc_devices.specs.Faults.{OnIo, OwnFault, Answers};
+ghost use Rattle.ipc_devices.specs.Faults.{OnIo, UnlessIo, OwnFault, Answers};
 ghost use Rattle.ipc_devices.specs.Gives.{FillGives, IntoGives, PieceGives, StopsBefore, going};
 ghost use Rattle.ipc_devices.specs.Reading.{Filled, MovesBytes};
 ghost use Rattle.ipc_devices.specs.declared.fault.Fault.TheVariants.{Ended};
@@ -20,6 +20,7 @@ pub fn fill<R: Reads>(reader: &mut R, buf: &mut [u8]) -> io::Result<usize>
     ensures gives { FillGives R.gives reader.old result buf.new reader.new }
     ensures monotone { R.failures reader.old ≤ R.failures reader.new }
     ensures failed { OnErr result (Rises (R.failures reader.old) (R.failures reader.new)) }
+    ensures done { OnOk result (R.failures reader.new ≡ R.failures reader.old) }
     ensures given { R.given reader.new ≤ R.given reader.old + length buf.old }
     ensures memory { IsTrue R.known → IfOk result (λ n.
         Filled (after (R.memory reader.old)) (after (R.memory reader.new)) n buf.new) }
@@ -45,6 +46,7 @@ fn add_piece<R: Reads>(reader: &mut R, bytes: &mut Vec<u8>, count: usize) -> Res
     ensures gives { PieceGives R.gives reader.old bytes.old.items count result bytes.new.items reader.new }
     ensures monotone { R.failures reader.old ≤ R.failures reader.new }
     ensures failed { OnIo result (Rises (R.failures reader.old) (R.failures reader.new)) }
+    ensures told { UnlessIo result (R.failures reader.new ≡ R.failures reader.old) }
     ensures given { R.given reader.new ≤ R.given reader.old + count }
     ensures memory { IsTrue R.known → MovesBytes bytes.old.items (after (R.memory reader.old)) count
         result bytes.new.items (after (R.memory reader.new)) }
@@ -80,6 +82,7 @@ pub fn read_into<R: Reads>(reader: &mut R, bytes: &mut Vec<u8>, count: usize) ->
     ensures gives { IntoGives R.gives reader.old count result bytes.new.items reader.new }
     ensures monotone { R.failures reader.old ≤ R.failures reader.new }
     ensures failed { OnIo result (Rises (R.failures reader.old) (R.failures reader.new)) }
+    ensures told { UnlessIo result (R.failures reader.new ≡ R.failures reader.old) }
     ensures given { R.given reader.new ≤ R.given reader.old + count }
     ensures left { IsTrue R.known → OnOk result
         (after (R.memory reader.new) ≡ drop count (after (R.memory reader.old))) }
@@ -108,6 +111,7 @@ pub fn read_bytes<R: Reads>(alloc: Global, reader: &mut R, count: usize) -> Resu
         (λ e. StopsBefore R.gives reader.old count e reader.new) }
     ensures monotone { R.failures reader.old ≤ R.failures reader.new }
     ensures failed { OnIo result (Rises (R.failures reader.old) (R.failures reader.new)) }
+    ensures told { UnlessIo result (R.failures reader.new ≡ R.failures reader.old) }
     ensures given { R.given reader.new ≤ R.given reader.old + count }
     ensures left { IsTrue R.known → OnOk result
         (after (R.memory reader.new) ≡ drop count (after (R.memory reader.old))) }

@@ -1,5 +1,5 @@
 //! Devices of any that the standard library has.
-ghost use Rattle.std.specs.Prelude.{◌≡◌, ◌≤◌, false, [], OnErr};
+ghost use Rattle.std.specs.Prelude.{◌≡◌, ◌≤◌, false, [], OnOk, OnErr};
 ghost use Rattle.ipc_devices.specs.Device.{Rises};
 ghost use Rattle.ipc_devices.specs.Gives.{CountsGive};
 ghost use Rattle.ipc_devices.specs.GivesLaws.{counts_nothing, counts_in_order, never};
@@ -44,6 +44,7 @@ impl<T> Watched<T> {
         ensures inner { self.new.inner ≡ self.old.inner }
         ensures given { self.new.given ≡ self.old.given }
         ensures failed { OnErr answer (Rises self.old.failures self.new.failures) }
+        ensures done { OnOk answer (self.new.failures ≡ self.old.failures) }
         ensures monotone { self.old.failures ≤ self.new.failures }
     {
         if answer.is_err() {

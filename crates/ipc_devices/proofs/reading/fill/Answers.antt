@@ -1,4 +1,4 @@
-use Rattle.std.proofs.Common.{rules, arith, ◌≡◌, ◌≤◌, ◌<◌, ◌-◌, ◌+◌, take, length, Err, sym, subst, List, ℕ}
+use Rattle.std.proofs.Common.{rules, arith, ◌≡◌, ◌≤◌, ◌<◌, ◌-◌, ◌+◌, take, length, Err, sym, subst, List, ℕ, ◌∙◌}
 use Rattle.std.proofs.lemmas.Grind.{common_steps}
 use Rattle.std.proofs.lemmas.Slice.{overwrites}
 use Rattle.std.proofs.lemmas.List.{length-take-le}
@@ -31,6 +31,7 @@ loop-at-preserved g c =
       gave = subst (λ (l : List ℕ). g.R.Reads.gives c.args.reader.now l going c.read.new.self) (sym front)
           (g.met.R.Reads.gives_in_order _ (take at buf) _ (take n part) going _ c.loop-at.invariant.gave (c.in_ok-n.ensures.gives.some (omega arith)));
       monotone = omega arith;
+      done = g.met.R.Reads.gives_fails _ _ going _ (c.in_ok-n.ensures.gives.some (omega arith)) ∙ c.loop-at.invariant.done;
       given = omega (arith, c.in_ok-n.ensures.given);
       whole = search rules;
       same = λ k. fill_more _ _ _ buf part at n (search rules) (search rules) (c.loop-at.invariant.same k) ((c.in_ok-n.ensures.memory k).taken (omega arith));
@@ -49,3 +50,10 @@ returns-then-n-eq0-clause-gives g c =
       short = λ _. subst (λ (l : List ℕ). g.R.Reads.gives c.args.reader.now l ended c.read.new.self) (sym (front_kept buf part at c.loop-at.invariant.inside))
           (nothing_more g.R.Reads.gives g.met.R.Reads.gives_in_order _ (take at buf) _ ended _ c.loop-at.invariant.gave ends);
     }
+
+pub returns-then-n-eq0-clause-done : goal.returns-then-n-eq0-clause-done
+returns-then-n-eq0-clause-done g c =
+    let part = c.read.new.buf in
+    let buf = c.loop-at.buf in
+    let room : 0 < length part = grind (arith, common_steps, overwrites) in
+    g.met.R.Reads.gives_fails _ _ ended _ (c.in_ok-n.ensures.gives.none c.if-n-eq0.true room) ∙ c.loop-at.invariant.done

@@ -8,6 +8,7 @@ invariant-loop-bytes g l = record {
   inside : length l.bytes.items ≤ l.count;
   gave : g.R.Reads.gives l.fn.reader l.bytes.items going l.reader;
   monotone : g.R.Failures.failures l.fn.reader ≤ g.R.Failures.failures l.reader;
+  done : g.R.Failures.failures l.reader ≡ g.R.Failures.failures l.fn.reader;
   given : g.R.Failures.given l.reader ≤ g.R.Failures.given l.fn.reader + length l.bytes.items;
   whole : IsTrue g.R.Failures.still → (g.R.Failures.memory l.reader).whole ≡ (g.R.Failures.memory l.fn.reader).whole;
   same : IsTrue g.R.Failures.known → after (g.R.Failures.memory l.fn.reader) ≡ l.bytes.items ++ after (g.R.Failures.memory l.reader);
