@@ -13,6 +13,7 @@ pub mod Unions
 pub mod Arrays
 pub mod Sends
 pub mod Packing
+pub mod Clearing
 pub mod Growing
 pub mod Numbers
 pub mod Offsets

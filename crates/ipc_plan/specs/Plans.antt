@@ -1,7 +1,7 @@
 -- What planning adds to a plan.
 use Rattle.std.specs.Prelude.{◌≡◌, ℕ, pos, ◌+◌, ◌*◌, ◌^◌, ◌<◌, ◌≤◌, Bool, List, [], ◌∷◌, ◌++◌, length, map}
 use Rattle.std.specs.Int.{next_multiple_of}
-use Rattle.std.specs.List.{flat_map}
+use Rattle.std.specs.List.{AllByRecursion, flat_map}
 use Rattle.lower_types.specs.NumberTypes.{Number}
 use Rattle.lower_types.specs.declared.Endianness.{Endianness}
 use Rattle.lower_types.specs.declared.PrimitiveType.{PrimitiveType}
@@ -11,8 +11,9 @@ use Rattle.ipc_views.specs.declared.message.FieldNode.{FieldNode}
 use Rattle.ipc_views.specs.declared.schema.Buffer.{Buffer}
 use Rattle.ipc_model.specs.WrittenBatches.{padded, entry}
 use Rattle.ipc_plan.specs.Levels.{node_of, AreBits, AreNumbers, AreOffsets, AreRead, AreBuffers, cut_out, HaveBuffers, IsValidity, joined}
-use Rattle.ipc_plan.specs.Pieces.{slice_type, slice_numbers, number_bytes, pieces_bytes}
+use Rattle.ipc_plan.specs.Pieces.{slice_type, slice_numbers, number_bytes, pieces_bytes, buffer_pieces, EndsClear}
 use Rattle.ipc_plan.specs.declared.pieces.NumberSlice.{NumberSlice}
+use Rattle.ipc_plan.specs.declared.pieces.Piece.{Piece}
 use Rattle.ipc_plan.specs.declared.plan.Plan.{Plan}
 
 -- the entries of buffers of these bytes from place o on, and where they end: each is padded to a multiple of 64
@@ -49,6 +50,16 @@ pub record AddsBits (p q : Plan) (bits : List Bool) : Type 0 where
   pub bytes : List ℕ
   pub are : AreBits bits bytes
   pub grows : Grows p q [] (bytes ∷ [])
+
+-- the pieces of one buffer: this one of so many bytes, and zeros
+pub record AddsPieces (p q : Plan) (x : Piece) (n : ℕ) : Type 0 where
+  pub pieces_are : q.pieces.items ≡ p.pieces.items ++ buffer_pieces x n
+
+-- pieces more, of which each that isn't bytes as they stand has zeros behind the n bits
+pub record AddsClear (p q : Plan) (n : ℕ) : Type 0 where
+  pub pieces : List Piece
+  pub more : q.pieces.items ≡ p.pieces.items ++ pieces
+  pub clear : AllByRecursion (EndsClear p.order n) pieces
 
 -- one buffer: numbers
 pub record AddsNumbers (p q : Plan) (t : PrimitiveType) (ns : List Number) : Type 0 where

@@ -2,9 +2,9 @@
 //! "RecordBatch message").
 ghost use Rattle.std.specs.Prelude.{◌≡◌, ◌+◌, ◌^◌, ◌<◌, ◌≤◌, pos, [], ◌∷◌, ◌++◌, length, OnOk};
 ghost use Rattle.lower_types.specs.declared.Endianness.{Endianness};
-ghost use Rattle.ipc_plan.specs.Pieces.{piece_bytes, pieces_bytes};
+ghost use Rattle.ipc_plan.specs.Pieces.{kept, piece_bytes, pieces_bytes};
 ghost use Rattle.ipc_plan.specs.Taking.{TakesBuffers, TakesLevel};
-ghost use Rattle.ipc_plan.specs.Plans.{Grows};
+ghost use Rattle.ipc_plan.specs.Plans.{AddsPieces, Grows};
 
 use crate::pieces::Piece;
 use ipc_devices::{ArgFault, Fault};
@@ -53,6 +53,7 @@ fn push_piece<'a>(
     ensures bytes { OnOk result ((order : Endianness) → len ≡ length (piece_bytes order piece.entry)
         → pieces_bytes order pieces.new.items ≡ pieces_bytes order pieces.old.items ++ piece_bytes order piece.entry) }
     ensures few { OnOk result (length pieces.new.items ≤ length pieces.old.items + 1) }
+    ensures adds { OnOk result (pieces.new.items ≡ pieces.old.items ++ kept piece.entry len) }
 {
     if len == 0 {
         return Ok(());
@@ -73,6 +74,7 @@ pub(crate) fn push_buffer<'a>(
     requires len { len ≡ length (piece_bytes plan.old.order piece) }
     ensures grows { OnOk result (Grows plan.old plan.new [] (piece_bytes plan.old.order piece.entry ∷ [])) }
     ensures takes { TakesBuffers result (len ∷ []) plan.old.end plan.new.end }
+    ensures adds { OnOk result (AddsPieces plan.old plan.new piece.entry len) }
 {
     let Ok(length) = i64::try_from(len) else {
         return Err(Fault::Argument(ArgFault::TooLarge));

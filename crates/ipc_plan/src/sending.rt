@@ -51,7 +51,7 @@ fn send_zeros<W: Writes>(writer: &mut W, count: usize) -> Result<(), Fault>
     Ok(())
 }
 
-// How many numbers are sent at a time: as many as the block has room for. Memory takes those of a long column in smaller parts, each of
+// How many numbers are sent at a time: as many as the block has room for, but those of a long column in memory in smaller parts, each of
 // which is on its way while the next is read.
 fn numbers_at_once<T: NativeType, W: Writes>(count: usize) -> usize
     ensures some { 0 < result }
@@ -291,8 +291,8 @@ fn send_piece<W: Writes>(
     }
 }
 
-/// Sends pieces one after the other, their numbers in this byte order, through a block of 4,096 bytes, which
-/// is no allocation. Bytes that stand somewhere as they are to be sent don't go through it.
+/// Sends pieces one after the other, their numbers in this byte order. Numbers, offsets and bits that are packed
+/// anew go through a block of 4,096 bytes, which is no allocation; a piece of bytes doesn't.
 ///
 /// `Io` comes where the device failed, or where it is memory whose growth was refused; what went out by then
 /// are the first bytes of the pieces.

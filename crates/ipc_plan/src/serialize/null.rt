@@ -20,6 +20,7 @@ pub(crate) fn plan_null(
     ensures grows { OnOk result (Adds plan.old plan.new (written_levels (null_layout array.now) offset len)) }
     ensures takes { TakesLevels result (written_levels (null_layout array.now) offset len) plan.old.end plan.new.end }
 {
+    // What holds of any array is known of this one once it is asked.
     let _ = array.len();
     push_node(plan, len, len)
 }

@@ -89,6 +89,7 @@ fn plan_small_offsets<'a>(
     ensures grows { OnOk result (AddsOffsets plan.old plan.new Named.Int32 (part offset (len + 1) offsets.now)) }
     ensures takes { TakesBuffers result (offsets_length Named.Int32 len ∷ []) plan.old.end plan.new.end }
 {
+    // What holds of any offsets is known of these once they are asked.
     let _ = offsets.len();
     let part = &offsets.as_slice()[offset..offset + len + 1];
     let piece = small_piece(part);
@@ -124,6 +125,7 @@ fn plan_large_offsets<'a>(
     ensures grows { OnOk result (AddsOffsets plan.old plan.new Named.Int64 (part offset (len + 1) offsets.now)) }
     ensures takes { TakesBuffers result (offsets_length Named.Int64 len ∷ []) plan.old.end plan.new.end }
 {
+    // What holds of any offsets is known of these once they are asked.
     let _ = offsets.len();
     let part = &offsets.as_slice()[offset..offset + len + 1];
     let piece = large_piece(part);
@@ -176,6 +178,7 @@ pub(crate) fn scaled(place: usize, size: usize, count: usize, total: usize) -> u
     ensures value { result ≡ place * size }
     ensures within { result ≤ total }
 {
+    // The clauses alone speak of these.
     let _ = (count, total);
     place * size
 }

@@ -6,7 +6,7 @@ ghost use Rattle.ipc_devices.specs.declared.fault.Fault.TheVariants.{Memory};
 ghost use Rattle.ipc_model.specs.Entries.{bytes_for};
 ghost use Rattle.ipc_model.specs.Offers.{validity_length};
 ghost use Rattle.ipc_plan.specs.Taking.{TakesBuffers, TakesLevel};
-ghost use Rattle.ipc_plan.specs.Plans.{AddsBits, AddsStart, AddsValidity};
+ghost use Rattle.ipc_plan.specs.Plans.{AddsBits, AddsClear, AddsStart, AddsValidity};
 
 use crate::pieces::Piece;
 use crate::plan::{Plan, push_buffer, push_node};
@@ -32,7 +32,7 @@ pub(crate) fn plan_start<'a>(
     Ok(())
 }
 
-// How many slots of some are null. A clone of a bitmap is of no bits, but takes memory.
+// How many slots of some are null. A clone of a bitmap is of no bits and takes no memory; it fails where there are too many owners.
 fn nulls_in(validity: Option<&Bitmap>, offset: usize, len: usize) -> Result<usize, Fault>
     requires inside { ValidityHolds (option_copied validity) (offset + len) }
     ensures count { IfOk result (λ n. n ≡ null_count_of (cut_validity offset len (option_copied validity.entry))) }
@@ -66,7 +66,7 @@ fn plan_validity<'a>(
     }
 }
 
-// Plans bits of a bitmap: as they stand where the first one is the first of a byte, else packed anew.
+// Plans bits of a bitmap: as they stand where the first one is the first of a byte, else packed anew, with zeros behind the last.
 pub(crate) fn plan_bits<'a>(
     plan: &mut Plan<'a>,
     bits: &'a Bitmap,
@@ -77,6 +77,7 @@ pub(crate) fn plan_bits<'a>(
     requires inside { offset + len ≤ length bits.now }
     ensures grows { OnOk result (AddsBits plan.old plan.new (part offset len bits.now)) }
     ensures takes { TakesBuffers result (bytes_for len ∷ []) plan.old.end plan.new.end }
+    ensures clear { OnOk result (AddsClear plan.old plan.new len) }
 {
     let (bytes, start, _) = bits.as_slice();
     let place = start + offset % 8;

@@ -5,6 +5,7 @@ use Rattle.ipc_model.specs.Entries.{bytes_for}
 use Rattle.lower_flat.specs.Validities.{part}
 use Rattle.ipc_plan.specs.Levels.{AreBits}
 use Rattle.ipc_plan.specs.Pieces.{packed}
+use Rattle.ipc_plan.proofs.Clearing.{adds_clear, packed_clear}
 use Rattle.ipc_plan.proofs.Growing.{on_ok}
 use Rattle.ipc_plan.proofs.Packing.{bits_stand, bits_packed}
 use Rattle.ipc_plan.proofs.serialize.validity.plan_bits.Goals as goal
@@ -41,3 +42,11 @@ returns-else-bit-eq0-clause-grows c =
     let bytes : (k : ℕ) → get_or xs k 0 < 256 = c.are_bytes.ensures in
     let are = bits_packed xs ys c.args.bits.now s c.as_slice-start.result.2 o n first t c.as_slice-start.ensures.bits c.requires.inside (omega arith) (omega arith) (take_rest xs first) bytes in
     on_ok c.push_buffer-else-bit-eq0.result (λ g. record { bytes = _; are = subst (λ (k : ℕ). AreBits (part o n c.args.bits.now) (packed ys k n)) (sym twice) are; grows = g }) c.push_buffer-else-bit-eq0.ensures.grows
+
+pub returns-then-bit-eq0-clause-clear : goal.returns-then-bit-eq0-clause-clear
+returns-then-bit-eq0-clause-clear c =
+    on_ok c.push_buffer.result (λ e. adds_clear c.args.plan.now _ _ c.args.len _ e tt) c.push_buffer.ensures.adds
+
+pub returns-else-bit-eq0-clause-clear : goal.returns-else-bit-eq0-clause-clear
+returns-else-bit-eq0-clause-clear c =
+    on_ok c.push_buffer-else-bit-eq0.result (λ e. adds_clear c.args.plan.now _ _ c.args.len _ e (packed_clear _ _ c.args.len)) c.push_buffer-else-bit-eq0.ensures.adds
