@@ -1,10 +1,10 @@
 -- The values that are known under an id, as an array and as the definitions have them.
-use Rattle.std.specs.Prelude.{◌≡◌, ℕ, zero, suc, ◌+◌, ℤ, Bool, true, false, cond, List, [], ◌∷◌, map, length, Option, None, Some}
-use Rattle.std.proofs.Common.{refl, sym, ap, ◌∙◌}
+use Rattle.std.specs.Prelude.{◌≡◌, ℕ, zero, suc, ◌+◌, ℤ, Bool, true, false, cond, List, [], ◌∷◌, map, length, Option, None, Some, IsSome}
+use Rattle.std.proofs.Common.{refl, sym, ap, subst, ◌∙◌}
 use Rattle.std.proofs.lemmas.Cmp.{int_eq_equiv}
 use Rattle.std.specs.HashMap.{HashMap, get}
 use Rattle.std.specs.Map.{lookup}
-use Rattle.std.specs.Option.{option_map}
+use Rattle.std.specs.Option.{option_map, unwrap_or}
 use Rattle.std.specs.Ordering.{int_eq}
 use Rattle.std.specs.declared.alloc.Global.{Global}
 use Rattle.std.specs.declared.rc.Rc.{Rc}
@@ -65,15 +65,23 @@ module _ {R : Type 0} (memory : R → Memory) (b : Body R) where
   values_are = record { each = slots_known }
 
   -- no array was found
+  pub none_typed : (id : ℤ) → get int_eq b.dictionaries.now id ≡ None → values_type (entries memory b) (Some id) ≡ None
+  none_typed id none = ap (option_map (λ (d : Dictionary). d.type)) (known_is id ∙ ap dictionary_found none)
+
   pub none_known : (id : ℤ) (t : TypeTree) → get int_eq b.dictionaries.now id ≡ None → values_type (entries memory b) (Some id) ≡ Some t → ⊥
   none_known id t none h =
-      let told : values_type (entries memory b) (Some id) ≡ None = ap (option_map (λ (d : Dictionary). d.type)) (known_is id ∙ ap dictionary_found none) in
-      let no : None ≡ Some t = sym told ∙ h in
+      let no : None ≡ Some t = sym (none_typed id none) ∙ h in
       absurd cc
 
   -- the array that was found has the type of the definitions, and is the one that is known
   pub type_known : (id : ℤ) (x : Rc AnyArray Global) → get int_eq b.dictionaries.now id ≡ Some x → values_type (entries memory b) (Some id) ≡ Some (norm (type_of (layout_of x.value)))
   type_known id x there = ap (option_map (λ (d : Dictionary). d.type)) (known_is id ∙ ap dictionary_found there)
+
+  -- which isn't another one
+  pub other_typed :
+      (id : ℤ) (x : Rc AnyArray Global) (t : TypeTree) → get int_eq b.dictionaries.now id ≡ Some x → (norm (type_of (layout_of x.value)) ≡ t → ⊥)
+      → IsSome (values_type (entries memory b) (Some id)) × (values_type (entries memory b) (Some id) ≡ Some t → ⊥)
+  other_typed id x t there other = (subst IsSome (sym (type_known id x there)) refl, λ e. other (ap (λ (o : Option TypeTree). unwrap_or o t) (sym (type_known id x there) ∙ e)))
 
   pub array_known : (id : ℤ) (x : Rc AnyArray Global) → get int_eq b.dictionaries.now id ≡ Some x → layout_of x.value ≡ known b (Some id)
   array_known id x there = sym (ap array_found there)
@@ -82,4 +90,4 @@ module _ {R : Type 0} (memory : R → Memory) (b : Body R) where
   pub values_count : (id : Option ℤ) → len_of (known b id) ≡ length (values_slots (entries memory b) id)
   values_count id = sym (length-slots_from (slot_at (known b id)) 0 (len_of (known b id))) ∙ ap length (slots_known id)
 
-pub ruleset known_values = (none_known, type_known, array_known)
+pub ruleset known_values = (none_typed, other_typed, none_known, type_known, array_known)

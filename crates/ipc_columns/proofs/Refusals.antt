@@ -3,6 +3,7 @@ use Rattle.std.proofs.Common.{◌≡◌, sym, subst}
 use Rattle.ipc_devices.specs.Faults.{OwnFault}
 use Rattle.ipc_devices.specs.declared.fault.Fault.{Fault}
 use Rattle.ipc_devices.specs.declared.fault.Fault.TheVariants.{Ended, OutOfSpec, NotYetImplemented, Schema, Argument, State, TooManyDictionaries, Io, Memory, Lower}
+use Rattle.ipc_devices.specs.declared.fault.Nyi.TheVariants.{Float}
 use Rattle.ipc_devices.specs.declared.fault.OutOfSpecKind.TheVariants.{NegativeFooterLength, InvalidBuffer, InvalidBitmap}
 use Rattle.ipc_model.specs.Kinds.{Kind, null_kind, boolean_kind, number_kind, float_kind, fixed_binary_kind, binary_kind, utf8_kind, list_kind, map_kind, fixed_list_kind, struct_kind, union_kind, dictionary_kind, extension_kind}
 use Rattle.ipc_columns.specs.Refusals.{IsBufferFault, IsColumnFault, IsFaultOf}
@@ -47,11 +48,24 @@ buffer_in_column (Lower e) h = absurd h
 pub buffer_column : (e : Fault) → OwnFault e (IsBufferFault e) → OwnFault e (IsColumnFault e)
 buffer_column e h = claims_through e (IsBufferFault e) (IsColumnFault e) (buffer_in_column e) h
 
+float_in_column : (e : Fault) → IsFaultOf float_kind e → IsColumnFault e
+float_in_column (NotYetImplemented Float) h = tt
+float_in_column (NotYetImplemented _) h = absurd h
+float_in_column (OutOfSpec k) h = absurd h
+float_in_column Ended h = absurd h
+float_in_column (Schema s) h = absurd h
+float_in_column (Argument a) h = absurd h
+float_in_column (State s) h = absurd h
+float_in_column TooManyDictionaries h = absurd h
+float_in_column (Io e) h = absurd h
+float_in_column Memory h = absurd h
+float_in_column (Lower e) h = absurd h
+
 kind_in_column : (t : Kind) (e : Fault) → IsFaultOf t e → IsColumnFault e
 kind_in_column null_kind e h = h
 kind_in_column boolean_kind e h = h
 kind_in_column (number_kind f) e h = buffer_in_column e h
-kind_in_column float_kind e h = h
+kind_in_column float_kind e h = float_in_column e h
 kind_in_column (fixed_binary_kind n) e h = h
 kind_in_column (binary_kind w) e h = h
 kind_in_column (utf8_kind w) e h = h

@@ -1,14 +1,14 @@
 //! Reads numbers, bits, bytes and offsets out of the buffers of a batch.
-ghost use Rattle.std.specs.Prelude.{◌≡◌, ◌+◌, ◌*◌, ◌<◌, ◌≤◌, ◌^◌, ◌↔◌, length, take, drop, vec_len, IsTrue, IfOk, IfErr, IfSome, IsNone, MatchBool, ℕ, pos, List, [], ◌∷◌, refl};
+ghost use Rattle.std.specs.Prelude.{◌≡◌, ◌+◌, ◌*◌, ◌-◌, ◌<◌, ◌≤◌, ◌^◌, ◌↔◌, length, take, drop, vec_len, IsTrue, IfOk, IfErr, IfSome, IsNone, MatchBool, min, ℕ, pos, List, [], ◌∷◌, refl};
 ghost use Rattle.ipc_devices.specs.Device.{Rises, after};
-ghost use Rattle.ipc_devices.specs.Faults.{OnIo, OwnFault, Answers};
+ghost use Rattle.ipc_devices.specs.Faults.{OnIo, UnlessIo, OwnFault, Answers};
 ghost use Rattle.ipc_devices.specs.Gives.{going};
 ghost use Rattle.ipc_devices.specs.declared.fault.Fault.TheVariants.{Ended, OutOfSpec};
 ghost use Rattle.ipc_devices.specs.declared.fault.OutOfSpecKind.TheVariants.{NegativeFooterLength};
 ghost use Rattle.lower_types.specs.Numbers.{values_of, unsigned_in};
 ghost use Rattle.ipc_model.specs.Entries.{IsSize, size, listed, bytes, Need, limited, rows, node, bytes_for};
 ghost use Rattle.ipc_columns.specs.Bodies.{Stands, entries, HasRoom};
-ghost use Rattle.ipc_columns.specs.Refusals.{IsBufferFault, IsColumnFault};
+ghost use Rattle.ipc_columns.specs.Refusals.{IsBufferFault, IsBitsFault, IsColumnFault, TellsShort};
 ghost use Rattle.ipc_columns.specs.Steps.{Step};
 ghost use Rattle.lower_flat.specs.Validities.{ValidityFits};
 ghost use Rattle.ipc_model.specs.Columns.{Begins, is_omitted, Offsets};
@@ -64,6 +64,7 @@ pub fn read_numbers<T: NativeType, R: Reads>(
     ensures only { IfErr result (λ e. OwnFault e (e ≡ Ended)) }
     ensures monotone { R.failures reader.old ≤ R.failures reader.new }
     ensures failed { OnIo result (Rises (R.failures reader.old) (R.failures reader.new)) }
+    ensures told { UnlessIo result (R.failures reader.new ≡ R.failures reader.old) }
     ensures given { R.given reader.new ≤ R.given reader.old + T.width * count }
     ensures memory { IsTrue R.known → Answers result
         (T.width * count ≤ length (after (R.memory reader.old)))
@@ -87,6 +88,7 @@ fn take_shown<T: NativeType, R: Reads>(
     ensures only { IfErr result (λ e. OwnFault e ⊥) }
     ensures monotone { R.failures reader.old ≤ R.failures reader.new }
     ensures failed { OnIo result (Rises (R.failures reader.old) (R.failures reader.new)) }
+    ensures told { UnlessIo result (R.failures reader.new ≡ R.failures reader.old) }
     ensures given { R.given reader.new ≤ R.given reader.old + T.width * count }
     ensures none { IfOk result (λ r. IsNone r → R.gives reader.old [] going reader.new) }
     ensures idle { IfOk result (λ r. IsNone r → R.given reader.new ≤ R.given reader.old) }
@@ -121,6 +123,7 @@ fn read_pieces<T: NativeType, R: Reads>(
     ensures only { IfErr result (λ e. OwnFault e (e ≡ Ended)) }
     ensures monotone { R.failures reader.old ≤ R.failures reader.new }
     ensures failed { OnIo result (Rises (R.failures reader.old) (R.failures reader.new)) }
+    ensures told { UnlessIo result (R.failures reader.new ≡ R.failures reader.old) }
     ensures given { R.given reader.new ≤ R.given reader.old + T.width * count }
     ensures memory { IsTrue R.known → Answers result
         (T.width * count ≤ length (after (R.memory reader.old)))
@@ -152,6 +155,7 @@ fn take_shown_bytes<R: Reads>(
     ensures only { IfErr result (λ e. OwnFault e ⊥) }
     ensures monotone { R.failures reader.old ≤ R.failures reader.new }
     ensures failed { OnIo result (Rises (R.failures reader.old) (R.failures reader.new)) }
+    ensures told { UnlessIo result (R.failures reader.new ≡ R.failures reader.old) }
     ensures given { R.given reader.new ≤ R.given reader.old + count }
     ensures none { IfOk result (λ r. IsNone r → R.gives reader.old [] going reader.new) }
     ensures idle { IfOk result (λ r. IsNone r → R.given reader.new ≤ R.given reader.old) }
@@ -175,6 +179,7 @@ fn read_next_bytes<R: Reads>(alloc: Global, reader: &mut R, count: usize) -> Res
     ensures only { IfErr result (λ e. OwnFault e (e ≡ Ended)) }
     ensures monotone { R.failures reader.old ≤ R.failures reader.new }
     ensures failed { OnIo result (Rises (R.failures reader.old) (R.failures reader.new)) }
+    ensures told { UnlessIo result (R.failures reader.new ≡ R.failures reader.old) }
     ensures given { R.given reader.new ≤ R.given reader.old + count }
     ensures memory { IsTrue R.known → Answers result
         (count ≤ length (after (R.memory reader.old)))
@@ -201,6 +206,7 @@ fn read_numbers_at<T: NativeType, R: Reads + Seeks>(
     ensures only { IfErr result (λ e. OwnFault e (e ≡ Ended)) }
     ensures monotone { R.failures reader.old ≤ R.failures reader.new }
     ensures failed { OnIo result (Rises (R.failures reader.old) (R.failures reader.new)) }
+    ensures told { UnlessIo result (R.failures reader.new ≡ R.failures reader.old) }
     ensures given { R.given reader.new ≤ R.given reader.old + T.width * count }
     ensures memory { IsTrue R.known → Answers result
         (T.width * count ≤ length (drop (base + offset) (R.memory reader.old).whole))
@@ -230,6 +236,7 @@ fn read_bytes_at<R: Reads + Seeks>(
     ensures only { IfErr result (λ e. OwnFault e (e ≡ Ended)) }
     ensures monotone { R.failures reader.old ≤ R.failures reader.new }
     ensures failed { OnIo result (Rises (R.failures reader.old) (R.failures reader.new)) }
+    ensures told { UnlessIo result (R.failures reader.new ≡ R.failures reader.old) }
     ensures given { R.given reader.new ≤ R.given reader.old + count }
     ensures memory { IsTrue R.known → Answers result
         (count ≤ length (drop (base + offset) (R.memory reader.old).whole))
@@ -276,7 +283,8 @@ fn type_name(primitive: PrimitiveType) -> &'static str {
 
 // The fault of a buffer of `listed` bytes that hasn't `count` values of `width` bytes.
 fn too_short(count: usize, type_name: &'static str, width: usize, listed: usize) -> Fault
-    ensures { IsBufferFault result }
+    ensures buffer { IsBufferFault result }
+    ensures told { TellsShort count (min (count * width) (2 ^ 64 - 1)) listed result }
 {
     Fault::OutOfSpec(OutOfSpecKind::InvalidBuffer {
         length: count,
@@ -302,6 +310,7 @@ pub fn fetch_numbers<T: NativeType, R: Reads + Seeks>(
     requires stands { Stands R.still R.memory reader.old body.now }
     ensures only { IfErr result (λ e. OwnFault e (IsBufferFault e)) }
     ensures step { Step R.still R.memory R.failures R.given body.now (listed (entries R.memory body.now) index) reader.old result reader.new }
+    ensures needed { R.given reader.new ≤ R.given reader.old + T.width * count }
     ensures count { IfOk result (λ v. vec_len v ≡ count) }
     ensures held { IfOk result (λ v. T.width * vec_len v ≤ listed (entries R.memory body.now) index) }
     ensures memory { IsTrue R.known → let s = entries R.memory body.now in
@@ -335,6 +344,7 @@ pub fn fetch_bytes<R: Reads + Seeks>(
     requires stands { Stands R.still R.memory reader.old body.now }
     ensures only { IfErr result (λ e. OwnFault e (IsBufferFault e)) }
     ensures step { Step R.still R.memory R.failures R.given body.now (listed (entries R.memory body.now) index) reader.old result reader.new }
+    ensures needed { R.given reader.new ≤ R.given reader.old + count }
     ensures count { IfOk result (λ v. length v.items ≡ count) }
     ensures held { IfOk result (λ v. length v.items ≤ listed (entries R.memory body.now) index) }
     ensures memory { IsTrue R.known → let s = entries R.memory body.now in
@@ -368,6 +378,7 @@ pub fn fetch_pieces<R: Reads + Seeks>(
     requires stands { Stands R.still R.memory reader.old body.now }
     ensures only { IfErr result (λ e. OwnFault e (IsBufferFault e)) }
     ensures step { Step R.still R.memory R.failures R.given body.now (listed (entries R.memory body.now) index) reader.old result reader.new }
+    ensures needed { R.given reader.new ≤ R.given reader.old + width * count }
     ensures count { IfOk result (λ v. length v.items ≡ width * count) }
     ensures held { IfOk result (λ v. length v.items ≤ listed (entries R.memory body.now) index) }
     ensures memory { IsTrue R.known → let s = entries R.memory body.now in
@@ -390,7 +401,7 @@ pub fn fetch_pieces<R: Reads + Seeks>(
 pub struct Node {
     /// How many slots are read.
     pub rows: usize,
-    /// Whether some slot of the column is null.
+    /// Whether the node tells of nulls: its null count is above 0.
     pub has_nulls: bool,
 }
 
@@ -399,7 +410,7 @@ pub struct Node {
 pub struct Head {
     /// How many slots are read.
     pub rows: usize,
-    /// Which of them aren't null; none where all are.
+    /// Which of them aren't null; none where the node tells of no null.
     pub validity: Option<Bitmap>,
 }
 
@@ -431,6 +442,7 @@ pub fn read_node<R: Failures>(
 ) -> Result<Node, Fault>
     requires inside { index < length body.now.nodes }
     ensures only { IfErr result (λ e. OwnFault e (IsBufferFault e)) }
+    ensures negative { IfErr result (λ e. e ≡ OutOfSpec NegativeFooterLength) }
     ensures own { OnIo result ⊥ }
     ensures small { IfOk result (λ n. n.rows < 2 ^ 63) }
     ensures exact { let s = entries R.memory body.now in
@@ -452,6 +464,7 @@ fn check_bits<R: Failures>(body: &Body<R>, index: usize, count: usize) -> Result
     requires small { count < 2 ^ 63 }
     ensures own { OnIo result ⊥ }
     ensures only { IfErr result (λ e. OwnFault e (IsBufferFault e)) }
+    ensures named { IfErr result IsBitsFault }
     ensures refused { IfErr result (λ e. OwnFault e (Need (entries R.memory body.now) index (bytes_for count) → ⊥)) }
 {
     let entry = body.buffers.get(index);
@@ -512,6 +525,7 @@ pub fn read_head<R: Reads + Seeks>(
     requires stands { Stands R.still R.memory reader.old body.now }
     ensures only { IfErr result (λ e. OwnFault e (IsBufferFault e)) }
     ensures step { Step R.still R.memory R.failures R.given body.now (listed (entries R.memory body.now) place.buffer) reader.old result reader.new }
+    ensures untouched { size (node (entries R.memory body.now) place.node).null_count ≡ 0 → reader.new ≡ reader.old }
     ensures small { IfOk result (λ h. h.rows < 2 ^ 63) }
     ensures fits { IfOk result (λ h. ValidityFits h.validity h.rows) }
     ensures held { IfOk result (λ h. validity_held h.validity ≤ listed (entries R.memory body.now) place.buffer) }
@@ -606,6 +620,7 @@ fn check_offset<R: Failures>(body: &Body<R>, index: usize) -> Result<(), Fault>
     requires inside { index < length body.now.buffers }
     ensures own { OnIo result ⊥ }
     ensures only { IfErr result (λ e. OwnFault e (IsColumnFault e)) }
+    ensures negative { IfErr result (λ e. e ≡ OutOfSpec NegativeFooterLength) }
     ensures exact { Answers result (Need (entries R.memory body.now) index 0) (λ _. Unit {0}) }
 {
     natural(body.buffers.get(index).offset)?;

@@ -21,7 +21,7 @@ ghost use Rattle.ipc_columns.specs.Bodies.{Stands, HasRoom, entries, known};
 ghost use Rattle.ipc_columns.specs.HeldListed.{HoldsListed, keys_held};
 ghost use Rattle.ipc_columns.specs.KeyLevels.{keys_at};
 ghost use Rattle.ipc_columns.specs.Kinds.{Follows, listed_in};
-ghost use Rattle.ipc_columns.specs.Refusals.{IsBufferFault, IsColumnFault};
+ghost use Rattle.ipc_columns.specs.Refusals.{IsBufferFault, IsColumnFault, RefusesValues};
 ghost use Rattle.ipc_columns.specs.Steps.{Step};
 
 use crate::read::array::primitive::read_primitive;
@@ -48,6 +48,7 @@ pub fn shared_values<R: Failures>(
 ) -> Result<Rc<AnyArray>, Fault>
     ensures own { OnIo result ⊥ }
     ensures only { IfErr result (λ e. OwnFault e (IsColumnFault e)) }
+    ensures why { IfErr result (λ e. OwnFault e (RefusesValues (entries R.memory body.now) id (norm (type_view value_type.now)) e)) }
     ensures named { IfOk result (λ values. norm (type_of (layout_of values.value)) ≡ norm (type_view value_type.now)) }
     ensures exact { Answers result (values_type (entries R.memory body.now) id ≡ Some (norm (type_view value_type.now)))
         (λ values. layout_of values.value ≡ known body.now id) }

@@ -1,4 +1,4 @@
-use Rattle.std.proofs.Common.{◌+◌, ◌≤◌, map, drop, IsTrue}
+use Rattle.std.proofs.Common.{◌≡◌, ◌+◌, ◌≤◌, map, drop, IsTrue}
 use Rattle.lower.specs.TypeViews.{fields_view}
 use Rattle.lower_arrays.specs.AnyLayouts.{layout_of}
 use Rattle.lower_arrays.specs.Held.{all_held}
@@ -17,6 +17,7 @@ invariant-read_fields-loop-field g l = record {
   places : Left l.body.extra (kinds_of (fields_view l.fields) (all_ids_view l.ids)) (kinds_of (fields_view (drop l.field-index l.fields)) (all_ids_view l.left)) l.fn.start l.place;
   stands : Stands g.R.Failures.still g.R.Failures.memory l.reader l.body;
   monotone : g.R.Failures.failures l.fn.reader ≤ g.R.Failures.failures l.reader;
+  done : g.R.Failures.failures l.reader ≡ g.R.Failures.failures l.fn.reader;
   given : g.R.Failures.given l.reader
       + all_listed (entries g.R.Failures.memory l.body) l.body.extra (kinds_of (fields_view (drop l.field-index l.fields)) (all_ids_view l.left)) l.place.buffer
       ≤ g.R.Failures.given l.fn.reader + all_listed (entries g.R.Failures.memory l.body) l.body.extra (kinds_of (fields_view l.fields) (all_ids_view l.ids)) l.fn.start.buffer;
@@ -33,6 +34,7 @@ invariant-read_whole_fields-loop-field g l = record {
   places : Left l.body.extra (kinds_of (fields_view l.fields) (all_ids_view l.ids)) (kinds_of (fields_view (drop l.field-index l.fields)) (all_ids_view l.others)) l.fn.start l.place;
   stands : Stands g.R.Failures.still g.R.Failures.memory l.reader l.body;
   monotone : g.R.Failures.failures l.fn.reader ≤ g.R.Failures.failures l.reader;
+  done : g.R.Failures.failures l.reader ≡ g.R.Failures.failures l.fn.reader;
   given : g.R.Failures.given l.reader
       + all_listed (entries g.R.Failures.memory l.body) l.body.extra (kinds_of (fields_view (drop l.field-index l.fields)) (all_ids_view l.others)) l.place.buffer
       ≤ g.R.Failures.given l.fn.reader + all_listed (entries g.R.Failures.memory l.body) l.body.extra (kinds_of (fields_view l.fields) (all_ids_view l.ids)) l.fn.start.buffer;

@@ -21,6 +21,7 @@ pieces-preserved g c =
     record {
       inside = grind (arith, common_steps);
       monotone = omega arith;
+      done = c.in_ok-fill.ensures.done ∙ c.pieces.invariant.done;
       given = omega (arith, mul-add w had n, ap (λ m. w * m) len, c.in_ok-fill.ensures.given, long);
       whole = search rules;
       same = λ k.
