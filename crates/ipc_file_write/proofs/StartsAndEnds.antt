@@ -44,7 +44,7 @@ not_new s x h same = let none = ap fault_unless_new same in absurd cc
 pub start_refused : {W : Type 0} (w : FileSeen W) (e : Fault) → RefusesStart w e → AnswersStart w (Err e)
 start_refused w (State x) h = (not_new w.state x h, λ t. not_new w.state x h t.new)
 start_refused w (Argument FieldsShape) h = (h, λ t. h t.writable.schema.fits)
-start_refused w (Argument NotWritable) h = (h, λ t. h t.writable.schema)
+start_refused w (Argument NotWritable) h = (h.1, λ t. h.1 t.writable.schema)
 start_refused w Memory h = (tt, tt)
 start_refused w _ h = absurd h
 

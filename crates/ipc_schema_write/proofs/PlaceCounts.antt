@@ -1,18 +1,20 @@
 -- How many dictionary places there are, whatever their ids.
-use Rattle.std.proofs.Common.{◌≡◌, ℤ, ◌≤◌, ◌^◌, length, length-append, cond, Option, Result, Ok, Err, IfErr, refl, ◌∙◌, arith}
+use Rattle.std.proofs.Common.{◌≡◌, ℕ, ℤ, ◌<◌, ◌≤◌, ◌^◌, inl, inr, length, length-append, cond, Option, Result, Ok, Err, IfErr, refl, ◌∙◌, arith}
+use Rattle.std.proofs.lemmas.Bool.{cases_lt}
 use Rattle.lower.specs.Counts.{fields_places, is_dictionary}
 use Rattle.lower.specs.TypeTrees.{Pairs, TypeTree, plain, single, group, dictionary, extension, FieldTree, field, FieldTrees, no_fields, more_fields}
 use Rattle.ipc_base.specs.IdTrees.{IdTree, ids, IdTrees}
-use Rattle.ipc_devices.specs.declared.fault.ArgFault.TheVariants.{TooLarge}
+use Rattle.ipc_base.proofs.FitTests.{all_test}
+use Rattle.ipc_devices.specs.declared.fault.ArgFault.TheVariants.{NotWritable, TooLarge}
 use Rattle.ipc_devices.specs.declared.fault.Fault.{Fault}
 use Rattle.ipc_devices.specs.declared.fault.Fault.TheVariants.{Argument, Memory}
 use Rattle.ipc_model.specs.Batches.{field_places, inner_places, own_place, places}
 use Rattle.ipc_model.specs.TypeKinds.{first_ids, other_ids}
 use Rattle.ipc_model.specs.Writable.{IsWritable, most_places}
-use Rattle.ipc_schema_write.specs.DefaultIds.{count_below, count_field, count_all}
-use Rattle.ipc_schema_write.specs.Refusals.{RefusesCount}
+use Rattle.ipc_schema_write.specs.DefaultIds.{count_below, count_field, count_all, default_all}
+use Rattle.ipc_schema_write.specs.Refusals.{RefusesCount, RefusesMany}
 use Rattle.ipc_schema_write.specs.WriterAnswers.{RefusesSchema}
-use Rattle.ipc_schema_write.proofs.DefaultsFit.{count-fields}
+use Rattle.ipc_schema_write.proofs.DefaultsFit.{all_fit-default, count-fields}
 
 pub own-count : (t : TypeTree) (id : Option ℤ) (is : IdTrees) → length (own_place t id is) ≡ cond (is_dictionary t) 1 0
 own-count (plain p) id is = refl
@@ -37,8 +39,14 @@ mutual
   below-count (extension name t text) is = below-count t is
 
 -- more dictionary fields than can be written
-pub too-many : (fs : FieldTrees) (es : Pairs) (is : IdTrees) → (count_all fs ≤ most_places → ⊥) → IsWritable fs es is → ⊥
+too-many : (fs : FieldTrees) (es : Pairs) (is : IdTrees) → (count_all fs ≤ most_places → ⊥) → IsWritable fs es is → ⊥
 too-many fs es is many w = many (let few = w.few_places in omega (arith, few, places-count fs is))
+
+pub many-refuse : (fs : FieldTrees) (es : Pairs) → (count_all fs ≤ most_places → ⊥) → RefusesSchema (Argument NotWritable) fs es (default_all 0 fs)
+many-refuse fs es many = ((all_test fs (default_all 0 fs)).0 (all_fit-default 0 fs), too-many fs es (default_all 0 fs) many)
+
+pub many-more : (n most : ℕ) → (n ≤ most → ⊥) → most < n
+many-more n most many = elim (cases_lt most n) [ inl more ↦ more | inr few ↦ absurd (many few) ]
 
 -- so few that each gets an id
 few-refuse : (X : Type 0) (e : Fault) (fs : FieldTrees) (es : Pairs) (is : IdTrees) → count_all fs ≤ most_places → RefusesCount {X = X} (Err e) (2 ^ 63 ≤ length (fields_places fs)) → RefusesSchema e fs es is
@@ -49,3 +57,12 @@ few-refuse X _ fs es is few h = absurd h
 pub few-refuses : (X : Type 0) (r : Result X Fault) (fs : FieldTrees) (is : IdTrees) → count_all fs ≤ most_places → RefusesCount r (2 ^ 63 ≤ length (fields_places fs)) → IfErr r (λ e. (es : Pairs) → RefusesSchema e fs es is)
 few-refuses X (Ok x) fs is few h = tt
 few-refuses X (Err e) fs is few h = λ es. few-refuse X e fs es is few h
+
+few-one : (X : Type 0) (e : Fault) (fs : FieldTrees) → count_all fs ≤ most_places → RefusesCount {X = X} (Err e) (2 ^ 63 ≤ length (fields_places fs)) → RefusesMany fs e
+few-one X Memory fs few h = tt
+few-one X (Argument TooLarge) fs few h = absurd (omega (arith, few, h, count-fields fs))
+few-one X _ fs few h = absurd h
+
+pub few-many : (X : Type 0) (r : Result X Fault) (fs : FieldTrees) → count_all fs ≤ most_places → RefusesCount r (2 ^ 63 ≤ length (fields_places fs)) → IfErr r (RefusesMany fs)
+few-many X (Ok x) fs few h = tt
+few-many X (Err e) fs few h = few-one X e fs few h

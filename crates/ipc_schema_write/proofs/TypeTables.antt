@@ -13,19 +13,17 @@ use Rattle.lower.specs.declared.datatypes.IntervalUnit.{IntervalUnit}
 use Rattle.lower.specs.declared.datatypes.TimeUnit.{TimeUnit}
 use Rattle.lower.specs.declared.datatypes.UnionMode.{UnionMode}
 use Rattle.ipc_tables.specs.Slots.{kept32, kept_bytes32}
-use Rattle.ipc_tables.specs.declared.types.FieldType.TheVariants.{Null, Int, FloatingPoint, Binary, Utf8, Bool as a_bool, Decimal, Date, Time, Timestamp, Interval, List as a_list, Struct, Union, FixedSizeBinary, FixedSizeList, Map, Duration, LargeBinary, LargeUtf8, LargeList}
+use Rattle.ipc_tables.specs.declared.types.FieldType.TheVariants.{Null, Int, Binary, Utf8, Bool as a_bool, Decimal, Date, Time, Timestamp, Interval, List as a_list, Struct, Union, FixedSizeBinary, FixedSizeList, Map, Duration, LargeBinary, LargeUtf8, LargeList}
 use Rattle.ipc_tables.specs.declared.types.Int.{Int as int_table}
 use Rattle.ipc_tables.specs.Weights.{ids_weight, zone_weight}
 use Rattle.ipc_tables.proofs.Kept.{kept32-is, kept-ids}
-use Rattle.ipc_views.specs.declared.types.Precision.{Precision}
-use Rattle.ipc_views.specs.declared.types.Precision.TheVariants.{Half, Single as single_precision, Double}
 use Rattle.ipc_views.specs.declared.types.DateUnit.{DateUnit}
 use Rattle.ipc_views.specs.declared.types.DateUnit.TheVariants.{Day, Millisecond as day_millisecond}
 use Rattle.ipc_views.specs.declared.types.TimeUnit.{TimeUnit as UnitTag}
 use Rattle.ipc_views.specs.declared.types.TimeUnit.TheVariants.{Second, Millisecond, Microsecond, Nanosecond}
 use Rattle.ipc_views.specs.declared.types.IntervalUnit.{IntervalUnit as IntervalTag}
 use Rattle.ipc_views.specs.declared.types.UnionMode.{UnionMode as ModeTag}
-use Rattle.ipc_model.specs.Schemas.{date_of, decimal_at, decimal_of, float_of, group_at, integer_at, integers, interval_of, mode_of, plain_at, single_at, time_of, unit_of}
+use Rattle.ipc_model.specs.Schemas.{date_of, decimal_at, decimal_of, group_at, integer_at, integers, interval_of, mode_of, plain_at, single_at, time_of, unit_of}
 use Rattle.ipc_model.specs.Writable.{IsShort, IsWritablePlain, group_weight, plain_weight, text_weight}
 use Rattle.ipc_schema_write.specs.Meanings.{AreShortIds, IsGroupTable, IsKeysTable, IsPlainTable, IsSingleTable}
 
@@ -73,15 +71,6 @@ pub short-kept : (n : ℕ) → IsShort n → kept32 (pos n) ≡ pos n
 short-kept n h = kept32-is (pos n) (fits_signed_from_abs w32 (pos n) h)
 
 -- ---- units
-
-pub float-table : (p : Precision) → IsPlainTable (FloatingPoint (record { precision = p })) (float_of p)
-unfolding plain_at
-float-table p = record { not_single = refl; not_group = refl; reads = λ s held. rw held refl; weighs = weightless p }
-  where
-    weightless : (p : Precision) → 0 ≡ plain_weight (float_of p)
-    weightless Half = refl
-    weightless single_precision = refl
-    weightless Double = refl
 
 pub date-table : (u : DateUnit) → IsPlainTable (Date (record { unit = u })) (date_of u)
 unfolding plain_at

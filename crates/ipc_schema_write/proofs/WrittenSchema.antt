@@ -47,7 +47,7 @@ fields-writable fs es is w = record { fits = w.fits; types = w.types; levels = w
 pub refuses-schema : (e : Fault) (fs : FieldTrees) (es : Pairs) (is : IdTrees) → RefusesFields fs is e → RefusesSchema e fs es is
 refuses-schema Memory fs es is h = tt
 refuses-schema (Argument FieldsShape) fs es is h = h
-refuses-schema (Argument NotWritable) fs es is h = λ w. h (fields-writable fs es is w)
+refuses-schema (Argument NotWritable) fs es is h = (h.0, λ w. h.1 (fields-writable fs es is w))
 refuses-schema _ fs es is h = absurd h
 
 -- ---- a schema
@@ -100,6 +100,7 @@ module _ (s : SchemaTable) (fs : FieldTrees) (es : Pairs) (is : IdTrees) (order 
         let total_is = fields-weigh s.fields.items fs is fields in
         let pairs_is = tables-weigh s.custom_metadata.items ∙ pairs.weighs in
         omega (arith, total_is, pairs_is, ap features_weight plain_features);
+    bare = plain_features;
   }
 
 -- the bytes of the message of a schema
@@ -118,6 +119,7 @@ bytes-written order (Ok bytes) s fs es is w t encoded =
       head-written bytes.items (schema_slots s) _ (written_as order fs es is) read encoded.holds,
       omega (arith, size, whole),
       record { message = record { version = V5; header = a_schema s; body_length = pos 0; custom_metadata = None }; version = refl; bare = refl; encoding = encoded },
+      record { table = s; bare = t.bare; encoding = encoded },
     )
 bytes-written order (Err e) s fs es is w t (inl memory) = rw memory tt
 bytes-written order (Err e) s fs es is w t (inr (large, long)) = absurd (

@@ -1,5 +1,5 @@
 -- What writing a schema answers.
-use Rattle.std.specs.Prelude.{ℕ, ◌≡◌, ◌%◌, ◌^◌, ◌≤◌, AllPairs, Bool, if◌then◌else◌, List, length, Some, Result, Ok, Err, Vec}
+use Rattle.std.specs.Prelude.{ℕ, pos, ◌≡◌, ◌%◌, ◌^◌, ◌≤◌, AllPairs, Bool, if◌then◌else◌, List, length, None, Some, Result, Ok, Err, Vec}
 use Rattle.std.specs.declared.alloc.Global.{Global}
 use Rattle.lower.specs.Counts.{fields_levels}
 use Rattle.lower.specs.Normal.{norm_fields}
@@ -11,12 +11,15 @@ use Rattle.ipc_base.specs.IdTrees.{IdTrees}
 use Rattle.ipc_devices.specs.declared.fault.ArgFault.TheVariants.{FieldsShape, NotWritable}
 use Rattle.ipc_devices.specs.declared.fault.Fault.{Fault}
 use Rattle.ipc_devices.specs.declared.fault.Fault.TheVariants.{Argument, Memory}
+use Rattle.ipc_parts.specs.Encodes.{IsEncoding}
 use Rattle.ipc_parts.specs.Holds.{HoldsPart, spot}
 use Rattle.ipc_parts.specs.Sizes.{size_of}
 use Rattle.ipc_parts.specs.Tree.{table}
+use Rattle.ipc_tables.specs.Messages.{message_slots}
 use Rattle.ipc_tables.specs.Schemas.{schema_slots}
 use Rattle.ipc_tables.specs.Weights.{schema_weight}
 use Rattle.ipc_tables.specs.Written.{IsWritten}
+use Rattle.ipc_tables.specs.declared.message.MessageHeader.TheVariants.{Schema as a_schema}
 use Rattle.ipc_tables.specs.declared.schema.Schema.{Schema as SchemaTable}
 use Rattle.ipc_model.specs.Batches.{Schema, places}
 use Rattle.ipc_model.specs.Schemas.{head_of, schema_at, schema_of}
@@ -40,18 +43,18 @@ pub record AreWritableWith (fs : FieldTrees) (is : IdTrees) : Type 0 where
   pub few_places : length (places fs is) ≤ most_places
   pub values : AllPairs SameUnderId (places fs is)
 
--- what refuses such fields
+-- what refuses such fields: their ids are of another shape, or fit and yet they can't be written with these
 abbrev pub RefusesFields : FieldTrees → IdTrees → Fault → Type 0
 RefusesFields fs is Memory = Unit {0}
 RefusesFields fs is (Argument FieldsShape) = AllFit fs is → ⊥
-RefusesFields fs is (Argument NotWritable) = AreWritableWith fs is → ⊥
+RefusesFields fs is (Argument NotWritable) = AllFit fs is × (AreWritableWith fs is → ⊥)
 RefusesFields fs is _ = ⊥
 
 -- what refuses a schema with these ids
 abbrev pub RefusesSchema : Fault → FieldTrees → Pairs → IdTrees → Type 0
 RefusesSchema Memory fs es is = Unit {0}
 RefusesSchema (Argument FieldsShape) fs es is = AllFit fs is → ⊥
-RefusesSchema (Argument NotWritable) fs es is = IsWritable fs es is → ⊥
+RefusesSchema (Argument NotWritable) fs es is = AllFit fs is × (IsWritable fs es is → ⊥)
 RefusesSchema _ _ _ _ = ⊥
 
 -- what is written of it: its normal form and the ids, with the order of the bytes of bodies
@@ -62,11 +65,12 @@ written_as order fs es is = record { fields = norm_fields fs; metadata = es; ids
 abbrev pub written : FieldTrees → Pairs → IdTrees → Schema
 written fs es is = written_as Little fs es is
 
--- wherever the table stands in a message it means the schema, and it weighs as much
+-- wherever the table stands in a message it means the schema, and it weighs as much; it lists no features
 pub record IsSchemaTable (order : Endianness) (s : SchemaTable) (fs : FieldTrees) (es : Pairs) (is : IdTrees) : Type 0 where
   pub reads : (m : List ℕ) (p : ℕ) → HoldsPart m p (table (schema_slots s)) → size_of (table (schema_slots s)) ≤ length m
       → schema_at (spot m p) ≡ Some (written_as order fs es is)
   pub weighs : schema_weight s ≡ weight fs es
+  pub bare : s.features ≡ None
 
 abbrev pub WritesTable : Endianness → Result SchemaTable Fault → FieldTrees → Pairs → IdTrees → Type 0
 WritesTable order (Ok s) fs es is = IsWritable fs es is × IsSchemaTable order s fs es is
@@ -79,9 +83,17 @@ written_head_as order fs es is = record { schema = written_as order fs es is; ve
 abbrev pub written_head : FieldTrees → Pairs → IdTrees → Head
 written_head fs es is = written_head_as Little fs es is
 
--- the bytes mean the schema, are no more than its weight, begin a stream, need no padding, and are a message as it is written
+-- the bytes are the message of the table of a schema that lists no features, with no body
+pub record IsSchemaMessage (bytes : List ℕ) : Type 0 where
+  pub table : SchemaTable
+  pub bare : table.features ≡ None
+  pub encoding : IsEncoding bytes (message_slots (record { version = V5; header = a_schema table; body_length = pos 0; custom_metadata = None }))
+
+-- the bytes mean the schema, are no more than its weight, begin a stream, need no padding, and are a message as it is written,
+-- whose schema lists no features
 abbrev pub WritesSchema : Endianness → Result (Vec ℕ Global) Fault → FieldTrees → Pairs → IdTrees → Type 0
 WritesSchema order (Ok bytes) fs es is =
     IsWritable fs es is × (schema_of bytes.items ≡ Some (written_as order fs es is)) × (length bytes.items ≤ weight fs es)
     × (head_of bytes.items ≡ Some (written_head_as order fs es is)) × (length bytes.items % 8 ≡ 0) × IsWritten bytes.items
+    × IsSchemaMessage bytes.items
 WritesSchema order (Err e) fs es is = RefusesSchema e fs es is

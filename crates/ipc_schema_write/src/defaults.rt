@@ -8,7 +8,7 @@ ghost use Rattle.ipc_schema_write.specs.DefaultIds.{count_below, count_field, co
 ghost use Rattle.ipc_schema_write.specs.DefaultRows.{DefaultRows};
 ghost use Rattle.lower.specs.TypeTrees.{Pairs};
 ghost use Rattle.ipc_model.specs.Writable.{most_places};
-ghost use Rattle.ipc_schema_write.specs.Refusals.{RefusesCount};
+ghost use Rattle.ipc_schema_write.specs.Refusals.{RefusesCount, RefusesMany};
 ghost use Rattle.ipc_schema_write.specs.WriterAnswers.{RefusesSchema};
 
 use crate::schema::MAX_PLACES;
@@ -41,6 +41,7 @@ pub fn writable_ipc_fields(alloc: Global, fields: &[Field]) -> Result<Vec<IpcFie
     ensures fit { IfOk result (λ r. AllFit (fields_view fields.now) (all_ids_view r.items)) }
     ensures only { IfErr result (λ e. (es : Pairs)
         → RefusesSchema e (fields_view fields.now) es (default_all 0 (fields_view fields.now))) }
+    ensures many { IfErr result (RefusesMany (fields_view fields.now)) }
 {
     if !has_few_places(fields) {
         return Err(Fault::Argument(ArgFault::NotWritable));

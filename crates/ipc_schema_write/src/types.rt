@@ -4,18 +4,16 @@
 ghost use Rattle.std.specs.Prelude.{◌≡◌, IfOk, pos};
 ghost use Rattle.lower.specs.TypeTrees.{plain, time32, time64, timestamp, interval, duration, fixed_binary, decimal, decimal256, fixed_list, entries, choice};
 ghost use Rattle.lower.specs.TypeViews.{ids_of, text_of, type_view};
-ghost use Rattle.ipc_model.specs.Schemas.{date_of, float_of, integers, interval_of, mode_of, unit_of};
+ghost use Rattle.ipc_model.specs.Schemas.{date_of, integers, interval_of, mode_of, unit_of};
 ghost use Rattle.ipc_model.specs.Writable.{IsShort, IsWritableType};
 ghost use Rattle.ipc_schema_write.specs.Meanings.{AreShortIds, IsEncodingTable, IsGroupTable, IsKeysTable, IsSingleTable, IsTypeTable, encoding_of};
 
 use ipc_tables::schema::{DictionaryEncoding, DictionaryKind};
 use ipc_tables::types::{
-    Date, Decimal, Duration, FieldType, FixedSizeBinary, FixedSizeList, FloatingPoint, Int,
-    Interval, Map, Time, Timestamp, Union,
+    Date, Decimal, Duration, FieldType, FixedSizeBinary, FixedSizeList, Int, Interval, Map, Time,
+    Timestamp, Union,
 };
-use ipc_views::{
-    DateUnit, IntervalUnit as IntervalTag, Precision, TimeUnit as UnitTag, UnionMode as ModeTag,
-};
+use ipc_views::{DateUnit, IntervalUnit as IntervalTag, TimeUnit as UnitTag, UnionMode as ModeTag};
 use lower::datatypes::{DataType, IntegerType, IntervalUnit, TimeUnit, UnionMode};
 use std::alloc::AllocError;
 
@@ -100,12 +98,6 @@ fn int(integer: IntegerType) -> FieldType
     ensures { IsTypeTable result (plain (integers integer)) }
 {
     FieldType::Int(serialize_integer(integer))
-}
-
-fn float(precision: Precision) -> FieldType
-    ensures { IsTypeTable result (plain (float_of precision)) }
-{
-    FieldType::FloatingPoint(FloatingPoint { precision })
 }
 
 fn date(unit: DateUnit) -> FieldType
@@ -245,9 +237,7 @@ pub(crate) fn serialize_type(data_type: &DataType) -> Result<FieldType, AllocErr
         DataType::UInt16 => Ok(int(IntegerType::UInt16)),
         DataType::UInt32 => Ok(int(IntegerType::UInt32)),
         DataType::UInt64 => Ok(int(IntegerType::UInt64)),
-        DataType::Float16 => Ok(float(Precision::Half)),
-        DataType::Float32 => Ok(float(Precision::Single)),
-        DataType::Float64 => Ok(float(Precision::Double)),
+        DataType::Float16 | DataType::Float32 | DataType::Float64 => unreachable!(),
         DataType::Timestamp(unit, zone) => timestamp(*unit, zone),
         DataType::Date32 => Ok(date(DateUnit::Day)),
         DataType::Date64 => Ok(date(DateUnit::Millisecond)),

@@ -9,7 +9,7 @@ use ipc_tables::types::FieldType;
 /// The greatest weight of a schema that is written: `2^30`.
 pub const MAX_WEIGHT: u64 = 1 << 30;
 
-// Each of these is None where a `u64` is too small for it.
+// The weight of some pairs, or None where a `u64` is too small for it.
 fn weigh_pairs(pairs: &[KeyValue]) -> Option<u64>
     ensures { MatchOption result (2 ^ 64 ≤ pairs_weight pairs.now) (λ weight. weight ≡ pairs_weight pairs.now) }
 {

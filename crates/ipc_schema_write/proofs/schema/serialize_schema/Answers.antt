@@ -14,15 +14,19 @@ returns-in_err-check_writable c =
     rw (p.1, p.2) (refuses-schema c.in_err-check_writable.field-0.0 (fields_view s.fields.items) (pairs_of s.metadata.entries) (all_ids_view c.args.ipc_fields.now) (rw c.deref.ensures.value at c.in_err-check_writable.ensures.only))
 
 pub returns-then-not-is_light : goal.returns-then-not-is_light
-returns-then-not-is_light c = λ w.
+returns-then-not-is_light c =
     let s = c.args.schema.now in
-    let deep : fields_levels (fields_view s.fields.items) ≤ 64 = w.levels in
-    let fields = rw c.deref-2.ensures.value at c.in_ok-fields.ensures in
-    let t : SchemaTable = record { endianness = c.endianness.result; fields = c.in_ok-fields.fields; custom_metadata = c.in_ok-custom_metadata.custom_metadata; features = None } in
-    let table = table-written t (fields_view s.fields.items) (pairs_of s.metadata.entries) (all_ids_view c.args.ipc_fields.now) _ c.endianness.ensures refl fields c.in_ok-custom_metadata.ensures.means deep in
-    let weighs = table.weighs in
-    let light = w.light in
-    true≢false (sym (c.is_light.ensures.1 (omega (arith, weighs, light))) ∙ c.if-not-is_light.true)
+    let ok = rw c.deref.ensures.value at c.in_ok-check_writable.ensures.ok in (
+      ok.fits,
+      λ w.
+          let deep : fields_levels (fields_view s.fields.items) ≤ 64 = w.levels in
+          let fields = rw c.deref-2.ensures.value at c.in_ok-fields.ensures in
+          let t : SchemaTable = record { endianness = c.endianness.result; fields = c.in_ok-fields.fields; custom_metadata = c.in_ok-custom_metadata.custom_metadata; features = None } in
+          let table = table-written t (fields_view s.fields.items) (pairs_of s.metadata.entries) (all_ids_view c.args.ipc_fields.now) _ c.endianness.ensures refl fields c.in_ok-custom_metadata.ensures.means deep in
+          let weighs = table.weighs in
+          let light = w.light in
+          true≢false (sym (c.is_light.ensures.1 (omega (arith, weighs, light))) ∙ c.if-not-is_light.true),
+    )
 
 pub returns : goal.returns
 returns c =
