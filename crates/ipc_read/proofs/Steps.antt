@@ -1,8 +1,9 @@
 -- Steps of a device that end in a fault.
-use Rattle.std.proofs.Common.{arith, ◌≡◌, ℕ, ◌+◌, ◌≤◌, Bool, Result, Ok, Err, sym, subst}
+use Rattle.std.proofs.Common.{arith, ◌≡◌, ℕ, ◌+◌, ◌≤◌, Bool, Result, Ok, Err, sym, subst, ◌∙◌}
+use Rattle.std.proofs.lemmas.Bool.{false≢true}
 use Rattle.std.specs.Result.{IsErr, IsErrAnd}
 use Rattle.ipc_devices.specs.Device.{Memory, Rises}
-use Rattle.ipc_devices.specs.Faults.{OnIo}
+use Rattle.ipc_devices.specs.Faults.{OnIo, UnlessIo}
 use Rattle.ipc_devices.specs.declared.fault.Fault.{Fault}
 use Rattle.ipc_devices.specs.declared.fault.Fault.TheVariants as Faults
 use Rattle.ipc_columns.specs.Steps.{Step}
@@ -24,17 +25,35 @@ io_through : (X Y : Type 0) (r : Result Y Fault) (e : Fault) (P Q : Type 0) → 
 io_through X Y (Ok x) e P Q is f h = tt
 io_through X Y (Err u) e P Q is f h = subst (λ (v : Fault). OnIo {X = Y} (Err v) Q) (sym is.1) (on_io X Y e P Q f h)
 
+-- the same where no device failed
+unless_io : (X Y : Type 0) (e : Fault) (P Q : Type 0) → (P → Q) → UnlessIo {X = X} (Err e) P → UnlessIo {X = Y} (Err e) Q
+unless_io X Y (Faults.OutOfSpec k) P Q f h = f h
+unless_io X Y Faults.Ended P Q f h = f h
+unless_io X Y (Faults.NotYetImplemented n) P Q f h = f h
+unless_io X Y (Faults.Schema s) P Q f h = f h
+unless_io X Y (Faults.Argument a) P Q f h = f h
+unless_io X Y (Faults.State s) P Q f h = f h
+unless_io X Y Faults.TooManyDictionaries P Q f h = f h
+unless_io X Y (Faults.Io e) P Q f h = tt
+unless_io X Y Faults.Memory P Q f h = f h
+unless_io X Y (Faults.Lower e) P Q f h = f h
+
+unless_io_through : (X Y : Type 0) (r : Result Y Fault) (e : Fault) (P Q : Type 0) → IsErr r × IsErrAnd r (λ f. f ≡ e) → (P → Q) → UnlessIo {X = X} (Err e) P → UnlessIo {X = Y} r Q
+unless_io_through X Y (Ok x) e P Q is f h = absurd (false≢true is.0)
+unless_io_through X Y (Err u) e P Q is f h = subst (λ (v : Fault). UnlessIo {X = Y} (Err v) Q) (sym is.1) (unless_io X Y e P Q f h)
+
 rises_from : (a b c : ℕ) → a ≤ b → Rises b c → Rises a c
 rises_from a b c le h = omega (arith, le, h)
 
 -- a part of a step that ended in a fault ends it
 pub step_err :
     {R X Y : Type 0} (still : Bool) (memory : R → Memory) (failures given : R → ℕ) (s : Body R) (n m : ℕ) (a0 a b : R) (e : Fault) (r : Result Y Fault)
-    → IsErr r × IsErrAnd r (λ f. f ≡ e) → failures a0 ≤ failures a → given a + n ≤ given a0 + m
+    → IsErr r × IsErrAnd r (λ f. f ≡ e) → failures a0 ≤ failures a → failures a ≡ failures a0 → given a + n ≤ given a0 + m
     → Step {R = R} {X = X} still memory failures given s n a (Err e) b → Step {R = R} {X = Y} still memory failures given s m a0 r b
-step_err {R} {X} {Y} still memory failures given s n m a0 a b e r is le lt st = record {
+step_err {R} {X} {Y} still memory failures given s n m a0 a b e r is le same lt st = record {
   stands = st.stands;
   monotone = omega (arith, le, st.monotone);
   failed = io_through X Y r e (Rises (failures a) (failures b)) (Rises (failures a0) (failures b)) is (λ h. rises_from (failures a0) (failures a) (failures b) le h) st.failed;
+  told = unless_io_through X Y r e (failures b ≡ failures a) (failures b ≡ failures a0) is (λ h. h ∙ same) st.told;
   bounded = omega (arith, st.bounded, lt);
 }

@@ -2,7 +2,7 @@
 ghost use Rattle.std.specs.Prelude.{◌≡◌, ◌+◌, ◌≤◌, ◌<◌, ◌^◌, ◌↔◌, [], length, map, IfErr, IfOk, IsSome, Some, IsTrue};
 ghost use Rattle.std.specs.Option.{option_copied};
 ghost use Rattle.ipc_devices.specs.Device.{Rises};
-ghost use Rattle.ipc_devices.specs.Faults.{OnIo, OwnFault, Answers};
+ghost use Rattle.ipc_devices.specs.Faults.{OnIo, UnlessIo, OwnFault, Answers};
 ghost use Rattle.lower.specs.Counts.{nodes, fields_nodes, buffers, fields_buffers};
 ghost use Rattle.lower.specs.TypeViews.{type_view, fields_view};
 ghost use Rattle.lower_arrays.specs.AnyLayouts.{layout_of};
@@ -264,6 +264,7 @@ pub fn read_record_batch<R: Reads + Seeks>(
         IfErr result (λ e. OwnFault e (IsFaultOfBatch (kinds (batch_schema fields.now ipc_schema.now)) js e)) }
     ensures monotone { R.failures reader.old ≤ R.failures reader.new }
     ensures failed { OnIo result (Rises (R.failures reader.old) (R.failures reader.new)) }
+    ensures told { UnlessIo result (R.failures reader.new ≡ R.failures reader.old) }
     ensures given { let js = chosen (option_copied projection.entry) (length fields.now) in
         R.given reader.new ≤ R.given reader.old
         + chosen_listed (lists_of batch.entry) (extra_of version) (kinds (batch_schema fields.now ipc_schema.now)) js }
@@ -274,6 +275,7 @@ pub fn read_record_batch<R: Reads + Seeks>(
         (option_copied projection.entry) limit result }
     ensures values { IsTrue R.known → let js = chosen (option_copied projection.entry) (length fields.now) in
         IfOk result (λ xs. HaveMeaning (known_dictionaries dictionaries.now) (all_ids_view ipc_schema.now.fields.items) js (chunk_seen xs) (map layout_of xs)) }
+    ensures idle { _scratch.new ≡ _scratch.old }
     ensures whole { IsTrue R.still → (R.memory reader.new).whole ≡ (R.memory reader.old).whole }
 {
     let (nodes, buffers) = entries_of(&batch)?;

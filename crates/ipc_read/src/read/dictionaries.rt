@@ -2,7 +2,7 @@
 ghost use Rattle.std.specs.Prelude.{◌≡◌, ◌+◌, ◌++◌, ◌≤◌, [], ◌∷◌, None, Some, IsSome, IfErr, IfOk, IsTrue, MatchOption, OnErr, OnOk};
 ghost use Rattle.std.specs.HashMap.{IsUnchanged};
 ghost use Rattle.ipc_devices.specs.Device.{Rises};
-ghost use Rattle.ipc_devices.specs.Faults.{OnIo, OwnFault, Answers};
+ghost use Rattle.ipc_devices.specs.Faults.{OnIo, UnlessIo, OwnFault, Answers};
 ghost use Rattle.lower.specs.Counts.{nodes, buffers};
 ghost use Rattle.lower.specs.TypeViews.{type_view, fields_view};
 ghost use Rattle.ipc_base.specs.IdTrees.{all_ids_view};
@@ -131,6 +131,7 @@ fn read_values<R: Reads + Seeks>(
     ensures only { IfErr result (λ e. OwnFault e (IsValuesFault (kind_of (type_view value_type.now) None (all_ids_view ids.now)) e)) }
     ensures monotone { R.failures reader.old ≤ R.failures reader.new }
     ensures failed { OnIo result (Rises (R.failures reader.old) (R.failures reader.new)) }
+    ensures told { UnlessIo result (R.failures reader.new ≡ R.failures reader.old) }
     ensures given { let schema = values_schema (record { id = None; type = type_view value_type.now; ids = all_ids_view ids.now }) (order_of is_little_endian) in
         R.given reader.new ≤ R.given reader.old + chosen_listed (lists_of batch.entry) (extra_of version) (kinds schema) (0 ∷ []) }
     ensures held { let schema = values_schema (record { id = None; type = type_view value_type.now; ids = all_ids_view ids.now }) (order_of is_little_endian) in
@@ -211,6 +212,7 @@ pub fn read_dictionary<R: Reads + Seeks>(
     ensures only { IfErr result (λ e. OwnFault e (IsDictionaryFault e)) }
     ensures monotone { R.failures reader.old ≤ R.failures reader.new }
     ensures failed { OnIo result (Rises (R.failures reader.old) (R.failures reader.new)) }
+    ensures told { UnlessIo result (R.failures reader.new ≡ R.failures reader.old) }
     ensures given { R.given reader.new ≤ R.given reader.old + values_listed (batch_schema fields.now ipc_schema.now) (extra_of version) batch.entry }
     ensures memory { IsTrue R.known → GivesDictionary (batch_schema fields.now ipc_schema.now) (extra_of version) (known_dictionaries dictionaries.old)
         (record { source = (R.memory reader.old).whole; base = block_offset; size = file_size }) batch.entry result (known_dictionaries dictionaries.new) }
@@ -218,6 +220,7 @@ pub fn read_dictionary<R: Reads + Seeks>(
         (λ id. array_under dictionaries.old id) (λ id. array_under dictionaries.new id)) }
     ensures put { OnOk result (PutsValues R.known (batch_schema fields.now ipc_schema.now) batch.entry (known_dictionaries dictionaries.old) (known_dictionaries dictionaries.new)) }
     ensures kept { OnErr result (IsUnchanged dictionaries.old dictionaries.new) }
+    ensures idle { _scratch.new ≡ _scratch.old }
     ensures whole { IsTrue R.still → (R.memory reader.new).whole ≡ (R.memory reader.old).whole }
 {
     let (id, values) = head_of(&batch)?;

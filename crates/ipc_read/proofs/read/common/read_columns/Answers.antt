@@ -48,6 +48,7 @@ loop-index-init g c =
       among = all_among ts js _ left;
       many = omega (arith, empty, ap length left);
       monotone = omega arith;
+      done = refl;
       stands = c.requires.stands;
       given = omega (arith, e);
       held = omega (arith, h1, h2);
@@ -128,6 +129,7 @@ loop-index-preserved-then-not-is_chosen g c =
       among = among_same ts (chosen p n) _ _ stays c.loop-index.invariant.among;
       many = omega (arith, ap length stays, c.loop-index.invariant.many);
       monotone = c.loop-index.invariant.monotone;
+      done = c.loop-index.invariant.done;
       stands = c.loop-index.invariant.stands;
       given = omega (arith, e, c.loop-index.invariant.given);
       held = omega (arith, h, c.loop-index.invariant.held);
@@ -200,7 +202,7 @@ returns-in_err-column-clause-step g c =
     let e1 = ap (columns_listed s extra ts) (left_more p n m i inside here) in
     let e2 = listed_there extra ts is left i place t at (omega (arith, inside, field_count fs is)) same s in
     step_err g.R.Failures.still g.R.Failures.memory g.R.Failures.failures g.R.Failures.given c.args.body.now _ _ c.args.reader.now c.loop-index.reader c.read.new.reader c.in_err-column.field-0.0
-    c.from_residual-in_err-column.result c.from_residual-in_err-column.ensures c.loop-index.invariant.monotone (omega (arith, e1, e2, c.loop-index.invariant.given)) c.in_err-column.ensures.step
+    c.from_residual-in_err-column.result c.from_residual-in_err-column.ensures c.loop-index.invariant.monotone c.loop-index.invariant.done (omega (arith, e1, e2, c.loop-index.invariant.given)) c.in_err-column.ensures.step
 
 pub returns-in_err-column-clause-memory : goal.returns-in_err-column-clause-memory
 returns-in_err-column-clause-memory g c = λ k.
@@ -263,6 +265,7 @@ returns-in_err-push-clause-step g c =
       stands = c.in_ok-column.ensures.step.stands;
       monotone = omega (arith, c.loop-index.invariant.monotone, c.in_ok-column.ensures.step.monotone);
       failed = search rules;
+      told = search rules;
       bounded = omega (arith, e1, e2, c.loop-index.invariant.given, c.in_ok-column.ensures.step.bounded);
     }
 
@@ -308,6 +311,7 @@ loop-index-preserved g c =
       among = subst (λ (k : ℕ). Among ts (chosen p n) (left_of p n k (i + 1))) grown (among_more ts (chosen p n) _ (left_of p n (m + 1) (i + 1)) i more c.loop-index.invariant.among);
       many = omega (arith, grown, ap length more, ap (λ (k : ℕ). length (left_of p n k (i + 1))) grown, c.loop-index.invariant.many);
       monotone = omega (arith, c.loop-index.invariant.monotone, c.in_ok-column.ensures.step.monotone);
+      done = c.in_ok-column.ensures.step.told ∙ c.loop-index.invariant.done;
       stands = c.in_ok-column.ensures.step.stands;
       given = omega (arith, e1, e2, e3, c.loop-index.invariant.given, c.in_ok-column.ensures.step.bounded);
       held = omega (arith, h1, h2, h3, h4, c.loop-index.invariant.held);

@@ -21,6 +21,7 @@ invariant-loop-index g l = record {
   many : length l.columns.items + length (left_of (option_copied l.projection) (length l.fields) (length l.columns.items) l.index)
       ≡ length (chosen (option_copied l.projection) (length l.fields));
   monotone : g.R.Failures.failures l.fn.reader ≤ g.R.Failures.failures l.reader;
+  done : g.R.Failures.failures l.reader ≡ g.R.Failures.failures l.fn.reader;
   stands : Stands g.R.Failures.still g.R.Failures.memory l.reader l.body;
   given : g.R.Failures.given l.reader
       + columns_listed (entries g.R.Failures.memory l.body) l.body.extra (kinds_of (fields_view l.fields) (all_ids_view l.ids))
