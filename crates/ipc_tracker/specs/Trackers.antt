@@ -1,6 +1,6 @@
 -- What a writer remembers of the dictionaries that it wrote.
 -- (Arrow columnar format, "Dictionary Messages".)
-use Rattle.std.specs.Prelude.{◌≡◌, ◌≢◌, ℤ, Bool, true, false, IsTrue, Option, Some, None, option_map, Result, Ok, Err}
+use Rattle.std.specs.Prelude.{◌≡◌, ◌≢◌, ℤ, Bool, true, false, IsTrue, IsSome, Option, Some, None, option_map, Result, Ok, Err}
 use Rattle.std.specs.HashMap as hash
 use Rattle.std.specs.Ordering.{int_eq}
 use Rattle.ipc_devices.specs.declared.fault.Fault.{Fault}
@@ -33,6 +33,10 @@ Asks m fixed id d (Ok false) = m id ≡ Some d
 Asks m fixed id d (Err (Argument (DictionaryReplaced j))) = (j ≡ id) × IsTrue fixed × (m id ≢ Some d) × (m id ≢ None)
 Asks m fixed id d (Err Memory) = Unit {0}
 Asks m fixed id d (Err _) = ⊥
+
+-- where other values come than those that are remembered and have to stay, just this is answered, and no want of memory
+pub record TellsReplaced (m : Remembered) (fixed : Bool) (id : ℤ) (d : Dictionary) (r : Result Bool Fault) : Type 0 where
+  pub told : IsTrue fixed → IsSome (m id) → m id ≢ Some d → r ≡ Err (Argument (DictionaryReplaced id))
 
 -- what is remembered then
 abbrev pub After : Remembered → ℤ → Dictionary → Result Bool Fault → Remembered → Type 0

@@ -1,12 +1,13 @@
 //! The values of dictionaries that were written last.
 ghost use Rattle.std.specs.Prelude.{◌≡◌, ◌↔◌, ◌+◌, ◌<◌, ◌≤◌, ℤ, length, map, IsTrue, IfErr, OnErr, OnOk};
 ghost use Rattle.std.specs.HashMap.{spare};
-ghost use Rattle.ipc_devices.specs.declared.fault.Fault.TheVariants.{Memory};
+ghost use Rattle.ipc_devices.specs.declared.fault.ArgFault.TheVariants.{DictionaryReplaced};
+ghost use Rattle.ipc_devices.specs.declared.fault.Fault.TheVariants.{Argument, Memory};
 ghost use Rattle.lower_arrays.specs.AnyLayouts.{layout_of};
 ghost use Rattle.lower_arrays.specs.Dictionaries.{HasKeys};
 ghost use Rattle.lower_arrays.specs.Layouts.{level};
 ghost use Rattle.lower_arrays.specs.Slots.{slots};
-ghost use Rattle.ipc_tracker.specs.Trackers.{dictionary_of, nothing_remembered, remembered, remembering, values_in, Asks, Inserts, IsSameMemory};
+ghost use Rattle.ipc_tracker.specs.Trackers.{dictionary_of, nothing_remembered, remembered, remembering, values_in, Asks, Inserts, IsSameMemory, TellsReplaced};
 ghost use Rattle.ipc_tracker.specs.Listings.{listed, remembering_all};
 
 use ipc_devices::{ArgFault, Fault};
@@ -69,6 +70,7 @@ impl DictionaryTracker {
     pub fn insert(&mut self, dict_id: i64, array: &AnyArray) -> Result<bool, Fault>
         requires { HasKeys (level (layout_of array.now)).parts }
         ensures inserted { Inserts (remembered self.old) self.old.cannot_replace dict_id (dictionary_of (values_in (layout_of array.now))) result (remembered self.new) }
+        ensures told { TellsReplaced (remembered self.old) self.old.cannot_replace dict_id (dictionary_of (values_in (layout_of array.now))) result }
         ensures fixed { self.new.cannot_replace ≡ self.old.cannot_replace }
     {
         match array {
@@ -80,6 +82,7 @@ impl DictionaryTracker {
     // Remembers the values of a dictionary, and answers whether they are new or others.
     fn insert_values(&mut self, id: i64, array: &DictionaryArray) -> Result<bool, Fault>
         ensures inserted { Inserts (remembered self.old) self.old.cannot_replace id (dictionary_of array.now.values) result (remembered self.new) }
+        ensures told { TellsReplaced (remembered self.old) self.old.cannot_replace id (dictionary_of array.now.values) result }
         ensures fixed { self.new.cannot_replace ≡ self.old.cannot_replace }
     {
         let changed = self.is_changed(id, array.values())?;
@@ -93,7 +96,8 @@ impl DictionaryTracker {
 
     // Whether the values are new under an id, or others than those that are remembered.
     pub(crate) fn is_changed(&self, id: i64, values: &AnyArray) -> Result<bool, Fault>
-        ensures { Asks (remembered self.now) self.now.cannot_replace id (dictionary_of (layout_of values.now)) result }
+        ensures asks { Asks (remembered self.now) self.now.cannot_replace id (dictionary_of (layout_of values.now)) result }
+        ensures only { IfErr result (λ fault. fault ≡ Argument (DictionaryReplaced id)) }
     {
         let Some(last) = self.dictionaries.get(&id) else {
             return Ok(true);

@@ -11,4 +11,4 @@ returns-in_err-changed-clause-refused c =
     let same : to_z w64 (of_z w64 c.args.id) ≡ c.args.id = search rules in
     rw e
     (refuses_changed (remembered c.args.tracker.now) c.args.tracker.now.cannot_replace (seen c.args.self.now) c.args.id (to_z w64 (of_z w64 c.args.id)) c.args.array.now.values (layout_of c.values-2.result.now)
-    c.is_changed.result c.in_err-changed.field-0.0 same c.values-2.ensures.values c.in_err-changed.was c.is_changed.ensures)
+    c.is_changed.result c.in_err-changed.field-0.0 same c.values-2.ensures.values c.in_err-changed.was c.is_changed.ensures.asks)
