@@ -1,6 +1,6 @@
 //! Encodes batches as messages: their metadata, and their bodies in pieces (Arrow columnar format, "RecordBatch message" and
 //! "Dictionary messages").
-ghost use Rattle.std.specs.Prelude.{◌≡◌, ◌*◌, ◌^◌, ◌<◌, ◌≤◌, length, map, IfOk};
+ghost use Rattle.std.specs.Prelude.{◌≡◌, ◌*◌, ◌^◌, ◌<◌, ◌≤◌, [], length, map, IfOk};
 ghost use Rattle.lower_arrays.specs.AnyLayouts.{layout_of};
 ghost use Rattle.ipc_encode.specs.Appending.{order_of};
 ghost use Rattle.ipc_encode.specs.Encoding.{AnswersBatch, IdFits, IsEncoded, IsMessageOfPlan, header_in, levels_of};
@@ -31,7 +31,7 @@ pub enum BatchKind {
 pub struct Encoded<'a> {
     /// The metadata: a table `Message` of the Arrow format, `Message.fbs`.
     pub metadata: Vec<u8>,
-    /// The body, in pieces that borrow the arrays. The metadata have its nodes and its buffers.
+    /// The body, in pieces that borrow the arrays. The metadata have its nodes and its buffers: here there are none.
     pub body: Plan<'a>,
 }
 
@@ -50,7 +50,7 @@ fn header(kind: BatchKind, batch: RecordBatch) -> MessageHeader
     }
 }
 
-// The message of a batch that lists what a plan does. The plan has its pieces left.
+// The message of a batch that lists what a plan does. The plan has its pieces left, and no node and no buffer.
 fn plan_to_message(alloc: Global, plan: &mut Plan<'_>, kind: BatchKind, length: i64) -> Message
     requires { plan.old.end < 2 ^ 63 }
     ensures value { IsMessageOfPlan result kind length plan.old }
@@ -58,6 +58,7 @@ fn plan_to_message(alloc: Global, plan: &mut Plan<'_>, kind: BatchKind, length: 
     ensures order { plan.new.order ≡ plan.old.order }
     ensures pieces { plan.new.pieces.items ≡ plan.old.pieces.items }
     ensures end { plan.new.end ≡ plan.old.end }
+    ensures moved { (plan.new.nodes.items ≡ []) × (plan.new.buffers.items ≡ []) }
 {
     let nodes = replace(&mut plan.nodes, Vec::new(alloc));
     let buffers = replace(&mut plan.buffers, Vec::new(alloc));
@@ -95,6 +96,7 @@ pub fn encode_batch<'a>(
     ensures order { IfOk result (λ encoded. encoded.body.order ≡ order_of is_little_endian) }
     ensures end { IfOk result (λ encoded. encoded.body.end ≡ length (pieces_bytes (order_of is_little_endian) encoded.body.pieces.items)) }
     ensures few { IfOk result (λ encoded. length encoded.body.pieces.items ≤ 2 * length (body_lengths (levels_of (map layout_of columns.now)))) }
+    ensures moved { IfOk result (λ encoded. (encoded.body.nodes.items ≡ []) × (encoded.body.buffers.items ≡ [])) }
 {
     let Ok(length) = i64::try_from(rows) else {
         return Err(Fault::Argument(ArgFault::TooLong));

@@ -1,9 +1,9 @@
 //! What is handed to a writer.
 ghost use Rattle.std.specs.Prelude.{◌≡◌, [], map, option_map, IfOk, None};
-ghost use Rattle.std.specs.Cow.{cow_slice_items, cow_value};
+ghost use Rattle.std.specs.Cow.{cow_slice_items, cow_value, IsBorrowed};
 ghost use Rattle.lower_arrays.specs.AnyLayouts.{layout_of};
 ghost use Rattle.ipc_base.specs.IdTrees.{all_ids_view};
-ghost use Rattle.ipc_encode.specs.Records.{columns_of, fields_of};
+ghost use Rattle.ipc_encode.specs.Records.{columns_of, fields_of, AreLent, LendsAgain};
 
 use ipc_base::chunk::Chunk;
 use ipc_base::ipc::{IpcField, clone_ipc_fields};
@@ -88,6 +88,7 @@ impl<'a> Record<'a> {
     pub fn clone(&self) -> Result<Record<'a>, AllocError>
         ensures columns { IfOk result (λ copy. map layout_of (columns_of copy) ≡ map layout_of (columns_of self.now)) }
         ensures fields { IfOk result (λ copy. option_map all_ids_view (fields_of copy) ≡ option_map all_ids_view (fields_of self.now)) }
+        ensures lent { IfOk result (λ copy. LendsAgain self.now copy) }
     {
         Ok(Record {
             columns: clone_columns(&self.columns)?,
@@ -100,7 +101,8 @@ impl<'a> Record<'a> {
 fn clone_columns<'a>(
     columns: &Cow<'a, Chunk<AnyArray>>,
 ) -> Result<Cow<'a, Chunk<AnyArray>>, AllocError>
-    ensures { IfOk result (λ copy. map layout_of (cow_value copy) ≡ map layout_of (cow_value columns.now)) }
+    ensures same { IfOk result (λ copy. map layout_of (cow_value copy) ≡ map layout_of (cow_value columns.now)) }
+    ensures lent { IfOk result (λ copy. IsBorrowed columns.now → IsBorrowed copy) }
 {
     match columns {
         Cow::Borrowed(columns) => Ok(Cow::Borrowed(*columns)),
@@ -112,7 +114,8 @@ fn clone_columns<'a>(
 fn clone_fields<'a>(
     fields: &Option<CowSlice<'a, IpcField>>,
 ) -> Result<Option<CowSlice<'a, IpcField>>, AllocError>
-    ensures { IfOk result (λ copy. option_map (λ ids. all_ids_view (cow_slice_items ids)) copy ≡ option_map (λ ids. all_ids_view (cow_slice_items ids)) fields.now) }
+    ensures same { IfOk result (λ copy. option_map (λ ids. all_ids_view (cow_slice_items ids)) copy ≡ option_map (λ ids. all_ids_view (cow_slice_items ids)) fields.now) }
+    ensures lent { IfOk result (λ copy. AreLent fields.now → AreLent copy) }
 {
     match fields {
         None => Ok(None),
