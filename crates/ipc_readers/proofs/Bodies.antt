@@ -131,17 +131,22 @@ module _ (fs : FieldTrees) (ms : Pairs) (is : IdTrees) (o : Endianness) (version
     holds,
   )
 
-  record_blames : (e' : Fault) → IsFaultOfBatch (kinds_of fs is) (chosen p (count (kinds_of fs is))) e' → BlamesBody (asks fs ms is o version p) s.count 3 e'
-  record_blames e' fault = record { record_batch = λ q. inl fault; dictionary_batch = λ q. absurd (omega (arith, q)); other = λ q r. absurd (r refl) }
+  record_blames : (e' : Fault) → IsFaultOfBatch (kinds_of fs is) (chosen p (count (kinds_of fs is))) e' → BlamesBody (asks fs ms is o version p) s.count (header 3 t n) xs e'
+  record_blames e' fault = record {
+    record_batch = λ q. inl fault;
+    dictionary_batch = λ q. absurd (omega (arith, q));
+    other = λ q r. absurd (r refl);
+    cut = λ short q. absurd (omega (arith, long, short));
+  }
 
   record_refused : (e' : Fault) → OwnFault e' (IsFaultOfBatch (kinds_of fs is) (chosen p (count (kinds_of fs is))) e')
       → OwnFault e' (record_meaning (bare fs is o) (extra_of version) k.dictionaries (first bytes n) t p None ≡ None) → (l : Known)
       → ReadsBody (asks fs ms is o version p) s (header 3 t n) xs (Err e') l (drop n xs)
   record_refused e' only none l =
-      both_claims e' (chosen_body (asks fs ms is o version p) s (header 3 t n) xs ≡ done faulty) (BlamesBody (asks fs ms is o version p) s.count 3 e')
+      both_claims e' (chosen_body (asks fs ms is o version p) s (header 3 t n) xs ≡ done faulty) (BlamesBody (asks fs ms is o version p) s.count (header 3 t n) xs e')
       (claims_through e' (record_meaning (bare fs is o) (extra_of version) k.dictionaries (first bytes n) t p None ≡ None) (chosen_body (asks fs ms is o version p) s (header 3 t n) xs ≡ done faulty)
       (λ means. record_body (asks fs ms is o version p) s t n xs None long (record_is ∙ means)) none)
-      (claims_through e' (IsFaultOfBatch (kinds_of fs is) (chosen p (count (kinds_of fs is))) e') (BlamesBody (asks fs ms is o version p) s.count 3 e')
+      (claims_through e' (IsFaultOfBatch (kinds_of fs is) (chosen p (count (kinds_of fs is))) e') (BlamesBody (asks fs ms is o version p) s.count (header 3 t n) xs e')
       (record_blames e') only)
 
   values_read : (l : Known) → k.count < most_dictionaries → l.count ≡ k.count + 1 → AlsoGives (dictionary_meaning (bare fs is o) (extra_of version) k.dictionaries (first bytes n) t) l.dictionaries
@@ -157,8 +162,13 @@ module _ (fs : FieldTrees) (ms : Pairs) (is : IdTrees) (o : Endianness) (version
         tt,
       )
 
-  values_blame : (e' : Fault) → IsDictionaryFault e' → BlamesBody (asks fs ms is o version p) s.count 2 e'
-  values_blame e' fault = record { record_batch = λ q. absurd (omega (arith, q)); dictionary_batch = λ q. inl fault; other = λ q r. absurd (q refl) }
+  values_blame : (e' : Fault) → IsDictionaryFault e' → BlamesBody (asks fs ms is o version p) s.count (header 2 t n) xs e'
+  values_blame e' fault = record {
+    record_batch = λ q. absurd (omega (arith, q));
+    dictionary_batch = λ q. inl fault;
+    other = λ q r. absurd (q refl);
+    cut = λ short q. absurd (omega (arith, long, short));
+  }
 
   values_refused : (e' : Fault) → k.count < most_dictionaries → OwnFault e' (IsDictionaryFault e')
       → OwnFault e' (dictionary_meaning (bare fs is o) (extra_of version) k.dictionaries (first bytes n) t ≡ None) → (l : Known)
@@ -166,11 +176,11 @@ module _ (fs : FieldTrees) (ms : Pairs) (is : IdTrees) (o : Endianness) (version
   values_refused e' few only none l =
       let h = asks fs ms is o version p in
       let same : s.count ≡ k.count = at.count in
-      both_claims e' (chosen_body h s (header 2 t n) xs ≡ done faulty) (BlamesBody h s.count 2 e')
+      both_claims e' (chosen_body h s (header 2 t n) xs ≡ done faulty) (BlamesBody h s.count (header 2 t n) xs e')
       (claims_through e' (dictionary_meaning (bare fs is o) (extra_of version) k.dictionaries (first bytes n) t ≡ None) (chosen_body h s (header 2 t n) xs ≡ done faulty)
       (λ means. dictionary_body h s t n xs None long (omega (arith, same, few))
       (no_dictionary_alike h.head.schema (extra_of version) s.dictionaries k.dictionaries (whole (take n xs)) t at.alike (read_of ∙ means))) none)
-      (claims_through e' (IsDictionaryFault e') (BlamesBody h s.count 2 e') (values_blame e') only)
+      (claims_through e' (IsDictionaryFault e') (BlamesBody h s.count (header 2 t n) xs e') (values_blame e') only)
 
 -- what the answer of a record batch says, of a body with bytes behind it
 record_answer : (fs : FieldTrees) (ms : Pairs) (is : IdTrees) (o : Endianness) (version : MetadataVersion) (p : Option (List ℕ)) (k : Known) (t : Spot) (n : ℕ) (xs bytes : List ℕ)
@@ -254,9 +264,9 @@ outside m n denied = elim (cases_lt n m) [
 
 -- a body that isn't there, of a record or a dictionary
 pub cut_body : (h : Request) (s : Known) (m : Header) (xs : List ℕ) (e : Fault) → (m.tag ≡ 3) ⊎ (m.tag ≡ 2) → OwnFault e ((e ≡ Faults.Ended) × (m.body ≤ length xs → ⊥))
-    → OwnFault e ((chosen_body h s m xs ≡ done faulty) × BlamesBody h s.count m.tag e)
+    → OwnFault e ((chosen_body h s m xs ≡ done faulty) × BlamesBody h s.count m xs e)
 cut_body h s m xs e kind cut =
-    claims_through e ((e ≡ Faults.Ended) × (m.body ≤ length xs → ⊥)) ((chosen_body h s m xs ≡ done faulty) × BlamesBody h s.count m.tag e)
+    claims_through e ((e ≡ Faults.Ended) × (m.body ≤ length xs → ⊥)) ((chosen_body h s m xs ≡ done faulty) × BlamesBody h s.count m xs e)
     (λ c. (
       short_body h s m xs (outside m.body (length xs) c.1),
       record {
@@ -266,6 +276,7 @@ cut_body h s m xs e kind cut =
           | inl three ↦ absurd (r three)
           | inr two ↦ absurd (q two)
         ];
+        cut = λ short q. c.0;
       },
     )) cut
 
@@ -277,26 +288,30 @@ other_tag : (h : Request) (s : Known) (m : Header) (xs : List ℕ) → (m.tag ==
 unfolding chosen_body
 other_tag h s m xs no_record no_dictionary = rw (no_record, no_dictionary) (either_way (nat_lt (length xs) m.body) (done faulty))
 
-no_batch : (h : Request) (n tag : ℕ) → tag ≢ 2 → tag ≢ 3 → BlamesBody h n tag (Faults.OutOfSpec UnexpectedMessageType)
-no_batch h n tag no_dictionary no_record = record {
+no_batch : (h : Request) (n : ℕ) (m : Header) (xs : List ℕ) → m.tag ≢ 2 → m.tag ≢ 3 → BlamesBody h n m xs (Faults.OutOfSpec UnexpectedMessageType)
+no_batch h n m xs no_dictionary no_record = record {
   record_batch = λ q. absurd (no_record q);
   dictionary_batch = λ q. absurd (no_dictionary q);
   other = λ q r. refl;
+  cut = λ short q. elim q.kind [
+    | inl three ↦ absurd (no_record three)
+    | inr two ↦ absurd (no_dictionary two)
+  ];
 }
 
 -- a message that is neither a record nor a dictionary
 pub other_refused : (h : Request) (k : Known) (x : MessageHeaderRef) → ((t : Spot) → x ≡ headers.DictionaryBatch t → ⊥) → ((t : Spot) → x ≡ headers.RecordBatch t → ⊥)
     → RefusesBody h k (header_parts x).0 (header_parts x).1 (Faults.OutOfSpec UnexpectedMessageType)
 other_refused h k (headers.Schema t) no_dictionary no_record = record {
-  each = λ n xs. record { each = λ s at. (other_tag h s (header 1 t n) xs refl refl, no_batch h s.count 1 (λ q. omega (arith, q)) (λ q. omega (arith, q))) };
+  each = λ n xs. record { each = λ s at. (other_tag h s (header 1 t n) xs refl refl, no_batch h s.count (header 1 t n) xs (λ q. omega (arith, q)) (λ q. omega (arith, q))) };
 }
 other_refused h k (headers.DictionaryBatch t) no_dictionary no_record = absurd (no_dictionary t refl)
 other_refused h k (headers.RecordBatch t) no_dictionary no_record = absurd (no_record t refl)
 other_refused h k (headers.Tensor t) no_dictionary no_record = record {
-  each = λ n xs. record { each = λ s at. (other_tag h s (header 4 t n) xs refl refl, no_batch h s.count 4 (λ q. omega (arith, q)) (λ q. omega (arith, q))) };
+  each = λ n xs. record { each = λ s at. (other_tag h s (header 4 t n) xs refl refl, no_batch h s.count (header 4 t n) xs (λ q. omega (arith, q)) (λ q. omega (arith, q))) };
 }
 other_refused h k (headers.SparseTensor t) no_dictionary no_record = record {
-  each = λ n xs. record { each = λ s at. (other_tag h s (header 5 t n) xs refl refl, no_batch h s.count 5 (λ q. omega (arith, q)) (λ q. omega (arith, q))) };
+  each = λ n xs. record { each = λ s at. (other_tag h s (header 5 t n) xs refl refl, no_batch h s.count (header 5 t n) xs (λ q. omega (arith, q)) (λ q. omega (arith, q))) };
 }
 
 -- one dictionary too many
@@ -311,7 +326,12 @@ full_refused h k t full = record {
         let same : s.count ≡ k.count = at.count in
         let there : most_dictionaries ≤ s.count = omega (arith, same, full) in (
           full_body h s t n xs there,
-          record { record_batch = λ q. absurd (omega (arith, q)); dictionary_batch = λ q. inr (inr (refl, there)); other = λ q r. absurd (q refl) },
+          record {
+            record_batch = λ q. absurd (omega (arith, q));
+            dictionary_batch = λ q. inr (inr (refl, there));
+            other = λ q r. absurd (q refl);
+            cut = λ short q. let few = q.room refl in absurd (omega (arith, few, there));
+          },
         );
   };
 }

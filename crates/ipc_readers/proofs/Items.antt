@@ -7,7 +7,6 @@ use Rattle.ipc_model.specs.Frame.{Frame, message, mark, waiting, broken, frame}
 use Rattle.ipc_model.specs.Streams.{Header, Known, header_of, more, done, faulty}
 use Rattle.ipc_read.specs.Chunks.{chunk_seen}
 use Rattle.ipc_read.proofs.Refusals.{claims_through}
-use Rattle.ipc_readers.proofs.Bodies.{both_claims}
 use Rattle.ipc_readers.specs.ChosenStreams.{Request, chosen_body, chosen_frame, chosen_item, chosen_message}
 use Rattle.ipc_readers.specs.Messages.{opened}
 use Rattle.ipc_readers.specs.Streams.{BlamesBody, BlamesFront, BlamesOpened, GivesBody, FrontHolds, GivesItem, HeaderHolds, BodyGave, ItemGave, ItemStop, IsWithinMessage, ReadsBody, ReadsItem}
@@ -15,7 +14,7 @@ use Rattle.ipc_readers.specs.declared.read.stream.reader.Found.{Found}
 use Rattle.ipc_readers.specs.declared.read.stream.reader.Found.TheVariants as fronts
 use Rattle.ipc_devices.specs.Gives.{Stop, going, ended, stop_of, AnswerStop, FaultStop, Gives, GivesInOrder}
 use Rattle.ipc_devices.proofs.Gave.{gave_then, gave_as}
-use Rattle.ipc_readers.specs.Frames.{FrameGave, GivesFrame, IsFrame, IsFramingFault, due}
+use Rattle.ipc_readers.specs.Frames.{FrameGave, GivesFrame, IsFrame, due, frame_fault}
 use Rattle.ipc_readers.specs.declared.read.begun.Frame.TheVariants as frames
 use Rattle.ipc_devices.proofs.Stops.{fault_stop, claimed}
 
@@ -79,11 +78,11 @@ body_is_front h s xs m rest left d q (Ok (Some chunk)) l e f opens none g =
 body_is_front h s xs m rest left d q (Ok None) l e f opens none g =
     (g.0, g.1, body_of h s xs m rest (Some d) e f ∙ g.2 ∙ ap (λ ys. more None g.0 ys) (sym (behind_none q left none)))
 body_is_front h s xs m rest left d q (Err x) l e f opens none g =
-    claims_through x ((chosen_body h s d rest ≡ done faulty) × BlamesBody h s.count d.tag x)
-    ((chosen_item h s xs ≡ done faulty) × BlamesFront h s.count (frame xs) x)
+    claims_through x ((chosen_body h s d rest ≡ done faulty) × BlamesBody h s.count d rest x)
+    ((chosen_item h s xs ≡ done faulty) × BlamesFront h s.count xs (frame xs) x)
     (λ k. (
       body_of h s xs m rest (Some d) e f ∙ k.0,
-      subst (λ (y : Frame). BlamesFront h s.count y x) (sym e) (subst (λ (o : Result Header Fault). BlamesOpened h s.count o x) (sym opens) k.1),
+      subst (λ (y : Frame). BlamesFront h s.count xs y x) (sym e) (subst (λ (o : Result Header Fault). BlamesOpened h s.count o rest x) (sym opens) k.1),
     )) g
 
 body_is_item : (h : Request) (k : Known) (xs m rest left : List ℕ) (d : Header) (q : List ℕ) (r : Result (Option (List AnyArray)) Fault) (l : Known) → frame xs ≡ message m rest
@@ -105,7 +104,7 @@ module _ {S : Type 0} (gives : Gives S) where
     stop = ended;
     stops = refl;
     run = gave_as gives (λ xs. length (p ++ xs) ≤ due (p ++ xs)) (λ xs. IsWithinMessage (p ++ xs))
-        (λ all rest. GivesFrame (frame (p ++ all)) (Ok frames.Waiting) m q rest) (λ all rest. GivesItem h k (p ++ all) (Ok fronts.Waiting) k q (q ++ rest)) a ended b
+        (λ all rest. GivesFrame (frame (p ++ all)) (frame_fault (p ++ all)) (Ok frames.Waiting) m q rest) (λ all rest. GivesItem h k (p ++ all) (Ok fronts.Waiting) k q (q ++ rest)) a ended b
         (λ xs v _. record { within = inl v })
         (λ all rest f. record { each = λ s at. (at, item_of h s (p ++ all) (waiting q) (is_waiting (frame (p ++ all)) m q rest f)) }) g;
   }
@@ -115,25 +114,24 @@ module _ {S : Type 0} (gives : Gives S) where
     stop = going;
     stops = refl;
     run = gave_as gives (λ xs. length (p ++ xs) ≤ due (p ++ xs)) (λ xs. IsWithinMessage (p ++ xs))
-        (λ all rest. GivesFrame (frame (p ++ all)) (Ok frames.Mark) m q rest) (λ all rest. GivesItem h k (p ++ all) (Ok fronts.Mark) k q (q ++ rest)) a going b
+        (λ all rest. GivesFrame (frame (p ++ all)) (frame_fault (p ++ all)) (Ok frames.Mark) m q rest) (λ all rest. GivesItem h k (p ++ all) (Ok fronts.Mark) k q (q ++ rest)) a going b
         (λ xs v _. record { within = inl v })
         (λ all rest f.
         let here = is_mark (frame (p ++ all)) m q rest f in
         record { each = λ s at. (item_of h s (p ++ all) (mark rest) here, here ∙ ap mark (sym (behind_none q rest (none_marked (frame (p ++ all)) m q rest f)))) }) g;
   }
 
-  pub item_breaks : (h : Request) (k l : Known) (p q m : List ℕ) (a b : S) (e : Fault) → OwnFault e (IsFramingFault e) → FrameGave gives p a (Err e) m q b → ItemGave gives h k p a (Err e) l q b
-  item_breaks h k l p q m a b e only g = record {
+  pub item_breaks : (h : Request) (k l : Known) (p q m : List ℕ) (a b : S) (e : Fault) → FrameGave gives p a (Err e) m q b → ItemGave gives h k p a (Err e) l q b
+  item_breaks h k l p q m a b e g = record {
     stop = stop_of e;
     stops = fault_stop e;
     run = gave_as gives (λ xs. length (p ++ xs) ≤ due (p ++ xs)) (λ xs. IsWithinMessage (p ++ xs))
-        (λ all rest. GivesFrame (frame (p ++ all)) (Err e) m q rest) (λ all rest. GivesItem h k (p ++ all) (Err e) l q (q ++ rest)) a (stop_of e) b
+        (λ all rest. GivesFrame (frame (p ++ all)) (frame_fault (p ++ all)) (Err e) m q rest) (λ all rest. GivesItem h k (p ++ all) (Err e) l q (q ++ rest)) a (stop_of e) b
         (λ xs v _. record { within = inl v })
         (λ all rest f. record {
-          each = λ s at. claims_through e ((frame (p ++ all) ≡ broken) × IsFramingFault e)
-              ((chosen_item h s (p ++ all) ≡ done faulty) × BlamesFront h s.count (frame (p ++ all)) e)
-              (λ c. (item_of h s (p ++ all) broken c.0, subst (λ (y : Frame). BlamesFront h s.count y e) (sym c.0) c.1))
-              (both_claims e (frame (p ++ all) ≡ broken) (IsFramingFault e) f only);
+          each = λ s at. claims_through e ((frame (p ++ all) ≡ broken) × (e ≡ frame_fault (p ++ all)))
+              ((chosen_item h s (p ++ all) ≡ done faulty) × BlamesFront h s.count (p ++ all) (frame (p ++ all)) e)
+              (λ c. (item_of h s (p ++ all) broken c.0, subst (λ (y : Frame). BlamesFront h s.count (p ++ all) y e) (sym c.0) c.1)) f;
         }) g;
   }
 
@@ -144,14 +142,14 @@ module _ {S : Type 0} (gives : Gives S) where
     stop = going;
     stops = own;
     run = gave_as gives (λ xs. length (p ++ xs) ≤ due (p ++ xs)) (λ xs. IsWithinMessage (p ++ xs))
-        (λ all rest. GivesFrame (frame (p ++ all)) (Ok frames.Message) m q rest) (λ all rest. GivesItem h k (p ++ all) (Err e) l q (q ++ rest)) a going b
+        (λ all rest. GivesFrame (frame (p ++ all)) (frame_fault (p ++ all)) (Ok frames.Message) m q rest) (λ all rest. GivesItem h k (p ++ all) (Err e) l q (q ++ rest)) a going b
         (λ xs v _. record { within = inl v })
         (λ all rest f.
         let here = is_message (frame (p ++ all)) m q rest f in
         record {
-          each = λ s at. claimed e ((chosen_item h s (p ++ all) ≡ done faulty) × BlamesFront h s.count (frame (p ++ all)) e) (
+          each = λ s at. claimed e ((chosen_item h s (p ++ all) ≡ done faulty) × BlamesFront h s.count (p ++ all) (frame (p ++ all)) e) (
             body_of h s (p ++ all) m rest None here none,
-            subst (λ (y : Frame). BlamesFront h s.count y e) (sym here) (subst (λ (o : Result Header Fault). BlamesOpened h s.count o e) (sym opens) refl),
+            subst (λ (y : Frame). BlamesFront h s.count (p ++ all) y e) (sym here) (subst (λ (o : Result Header Fault). BlamesOpened h s.count o rest e) (sym opens) refl),
           );
         }) g;
   }
@@ -162,7 +160,7 @@ module _ {S : Type 0} (gives : Gives S) where
     stop = behind.stop;
     stops = stop_is_item r behind.stop behind.stops;
     run = gave_then gives law (λ xs. length (p ++ xs) ≤ due (p ++ xs)) (λ xs. length xs ≤ d.body) (λ xs. IsWithinMessage (p ++ xs))
-        (λ all rest. GivesFrame (frame (p ++ all)) (Ok frames.Message) m q rest) (λ all rest. GivesBody h k d all r l rest)
+        (λ all rest. GivesFrame (frame (p ++ all)) (frame_fault (p ++ all)) (Ok frames.Message) m q rest) (λ all rest. GivesBody h k d all r l rest)
         (λ all rest. GivesItem h k (p ++ all) (as_found r) l q (q ++ rest)) a b behind.stop c
         (λ xs ys v w f. record { within = inr (m, ys, d, is_message (frame (p ++ (xs ++ ys))) m q ys (f ys), there, w) })
         (λ all mid rest f g. body_is_item h k (p ++ all) m mid rest d q r l (is_message (frame (p ++ all)) m q mid f) there opens (none_begun (frame (p ++ all)) m q mid f) g)

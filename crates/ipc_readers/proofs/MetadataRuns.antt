@@ -1,16 +1,19 @@
 -- What reads of the schema message give.
-use Rattle.std.proofs.Common.{◌≡◌, ℕ, ◌≤◌, List, [], length, Some, None, Result, Ok, Err, refl, subst}
+use Rattle.std.proofs.Common.{◌≡◌, ℕ, ◌≤◌, List, [], length, Some, None, Result, Ok, Err, refl, subst, inl}
 use Rattle.ipc_devices.specs.Faults.{OwnFault}
 use Rattle.ipc_devices.specs.Gives.{going, ended, stop_of, FaultStop, Gives, Gave}
 use Rattle.ipc_devices.specs.declared.fault.Fault.{Fault}
-use Rattle.ipc_devices.specs.declared.fault.Fault.TheVariants.{Ended, Schema as BadSchema}
+use Rattle.ipc_devices.specs.declared.fault.Fault.TheVariants.{Ended, Io, Memory, OutOfSpec, Schema as BadSchema}
+use Rattle.ipc_devices.specs.declared.fault.OutOfSpecKind.TheVariants.{MissingFields}
 use Rattle.ipc_devices.specs.declared.fault.SchemaFault.TheVariants.{NotASchema}
 use Rattle.ipc_devices.proofs.Gave.{gave_as}
 use Rattle.ipc_devices.proofs.Stops.{fault_stop}
 use Rattle.ipc_model.specs.Frame.{Frame, message, mark, waiting, broken, frame}
+use Rattle.ipc_model.specs.Schemas.{schema_of}
+use Rattle.ipc_schema.specs.Reading.{RefusesMessage}
 use Rattle.ipc_read.proofs.Refusals.{claims_through}
-use Rattle.ipc_readers.specs.Frames.{FrameGave, GivesFrame, IsFrame, IsFramingFault, begun_bytes, due, frame_stop}
-use Rattle.ipc_readers.specs.Metadata.{GivesMetadata, MetadataGave, metadata_at, metadata_seen}
+use Rattle.ipc_readers.specs.Frames.{FrameGave, GivesFrame, IsFrame, IsFramingFault, begun_bytes, due, frame_fault, frame_stop}
+use Rattle.ipc_readers.specs.Metadata.{GivesMetadata, MetadataGave, RefusesMetadata, metadata_at, metadata_seen}
 use Rattle.ipc_readers.specs.declared.read.begun.Begun.{Begun}
 use Rattle.ipc_readers.specs.declared.read.begun.Frame as read
 use Rattle.ipc_readers.specs.declared.read.begun.Frame.TheVariants as frames
@@ -21,11 +24,12 @@ none_begun_yet b h = rw h refl
 
 -- ---- what a frame says of the metadata
 
-broken_says : (f : Frame) (e : Fault) (rest : List ℕ) → OwnFault e (IsFramingFault e) → OwnFault e (f ≡ broken) → GivesMetadata f (Err e) rest
-broken_says (message m behind) e rest only h = claims_through e (message m behind ≡ broken) (metadata_at m ≡ None) (λ x. absurd (cc x)) h
-broken_says (mark behind) e rest only h = claims_through e (mark behind ≡ broken) (e ≡ BadSchema NotASchema) (λ x. absurd (cc x)) h
-broken_says (waiting bytes) e rest only h = claims_through e (waiting bytes ≡ broken) (e ≡ Ended) (λ x. absurd (cc x)) h
-broken_says broken e rest only h = only
+broken_says : (f : Frame) (named e : Fault) (rest : List ℕ) → OwnFault e (IsFramingFault e) → OwnFault e ((f ≡ broken) × (e ≡ named)) → GivesMetadata f (Err e) rest
+broken_says (message m behind) named e rest only h =
+    claims_through e ((message m behind ≡ broken) × (e ≡ named)) ((metadata_at m ≡ None) × RefusesMetadata e m) (λ x. let no = x.0 in absurd (cc no)) h
+broken_says (mark behind) named e rest only h = claims_through e ((mark behind ≡ broken) × (e ≡ named)) (e ≡ BadSchema NotASchema) (λ x. let no = x.0 in absurd (cc no)) h
+broken_says (waiting bytes) named e rest only h = claims_through e ((waiting bytes ≡ broken) × (e ≡ named)) (e ≡ Ended) (λ x. let no = x.0 in absurd (cc no)) h
+broken_says broken named e rest only h = only
 
 mark_says : (f : Frame) (m q rest : List ℕ) → IsFrame f frames.Mark m q rest → GivesMetadata f (Err (BadSchema NotASchema)) rest
 mark_says (message m' behind) m q rest h = absurd h
@@ -39,8 +43,8 @@ waiting_says (mark behind) m q rest h = absurd h
 waiting_says (waiting bytes) m q rest h = refl
 waiting_says broken m q rest h = absurd h
 
-refused_says : (f : Frame) (m q rest : List ℕ) (e : Fault) → OwnFault e (metadata_at m ≡ None) → IsFrame f frames.Message m q rest → GivesMetadata f (Err e) rest
-refused_says (message m' behind) m q rest e none h = subst (λ (l : List ℕ). OwnFault e (metadata_at l ≡ None)) h.0 none
+refused_says : (f : Frame) (m q rest : List ℕ) (e : Fault) → OwnFault e ((metadata_at m ≡ None) × RefusesMetadata e m) → IsFrame f frames.Message m q rest → GivesMetadata f (Err e) rest
+refused_says (message m' behind) m q rest e none h = subst (λ (l : List ℕ). OwnFault e ((metadata_at l ≡ None) × RefusesMetadata e l)) h.0 none
 refused_says (mark behind) m q rest e none h = absurd h
 refused_says (waiting bytes) m q rest e none h = absurd h
 refused_says broken m q rest e none h = absurd h
@@ -51,14 +55,35 @@ made_says (mark behind) m q rest x some h = absurd h
 made_says (waiting bytes) m q rest x some h = absurd h
 made_says broken m q rest x some h = absurd h
 
+-- ---- why a schema message is refused
+
+no_metadata : (m : List ℕ) → schema_of m ≡ None → metadata_at m ≡ None
+unfolding metadata_at
+no_metadata m e = rw e refl
+
+no_schema : (m : List ℕ) (e : Fault) → RefusesMessage e m → OwnFault e (schema_of m ≡ None)
+no_schema m (BadSchema NotASchema) h = h.1
+no_schema m (OutOfSpec MissingFields) h = h.1
+no_schema m Memory h = tt
+no_schema m (Io e) h = tt
+no_schema m (BadSchema k) h = h
+no_schema m _ h = absurd h
+
+pub schema_refused : (m : List ℕ) (e : Fault) → RefusesMessage e m → OwnFault e ((metadata_at m ≡ None) × RefusesMetadata e m)
+schema_refused m e h = claims_through e (schema_of m ≡ None) ((metadata_at m ≡ None) × RefusesMetadata e m) (λ none. (no_metadata m none, inl h)) (no_schema m e h)
+
+pub schema_going : (m : List ℕ) (e : Fault) → RefusesMessage e m → FaultStop e going
+schema_going m (Io e) h = absurd h
+schema_going m _ h = tt
+
 -- ---- what was given
 
 module _ {S : Type 0} (gives : Gives S) (a b : S) (m q : List ℕ) where
-  frame_says : (r : Result read.Frame Fault) (s : Result StreamMetadata Fault) → ((f : Frame) (rest : List ℕ) → GivesFrame f r m q rest → GivesMetadata f s rest)
+  frame_says : (r : Result read.Frame Fault) (s : Result StreamMetadata Fault) → ((f : Frame) (named : Fault) (rest : List ℕ) → GivesFrame f named r m q rest → GivesMetadata f s rest)
       → FrameGave gives [] a r m q b → Gave gives (λ xs. length xs ≤ due xs) (λ all rest. GivesMetadata (frame all) s rest) a (frame_stop r) b
   frame_says r s says g = gave_as gives (λ xs. length xs ≤ due xs) (λ xs. length xs ≤ due xs)
-      (λ all rest. GivesFrame (frame all) r m q rest) (λ all rest. GivesMetadata (frame all) s rest) a (frame_stop r) b
-      (λ xs v k. v) (λ all rest k. says (frame all) rest k) g
+      (λ all rest. GivesFrame (frame all) (frame_fault all) r m q rest) (λ all rest. GivesMetadata (frame all) s rest) a (frame_stop r) b
+      (λ xs v k. v) (λ all rest k. says (frame all) (frame_fault all) rest k) g
 
   unbegun : (p : List ℕ) (r : Result read.Frame Fault) → p ≡ [] → FrameGave gives p a r m q b → FrameGave gives [] a r m q b
   unbegun p r e g = subst (λ (l : List ℕ). FrameGave gives l a r m q b) e g
@@ -67,29 +92,29 @@ module _ {S : Type 0} (gives : Gives S) (a b : S) (m q : List ℕ) where
   metadata_breaks p e none only g = record {
     stop = stop_of e;
     stops = fault_stop e;
-    run = frame_says (Err e) (Err e) (λ f rest k. broken_says f e rest only k) (unbegun p (Err e) none g);
+    run = frame_says (Err e) (Err e) (λ f named rest k. broken_says f named e rest only k) (unbegun p (Err e) none g);
   }
 
   pub metadata_marked : (p : List ℕ) → p ≡ [] → FrameGave gives p a (Ok frames.Mark) m q b → MetadataGave gives a (Err (BadSchema NotASchema)) b
   metadata_marked p none g = record {
     stop = going;
     stops = tt;
-    run = frame_says (Ok frames.Mark) (Err (BadSchema NotASchema)) (λ f rest k. mark_says f m q rest k) (unbegun p (Ok frames.Mark) none g);
+    run = frame_says (Ok frames.Mark) (Err (BadSchema NotASchema)) (λ f named rest k. mark_says f m q rest k) (unbegun p (Ok frames.Mark) none g);
   }
 
   pub metadata_waits : (p : List ℕ) → p ≡ [] → FrameGave gives p a (Ok frames.Waiting) m q b → MetadataGave gives a (Err Ended) b
   metadata_waits p none g = record {
     stop = ended;
     stops = tt;
-    run = frame_says (Ok frames.Waiting) (Err Ended) (λ f rest k. waiting_says f m q rest k) (unbegun p (Ok frames.Waiting) none g);
+    run = frame_says (Ok frames.Waiting) (Err Ended) (λ f named rest k. waiting_says f m q rest k) (unbegun p (Ok frames.Waiting) none g);
   }
 
-  pub metadata_refused : (p : List ℕ) (e : Fault) → p ≡ [] → FaultStop e going → OwnFault e (metadata_at m ≡ None) → FrameGave gives p a (Ok frames.Message) m q b
+  pub metadata_refused : (p : List ℕ) (e : Fault) → p ≡ [] → FaultStop e going → OwnFault e ((metadata_at m ≡ None) × RefusesMetadata e m) → FrameGave gives p a (Ok frames.Message) m q b
       → MetadataGave gives a (Err e) b
   metadata_refused p e none own refused g = record {
     stop = going;
     stops = own;
-    run = frame_says (Ok frames.Message) (Err e) (λ f rest k. refused_says f m q rest e refused k) (unbegun p (Ok frames.Message) none g);
+    run = frame_says (Ok frames.Message) (Err e) (λ f named rest k. refused_says f m q rest e refused k) (unbegun p (Ok frames.Message) none g);
   }
 
   pub metadata_made : (p : List ℕ) (x : StreamMetadata) → p ≡ [] → metadata_at m ≡ Some (metadata_seen x) → FrameGave gives p a (Ok frames.Message) m q b
@@ -97,5 +122,5 @@ module _ {S : Type 0} (gives : Gives S) (a b : S) (m q : List ℕ) where
   metadata_made p x none some g = record {
     stop = going;
     stops = refl;
-    run = frame_says (Ok frames.Message) (Ok x) (λ f rest k. made_says f m q rest x some k) (unbegun p (Ok frames.Message) none g);
+    run = frame_says (Ok frames.Message) (Ok x) (λ f named rest k. made_says f m q rest x some k) (unbegun p (Ok frames.Message) none g);
   }

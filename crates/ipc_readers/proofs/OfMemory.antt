@@ -13,7 +13,7 @@ use Rattle.ipc_model.specs.Frame.{Frame, message, mark, waiting, broken, frame}
 use Rattle.ipc_model.specs.Streams.{Known, done, faulty}
 use Rattle.ipc_readers.specs.ChosenStreams.{Request, chosen_item}
 use Rattle.ipc_readers.specs.Frames.{IsFramingFault, due}
-use Rattle.ipc_readers.specs.Metadata.{GivesMetadata, MetadataGave, metadata_at}
+use Rattle.ipc_readers.specs.Metadata.{GivesMetadata, MetadataGave, RefusesMetadata, metadata_at}
 use Rattle.ipc_readers.specs.Runs.{Answer, FailsLaw}
 use Rattle.ipc_readers.specs.Streams.{BlamesFront, GivesItem, ItemGave, ItemsGave, ItemStop, IsWithinMessage, NextStep, ReadsItem, request_of, begun_of, device_of, is_over, known_of, last_found, next_result}
 use Rattle.ipc_readers.specs.declared.read.stream.metadata.StreamMetadata.{StreamMetadata}
@@ -38,7 +38,7 @@ item_at_failure h s xs l q ys (Ok (fronts.Chunk chunk)) e = absurd (cc e)
 item_at_failure h s xs l q ys (Ok fronts.Dictionary) e = absurd (cc e)
 item_at_failure h s xs l q ys (Ok fronts.Waiting) e = absurd (cc e)
 item_at_failure h s xs l q ys (Ok fronts.Mark) e = absurd (cc e)
-item_at_failure h s xs l q ys (Err x) e = nothing_claimed x ((chosen_item h s xs ≡ done faulty) × BlamesFront h s.count (frame xs) x) e
+item_at_failure h s xs l q ys (Err x) e = nothing_claimed x ((chosen_item h s xs ≡ done faulty) × BlamesFront h s.count xs (frame xs) x) e
 
 pub item_ahead : {S : Type 0} (gives : Gives S) (known : Bool) (memory : S → Memory) → GivesAhead known gives memory → IsTrue known
     → (h : Request) (k l : Known) (p q : List ℕ) (r : Result Found Fault) (a b : S) → ItemGave gives h k p a r l q b
@@ -57,7 +57,7 @@ same_refusal (waiting begun) e zs ys g = g
 same_refusal broken e zs ys g = g
 
 no_refusal : (f : Frame) (e : Fault) (ys : List ℕ) → AnswerStop {X = StreamMetadata} (Err e) failed → GivesMetadata f (Err e) ys
-no_refusal (message m behind) e ys s = nothing_claimed e (metadata_at m ≡ None) s
+no_refusal (message m behind) e ys s = nothing_claimed e ((metadata_at m ≡ None) × RefusesMetadata e m) s
 no_refusal (mark behind) e ys s = nothing_claimed e (e ≡ BadSchema NotASchema) s
 no_refusal (waiting begun) e ys s = nothing_claimed e (e ≡ Ended) s
 no_refusal broken e ys s = nothing_claimed e (IsFramingFault e) s

@@ -31,15 +31,26 @@ IsFrame (mark behind) frames.Mark metadata begun rest = (begun ≡ []) × (rest 
 IsFrame (waiting bytes) frames.Waiting metadata begun rest = begun ≡ bytes
 IsFrame _ _ metadata begun rest = ⊥
 
-abbrev pub GivesFrame : Frame → Result read.Frame Fault → (metadata begun rest : List ℕ) → Type 0
-GivesFrame f (Ok x) metadata begun rest = IsFrame f x metadata begun rest
-GivesFrame f (Err e) metadata begun rest = OwnFault e (f ≡ broken)
+-- A fault of the input's is this one, and says that the frame is broken.
+abbrev pub GivesFrame : Frame → Fault → Result read.Frame Fault → (metadata begun rest : List ℕ) → Type 0
+GivesFrame f named (Ok x) metadata begun rest = IsFrame f x metadata begun rest
+GivesFrame f named (Err e) metadata begun rest = OwnFault e ((f ≡ broken) × (e ≡ named))
 
 -- a length below 0, or less bytes than stated
 abbrev pub IsFramingFault : Fault → Type 0
 IsFramingFault Ended = Unit {0}
 IsFramingFault (OutOfSpec NegativeFooterLength) = Unit {0}
 IsFramingFault _ = ⊥
+
+-- which of these a broken frame has, by the length that it states, if it states one
+abbrev pub sized_fault : ℕ → Fault
+sized_fault n = if nat_lt n (2 ^ 31) then Ended else OutOfSpec NegativeFooterLength
+
+unfoldable pub marked_fault : List ℕ → Fault
+marked_fault bytes = if nat_lt (length bytes) 4 then Ended else sized_fault (word bytes)
+
+unfoldable pub frame_fault : List ℕ → Fault
+frame_fault bytes = if word bytes == 0xFFFF_FFFF then marked_fault (drop 4 bytes) else sized_fault (word bytes)
 
 -- ---- how the device stopped
 
@@ -75,13 +86,13 @@ WordGave gives p a r q b = Gave gives (λ xs. length (p ++ xs) ≤ 4) (λ all re
 
 -- At most so many bytes were given, a message of them or none.
 abbrev pub SizedGave : {S : Type 0} → Gives S → ℕ → S → Result read.Frame Fault → (metadata : List ℕ) → S → Type 0
-SizedGave gives n a r m b = Gave gives (λ xs. length xs ≤ due_sized n) (λ all rest. GivesFrame (sized n all) r m [] rest) a (frame_stop r) b
+SizedGave gives n a r m b = Gave gives (λ xs. length xs ≤ due_sized n) (λ all rest. GivesFrame (sized n all) (sized_fault n) r m [] rest) a (frame_stop r) b
 
 -- the same behind the marker, and its begun bytes p
 abbrev pub MarkedGave : {S : Type 0} → Gives S → (p : List ℕ) → S → Result read.Frame Fault → (metadata q : List ℕ) → S → Type 0
-MarkedGave gives p a r m q b = Gave gives (λ xs. length (p ++ xs) ≤ due_marked (p ++ xs)) (λ all rest. GivesFrame (marked (p ++ all)) r m q rest) a (frame_stop r) b
+MarkedGave gives p a r m q b = Gave gives (λ xs. length (p ++ xs) ≤ due_marked (p ++ xs)) (λ all rest. GivesFrame (marked (p ++ all)) (marked_fault (p ++ all)) r m q rest) a (frame_stop r) b
 
 -- Behind the begun bytes p, at most the rest of a frame was given: the whole of it, where it is a message or the mark, and
 -- all that there is, which is kept, where it waits.
 abbrev pub FrameGave : {S : Type 0} → Gives S → (p : List ℕ) → S → Result read.Frame Fault → (metadata q : List ℕ) → S → Type 0
-FrameGave gives p a r m q b = Gave gives (λ xs. length (p ++ xs) ≤ due (p ++ xs)) (λ all rest. GivesFrame (frame (p ++ all)) r m q rest) a (frame_stop r) b
+FrameGave gives p a r m q b = Gave gives (λ xs. length (p ++ xs) ≤ due (p ++ xs)) (λ all rest. GivesFrame (frame (p ++ all)) (frame_fault (p ++ all)) r m q rest) a (frame_stop r) b

@@ -1,5 +1,5 @@
 -- What the schema message at the front of a stream says.
-use Rattle.std.specs.Prelude.{◌≡◌, ◌≤◌, ℕ, length, List, Option, Some, None, option_map, Result, Ok, Err}
+use Rattle.std.specs.Prelude.{◌≡◌, ◌⊎◌, ◌≤◌, ℕ, length, List, Option, Some, None, option_map, Result, Ok, Err}
 use Rattle.std.specs.Result.{result_ok}
 use Rattle.ipc_devices.specs.Faults.{OwnFault}
 use Rattle.ipc_devices.specs.Gives.{AnswerStop, Gives, GaveTo}
@@ -12,6 +12,7 @@ use Rattle.ipc_views.specs.declared.schema.MetadataVersion.{MetadataVersion}
 use Rattle.ipc_views.specs.MessageSlots.{message_version}
 use Rattle.ipc_views.specs.Spot.{Spot}
 use Rattle.ipc_views.specs.Tables.{root_at}
+use Rattle.ipc_schema.specs.Reading.{RefusesMessage}
 use Rattle.ipc_schema.specs.Views.{schema_seen}
 use Rattle.ipc_model.specs.Batches.{Schema}
 use Rattle.ipc_model.specs.Schemas.{given, schema_of}
@@ -42,10 +43,15 @@ metadata_seen m = (schema_seen (m.schema, m.ipc_schema), m.version)
 unfoldable pub metadata_at : List ℕ → Option MetadataSeen
 metadata_at m = given (schema_of m) (λ schema. option_map (λ version. (schema, version)) (result_ok (version_at m)))
 
--- The answer is what the message at the front says, and rest what is left; and a message that is refused says none.
+-- A schema message is refused for its schema, or for its version.
+abbrev pub RefusesMetadata : Fault → List ℕ → Type 0
+RefusesMetadata e m = RefusesMessage e m ⊎ (version_at m ≡ Err e)
+
+-- The answer is what the message at the front says, and rest what is left; and a message that is refused says none, for the reason that
+-- the fault names.
 abbrev pub GivesMetadata : Frame → Result StreamMetadata Fault → (rest : List ℕ) → Type 0
 GivesMetadata (message m behind) (Ok x) rest = (metadata_at m ≡ Some (metadata_seen x)) × (rest ≡ behind)
-GivesMetadata (message m behind) (Err e) rest = OwnFault e (metadata_at m ≡ None)
+GivesMetadata (message m behind) (Err e) rest = OwnFault e ((metadata_at m ≡ None) × RefusesMetadata e m)
 GivesMetadata (mark behind) (Err e) rest = OwnFault e (e ≡ BadSchema NotASchema)
 GivesMetadata (waiting begun) (Err e) rest = OwnFault e (e ≡ Ended)
 GivesMetadata broken (Err e) rest = OwnFault e (IsFramingFault e)

@@ -11,7 +11,7 @@ use Rattle.ipc_devices.specs.Device.{Memory, after}
 use Rattle.ipc_devices.specs.Faults.{OwnFault}
 use Rattle.ipc_devices.specs.Gives.{Stop, going, ended, FaultStop, AnswerStop, Gives, GaveTo}
 use Rattle.ipc_devices.specs.declared.fault.Fault.{Fault}
-use Rattle.ipc_devices.specs.declared.fault.Fault.TheVariants.{OutOfSpec}
+use Rattle.ipc_devices.specs.declared.fault.Fault.TheVariants.{Ended, OutOfSpec}
 use Rattle.ipc_devices.specs.declared.fault.OutOfSpecKind.TheVariants.{UnexpectedMessageType}
 use Rattle.ipc_laws.specs.Agreement.{AreAt}
 use Rattle.ipc_views.specs.Spot.{Spot}
@@ -25,7 +25,7 @@ use Rattle.ipc_projections.specs.declared.read.chosen.ChosenColumns.{ChosenColum
 use Rattle.ipc_read.specs.Chunks.{chunk_seen, order_of}
 use Rattle.ipc_read.specs.HeldChunks.{HoldChosen}
 use Rattle.ipc_readers.specs.ChosenStreams.{Request, chosen_body, chosen_item, chosen_meaning}
-use Rattle.ipc_readers.specs.Frames.{IsFramingFault, begun_bytes, due}
+use Rattle.ipc_readers.specs.Frames.{begun_bytes, due, frame_fault}
 use Rattle.ipc_readers.specs.Messages.{opened}
 use Rattle.ipc_readers.specs.Refusals.{IsDictionaryMessageFault, IsRecordFault, IsStreamFault}
 use Rattle.ipc_readers.specs.declared.read.stream.metadata.StreamMetadata.{StreamMetadata}
@@ -155,27 +155,28 @@ FrontHolds h _ chunk = ⊥
 
 -- ---- one message
 
--- Which faults of the input's a message with a header of this tag can have in a stream of which h is asked, n dictionary messages behind
--- the last record, if its header is well made.
-pub record BlamesBody (h : Request) (n tag : ℕ) (e : Fault) : Type 0 where
-  pub record_batch : tag ≡ 3 → IsRecordFault h e
-  pub dictionary_batch : tag ≡ 2 → IsDictionaryMessageFault n e
-  pub other : tag ≢ 2 → tag ≢ 3 → e ≡ OutOfSpec UnexpectedMessageType
-
-abbrev pub BlamesOpened : Request → ℕ → Result Header Fault → Fault → Type 0
-BlamesOpened h n (Ok m) e = BlamesBody h n m.tag e
-BlamesOpened h n (Err f) e = e ≡ f
-
--- Which fault of the input's what stands at the front has: that of the frame, that of its metadata, or one of its kind.
-abbrev pub BlamesFront : Request → ℕ → Frame → Fault → Type 0
-BlamesFront h n (message metadata behind) e = BlamesOpened h n (opened metadata) e
-BlamesFront h n broken e = IsFramingFault e
-BlamesFront h n _ e = ⊥
-
 -- a message of this tag may be read: a record, or a dictionary where fewer than the most came since the last record
 pub record IsAdmitted (n tag : ℕ) : Type 0 where
   pub kind : (tag ≡ 3) ⊎ (tag ≡ 2)
   pub room : tag ≡ 2 → n < most_dictionaries
+
+-- Which faults of the input's a message with this header can have in a stream of which h is asked, n dictionary messages behind the last
+-- record, if the header is well made. Where its body may be read, and what is ahead is less than that, it is told as ended.
+pub record BlamesBody (h : Request) (n : ℕ) (m : Header) (ahead : List ℕ) (e : Fault) : Type 0 where
+  pub record_batch : m.tag ≡ 3 → IsRecordFault h e
+  pub dictionary_batch : m.tag ≡ 2 → IsDictionaryMessageFault n e
+  pub other : m.tag ≢ 2 → m.tag ≢ 3 → e ≡ OutOfSpec UnexpectedMessageType
+  pub cut : length ahead < m.body → IsAdmitted n m.tag → e ≡ Ended
+
+abbrev pub BlamesOpened : Request → ℕ → Result Header Fault → (ahead : List ℕ) → Fault → Type 0
+BlamesOpened h n (Ok m) ahead e = BlamesBody h n m ahead e
+BlamesOpened h n (Err f) ahead e = e ≡ f
+
+-- Which fault of the input's what stands at the front of xs has: that of the frame, that of its metadata, or one of its kind.
+abbrev pub BlamesFront : Request → ℕ → (xs : List ℕ) → Frame → Fault → Type 0
+BlamesFront h n xs (message metadata behind) e = BlamesOpened h n (opened metadata) behind e
+BlamesFront h n xs broken e = e ≡ frame_fault xs
+BlamesFront h n xs _ e = ⊥
 
 -- how many dictionary messages came since the last record: none behind a chunk, one more behind a dictionary
 abbrev pub Counted : Option (List AnyArray) → (old new : ℕ) → Type 0
@@ -195,7 +196,7 @@ of_dictionary (Err e) = Err e
 -- what l is; and it holds no more than its message lists. A fault of the input's says that it means nothing, and is one of its kind.
 abbrev pub ReadsBody : Request → (s : Known) → Header → List ℕ → Result (Option (List AnyArray)) Fault → (l : Known) → List ℕ → Type 0
 ReadsBody h s m xs (Ok c) l ys = (t : Known) × AreAt t l × (chosen_body h s m xs ≡ more (option_map chunk_seen c) t ys) × BodyHolds h m.table c
-ReadsBody h s m xs (Err e) l ys = OwnFault e ((chosen_body h s m xs ≡ done faulty) × BlamesBody h s.count m.tag e)
+ReadsBody h s m xs (Err e) l ys = OwnFault e ((chosen_body h s m xs ≡ done faulty) × BlamesBody h s.count m xs e)
 
 -- the same for whoever knows as much as k
 pub record GivesBody (h : Request) (k : Known) (m : Header) (xs : List ℕ) (r : Result (Option (List AnyArray)) Fault) (l : Known) (ys : List ℕ) : Type 0 where
@@ -217,7 +218,7 @@ ReadsItem h s xs (Ok (fronts.Chunk chunk)) l begun ys =
 ReadsItem h s xs (Ok fronts.Dictionary) l begun ys = (t : Known) × AreAt t l × (chosen_item h s xs ≡ more None t ys)
 ReadsItem h s xs (Ok fronts.Waiting) l begun ys = AreAt s l × (chosen_item h s xs ≡ done (waits s begun))
 ReadsItem h s xs (Ok fronts.Mark) l begun ys = (chosen_item h s xs ≡ done marked) × (frame xs ≡ mark ys)
-ReadsItem h s xs (Err e) l begun ys = OwnFault e ((chosen_item h s xs ≡ done faulty) × BlamesFront h s.count (frame xs) e)
+ReadsItem h s xs (Err e) l begun ys = OwnFault e ((chosen_item h s xs ≡ done faulty) × BlamesFront h s.count xs (frame xs) e)
 
 -- the same for whoever knows as much as k
 pub record GivesItem (h : Request) (k : Known) (xs : List ℕ) (r : Result Found Fault) (l : Known) (begun ys : List ℕ) : Type 0 where

@@ -16,7 +16,7 @@ use Rattle.ipc_read.proofs.Fields.{field_count}
 use Rattle.ipc_read.proofs.Refusals.{claims_through}
 use Rattle.ipc_readers.proofs.PrunedStreams.{pruned_law}
 use Rattle.ipc_readers.specs.ChosenStreams.{chosen_meaning}
-use Rattle.ipc_readers.specs.Metadata.{GivesMetadata}
+use Rattle.ipc_readers.specs.Metadata.{GivesMetadata, RefusesMetadata, metadata_at}
 use Rattle.ipc_readers.specs.Streams.{Begins, head_of, projection_of}
 use Rattle.ipc_readers.specs.declared.read.stream.metadata.StreamMetadata.{StreamMetadata}
 use Rattle.ipc_readers.specs.declared.read.stream.reader.StreamReader.{StreamReader}
@@ -51,7 +51,8 @@ names_others js bytes xs rest x same h never = record {
 
 none_chosen : (p : Option (List ℕ)) (f : Frame) (e : Fault) (rest : List ℕ) → GivesMetadata f (Err e) rest → OwnFault e (chosen_from p f ≡ None)
 none_chosen p (message m behind) e rest h =
-    claims_through e _ _ (λ none. ap (option_map (λ x. record { head = x; meant = chosen_meaning (record { head = x; projection = p }) nothing_known behind })) (no_head m none)) h
+    claims_through e ((metadata_at m ≡ None) × RefusesMetadata e m) _
+    (λ none. ap (option_map (λ x. record { head = x; meant = chosen_meaning (record { head = x; projection = p }) nothing_known behind })) (no_head m none.0)) h
 none_chosen p (mark behind) e rest h = claims_through e _ _ (λ x. refl) h
 none_chosen p (waiting begun) e rest h = claims_through e _ _ (λ x. refl) h
 none_chosen p broken e rest h = claims_through e _ _ (λ x. refl) h

@@ -28,7 +28,7 @@ use Rattle.ipc_model.specs.Schemas.{head_of as head_at}
 use Rattle.ipc_model.specs.Streams.{End, Head, marked, waits, faulty, Known, Meant, meaning, nothing_known}
 use Rattle.ipc_model.specs.WholeStreams.{Stream, stream_from, stream_of}
 use Rattle.ipc_read.specs.Chunks.{order_of}
-use Rattle.ipc_readers.specs.Metadata.{GivesMetadata, MetadataGave, MetadataSeen, metadata_at, metadata_seen, table_version, version_at, version_slot}
+use Rattle.ipc_readers.specs.Metadata.{GivesMetadata, MetadataGave, MetadataSeen, RefusesMetadata, metadata_at, metadata_seen, table_version, version_at, version_slot}
 use Rattle.ipc_read.proofs.Refusals.{claims_through}
 use Rattle.ipc_readers.proofs.OfMemory.{metadata_ahead, metadata_fails, no_failure}
 use Rattle.ipc_readers.proofs.ChosenStreams.{whole_law}
@@ -115,7 +115,8 @@ no_head m e = no_schema (schema_of m) (root_at m) e
 
 no_stream : (f : Frame) (e : Fault) (rest : List ℕ) → GivesMetadata f (Err e) rest → OwnFault e (stream_from f ≡ None)
 no_stream (message m behind) e rest h =
-    claims_through e _ _ (λ none. ap (option_map (λ x. record { head = x; meant = meaning x nothing_known behind })) (no_head m none)) h
+    claims_through e ((metadata_at m ≡ None) × RefusesMetadata e m) _
+    (λ none. ap (option_map (λ x. record { head = x; meant = meaning x nothing_known behind })) (no_head m none.0)) h
 no_stream (mark behind) e rest h = claims_through e _ _ (λ x. refl) h
 no_stream (waiting begun) e rest h = claims_through e _ _ (λ x. refl) h
 no_stream broken e rest h = claims_through e _ _ (λ x. refl) h

@@ -49,7 +49,8 @@ fn read_sized<R: Reads>(reader: &mut R, size: u32, metadata: &mut Vec<u8>) -> Re
 /// no more, or the first of them before a fault.
 ///
 /// Faults: `OutOfSpec(NegativeFooterLength)` where the stated length is below 0; `Ended` where less
-/// bytes are there than stated; `Io` and `Memory`. No other comes.
+/// bytes are there than stated; `Io` and `Memory`. No other comes. After a fault what `metadata` and
+/// `begun` hold is of no use.
 pub fn read_frame<R: Reads>(
     reader: &mut R,
     begun: &mut Begun,

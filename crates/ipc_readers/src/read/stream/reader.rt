@@ -58,7 +58,7 @@ pub(crate) struct Batches {
     pub(crate) dictionaries: Dictionaries,
     // how many dictionary batches came since the last record batch
     pub(crate) count: usize,
-    // room for parts of a body
+    // what the calls that read a batch are handed, which they don't use
     pub(crate) scratch: Vec<u8>,
     ghost few: { count ≤ most_dictionaries },
     ghost there: { IsTrue (is_projection (asked_by projection) (length metadata.schema.fields.items)) },

@@ -1,5 +1,5 @@
-use Rattle.std.proofs.Common.{rules, arith, ◌≡◌, ◌<◌, ◌^◌, [], refl, Err}
-use Rattle.ipc_readers.proofs.Sized.{sized_negative, sized_mark, sized_whole, due_is, ended_inside}
+use Rattle.std.proofs.Common.{rules, arith, ◌≡◌, ◌<◌, ◌≤◌, ◌^◌, [], refl, Err}
+use Rattle.ipc_readers.proofs.Sized.{sized_negative, fault_negative, sized_mark, sized_whole, due_is, ended_inside}
 use Rattle.ipc_readers.proofs.read.frame.read_sized.Goals as goal
 
 pub returns-then-size-clause-gives : goal.returns-then-size-clause-gives
@@ -7,7 +7,7 @@ returns-then-size-clause-gives g c = record {
   bytes = [];
   gave = g.met.R.Reads.gives_nothing _;
   within = omega arith;
-  holds = λ ys _. sized_negative c.args.size ys (omega (arith, c.if-size.true));
+  holds = λ ys _. let below : 2 ^ 31 ≤ c.args.size = omega (arith, c.if-size.true) in (sized_negative c.args.size ys below, fault_negative c.args.size below);
 }
 
 pub returns-then-size-eq0-clause-gives : goal.returns-then-size-eq0-clause-gives

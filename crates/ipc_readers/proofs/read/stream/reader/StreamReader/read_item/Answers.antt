@@ -14,7 +14,7 @@ returns-in_err-read_frame-clause-gives g c =
     let old = c.args.self.now in
     let e : c.from_residual.result ≡ Err fault = search rules in
     rw e (item_breaks g.R.Reads.gives (request_of old) (known_of old) (known_of old) (begun_of old) (begun_bytes c.read_frame.new.begun) c.read_frame.new.metadata.items
-    (device_of old) c.read_frame.new.reader fault c.in_err-read_frame.ensures.only c.in_err-read_frame.ensures.gives)
+    (device_of old) c.read_frame.new.reader fault c.in_err-read_frame.ensures.gives)
 
 pub returns-in-Waiting-clause-gives : goal.returns-in-Waiting-clause-gives
 returns-in-Waiting-clause-gives g c =
