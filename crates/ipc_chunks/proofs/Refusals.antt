@@ -46,8 +46,8 @@ some_listed m (p ∷ ps) ws e (inr l) h =
 columns_miss : (m : Remembered) (fixed : Bool) (columns : List Layout) (is : IdTrees) (e : Fault) → RefusesColumns columns is e → Misses m fixed columns is e
 columns_miss m fixed columns is Memory h = tt
 columns_miss m fixed columns is (Argument ColumnCount) h = h
-columns_miss m fixed columns is (Argument FieldsShape) h = h
-columns_miss m fixed columns is (Argument NotWritable) h = h
+columns_miss m fixed columns is (Argument FieldsShape) h = h.1
+columns_miss m fixed columns is (Argument NotWritable) h = h.1
 columns_miss m fixed columns is _ h = absurd h
 
 places_miss : (m : Remembered) (fixed : Bool) (columns : List Layout) (is : IdTrees) (e : Fault) → AreArrays (layouts columns) → IsWritable (encoded_fields columns) [] is → RefusesAll m fixed columns is e

@@ -5,8 +5,9 @@ use Rattle.lower.specs.TypeTrees.{FieldTrees}
 use Rattle.lower_types.specs.declared.Endianness.{Endianness}
 use Rattle.lower_arrays.specs.Layouts.{Layout, layouts, len_of, type_of}
 use Rattle.ipc_base.specs.Chunks.{row_count}
+use Rattle.ipc_base.specs.Fitting.{AllFit}
 use Rattle.ipc_base.specs.IdTrees.{IdTrees, no_ids, more_ids}
-use Rattle.ipc_devices.specs.declared.fault.ArgFault.TheVariants.{ColumnCount}
+use Rattle.ipc_devices.specs.declared.fault.ArgFault.TheVariants.{ColumnCount, FieldsShape}
 use Rattle.ipc_devices.specs.declared.fault.Fault.{Fault}
 use Rattle.ipc_devices.specs.declared.fault.Fault.TheVariants.{Argument, Memory}
 use Rattle.ipc_encode.specs.Encoding.{IsEncodable, levels_of}
@@ -32,9 +33,10 @@ abbrev pub id_number : IdTrees → ℕ
 id_number no_ids = 0
 id_number (more_ids i is) = 1 + id_number is
 
--- why some columns can't be written with these ids: there are not as many, or their fields can't
+-- why some columns can't be written with these ids: there are not as many; they are as many, and of another shape; or the fields can't
 abbrev pub RefusesColumns : List Layout → IdTrees → Fault → Type 0
 RefusesColumns columns is (Argument ColumnCount) = length columns ≢ id_number is
+RefusesColumns columns is (Argument FieldsShape) = (length columns ≡ id_number is) × (AllFit (encoded_fields columns) is → ⊥)
 RefusesColumns columns is e = RefusesSchema e (encoded_fields columns) [] is
 
 -- ---- chunks

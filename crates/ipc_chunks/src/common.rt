@@ -127,7 +127,7 @@ pub fn encode_chunk_amortized(
     } = encode_messages(alloc, columns, &dictionaries, is_little_endian)?;
     let encoded_dictionaries = join_all(alloc, values)?;
     join_pieces(record_batch, encoded_message)?;
-    // There is room for all now, so that nothing fails any more.
+    // The last call that may fail: then there is room for all.
     dictionary_tracker.make_room(dictionaries.len())?;
     dictionary_tracker.remember_all(dictionaries);
     Ok(encoded_dictionaries)
