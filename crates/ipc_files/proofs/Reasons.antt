@@ -30,10 +30,10 @@ by_tail : (tail : List ℕ) (e : Fault) → footer_length tail ≡ Err e → (e 
 unfolding footer_length
 by_tail tail e h = no_length (bytes_eq (drop 4 tail) magic) (nat_lt (from_le_bytes w32 (take 4 tail)) (2 ^ 31)) (from_le_bytes w32 (take 4 tail)) e h
 
-pub tail_reason : (bytes : List ℕ) (e : Fault) → footer_length (last 10 bytes) ≡ Err e → OwnFault e (TailReason bytes e)
-tail_reason bytes e h = elim (by_tail (last 10 bytes) e h) [
-  | inl is ↦ subst (λ (f : Fault). OwnFault f (TailReason bytes f)) (sym is) (h ∙ ap Err is)
-  | inr is ↦ subst (λ (f : Fault). OwnFault f (TailReason bytes f)) (sym is) (h ∙ ap Err is)
+pub tail_reason : (bytes : List ℕ) (e : Fault) → 10 ≤ length bytes → footer_length (last 10 bytes) ≡ Err e → OwnFault e (TailReason bytes e)
+tail_reason bytes e long h = elim (by_tail (last 10 bytes) e h) [
+  | inl is ↦ subst (λ (f : Fault). OwnFault f (TailReason bytes f)) (sym is) (long, h ∙ ap Err is)
+  | inr is ↦ subst (λ (f : Fault). OwnFault f (TailReason bytes f)) (sym is) (long, h ∙ ap Err is)
 ]
 
 -- the last 10 bytes, where they are read

@@ -92,18 +92,18 @@ feather = 70 ∷ 69 ∷ 65 ∷ 49 ∷ []
 -- Of the first bytes: there are less than 6, they are those of the older Feather format, or neither that nor ARROW1.
 abbrev pub HeadReason : List ℕ → Fault → Type 0
 HeadReason front Ended = length front < 6
-HeadReason front (NotYetImplemented FeatherV1) = take 4 front ≡ feather
-HeadReason front (OutOfSpec InvalidHeader) = (take 6 front ≡ magic → ⊥) × (take 4 front ≡ feather → ⊥)
+HeadReason front (NotYetImplemented FeatherV1) = (6 ≤ length front) × (take 4 front ≡ feather)
+HeadReason front (OutOfSpec InvalidHeader) = (6 ≤ length front) × (take 6 front ≡ magic → ⊥) × (take 4 front ≡ feather → ⊥)
 HeadReason front _ = ⊥
 
 -- there are less than 10 bytes, or less than those and the footer that is stated
 abbrev pub IsShort : List ℕ → Type 0
 IsShort bytes = (length bytes < 10) ⊎ ((n : ℕ) × (footer_length (last 10 bytes) ≡ Ok n) × (length bytes < n + 10))
 
--- of the last ones: there are too few, or they state no length
+-- of the last ones: there are too few, or enough that state no length
 abbrev pub TailReason : List ℕ → Fault → Type 0
 TailReason bytes Ended = IsShort bytes
-TailReason bytes e = footer_length (last 10 bytes) ≡ Err e
+TailReason bytes e = (10 ≤ length bytes) × (footer_length (last 10 bytes) ≡ Err e)
 
 -- of the footer: each tells of the slot that it names
 abbrev pub FooterReason : List ℕ → Fault → Type 0

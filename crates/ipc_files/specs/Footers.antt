@@ -1,6 +1,6 @@
 -- What reading a footer answers: what it says, or which part of it is at fault.
 -- (Arrow columnar format, "IPC File Format"; File.fbs.)
-use Rattle.std.specs.Prelude.{◌≡◌, Vec, List, Option, Some, None, option_map, Result, Ok, Err}
+use Rattle.std.specs.Prelude.{◌≡◌, Vec, List, Option, Some, None, IsSomeAnd, option_map, Result, Ok, Err}
 use Rattle.std.specs.declared.alloc.Global.{Global}
 use Rattle.ipc_devices.specs.Faults.{OwnFault}
 use Rattle.ipc_devices.specs.declared.fault.Fault.{Fault}
@@ -61,7 +61,7 @@ abbrev pub LacksFields : Option Spot → Type 0
 LacksFields (Some s) = schema_fields s ≡ Ok None
 LacksFields None = ⊥
 
--- Each fault tells of the slot that it names. A fault of the schema tells that the schema has no meaning.
+-- Each fault tells of the slot that it names. A fault of the schema tells that a schema is there, and that it has no meaning.
 abbrev pub FooterFault : Fault → Spot → Type 0
 FooterFault Memory t = Unit {0}
 FooterFault (OutOfSpec (InvalidFlatbufferFooter e)) t = given (made (footer_custom_metadata t)) pairs_at ≡ None
@@ -72,7 +72,7 @@ FooterFault (OutOfSpec (InvalidFlatbufferSchema e)) t = footer_schema t ≡ Err 
 FooterFault (OutOfSpec MissingFields) t = LacksFields (present (footer_schema t))
 FooterFault (OutOfSpec (InvalidFlatbufferDictionaries e)) t = footer_dictionaries t ≡ Err e
 FooterFault (BadSchema NotASchema) t = ⊥
-FooterFault (BadSchema e) t = given (present (footer_schema t)) schema_at ≡ None
+FooterFault (BadSchema e) t = IsSomeAnd (present (footer_schema t)) (λ s. schema_at s ≡ None)
 FooterFault _ t = ⊥
 
 -- the same where the root may be ill-made

@@ -2,7 +2,7 @@
 ghost use Rattle.std.specs.Prelude.{◌≡◌, ◌+◌, ◌≤◌, ◌<◌, length, map, vec_len, IsTrue, IfOk, IfErr, OnOk, Some, None, Err, slice_get};
 ghost use Rattle.std.specs.Option.{option_and_then, option_copied};
 ghost use Rattle.ipc_devices.specs.Device.{Rises};
-ghost use Rattle.ipc_devices.specs.Faults.{OnIo, OwnFault};
+ghost use Rattle.ipc_devices.specs.Faults.{OnIo, UnlessIo, OwnFault};
 ghost use Rattle.ipc_devices.specs.declared.fault.Fault.TheVariants.{OutOfSpec};
 ghost use Rattle.ipc_devices.specs.declared.fault.OutOfSpecKind.TheVariants.{NegativeFooterLength};
 ghost use Rattle.ipc_model.specs.Batches.{chosen, extra_of, kinds, lists_of, record_meaning};
@@ -60,6 +60,7 @@ fn read_record<R: Reads + Seeks>(
         IfErr result (λ e. OwnFault e (IsFaultOfBatch (kinds (file_seen metadata.now).schema) js e)) }
     ensures monotone { R.failures reader.old ≤ R.failures reader.new }
     ensures failed { OnIo result (Rises (R.failures reader.old) (R.failures reader.new)) }
+    ensures told { UnlessIo result (R.failures reader.new ≡ R.failures reader.old) }
     ensures given { let js = chosen (option_copied projection.entry) (length metadata.now.schema.fields.items) in
         R.given reader.new ≤ R.given reader.old + chosen_listed (lists_of batch.entry) (extra_of version) (kinds (file_seen metadata.now).schema) js }
     ensures held { let js = chosen (option_copied projection.entry) (length metadata.now.schema.fields.items) in
@@ -69,6 +70,7 @@ fn read_record<R: Reads + Seeks>(
         (record { source = (R.memory reader.old).whole; base = body; size = m.size }) batch.entry (option_copied projection.entry) limit) }
     ensures values { IsTrue R.known → let js = chosen (option_copied projection.entry) (length metadata.now.schema.fields.items) in
         IfOk result (λ xs. HaveMeaning (known_dictionaries dictionaries.now) (all_ids_view metadata.now.ipc_schema.fields.items) js (chunk_seen xs) (map layout_of xs)) }
+    ensures idle { scratch.new ≡ scratch.old }
     ensures whole { IsTrue R.still → (R.memory reader.new).whole ≡ (R.memory reader.old).whole }
 {
     read_record_batch(
@@ -99,9 +101,9 @@ fn read_record<R: Reads + Seeks>(
 /// `OutOfSpec(NegativeFooterLength)` where a number of the block is below 0; `Ended` where its message isn't there, and
 /// `OutOfSpec(UnexpectedNegativeInteger)` where the length of that is below 0; `InvalidFlatbufferMessage`, `MissingMessageHeader`,
 /// `InvalidFlatbufferHeader`, `InvalidFlatbufferVersion` where it is ill-made, and `UnexpectedMessageType` where it is no record batch,
-/// each `OutOfSpec`; those of [`read_record_batch`]; `Io` and `Memory`. For a length that isn't there no memory is taken. The metadata
-/// of the message are left in `message_scratch`, and `data_scratch` isn't used; after a fault the reader stands anywhere, and other
-/// blocks can be read.
+/// each `OutOfSpec`; those of [`read_record_batch`]; `Io` and `Memory`, the former just where a call of the device failed. For a length that
+/// isn't there no more than 65,536 bytes of memory are taken. The metadata of the message are left in `message_scratch`, and
+/// `data_scratch` isn't used; after a fault the reader stands anywhere, and other blocks can be read.
 ///
 /// [`read_file_dictionaries`]: crate::read::file::read_file_dictionaries
 #[allow(clippy::too_many_arguments)]
@@ -124,6 +126,7 @@ pub fn read_batch<R: Reads + Seeks>(
         IfErr result (λ e. OwnFault e (IsRecordFault (kinds m.schema) js e)) }
     ensures monotone { R.failures reader.old ≤ R.failures reader.new }
     ensures failed { OnIo result (Rises (R.failures reader.old) (R.failures reader.new)) }
+    ensures told { UnlessIo result (R.failures reader.new ≡ R.failures reader.old) }
     ensures given { let m = file_seen metadata.now in
         let js = chosen (option_copied projection.entry) (length metadata.now.schema.fields.items) in
         OnOk result (R.given reader.new ≤ R.given reader.old + needed_bytes (kinds m.schema) js message_scratch.new.items) }
@@ -140,6 +143,7 @@ pub fn read_batch<R: Reads + Seeks>(
         (option_copied projection.entry) limit index) }
     ensures values { IsTrue R.known → let js = chosen (option_copied projection.entry) (length metadata.now.schema.fields.items) in
         IfOk result (λ xs. HaveMeaning (known_dictionaries dictionaries.now) (all_ids_view metadata.now.ipc_schema.fields.items) js (chunk_seen xs) (map layout_of xs)) }
+    ensures idle { data_scratch.new ≡ data_scratch.old }
     ensures whole { IsTrue R.still → (R.memory reader.new).whole ≡ (R.memory reader.old).whole }
 {
     let block = &metadata.blocks[index];

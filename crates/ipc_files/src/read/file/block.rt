@@ -1,7 +1,7 @@
 //! The messages of a file's blocks: the Arrow columnar format, "IPC File Format" and "Encapsulated message format".
 ghost use Rattle.std.specs.Prelude.{◌≡◌, ◌+◌, ◌≤◌, length, drop, IsTrue, IfErr, OnOk};
 ghost use Rattle.ipc_devices.specs.Device.{Rises, after};
-ghost use Rattle.ipc_devices.specs.Faults.{OnIo, OwnFault, Answers};
+ghost use Rattle.ipc_devices.specs.Faults.{OnIo, UnlessIo, OwnFault, Answers};
 ghost use Rattle.ipc_devices.specs.declared.fault.Fault.TheVariants.{Ended, OutOfSpec};
 ghost use Rattle.ipc_views.specs.MessageSlots.{message_header, message_version};
 ghost use Rattle.ipc_views.specs.Unions.{header_parts};
@@ -52,6 +52,7 @@ fn read_word<R: Reads>(reader: &mut R) -> Result<u32, Fault>
     ensures only { IfErr result (λ e. OwnFault e (e ≡ Ended)) }
     ensures monotone { R.failures reader.old ≤ R.failures reader.new }
     ensures failed { OnIo result (Rises (R.failures reader.old) (R.failures reader.new)) }
+    ensures told { UnlessIo result (R.failures reader.new ≡ R.failures reader.old) }
     ensures given { R.given reader.new ≤ R.given reader.old + 4 }
     ensures left { IsTrue R.known → OnOk result (after (R.memory reader.new) ≡ drop 4 (after (R.memory reader.old))) }
     ensures memory { IsTrue R.known → Answers result (4 ≤ length (after (R.memory reader.old)))
@@ -68,6 +69,7 @@ fn read_prefix<R: Reads>(reader: &mut R) -> Result<u32, Fault>
     ensures only { IfErr result (λ e. OwnFault e (e ≡ Ended)) }
     ensures monotone { R.failures reader.old ≤ R.failures reader.new }
     ensures failed { OnIo result (Rises (R.failures reader.old) (R.failures reader.new)) }
+    ensures told { UnlessIo result (R.failures reader.new ≡ R.failures reader.old) }
     ensures given { R.given reader.new ≤ R.given reader.old + 8 }
     ensures number { IsTrue R.known → GivesPart (λ n. n) result (prefix_of (after (R.memory reader.old))) }
     ensures memory { IsTrue R.known → GivesPrefix (frame (after (R.memory reader.old))) result (after (R.memory reader.new)) }
@@ -81,7 +83,7 @@ fn read_prefix<R: Reads>(reader: &mut R) -> Result<u32, Fault>
 }
 
 // Reads the metadata of the message that stands at a place, instead of what `metadata` holds. A length below 0 is refused as
-// told. For a length that is only stated no memory is taken.
+// told. For a length that isn't there no more than 65,536 bytes of memory are taken.
 pub(super) fn read_metadata<R: Reads + Seeks>(
     reader: &mut R,
     place: u64,
@@ -91,6 +93,7 @@ pub(super) fn read_metadata<R: Reads + Seeks>(
     ensures only { IfErr result (λ e. OwnFault e (IsFrameFault negative e)) }
     ensures monotone { R.failures reader.old ≤ R.failures reader.new }
     ensures failed { OnIo result (Rises (R.failures reader.old) (R.failures reader.new)) }
+    ensures told { UnlessIo result (R.failures reader.new ≡ R.failures reader.old) }
     ensures given { OnOk result (R.given reader.new ≤ R.given reader.old + (8 + length metadata.new.items)) }
     ensures reason { IsTrue R.known → IfErr result (λ e. OwnFault e (e ≡ frame_fault negative (prefix_of (drop place (R.memory reader.old).whole)))) }
     ensures memory { IsTrue R.known → GivesPart (λ _. metadata.new.items) result

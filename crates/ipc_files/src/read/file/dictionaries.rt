@@ -1,7 +1,7 @@
 //! Reads the dictionaries of a file.
-ghost use Rattle.std.specs.Prelude.{◌≡◌, ◌+◌, ◌≤◌, [], Some, None, Err, IsTrue, IfErr, IfOk, OnOk};
+ghost use Rattle.std.specs.Prelude.{◌≡◌, ◌+◌, ◌≤◌, [], Some, None, Err, IsTrue, IfErr, IfOk, IsOk, OnOk};
 ghost use Rattle.ipc_devices.specs.Device.{Rises};
-ghost use Rattle.ipc_devices.specs.Faults.{OnIo, OwnFault};
+ghost use Rattle.ipc_devices.specs.Faults.{OnIo, UnlessIo, OwnFault};
 ghost use Rattle.ipc_devices.specs.declared.fault.Fault.TheVariants.{OutOfSpec};
 ghost use Rattle.ipc_devices.specs.declared.fault.OutOfSpecKind.TheVariants.{UnexpectedNegativeInteger};
 ghost use Rattle.ipc_model.specs.Batches.{dictionary_meaning, extra_of};
@@ -48,6 +48,7 @@ fn read_values<R: Reads + Seeks>(
     ensures only { IfErr result (λ e. OwnFault e (IsDictionaryFault e)) }
     ensures monotone { R.failures reader.old ≤ R.failures reader.new }
     ensures failed { OnIo result (Rises (R.failures reader.old) (R.failures reader.new)) }
+    ensures told { UnlessIo result (R.failures reader.new ≡ R.failures reader.old) }
     ensures given { R.given reader.new ≤ R.given reader.old + values_listed (file_seen metadata.now).schema (extra_of version) batch.entry }
     ensures held { OnOk result (HoldsValues (file_seen metadata.now).schema (extra_of version) batch.entry
         (λ id. array_under dictionaries.old id) (λ id. array_under dictionaries.new id)) }
@@ -55,6 +56,7 @@ fn read_values<R: Reads + Seeks>(
         GivesKnown (λ _. known_dictionaries dictionaries.new) result
         (dictionary_meaning m.schema (extra_of version) (known_dictionaries dictionaries.old)
         (record { source = (R.memory reader.old).whole; base = body; size = m.size }) batch.entry) }
+    ensures idle { scratch.new ≡ scratch.old }
     ensures whole { IsTrue R.still → (R.memory reader.new).whole ≡ (R.memory reader.old).whole }
 {
     read_dictionary(
@@ -85,6 +87,7 @@ fn read_dictionary_block<R: Reads + Seeks>(
     ensures only { IfErr result (λ e. OwnFault e (IsDictionaryBlockFault e)) }
     ensures monotone { R.failures reader.old ≤ R.failures reader.new }
     ensures failed { OnIo result (Rises (R.failures reader.old) (R.failures reader.new)) }
+    ensures told { UnlessIo result (R.failures reader.new ≡ R.failures reader.old) }
     ensures given { OnOk result (R.given reader.new ≤ R.given reader.old + needed_values (file_seen metadata.now).schema message_scratch.new.items) }
     ensures held { OnOk result (HoldsHeader (file_seen metadata.now).schema (block_header message_scratch.new.items)
         (λ id. array_under dictionaries.old id) (λ id. array_under dictionaries.new id)) }
@@ -93,6 +96,7 @@ fn read_dictionary_block<R: Reads + Seeks>(
     ensures reason { IsTrue R.known → IfErr result (λ e. OwnFault e (DictionaryReason (R.memory reader.old).whole block.now e)) }
     ensures memory { IsTrue R.known → GivesKnown (λ _. known_dictionaries dictionaries.new) result
         (dictionaries_at (file_seen metadata.now) (known_dictionaries dictionaries.old) (R.memory reader.old).whole block.now) }
+    ensures idle { data_scratch.new ≡ data_scratch.old }
     ensures whole { IsTrue R.still → (R.memory reader.new).whole ≡ (R.memory reader.old).whole }
 {
     let place = place_of(block, OutOfSpecKind::UnexpectedNegativeInteger)?;
@@ -116,14 +120,14 @@ fn read_dictionary_block<R: Reads + Seeks>(
 /// Reads the dictionaries of a file, block by block in the order of its footer (Arrow columnar format, "IPC File Format"). Of an
 /// id that comes again the last values count. Each version is that of the block's own message, and the lengths of bodies aren't used.
 ///
-/// Over memory it is Ok exactly where the dictionaries have a meaning, and the values are then those. No more bytes are taken then than
+/// Where there are no blocks it is Ok. Over memory it is Ok exactly where the dictionaries have a meaning, and the values are then those. No more bytes are taken then than
 /// the messages of the blocks, their prefixes and what the buffers of the values list, and the array under an id holds no more than
 /// these list in one of its blocks, and one offset for each buffer of offsets that lists nothing. The scratch memory isn't used. Faults, of the
 /// first block that is refused: `OutOfSpec(UnexpectedNegativeInteger)` where a number of it is below 0; `Ended` where its message isn't
 /// there, and `OutOfSpec(NegativeFooterLength)` where the length of that is below 0; `InvalidFlatbufferMessage`, `MissingMessageHeader`,
 /// `InvalidFlatbufferHeader`, `InvalidFlatbufferVersion` where it is ill-made, and `UnexpectedMessageType` where it is no dictionary
-/// batch, each `OutOfSpec`; those of [`read_dictionary`]; `Io` and `Memory`. For a length that isn't there no memory is taken. After a
-/// fault the reader stands anywhere.
+/// batch, each `OutOfSpec`; those of [`read_dictionary`]; `Io` and `Memory`, the former just where a call of the device failed. For a
+/// length that isn't there no more than 65,536 bytes of memory are taken. After a fault the reader stands anywhere.
 pub fn read_file_dictionaries<R: Reads + Seeks>(
     alloc: Global,
     reader: &mut R,
@@ -133,12 +137,15 @@ pub fn read_file_dictionaries<R: Reads + Seeks>(
     ensures only { IfErr result (λ e. OwnFault e (IsDictionaryBlockFault e)) }
     ensures monotone { R.failures reader.old ≤ R.failures reader.new }
     ensures failed { OnIo result (Rises (R.failures reader.old) (R.failures reader.new)) }
+    ensures told { UnlessIo result (R.failures reader.new ≡ R.failures reader.old) }
     ensures given { OnOk result (ValuesGiven R.known (file_seen metadata.now) (R.memory reader.old).whole (R.given reader.old) (R.given reader.new)) }
     ensures held { IfOk result (λ known. HoldListed R.known (file_seen metadata.now) (R.memory reader.old).whole (λ id. array_under known id)) }
+    ensures none { (file_seen metadata.now).dictionaries ≡ [] → IsOk result }
     ensures reason { IsTrue R.known → let m = file_seen metadata.now in
         IfErr result (λ e. OwnFault e (DictionariesReason m (R.memory reader.old).whole [] m.dictionaries e)) }
     ensures memory { IsTrue R.known → GivesKnown (λ known. known_dictionaries known) result
         (file_dictionaries (file_seen metadata.now) (R.memory reader.old).whole) }
+    ensures idle { scratch.new ≡ scratch.old }
     ensures whole { IsTrue R.still → (R.memory reader.new).whole ≡ (R.memory reader.old).whole }
 {
     let mut dictionaries = HashMap::new(alloc);

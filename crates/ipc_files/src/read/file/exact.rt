@@ -1,7 +1,7 @@
 //! Reads so many bytes and no fewer.
 ghost use Rattle.std.specs.Prelude.{◌≡◌, ◌+◌, ◌≤◌, length, take, drop, IsTrue, IfErr, OnOk};
 ghost use Rattle.ipc_devices.specs.Device.{Rises, after};
-ghost use Rattle.ipc_devices.specs.Faults.{OnIo, OwnFault, Answers};
+ghost use Rattle.ipc_devices.specs.Faults.{OnIo, UnlessIo, OwnFault, Answers};
 ghost use Rattle.ipc_devices.specs.declared.fault.Fault.TheVariants.{Ended};
 
 use ipc_devices::fault::Fault;
@@ -12,6 +12,7 @@ pub(super) fn read_exact<R: Reads>(reader: &mut R, buf: &mut [u8]) -> Result<(),
     ensures only { IfErr result (λ e. OwnFault e (e ≡ Ended)) }
     ensures monotone { R.failures reader.old ≤ R.failures reader.new }
     ensures failed { OnIo result (Rises (R.failures reader.old) (R.failures reader.new)) }
+    ensures told { UnlessIo result (R.failures reader.new ≡ R.failures reader.old) }
     ensures given { R.given reader.new ≤ R.given reader.old + length buf.old }
     ensures left { IsTrue R.known → OnOk result (after (R.memory reader.new) ≡ drop (length buf.old) (after (R.memory reader.old))) }
     ensures memory { IsTrue R.known → Answers result

@@ -6,7 +6,7 @@ ghost use Rattle.ipc_base.specs.Fitting.{AllFit};
 ghost use Rattle.ipc_base.specs.IdTrees.{all_ids_view};
 ghost use Rattle.ipc_views.specs.FileSlots.{footer_dictionaries, footer_record_batches, footer_schema};
 ghost use Rattle.ipc_views.specs.Tables.{root_at};
-ghost use Rattle.ipc_model.specs.Files.{footer_at, or_no_blocks};
+ghost use Rattle.ipc_model.specs.Files.{footer_at};
 ghost use Rattle.ipc_model.specs.Schemas.{made, present, given, schema_at};
 ghost use Rattle.ipc_schema.specs.Views.{schema_seen};
 ghost use Rattle.ipc_files.specs.Footers.{FooterFault, GivesPart, RootFault, file_seen, optional_blocks};

@@ -1,7 +1,7 @@
 //! The metadata of a file, which its footer holds.
-ghost use Rattle.std.specs.Prelude.{◌≡◌, ◌+◌, ◌≤◌, ◌<◌, ◌^◌, length, take, drop, IsTrue, IfOk, IfErr, OnOk, OnErr};
+ghost use Rattle.std.specs.Prelude.{◌≡◌, ◌+◌, ◌≤◌, ◌<◌, ◌^◌, length, take, IsTrue, IfOk, IfErr, OnOk};
 ghost use Rattle.ipc_devices.specs.Device.{Rises, after};
-ghost use Rattle.ipc_devices.specs.Faults.{OnIo, OwnFault, Answers};
+ghost use Rattle.ipc_devices.specs.Faults.{OnIo, UnlessIo, OwnFault, Answers};
 ghost use Rattle.ipc_devices.specs.declared.fault.Fault.TheVariants.{Ended};
 ghost use Rattle.lower.specs.TypeViews.{fields_view, schema_view, pairs_of};
 ghost use Rattle.ipc_base.specs.Fitting.{AllFit};
@@ -91,6 +91,7 @@ fn read_head<R: Reads>(reader: &mut R) -> Result<(), Fault>
     ensures only { IfErr result (λ e. OwnFault e (HeadFault e)) }
     ensures monotone { R.failures reader.old ≤ R.failures reader.new }
     ensures failed { OnIo result (Rises (R.failures reader.old) (R.failures reader.new)) }
+    ensures told { UnlessIo result (R.failures reader.new ≡ R.failures reader.old) }
     ensures given { R.given reader.new ≤ R.given reader.old + 6 }
     ensures reason { IsTrue R.known → IfErr result (λ e. OwnFault e (HeadReason (after (R.memory reader.old)) e)) }
     ensures memory { IsTrue R.known → Answers result
@@ -136,6 +137,7 @@ fn read_footer_len<R: Reads + Seeks>(reader: &mut R) -> Result<(u64, u32), Fault
     ensures only { IfErr result (λ e. OwnFault e (TailFault e)) }
     ensures monotone { R.failures reader.old ≤ R.failures reader.new }
     ensures failed { OnIo result (Rises (R.failures reader.old) (R.failures reader.new)) }
+    ensures told { UnlessIo result (R.failures reader.new ≡ R.failures reader.old) }
     ensures given { R.given reader.new ≤ R.given reader.old + 10 }
     ensures reason { IsTrue R.known → IfErr result (λ e. OwnFault e (TailReason (R.memory reader.old).whole e)) }
     ensures memory { IsTrue R.known → GivesTail (R.memory reader.old).whole result }
@@ -160,9 +162,9 @@ fn read_footer_len<R: Reads + Seeks>(reader: &mut R) -> Result<(u64, u32), Fault
 /// Over memory it is Ok exactly where the file's metadata have a meaning; its size is counted from where it begins. No more bytes are
 /// taken then than the head, the tail and the footer. Faults, over memory each only where it is so: `Ended` where
 /// the file is shorter than its head, the device shorter than the tail, or than that and the footer that it states;
-/// `NotYetImplemented(FeatherV1)` and `OutOfSpec(InvalidHeader)` where it begins with `FEA1`, or with anything else but
-/// `ARROW1`; `OutOfSpec(InvalidFooter)` where it doesn't end with that; `OutOfSpec(NegativeFooterLength)` where the
-/// length of the footer is below 0; of the footer those of [`deserialize_footer`]; `Io` and `Memory`. For a stated length
+/// `NotYetImplemented(FeatherV1)` and `OutOfSpec(InvalidHeader)` where it has 6 bytes and begins with `FEA1`, or with anything else
+/// but `ARROW1`; `OutOfSpec(InvalidFooter)` where the device has 10 bytes and doesn't end with that; `OutOfSpec(NegativeFooterLength)` where the
+/// length of the footer is below 0; of the footer those of [`deserialize_footer`]; `Memory`; `Io`, just where a call of the device failed. For a stated length
 /// that isn't there no memory is taken. After a fault the reader stands anywhere.
 pub fn read_file_metadata<R: Reads + Seeks>(
     alloc: Global,
@@ -173,6 +175,7 @@ pub fn read_file_metadata<R: Reads + Seeks>(
         (all_ids_view m.ipc_schema.fields.items)) }
     ensures monotone { R.failures reader.old ≤ R.failures reader.new }
     ensures failed { OnIo result (Rises (R.failures reader.old) (R.failures reader.new)) }
+    ensures told { UnlessIo result (R.failures reader.new ≡ R.failures reader.old) }
     ensures given { OnOk result (FooterGiven R.known (R.memory reader.old).whole (R.given reader.old) (R.given reader.new)) }
     ensures reason { IsTrue R.known → IfErr result (λ e. OwnFault e (FileReason (R.memory reader.old).place (R.memory reader.old).whole e)) }
     ensures anywhere { IsTrue R.known → GivesPart file_seen result (metadata_from (R.memory reader.old).place (R.memory reader.old).whole) }

@@ -1,4 +1,4 @@
-use Rattle.std.proofs.Common.{arith, rules, ◌≡◌, ◌∙◌, ℤ, List, [], Option, Some, Err, subst}
+use Rattle.std.proofs.Common.{arith, rules, ◌≡◌, ◌∙◌, ℤ, List, [], length, Option, Some, Err, refl, ap, subst}
 use Rattle.lower_arrays.specs.Layouts.{Layout}
 use Rattle.ipc_laws.specs.Agreement.{AreAlike}
 use Rattle.ipc_views.specs.declared.file.Block.{Block}
@@ -15,6 +15,8 @@ use Rattle.ipc_files.proofs.read.file.dictionaries.read_file_dictionaries.Goals 
 pub loop-block-init : goal.loop-block-init
 loop-block-init g c = record {
   monotone = search rules;
+  told = search rules;
+  idle = refl;
   whole = search rules;
   given = none_given g.R.Failures.known (file_seen c.args.metadata.now).schema (g.R.Failures.memory c.args.reader.now).whole c.dictionary_blocks-blocks.result.now (g.R.Failures.given c.args.reader.now);
   held = none_listed g.R.Failures.known (file_seen c.args.metadata.now).schema (g.R.Failures.memory c.args.reader.now).whole c.new-dictionaries.result (search rules) c.dictionary_blocks-blocks.result.now;
@@ -27,6 +29,8 @@ loop-block-init g c = record {
 pub loop-block-preserved : goal.loop-block-preserved
 loop-block-preserved g c = record {
   monotone = omega (arith, c.loop-block.invariant.monotone, c.in_ok-read_dictionary_block.ensures.monotone);
+  told = c.in_ok-read_dictionary_block.ensures.told ∙ c.loop-block.invariant.told;
+  idle = c.in_ok-read_dictionary_block.ensures.idle ∙ c.loop-block.invariant.idle;
   whole = λ k. c.in_ok-read_dictionary_block.ensures.whole k ∙ c.loop-block.invariant.whole k;
   given = more_given g.R.Failures.known (file_seen c.args.metadata.now).schema (g.R.Failures.memory c.args.reader.now).whole (g.R.Failures.memory c.loop-block.reader).whole
       c.dictionary_blocks-blocks.result.now c.loop-block.block-index _ _ (g.R.Failures.given c.loop-block.reader) (g.R.Failures.given c.read_dictionary_block.new.reader)
@@ -59,6 +63,11 @@ returns-in_err-read_dictionary_block-clause-reason g c = λ k.
     (g.R.Failures.memory c.loop-block.reader).whole (c.loop-block.invariant.whole (g.met.R.Seeks.known_still k))
     (λ h. subst (λ (blocks : List Block). DictionariesReason m source [] blocks e) c.dictionary_blocks-blocks.ensures (c.loop-block.invariant.reason k e h))
     (c.in_err-read_dictionary_block.ensures.memory k) (c.in_err-read_dictionary_block.ensures.reason k))
+
+pub returns-in_err-read_dictionary_block-clause-none : goal.returns-in_err-read_dictionary_block-clause-none
+returns-in_err-read_dictionary_block-clause-none g c = λ none.
+    let size = ap length (c.dictionary_blocks-blocks.ensures ∙ none) in
+    absurd (omega (arith, c.loop-block-test.true, size))
 
 pub returns-clause-memory : goal.returns-clause-memory
 returns-clause-memory g c = λ k.

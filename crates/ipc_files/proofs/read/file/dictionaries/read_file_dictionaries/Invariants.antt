@@ -12,6 +12,8 @@ use Rattle.ipc_files.proofs.read.file.dictionaries.read_file_dictionaries.Given 
 abbrev pub invariant-loop-block : goal.invariant-loop-block
 invariant-loop-block g l = record {
   monotone : g.R.Failures.failures l.fn.reader ≤ g.R.Failures.failures l.reader;
+  told : g.R.Failures.failures l.reader ≡ g.R.Failures.failures l.fn.reader;
+  idle : l.scratch ≡ l.fn.scratch;
   whole : IsTrue g.R.Failures.still → (g.R.Failures.memory l.reader).whole ≡ (g.R.Failures.memory l.fn.reader).whole;
   given : GivenFor g.R.Failures.known (file_seen l.metadata).schema (g.R.Failures.memory l.fn.reader).whole (take l.block-index l.blocks) (g.R.Failures.given l.fn.reader) (g.R.Failures.given l.reader);
   held : EachListed g.R.Failures.known (file_seen l.metadata).schema (g.R.Failures.memory l.fn.reader).whole (take l.block-index l.blocks) (λ id. array_under l.dictionaries id);

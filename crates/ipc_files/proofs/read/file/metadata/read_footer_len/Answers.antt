@@ -1,4 +1,4 @@
-use Rattle.std.proofs.Common.{rules, ◌≡◌, ◌∙◌, Err, sym, ap, arith}
+use Rattle.std.proofs.Common.{rules, ◌≡◌, ◌∙◌, ◌≤◌, length, Err, sym, ap, arith}
 use Rattle.ipc_files.specs.Files.{footer_length}
 use Rattle.ipc_files.proofs.Reasons.{tail_reason, tail_read}
 use Rattle.ipc_files.proofs.read.file.metadata.read_footer_len.Goals as goal
@@ -10,6 +10,7 @@ returns-in_err-length-clause-reason g c = λ k.
     let whole = (g.R.Failures.memory c.args.reader.now).whole in
     let at_end = c.in_ok-end.ensures.memory k in
     let goes = c.in_ok-seek_to.ensures.memory k in
+    let long : 10 ≤ length whole = omega (arith, c.if-end-lt10.false, at_end.0) in
     let here = tail_read whole c.read_exact.new.buf (g.R.Failures.memory c.seek_to.new.self) c.in_ok-end.end (goes.whole ∙ at_end.1.whole) goes.place at_end.0
-    (omega (arith, c.if-end-lt10.false, at_end.0)) (c.in_ok-read_exact.ensures.memory k).1 in
-    rw is (tail_reason whole e (ap footer_length (sym here) ∙ sym c.in_err-length.ensures.value))
+    long (c.in_ok-read_exact.ensures.memory k).1 in
+    rw is (tail_reason whole e long (ap footer_length (sym here) ∙ sym c.in_err-length.ensures.value))

@@ -1,4 +1,4 @@
-use Rattle.std.proofs.Common.{rules, ◌≡◌, take, IsTrue}
+use Rattle.std.proofs.Common.{rules, arith, ◌≡◌, ◌≤◌, length, take, IsTrue}
 use Rattle.ipc_devices.specs.Device.{after}
 use Rattle.ipc_model.specs.Files.{magic}
 use Rattle.ipc_files.proofs.Reasons.{not_feather}
@@ -8,4 +8,5 @@ pub returns-clause-reason : goal.returns-clause-reason
 returns-clause-reason g c = λ k.
     let front = after (g.R.Failures.memory c.args.reader.now) in
     let other : IsTrue g.R.Failures.known → take 6 front ≡ magic → ⊥ = search rules in
-    (other k, not_feather front c.read_exact.new.buf c.starts_with.result (c.in_ok-read_exact.ensures.memory k).1 c.starts_with.ensures.value c.if-starts_with.false)
+    let long : 6 ≤ length front = omega (arith, (c.in_ok-read_exact.ensures.memory k).0) in
+    (long, other k, not_feather front c.read_exact.new.buf c.starts_with.result (c.in_ok-read_exact.ensures.memory k).1 c.starts_with.ensures.value c.if-starts_with.false)
