@@ -4,7 +4,7 @@ use Rattle.std.specs.Prelude.{slice_get, option_map, is_some}
 use Rattle.std.specs.HashMap.{HashMap}
 use Rattle.std.specs.declared.rc.Rc.{Rc}
 use Rattle.lower_arrays.specs.declared.array.AnyArray.{AnyArray}
-use Rattle.ipc_devices.specs.Faults.{OnIo, OwnFault}
+use Rattle.ipc_devices.specs.Faults.{OnIo, UnlessIo, OwnFault}
 use Rattle.ipc_devices.specs.declared.fault.Fault.{Fault}
 use Rattle.ipc_devices.specs.declared.fault.Fault.TheVariants as faults
 use Rattle.ipc_laws.specs.Agreement.{KnowAlike}
@@ -34,6 +34,12 @@ use Rattle.ipc_file_readers.specs.Steps.{WasChunk}
 pub no_io : {X : Type 0} (r : Result X Fault) (P : Type 0) → IfErr r (λ e. e ≡ faults.Memory) → OnIo r P
 no_io (Ok x) P h = tt
 no_io (Err e) P h = subst (λ (f : Fault). OnIo {X = Unit {0}} (Err f) P) (sym h) tt
+
+-- what holds whatever the answer is
+pub unless_io : {X : Type 0} (r : Result X Fault) (P : Type 0) → P → UnlessIo r P
+unless_io (Ok x) P p = p
+unless_io (Err (faults.Io e)) P p = tt
+unless_io (Err _) P p = p
 
 memory_own : (e : Fault) (P : Type 0) → e ≡ faults.Memory → OwnFault e P
 memory_own e P h = subst (λ (f : Fault). OwnFault f P) (sym h) tt
@@ -92,6 +98,10 @@ pub known_already : {D : Type 0} (view : D → Dictionaries) (o : Option D) (kno
     → (ds : Dictionaries) × (option_map view o ≡ Some ds) × AreKnown known (option_map view o) file ds
 known_already view None known file e = absurd cc
 known_already view (Some d) known file e = (view d, refl, refl)
+
+pub not_unread : {D : Type 0} (view : D → Dictionaries) (o : Option D) → is_some o ≡ true → option_map view o ≡ None → ⊥
+not_unread view None e none = absurd cc
+not_unread view (Some d) e none = absurd cc
 
 pub values_already : {Z S : Type 0} (o : Option (HashMap ℤ (Rc AnyArray Z) S)) (known : Bool) (m : Meaning) (source : List ℕ) → is_some o ≡ true
     → HoldValues known m source (option_map known_dictionaries o) (values_in o) (values_in o)

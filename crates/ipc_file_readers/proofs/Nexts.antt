@@ -3,7 +3,7 @@ use Rattle.std.proofs.Common.{◌≡◌, ℕ, ℤ, ◌+◌, ◌-◌, ◌≤◌, 
 use Rattle.lower_arrays.specs.Layouts.{Layout}
 use Rattle.lower_arrays.specs.declared.array.AnyArray.{AnyArray}
 use Rattle.ipc_devices.specs.Device.{Memory, Rises}
-use Rattle.ipc_devices.specs.Faults.{OnIo, OwnFault}
+use Rattle.ipc_devices.specs.Faults.{OnIo, UnlessIo, OwnFault}
 use Rattle.ipc_devices.specs.declared.fault.Fault.{Fault}
 use Rattle.ipc_devices.specs.declared.fault.Fault.TheVariants as faults
 use Rattle.std.specs.Prelude.{slice_get}
@@ -12,6 +12,7 @@ use Rattle.ipc_model.specs.Entries.{Dictionaries, Limit}
 use Rattle.ipc_model.specs.Files.{file_chunk}
 use Rattle.ipc_read.specs.Chunks.{chunk_seen}
 use Rattle.ipc_files.specs.Batches.{RecordReason, block_metadata, needed_bytes}
+use Rattle.ipc_files.specs.Dictionaries.{ValuesGiven}
 use Rattle.ipc_files.specs.Footers.{GivesPart}
 use Rattle.ipc_files.specs.declared.read.file.metadata.FileMetadata.{FileMetadata}
 use Rattle.ipc_file_readers.specs.Readers.{HasNext, HoldValues, NextStep, WasNext, asked_of, block_of, columns_asked, device_of, file_of, is_over, known_of, less, message_of, metadata_of, next_result, remaining_of, rows_given, values_of}
@@ -32,6 +33,17 @@ failed_behind (Ok xs) a b c h f = tt
 failed_behind (Err (faults.Io e)) a b c h f = rises_from a b c h f
 failed_behind (Err _) a b c h f = tt
 
+-- a device that has failed in no call, and in none before it
+told_behind : (r : Result (List AnyArray) Fault) (a b c : ℕ) → b ≡ a → UnlessIo r (c ≡ b) → UnlessIo (next_result (Some r)) (c ≡ a)
+told_behind (Ok xs) a b c h t = t ∙ h
+told_behind (Err (faults.Io e)) a b c h t = tt
+told_behind (Err _) a b c h t = t ∙ h
+
+-- what was given at first, before a chunk
+first_given : (r : Result (List AnyArray) Fault) (Q : ℕ → Type 0) (n b needed : ℕ) → Q n → OnOk r (b ≤ n + needed) → OnOk r ((n : ℕ) × Q n × (b ≤ n + needed))
+first_given (Ok xs) Q n b needed q most = (n, q, most)
+first_given (Err e) Q n b needed q most = tt
+
 -- a chunk of the same file
 same_chunk : (known : Bool) (m n : FileMetadata) (p q : Option (List ℕ)) (l k : Limit) (i j : ℕ) (ds : Dictionaries) (xs : List ℕ) (old new : ℕ) (metadata : List ℕ) (r : Result (List AnyArray) Fault)
     → n ≡ m → q ≡ p → k ≡ l → j ≡ i → WasChunk known n q k j ds xs old new metadata r → WasChunk known m p l i ds xs old new metadata r
@@ -42,7 +54,7 @@ same_chunk known m n p q l k i j ds xs old new metadata r a b c d h =
     (subst (λ (x : ℕ). WasChunk known n q k x ds xs old new metadata r) d h)))
 
 module _ {R : Type 0} (known still : Bool) (memory : R → Memory) (failures given : R → ℕ) (stays : IsTrue known → IsTrue still)
-    (a mid b : FileReader R) (first : DictionariesGave known still memory failures a (Ok tt) mid)
+    (a mid b : FileReader R) (first : DictionariesGave known still memory failures given a (Ok tt) mid)
     (r : Result (List AnyArray) Fault) (second : NextGave known still memory failures given mid r b) where
   same_source : IsTrue known → (memory (device_of mid)).whole ≡ (memory (device_of a)).whole
   same_source k = first.asked.whole (stays k)
@@ -69,6 +81,8 @@ module _ {R : Type 0} (known still : Bool) (memory : R → Memory) (failures giv
     bytes = λ ds is.
         let needed = needed_bytes (kinds (file_of a).schema) (columns_asked (metadata_of a) (asked_of a)) (message_of b) in
         subst (λ (n : ℕ). OnOk r (given (device_of b) ≤ n + needed)) (ap given (first.left_alone ds is)) here.bytes;
+    first = λ unread.
+        first_given r (λ n. ValuesGiven known (file_of a) (memory (device_of a)).whole (given (device_of a)) n) _ _ _ (first.bytes unread) here.bytes;
     holds = here.holds;
     meaning = λ k es alike.
         subst (λ (xs : List ℕ). GivesPart chunk_seen r (file_chunk (file_of a) es xs (asked_of a) (remaining_of a) (block_of a))) (same_source k) (here.meaning k es alike);
@@ -88,7 +102,9 @@ module _ {R : Type 0} (known still : Bool) (memory : R → Memory) (failures giv
     };
     monotone = omega (arith, first.asked.monotone, second.asked.monotone);
     failed = failed_behind r _ _ _ first.asked.monotone second.asked.failed;
+    told = told_behind r _ _ _ first.asked.told second.asked.told;
     whole = λ s. second.asked.whole s ∙ first.asked.whole s;
+    room = second.room ∙ first.room;
     over = λ e. let no : true ≡ false = sym e ∙ more in absurd cc;
     next = λ _. has_next r was_next;
   }

@@ -1,6 +1,6 @@
 -- What a reader of a file holds and answers.
 -- (Arrow columnar format, "IPC File Format".)
-use Rattle.std.specs.Prelude.{◌≡◌, ◌⊎◌, ℕ, ℤ, ◌+◌, ◌-◌, ◌≤◌, nat_le, Bool, true, false, IsTrue, IfOk, IfErr, OnOk, List, [], map, length, Option, None, Some, option_map, slice_get, Result, Ok, Err, vec_len, Vec}
+use Rattle.std.specs.Prelude.{◌≡◌, ◌≢◌, ◌⊎◌, ℕ, ℤ, ◌+◌, ◌-◌, ◌≤◌, nat_le, Bool, true, false, IsTrue, IfOk, IfErr, OnOk, List, [], map, length, Option, None, Some, option_map, slice_get, Result, Ok, Err, vec_len, Vec}
 use Rattle.std.specs.HashMap.{HashMap}
 use Rattle.std.specs.declared.alloc.Global.{Global}
 use Rattle.std.specs.declared.rc.Rc.{Rc}
@@ -10,7 +10,7 @@ use Rattle.lower_arrays.specs.Layouts.{Layout, len_of}
 use Rattle.lower_arrays.specs.declared.array.AnyArray.{AnyArray}
 use Rattle.ipc_base.specs.Chunks.{row_count}
 use Rattle.ipc_devices.specs.Device.{Memory, Rises}
-use Rattle.ipc_devices.specs.Faults.{OnIo, OwnFault}
+use Rattle.ipc_devices.specs.Faults.{OnIo, UnlessIo, OwnFault}
 use Rattle.ipc_devices.specs.declared.fault.Fault.{Fault}
 use Rattle.ipc_model.specs.Batches.{kinds, chosen}
 use Rattle.ipc_model.specs.Entries.{Dictionaries, Limit}
@@ -22,7 +22,7 @@ use Rattle.ipc_columns.specs.Bodies.{array_under, known_dictionaries, no_values}
 use Rattle.ipc_projections.specs.ChosenColumns.{ShowsColumns, asked_by, shown_by}
 use Rattle.ipc_read.specs.Chunks.{chunk_seen}
 use Rattle.ipc_files.specs.Batches.{HoldBatch, IsRecordFault, RecordReason, block_metadata, needed_bytes}
-use Rattle.ipc_files.specs.Dictionaries.{DictionariesReason, HoldListed, IsDictionaryBlockFault}
+use Rattle.ipc_files.specs.Dictionaries.{DictionariesReason, HoldListed, IsDictionaryBlockFault, ValuesGiven}
 use Rattle.ipc_files.specs.Footers.{GivesPart, file_seen}
 use Rattle.ipc_files.specs.declared.read.file.metadata.FileMetadata.{FileMetadata}
 use Rattle.ipc_file_readers.specs.declared.read.reader.state.FileReader.{FileReader}
@@ -87,7 +87,7 @@ file_of x = file_seen (metadata_of x)
 abbrev pub columns_asked : FileMetadata → Option (List ℕ) → List ℕ
 columns_asked m asked = chosen asked (length m.schema.fields.items)
 
--- A reader begins at the first block, and no dictionary was read.
+-- A reader begins at the first block, and no dictionary was read. Its rooms are empty.
 pub record Begins {R : Type 0} (reader : R) (metadata : FileMetadata) (asked : Option (List ℕ)) (limit : Limit) (x : FileReader R) : Type 0 where
   pub device : device_of x ≡ reader
   pub described : metadata_of x ≡ metadata
@@ -96,6 +96,7 @@ pub record Begins {R : Type 0} (reader : R) (metadata : FileMetadata) (asked : O
   pub unread : known_of x ≡ None
   pub block : block_of x ≡ 0
   pub remaining : remaining_of x ≡ limit
+  pub rooms : ((scratches_of x).0.items ≡ []) × ((scratches_of x).1.items ≡ [])
 
 -- the file and what is asked of it are the same
 pub record IsOfSameFile {R : Type 0} (a b : FileReader R) : Type 0 where
@@ -148,8 +149,10 @@ HoldValues known m source None before after = HoldListed known m source after
 abbrev pub HaveKnownValues : FileMetadata → Option (List ℕ) → Dictionaries → List AnyArray → Type 0
 HaveKnownValues m asked ds xs = HaveMeaning ds (all_ids_view m.ipc_schema.fields.items) (columns_asked m asked) (chunk_seen xs) (map layout_of xs)
 
--- The dictionaries were refused: it is told once, by the fault of the first block that is refused, and nothing comes after it.
+-- The dictionaries, of which there are some, were refused: it is told once, by the fault of the first block that is refused, and nothing
+-- comes after it.
 pub record WereRefused {R : Type 0} (known : Bool) (memory : R → Memory) (a : FileReader R) (e : Fault) (b : FileReader R) : Type 0 where
+  pub some : (file_of a).dictionaries ≢ []
   pub unread : known_of a ≡ None
   pub stay_unread : known_of b ≡ None
   pub only : OwnFault e (IsDictionaryBlockFault e)
@@ -158,9 +161,9 @@ pub record WereRefused {R : Type 0} (known : Bool) (memory : R → Memory) (a : 
   pub over : is_over b ≡ true
 
 -- The chunk of the next block was given, or its fault, which says why, and leaves the limit as it was. The block behind it is the next then. The
--- metadata of the block's message are kept. Where the dictionaries were known before, no more was given than this message, its prefix and
--- what the buffers of the columns that are asked for list; and the arrays hold no more than these list, and one offset for each buffer of
--- offsets that lists nothing.
+-- metadata of the block's message are kept. No more was given than this message, its prefix and what the buffers of the columns that are
+-- asked for list, and at first what the dictionaries need; and the arrays hold no more than these buffers list, and one offset for each
+-- buffer of offsets that lists nothing.
 pub record WasNext {R : Type 0} (known : Bool) (memory : R → Memory) (given : R → ℕ) (a : FileReader R) (r : Result (List AnyArray) Fault) (b : FileReader R) : Type 0 where
   pub dictionaries : Dictionaries
   pub held : known_of b ≡ Some dictionaries
@@ -176,6 +179,9 @@ pub record WasNext {R : Type 0} (known : Bool) (memory : R → Memory) (given : 
       → OnOk r (block_metadata (memory (device_of a)).whole (slice_get (metadata_of a).blocks.items (block_of a)) ≡ Some (message_of b))
   pub bytes : (ds : Dictionaries) → known_of a ≡ Some ds
       → OnOk r (given (device_of b) ≤ given (device_of a) + needed_bytes (kinds (file_of a).schema) (columns_asked (metadata_of a) (asked_of a)) (message_of b))
+  pub first : known_of a ≡ None
+      → OnOk r ((n : ℕ) × ValuesGiven known (file_of a) (memory (device_of a)).whole (given (device_of a)) n
+      × (given (device_of b) ≤ n + needed_bytes (kinds (file_of a).schema) (columns_asked (metadata_of a) (asked_of a)) (message_of b)))
   pub holds : IfOk r (HoldBatch (kinds (file_of a).schema) (columns_asked (metadata_of a) (asked_of a)) (message_of b))
   pub meaning : IsTrue known → (ds : Dictionaries) → KnowAlike dictionaries ds
       → GivesPart chunk_seen r (file_chunk (file_of a) ds (memory (device_of a)).whole (asked_of a) (remaining_of a) (block_of a))
@@ -186,11 +192,14 @@ HasNext known memory given a None b = ⊥
 HasNext known memory given a (Some (Ok xs)) b = WasNext known memory given a (Ok xs) b
 HasNext known memory given a (Some (Err e)) b = WereRefused known memory a e b ⊎ WasNext known memory given a (Err e) b
 
--- What a call of `next` takes and answers, and what stands then. Where nothing comes any more, nothing is changed.
+-- What a call of `next` takes and answers, and what stands then. A call of the device failed just where its fault is answered, and the room
+-- for data stays. Where nothing comes any more, nothing is changed.
 pub record NextStep {R : Type 0} (known still : Bool) (memory : R → Memory) (failures given : R → ℕ) (a : FileReader R) (r : Answer) (b : FileReader R) : Type 0 where
   pub file : IsOfSameFile a b
   pub monotone : failures (device_of a) ≤ failures (device_of b)
   pub failed : OnIo (next_result r) (Rises (failures (device_of a)) (failures (device_of b)))
+  pub told : UnlessIo (next_result r) (failures (device_of b) ≡ failures (device_of a))
   pub whole : IsTrue still → (memory (device_of b)).whole ≡ (memory (device_of a)).whole
+  pub room : (scratches_of b).0 ≡ (scratches_of a).0
   pub over : is_over a ≡ true → (r ≡ None) × (b ≡ a)
   pub next : is_over a ≡ false → HasNext known memory given a r b

@@ -1,9 +1,9 @@
 -- What the steps of a call of `next` do, one by one.
 -- (Arrow columnar format, "IPC File Format".)
-use Rattle.std.specs.Prelude.{◌≡◌, ℕ, ◌+◌, ◌≤◌, Bool, IsTrue, IfOk, IfErr, OnOk, List, [], length, Option, None, Some, Result, slice_get}
+use Rattle.std.specs.Prelude.{◌≡◌, ◌≢◌, ℕ, ◌+◌, ◌≤◌, Bool, IsTrue, IfOk, IfErr, OnOk, List, [], length, Option, None, Some, Result, slice_get}
 use Rattle.lower_arrays.specs.declared.array.AnyArray.{AnyArray}
 use Rattle.ipc_devices.specs.Device.{Memory, Rises}
-use Rattle.ipc_devices.specs.Faults.{OnIo, OwnFault}
+use Rattle.ipc_devices.specs.Faults.{OnIo, UnlessIo, OwnFault}
 use Rattle.ipc_devices.specs.declared.fault.Fault.{Fault}
 use Rattle.ipc_model.specs.Batches.{kinds}
 use Rattle.ipc_model.specs.Entries.{Dictionaries, Limit}
@@ -11,28 +11,32 @@ use Rattle.ipc_model.specs.Files.{file_dictionaries, file_chunk}
 use Rattle.ipc_laws.specs.Agreement.{KnowAlike}
 use Rattle.ipc_read.specs.Chunks.{chunk_seen}
 use Rattle.ipc_files.specs.Batches.{HoldBatch, IsRecordFault, RecordReason, block_metadata, needed_bytes}
-use Rattle.ipc_files.specs.Dictionaries.{DictionariesReason, IsDictionaryBlockFault}
+use Rattle.ipc_files.specs.Dictionaries.{DictionariesReason, IsDictionaryBlockFault, ValuesGiven}
 use Rattle.ipc_files.specs.Footers.{GivesPart, file_seen}
 use Rattle.ipc_files.specs.declared.read.file.metadata.FileMetadata.{FileMetadata}
-use Rattle.ipc_file_readers.specs.Readers.{AreKnown, HaveKnownValues, HoldValues, IsOfSameFile, asked_of, block_of, columns_asked, device_of, file_of, known_of, less, message_of, metadata_of, remaining_of, rows_given, values_of}
+use Rattle.ipc_file_readers.specs.Readers.{AreKnown, HaveKnownValues, HoldValues, IsOfSameFile, asked_of, block_of, columns_asked, device_of, file_of, known_of, less, message_of, metadata_of, remaining_of, rows_given, scratches_of, values_of}
 use Rattle.ipc_file_readers.specs.declared.read.reader.state.FileReader.{FileReader}
 
 -- the device was asked
 pub record WasAsked {R X : Type 0} (still : Bool) (memory : R → Memory) (failures : R → ℕ) (a : FileReader R) (r : Result X Fault) (b : FileReader R) : Type 0 where
   pub monotone : failures (device_of a) ≤ failures (device_of b)
   pub failed : OnIo r (Rises (failures (device_of a)) (failures (device_of b)))
+  pub told : UnlessIo r (failures (device_of b) ≡ failures (device_of a))
   pub whole : IsTrue still → (memory (device_of b)).whole ≡ (memory (device_of a)).whole
 
 -- The dictionaries are known, or they were refused.
-pub record DictionariesGave {R : Type 0} (known still : Bool) (memory : R → Memory) (failures : R → ℕ) (a : FileReader R) (r : Result Unit Fault) (b : FileReader R) : Type 0 where
+pub record DictionariesGave {R : Type 0} (known still : Bool) (memory : R → Memory) (failures given : R → ℕ) (a : FileReader R) (r : Result Unit Fault) (b : FileReader R) : Type 0 where
   pub file : IsOfSameFile a b
   pub block : block_of b ≡ block_of a
   pub remaining : remaining_of b ≡ remaining_of a
+  pub room : (scratches_of b).0 ≡ (scratches_of a).0
   pub asked : WasAsked still memory failures a r b
   pub are : IfOk r (λ _. (ds : Dictionaries) × (known_of b ≡ Some ds)
       × AreKnown known (known_of a) (file_dictionaries (file_of a) (memory (device_of a)).whole) ds)
   pub holds : IfOk r (λ _. HoldValues known (file_of a) (memory (device_of a)).whole (known_of a) (values_of a) (values_of b))
   pub left_alone : (ds : Dictionaries) → known_of a ≡ Some ds → device_of b ≡ device_of a
+  pub bytes : known_of a ≡ None → OnOk r (ValuesGiven known (file_of a) (memory (device_of a)).whole (given (device_of a)) (given (device_of b)))
+  pub some : IfErr r (λ e. (file_of a).dictionaries ≢ [])
   pub unread : IfErr r (λ e. known_of a ≡ None)
   pub stay_unread : IfErr r (λ e. known_of b ≡ None)
   pub only : IfErr r (λ e. OwnFault e (IsDictionaryBlockFault e))
@@ -58,6 +62,7 @@ pub record BlockGave {R : Type 0} (known still : Bool) (memory : R → Memory) (
   pub remaining : remaining_of b ≡ remaining_of a
   pub held : known_of b ≡ known_of a
   pub values : values_of b ≡ values_of a
+  pub room : (scratches_of b).0 ≡ (scratches_of a).0
   pub asked : WasAsked still memory failures a r b
   pub chunk : (ds : Dictionaries) → known_of a ≡ Some ds
       → WasChunk known (metadata_of a) (asked_of a) (remaining_of a) i ds (memory (device_of a)).whole (given (device_of a)) (given (device_of b)) (message_of b) r
@@ -69,6 +74,7 @@ pub record NextGave {R : Type 0} (known still : Bool) (memory : R → Memory) (f
   pub remaining : remaining_of b ≡ less (remaining_of a) (rows_given r)
   pub held : known_of b ≡ known_of a
   pub values : values_of b ≡ values_of a
+  pub room : (scratches_of b).0 ≡ (scratches_of a).0
   pub asked : WasAsked still memory failures a r b
   pub chunk : (ds : Dictionaries) → known_of a ≡ Some ds
       → WasChunk known (metadata_of a) (asked_of a) (remaining_of a) (block_of a) ds (memory (device_of a)).whole (given (device_of a)) (given (device_of b)) (message_of b) r

@@ -107,7 +107,7 @@ impl<R: Reads + Seeks + Drop> FileReader<R> {
 
     // Reads the dictionaries, where they weren't read yet.
     fn read_dictionaries(&mut self) -> Result<(), Fault>
-        ensures gave { DictionariesGave R.known R.still R.memory R.failures self.old result self.new }
+        ensures gave { DictionariesGave R.known R.still R.memory R.failures R.given self.old result self.new }
     {
         if self.dictionaries.is_some() {
             return Ok(());

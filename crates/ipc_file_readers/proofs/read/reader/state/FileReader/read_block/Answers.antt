@@ -2,7 +2,7 @@ use Rattle.std.proofs.Common.{rules, ◌≡◌, ℕ, List, length, Option, Err, 
 use Rattle.ipc_columns.specs.Bodies.{known_dictionaries}
 use Rattle.ipc_read.proofs.AskedColumns.{are_prepared}
 use Rattle.ipc_read.specs.Columns.{ArePrepared}
-use Rattle.ipc_file_readers.proofs.Blocks.{no_io, read_chunk, refused_chunk, same_known}
+use Rattle.ipc_file_readers.proofs.Blocks.{no_io, read_chunk, refused_chunk, same_known, unless_io}
 use Rattle.ipc_file_readers.proofs.read.reader.state.FileReader.read_block.Goals as goal
 
 pub read_batch-requires : goal.read_batch-requires
@@ -25,9 +25,11 @@ returns-in_err-chunk g c =
         remaining = refl;
         held = refl;
         values = refl;
+        room = c.in_err-chunk.ensures.idle;
         asked = record {
           monotone = c.in_err-chunk.ensures.monotone;
           failed = search rules;
+          told = search rules;
           whole = c.in_err-chunk.ensures.whole;
         };
         chunk = λ ds e.
@@ -46,9 +48,11 @@ returns g c = record {
     remaining = refl;
     held = refl;
     values = refl;
+    room = c.in_ok-chunk.ensures.idle;
     asked = record {
       monotone = c.in_ok-chunk.ensures.monotone;
       failed = no_io c.in_order.result _ c.in_order.ensures.only;
+      told = unless_io c.in_order.result _ c.in_ok-chunk.ensures.told;
       whole = c.in_ok-chunk.ensures.whole;
     };
     chunk = λ ds e.

@@ -15,7 +15,8 @@ returns-in_err-chunk g c =
         remaining = gave.remaining ∙ less_nothing (remaining_of c.args.self.now);
         held = gave.held;
         values = gave.values;
-        asked = record { monotone = gave.asked.monotone; failed = gave.asked.failed; whole = gave.asked.whole };
+        room = gave.room;
+        asked = record { monotone = gave.asked.monotone; failed = gave.asked.failed; told = gave.asked.told; whole = gave.asked.whole };
         chunk = gave.chunk;
       };
     })
@@ -30,7 +31,8 @@ returns g c =
         remaining = c.less-self.ensures ∙ ap (λ (l : Limit). less l c.len.result) gave.remaining ∙ ap (less (remaining_of c.args.self.now)) c.len.ensures.rows;
         held = gave.held;
         values = gave.values;
-        asked = record { monotone = gave.asked.monotone; failed = tt; whole = gave.asked.whole };
+        room = gave.room;
+        asked = record { monotone = gave.asked.monotone; failed = tt; told = gave.asked.told; whole = gave.asked.whole };
         chunk = gave.chunk;
       };
     }
