@@ -8,7 +8,7 @@ use Rattle.ipc_devices.specs.declared.fault.Fault.TheVariants.{Io, Memory as NoM
 use Rattle.ipc_devices.specs.declared.fault.OutOfSpecKind.TheVariants.{UnexpectedNegativeInteger}
 use Rattle.ipc_views.specs.declared.file.Block.{Block}
 use Rattle.ipc_model.specs.Files.{FileMetadata, file_dictionaries}
-use Rattle.ipc_files.specs.Dictionaries.{IsDictionaryBlockFault}
+use Rattle.ipc_files.specs.Dictionaries.{DictionariesReason, IsDictionaryBlockFault}
 use Rattle.ipc_file_laws.proofs.Ends.{back-has, ends-both, front-has, none_has}
 use Rattle.ipc_file_laws.specs.Appending.{HasNegative, HaveNegative, end_of, goes_on, greatest_end}
 use Rattle.ipc_file_write.specs.Appends.{CanBeWritten, HasNoDictionaries, MayGoOn, RefusesFile, RefusesNoWhole, RefusesToGoOn}
@@ -85,14 +85,15 @@ own-first known m bytes NoMemory h = tt
 own-first known m bytes (Io x) h = tt
 own-first known m bytes _ h = inl h
 
-own-second : (known : Bool) (m : FileMetadata) (bytes : List ℕ) (e : Fault) → OwnFault e (IsDictionaryBlockFault e) → (IsTrue known → OwnFault e (file_dictionaries m bytes ≡ None)) → RefusesFile known m bytes e
-own-second known m bytes NoMemory h none = tt
-own-second known m bytes (Io x) h none = tt
-own-second known m bytes _ h none = inr (record { kind = h; none = none })
+pub dictionaries_refused : (known : Bool) (m : FileMetadata) (bytes : List ℕ) (e : Fault) → OwnFault e (IsDictionaryBlockFault e) → (IsTrue known → OwnFault e (file_dictionaries m bytes ≡ None))
+    → (IsTrue known → OwnFault e (DictionariesReason m bytes [] m.dictionaries e)) → RefusesFile known m bytes e
+dictionaries_refused known m bytes NoMemory h none reason = tt
+dictionaries_refused known m bytes (Io x) h none reason = tt
+dictionaries_refused known m bytes _ h none reason = inr (record { kind = h; none = none; reason = reason })
 
 pub never_for_itself : {W : Type 0} (known : Bool) (memory : W → Memory) (m : FileMetadata) (device : W) (e : Fault) → RefusesToGoOn m e → RefusesNoWhole known memory m device e
 never_for_itself known memory m device e h = never_refused known memory m device e (own-first known m (memory device).whole e h)
 
 pub never_for_dictionaries : {W : Type 0} (known : Bool) (memory : W → Memory) (m : FileMetadata) (device : W) (e : Fault) → OwnFault e (IsDictionaryBlockFault e)
-    → (IsTrue known → OwnFault e (file_dictionaries m (memory device).whole ≡ None)) → RefusesNoWhole known memory m device e
-never_for_dictionaries known memory m device e h none = never_refused known memory m device e (own-second known m (memory device).whole e h none)
+    → (IsTrue known → OwnFault e (file_dictionaries m (memory device).whole ≡ None)) → (IsTrue known → OwnFault e (DictionariesReason m (memory device).whole [] m.dictionaries e)) → RefusesNoWhole known memory m device e
+never_for_dictionaries known memory m device e h none reason = never_refused known memory m device e (dictionaries_refused known m (memory device).whole e h none reason)

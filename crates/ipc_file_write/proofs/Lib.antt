@@ -9,6 +9,7 @@ pub mod FileHeads
 pub mod FileRefusals
 pub mod FileStates
 pub mod Keeping
+pub mod Naming
 pub mod Onward
 pub mod PlacedMessages
 pub mod StartsAndEnds

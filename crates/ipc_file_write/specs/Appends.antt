@@ -16,7 +16,7 @@ use Rattle.ipc_laws.specs.Agreement.{AreAlike}
 use Rattle.ipc_laws.specs.Remembered.{Remembered}
 use Rattle.ipc_schema_write.specs.WriterAnswers.{max_weight}
 use Rattle.ipc_write.specs.declared.stream.WriterState.TheVariants.{Started}
-use Rattle.ipc_files.specs.Dictionaries.{IsDictionaryBlockFault}
+use Rattle.ipc_files.specs.Dictionaries.{DictionariesReason, IsDictionaryBlockFault}
 use Rattle.ipc_file_laws.specs.Appending.{HaveNegative, MeansBefore, goes_on, normal_chunk}
 use Rattle.ipc_file_write.specs.FileWriters.{AgreesAlone, FileSeen, HoldsBytes, IsWholeFile}
 
@@ -47,10 +47,11 @@ RefusesToGoOn m (Argument NotWritable) = IsWritable m.schema.fields m.schema.met
 RefusesToGoOn m NoMemory = Unit {0}
 RefusesToGoOn m _ = ⊥
 
--- its dictionaries can't be read
+-- its dictionaries can't be read: the fault is that of the first block that is refused
 pub record HasNoDictionaries (known : Bool) (m : FileMetadata) (bytes : List ℕ) (e : Fault) : Type 0 where
   pub kind : IsDictionaryBlockFault e
   pub none : IsTrue known → file_dictionaries m bytes ≡ None
+  pub reason : IsTrue known → DictionariesReason m bytes [] m.dictionaries e
 
 -- The file can't be gone on with, or its dictionaries can't be read. Memory and the devices tell nothing.
 abbrev pub RefusesFile : Bool → FileMetadata → List ℕ → Fault → Type 0

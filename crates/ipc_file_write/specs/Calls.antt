@@ -23,7 +23,7 @@ use Rattle.ipc_write.specs.declared.stream.WriterState.TheVariants.{Started, Fin
 use Rattle.ipc_footers.specs.Footers.{file_written}
 use Rattle.ipc_file_laws.specs.FileBytes.{EndsStream, IsFile}
 use Rattle.ipc_file_write.specs.FileWriters.{Agrees, AnswersFinish, AnswersStart, EndsWith, FileSeen, IsSameFile, OrFails, ReachesEnd, RefusesFinish, RefusesStart, Remains, SendsBytes, StartsWith, StateComesFirst}
-use Rattle.ipc_file_write.specs.Writes.{Appends, SendsColumns, WritesExactly}
+use Rattle.ipc_file_write.specs.Writes.{Appends, NamesOne, SendsColumns, WritesExactly}
 
 -- ---- one call
 
@@ -41,6 +41,7 @@ pub record DoesWrite {W : Type 0} (known grows : Bool) (failures room : W â†’ â„
   pub first : StateComesFirst (fault_unless_started a.state) a r b
   pub step : SendsColumns known grows failures room memory a r b columns
   pub exact : WritesExactly a columns None r
+  pub named : IfErr r (NamesOne a columns)
   pub means : Appends known memory a r b (chunk_written columns)
 
 -- what `finish` says of itself

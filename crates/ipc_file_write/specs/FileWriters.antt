@@ -252,7 +252,7 @@ pub record MayStart {W : Type 0} (w : FileSeen W) (s : Starting) : Type 0 where
   pub headed : head_of message ≡ Some (written_head_as w.order w.fields w.metadata w.chosen)
   pub bytes_are : s.bytes.items ≡ file_head ++ message_bytes message []
 
--- a writer was started
+-- a writer was started, with the blocks and the dictionaries that it had: none where it is new
 pub record StartsWith {W : Type 0} (a b : FileSeen W) : Type 0 where
   pub was : a.state ≡ New
   pub is : b.state ≡ Started
@@ -260,6 +260,9 @@ pub record StartsWith {W : Type 0} (a b : FileSeen W) : Type 0 where
   pub writable : IsWritable a.fields a.metadata a.chosen
   pub light : file_weight a.fields a.metadata a.pairs ≤ max_weight
   pub pairs : b.pairs ≡ a.pairs
+  pub remembers : RemembersSame a b
+  pub dictionaries : b.dictionaries ≡ a.dictionaries
+  pub blocks : b.blocks ≡ a.blocks
 
 -- a file was ended, with the blocks and the pairs that its writer had
 pub record EndsWith {W : Type 0} (a b : FileSeen W) : Type 0 where

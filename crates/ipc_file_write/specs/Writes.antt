@@ -14,7 +14,7 @@ use Rattle.ipc_base.specs.Chunks.{row_count}
 use Rattle.ipc_base.specs.IdTrees.{IdTrees}
 use Rattle.ipc_devices.specs.Device.{Memory}
 use Rattle.ipc_devices.specs.Faults.{IsIo, OnIo, OnRefused, OwnFault}
-use Rattle.ipc_devices.specs.declared.fault.ArgFault.TheVariants.{DictionaryReplaced, TooLarge}
+use Rattle.ipc_devices.specs.declared.fault.ArgFault.TheVariants.{DictionaryReplaced, SharedDictionary, TooLarge}
 use Rattle.ipc_devices.specs.declared.fault.Fault.{Fault}
 use Rattle.ipc_devices.specs.declared.fault.Fault.TheVariants.{Argument, Io, Memory as NoMemory}
 use Rattle.ipc_encode.specs.Encoding.{IsEncodable, levels_of}
@@ -130,6 +130,13 @@ pub record WritesExactly {W : Type 0} (w : FileSeen W) (columns : List AnyArray)
   pub known : Dictionaries
   pub agrees : AgreesWith w.remembers known
   pub exact : (ds : Dictionaries) → AgreesWith w.remembers ds → AnswersWrite w ds columns ids r
+
+-- A refusal that names a dictionary names one that is refused: places of its id have no values in common, or what the writer remembers of it
+-- are others than those of some place.
+abbrev pub NamesOne : {W : Type 0} → FileSeen W → List AnyArray → Fault → Type 0
+NamesOne w columns (Argument (SharedDictionary j)) = RefusesAll w.remembers true (map layout_of columns) w.ids (Argument (SharedDictionary j))
+NamesOne w columns (Argument (DictionaryReplaced j)) = RefusesAll w.remembers true (map layout_of columns) w.ids (Argument (DictionaryReplaced j))
+NamesOne w columns _ = Unit {0}
 
 -- ---- its parts
 

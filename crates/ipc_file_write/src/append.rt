@@ -1,10 +1,10 @@
 //! Goes on with files that are there: the Arrow columnar format, "IPC File Format".
-ghost use Rattle.std.specs.Prelude.{◌≡◌, ◌-◌, ◌^◌, min, max, IfErr, IfOk, IsTrue, OnOk};
+ghost use Rattle.std.specs.Prelude.{◌≡◌, [], ◌-◌, ◌^◌, min, max, IfErr, IfOk, IsTrue, OnOk};
 ghost use Rattle.ipc_devices.specs.declared.fault.Fault.TheVariants.{OutOfSpec};
 ghost use Rattle.ipc_devices.specs.declared.fault.OutOfSpecKind.TheVariants.{UnexpectedNegativeInteger};
 ghost use Rattle.ipc_files.specs.Footers.{file_seen};
 ghost use Rattle.ipc_file_laws.specs.Appending.{HasNegative, HaveNegative, end_of, goes_on, greatest_end};
-ghost use Rattle.ipc_file_write.specs.FileWriters.{seen};
+ghost use Rattle.ipc_file_write.specs.FileWriters.{scratches_of, seen};
 ghost use Rattle.ipc_file_write.specs.Appends.{CanBeWritten, GoesOn, GoesOnAgain, GoesOnWith, MayGoOn, RefusesFile, RefusesNoWhole, RefusesToGoOn};
 
 use crate::file::FileWriter;
@@ -96,7 +96,8 @@ impl<W: Reads + Writes + Seeks + Drop> FileWriter<W> {
     /// the options say, and so do its pairs, unless others are set. A dictionary whose values the file has isn't written again.
     ///
     /// Writing goes on behind all blocks of the file, or at its end where a block ends behind that. What stands before that place is never
-    /// changed, and the file never gets shorter: so whatever a later call answers, these metadata still give the chunks that they gave.
+    /// changed, and the file never gets shorter: so whatever a later call answers, these metadata still give the chunks that they gave, where
+    /// these need no byte behind that place.
     ///
     /// Faults: `Argument(NoRecordBlocks)` where the file has no record block; `OutOfSpec(UnexpectedNegativeInteger)` where one of the three
     /// numbers of a block is below 0; `Argument(TooLarge)` where the file has more than `2^63 - 1` bytes, or where its schema and its pairs
@@ -113,6 +114,8 @@ impl<W: Reads + Writes + Seeks + Drop> FileWriter<W> {
         ensures always { IfErr result (RefusesNoWhole W.known W.memory (file_seen metadata) writer) }
         ensures means { IfOk result (λ w. GoesOnWith W.known W.memory (file_seen metadata) writer (seen w)) }
         ensures again { IfOk result (λ w. GoesOnAgain W.known W.memory (file_seen metadata) writer (seen w)) }
+        ensures message { IfOk result (λ w. (scratches_of w).ipc_message.items ≡ []) }
+        ensures data { IfOk result (λ w. (scratches_of w).arrow_data.items ≡ []) }
     {
         let place = place_to_go_on(alloc, &metadata)?;
         let mut scratch = Vec::new(alloc);

@@ -68,7 +68,7 @@ pub fn run_calls<W: Writes + Drop>(
 pub struct WrittenFile {
     /// Its bytes.
     pub bytes: Vec<u8>,
-    /// What each call answered.
+    /// What each call of a list answered, in order; of a list of chunks, what the write of each did.
     pub answers: Vec<Result<(), Fault>>,
 }
 

@@ -11,7 +11,7 @@ ghost use Rattle.ipc_write.specs.Meaning.{chunk_written};
 ghost use Rattle.ipc_write.specs.Writers.{HaveTypes, RefusesState, RefusesTypes, chosen_ids, seen_ids, fault_unless_new, fault_unless_started};
 ghost use Rattle.ipc_write.specs.declared.stream.WriterState.TheVariants.{New, Started};
 ghost use Rattle.ipc_file_write.specs.Beginnings.{StartsNew};
-ghost use Rattle.ipc_file_write.specs.Writes.{Appends, MayList, RefusesChunk, SendsColumns, WritesExactly, field_normal};
+ghost use Rattle.ipc_file_write.specs.Writes.{Appends, MayList, NamesOne, RefusesChunk, SendsColumns, WritesExactly, field_normal};
 ghost use Rattle.ipc_file_write.specs.FileWriters.{Agrees, AnswersFinish, AnswersStart, EndsWith, HasNothing, IsFileOf, MayFinish, MayStart, OrFails, ReachesEnd, RefusesFinish, RefusesPairs, RefusesStart, Remains, SendsBytes, StartsWith, StateComesFirst, TakesPairs, fault_if_over, scratches_of, seen};
 
 use crate::blocks::{add, add_all, make_room};
@@ -87,6 +87,8 @@ impl<W: Writes + Drop> FileWriter<W> {
         ensures file { IsOkAnd result (λ w. IsFileOf (seen w) (fields_view schema.fields.items) (pairs_of schema.metadata.entries)
             (chosen_ids ipc_fields (fields_view schema.fields.items)) (byte_order (not options.big_endian)) []) }
         ensures means { IsOkAnd result (λ w. HasNothing W.memory (seen w)) }
+        ensures message { IsOkAnd result (λ w. (scratches_of w).ipc_message.items ≡ []) }
+        ensures data { IsOkAnd result (λ w. (scratches_of w).arrow_data.items ≡ []) }
     {
         Ok(FileWriter {
             alloc,
@@ -123,6 +125,8 @@ impl<W: Writes + Drop> FileWriter<W> {
             StartsNew W.known W.grows W.failures W.room W.memory writer fields (pairs_of schema.metadata.entries) (chosen_ids ipc_fields fields)
             (byte_order (not options.big_endian)) result }
         ensures means { IsTrue W.known → IfOk result (λ w. Agrees W.memory (seen w) (before (W.memory writer)) []) }
+        ensures message { IfOk result (λ w. (scratches_of w).ipc_message.items ≡ []) }
+        ensures data { IfOk result (λ w. (scratches_of w).arrow_data.items ≡ []) }
     {
         let mut file = FileWriter::new(alloc, writer, schema, ipc_fields, options)?;
         file.start()?;
@@ -179,6 +183,7 @@ impl<W: Writes + Drop> FileWriter<W> {
         ensures only { IfErr result (RefusesPairs (seen self.old) (pairs_of metadata.entries)) }
         ensures kept { OnErr result (seen self.new ≡ seen self.old) }
         ensures means { Remains W.known W.memory (seen self.old) (seen self.new) }
+        ensures scratches { scratches_of self.new ≡ scratches_of self.old }
     {
         self.check_open()?;
         if !is_light(&self.schema, &metadata) {
@@ -224,6 +229,7 @@ impl<W: Writes + Drop> FileWriter<W> {
         ensures only { IfErr result (OrFails (RefusesStart (seen self.old))) }
         ensures exact { AnswersStart (seen self.old) result }
         ensures means { Remains W.known W.memory (seen self.old) (seen self.new) }
+        ensures scratches { scratches_of self.new ≡ scratches_of self.old }
     {
         let Starting { ipc_fields, bytes } = self.starting()?;
         send(&mut self.writer, &mut self.state, &bytes)?;
@@ -276,7 +282,9 @@ impl<W: Writes + Drop> FileWriter<W> {
         ensures first { StateComesFirst (fault_unless_started (seen self.old).state) (seen self.old) result (seen self.new) }
         ensures step { SendsColumns W.known W.grows W.failures W.room W.memory (seen self.old) result (seen self.new) columns.now }
         ensures exact { WritesExactly (seen self.old) columns.now (seen_ids ipc_fields.entry) result }
+        ensures named { IfErr result (NamesOne (seen self.old) columns.now) }
         ensures means { Appends W.known W.memory (seen self.old) result (seen self.new) (chunk_written columns.now) }
+        ensures scratches { scratches_of self.new ≡ scratches_of self.old }
     {
         let dictionaries = self.check_write(columns.arrays(), ipc_fields)?;
         let count = dictionaries.len();
@@ -343,6 +351,7 @@ impl<W: Writes + Drop> FileWriter<W> {
         ensures only { IfErr result (OrFails (RefusesFinish (seen self.old))) }
         ensures exact { AnswersFinish (seen self.old) result }
         ensures means { Remains W.known W.memory (seen self.old) (seen self.new) }
+        ensures scratches { scratches_of self.new ≡ scratches_of self.old }
     {
         let ending = self.finishing()?;
         send_last(&mut self.writer, &mut self.state, &ending)?;

@@ -42,6 +42,11 @@ returns-in_err-send-clause-means g c =
     start_broken g.W.Failures.known g.W.Writes.grows g.W.Failures.failures g.W.Writes.room g.W.Failures.memory (seen c.args.self.now) _ c.in_err-send.field-0.0 c.deref.result.now c.in_ok-ipc_fields.ensures.ok.was
     c.in_err-send.ensures.failed (record { order = refl; fields = refl; metadata = refl; ids = refl; pairs = refl; remembers = λ id. refl; dictionaries = refl; blocks = refl; size = refl }) c.in_err-send.ensures.sends
 
+pub returns-clause-ok : goal.returns-clause-ok
+returns-clause-ok g c =
+    let may = c.in_ok-ipc_fields.ensures.ok in
+    record { was = may.was; is = refl; ids = may.ids; writable = may.writable; light = may.light; pairs = refl; remembers = λ id. refl; dictionaries = refl; blocks = refl }
+
 pub returns-clause-means : goal.returns-clause-means
 returns-clause-means g c =
     let may = c.in_ok-ipc_fields.ensures.ok in

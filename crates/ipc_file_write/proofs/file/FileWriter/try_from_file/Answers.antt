@@ -3,7 +3,7 @@ use Rattle.std.proofs.lemmas.Result.{err_from_is_err_and}
 use Rattle.ipc_files.specs.Footers.{file_seen}
 use Rattle.ipc_file_write.specs.FileWriters.{seen}
 use Rattle.ipc_file_write.proofs.AppendOpens.{opened}
-use Rattle.ipc_file_write.proofs.AppendEnds.{never_for_dictionaries, never_for_itself}
+use Rattle.ipc_file_write.proofs.AppendEnds.{dictionaries_refused, never_for_dictionaries, never_for_itself}
 use Rattle.ipc_file_write.proofs.Appends.{goes_on_any, goes_on_with}
 use Rattle.ipc_file_write.proofs.file.FileWriter.try_from_file.Goals as goal
 
@@ -15,7 +15,14 @@ returns-in_err-place-clause-always g c =
 pub returns-in_err-dictionaries-clause-always : goal.returns-in_err-dictionaries-clause-always
 returns-in_err-dictionaries-clause-always g c =
     let p = err_from_is_err_and c.from_residual-in_err-dictionaries.result c.from_residual-in_err-dictionaries.ensures.1 in
-    rw (p.1, p.2) (never_for_dictionaries g.W.Failures.known g.W.Failures.memory (file_seen c.args.metadata) c.args.writer c.in_err-dictionaries.field-0.0 c.in_err-dictionaries.ensures.only c.in_err-dictionaries.ensures.memory)
+    rw (p.1, p.2) (never_for_dictionaries g.W.Failures.known g.W.Failures.memory (file_seen c.args.metadata) c.args.writer c.in_err-dictionaries.field-0.0 c.in_err-dictionaries.ensures.only c.in_err-dictionaries.ensures.memory
+    c.in_err-dictionaries.ensures.reason)
+
+pub returns-in_err-dictionaries-clause-only : goal.returns-in_err-dictionaries-clause-only
+returns-in_err-dictionaries-clause-only g c =
+    let p = err_from_is_err_and c.from_residual-in_err-dictionaries.result c.from_residual-in_err-dictionaries.ensures.1 in
+    rw (p.1, p.2) (dictionaries_refused g.W.Failures.known (file_seen c.args.metadata) (g.W.Failures.memory c.args.writer).whole c.in_err-dictionaries.field-0.0 c.in_err-dictionaries.ensures.only c.in_err-dictionaries.ensures.memory
+    c.in_err-dictionaries.ensures.reason)
 
 pub returns-clause-ok : goal.returns-clause-ok
 returns-clause-ok g c =

@@ -12,6 +12,7 @@ use Rattle.ipc_file_write.proofs.Writes.{blocks_taken, chunk_not_io, columns_app
 use Rattle.ipc_file_write.proofs.Exactness.{count_listed, tracker_agrees, tracker_known}
 use Rattle.ipc_file_write.proofs.FileRefusals.{memory_exactly, refused_exactly, room_exactly, sending_exactly, sent_exactly}
 use Rattle.ipc_file_write.proofs.Keeping.{started_schema}
+use Rattle.ipc_file_write.proofs.Naming.{chunk_names, memory_names, room_names, sending_names}
 use Rattle.ipc_file_write.proofs.StartsAndEnds.{first_passed, first_refused}
 use Rattle.ipc_file_write.proofs.file.FileWriter.write.Goals as goal
 
@@ -46,6 +47,15 @@ returns-in_err-dictionaries-clause-exact g c =
     (refused_exactly a c.args.columns.now (seen_ids c.args.ipc_fields) (tracker_known c.args.self.now.dictionary_tracker) (tracker_agrees c.args.self.now.dictionary_tracker) fault (Err fault) refl c.in_err-dictionaries.ensures.first
     (λ was. started_schema a.state a.fields a.metadata a.ids a.pairs c.args.self.now.writable was) only)
 
+pub returns-in_err-dictionaries-clause-named : goal.returns-in_err-dictionaries-clause-named
+returns-in_err-dictionaries-clause-named g c =
+    let a = seen c.args.self.now in
+    let fault = c.in_err-dictionaries.field-0.0 in
+    let e : c.from_residual.result ≡ Err fault = search rules in
+    let only : RefusesChunk a c.args.columns.now (seen_ids c.args.ipc_fields) fault =
+    subst (λ (cs : List AnyArray). RefusesChunk a cs (seen_ids c.args.ipc_fields) fault) c.arrays.ensures.columns c.in_err-dictionaries.ensures.only in
+    rw e (chunk_names a c.args.columns.now (seen_ids c.args.ipc_fields) fault only)
+
 pub returns-in_err-dictionaries-clause-means : goal.returns-in_err-dictionaries-clause-means
 returns-in_err-dictionaries-clause-means g c =
     let fault = c.in_err-dictionaries.field-0.0 in
@@ -79,6 +89,12 @@ returns-in_err-make_room-clause-exact g c =
     (room_exactly a columns (seen_ids c.args.ipc_fields) (tracker_known c.args.self.now.dictionary_tracker) (tracker_agrees c.args.self.now.dictionary_tracker) list fault _ may
     (started_schema a.state a.fields a.metadata a.ids a.pairs c.args.self.now.writable may.was) (count_listed c.in_ok-dictionaries.dictionaries.items c.len-count.result (search rules)) c.in_err-make_room.ensures.only)
 
+pub returns-in_err-make_room-clause-named : goal.returns-in_err-make_room-clause-named
+returns-in_err-make_room-clause-named g c =
+    let fault = c.in_err-make_room.field-0.0 in
+    let e : c.from_residual-in_err-make_room.result ≡ Err fault = search rules in
+    rw e (room_names (seen c.args.self.now) c.args.columns.now _ _ fault c.in_err-make_room.ensures.only)
+
 pub returns-in_err-make_room-clause-means : goal.returns-in_err-make_room-clause-means
 returns-in_err-make_room-clause-means g c =
     let fault = c.in_err-make_room.field-0.0 in
@@ -108,6 +124,12 @@ returns-in_err-make_room-2-clause-exact g c =
     let e : c.from_residual-in_err-make_room-2.result ≡ Err fault = search rules in
     rw e
     (memory_exactly a c.args.columns.now (seen_ids c.args.ipc_fields) (tracker_known c.args.self.now.dictionary_tracker) (tracker_agrees c.args.self.now.dictionary_tracker) fault c.in_err-make_room-2.ensures.only)
+
+pub returns-in_err-make_room-2-clause-named : goal.returns-in_err-make_room-2-clause-named
+returns-in_err-make_room-2-clause-named g c =
+    let fault = c.in_err-make_room-2.field-0.0 in
+    let e : c.from_residual-in_err-make_room-2.result ≡ Err fault = search rules in
+    rw e (memory_names (seen c.args.self.now) c.args.columns.now fault c.in_err-make_room-2.ensures.only)
 
 pub returns-in_err-make_room-2-clause-means : goal.returns-in_err-make_room-2-clause-means
 returns-in_err-make_room-2-clause-means g c =
@@ -148,6 +170,14 @@ returns-in_err-placed-clause-exact g c =
     rw e
     (sending_exactly a columns (seen_ids c.args.ipc_fields) (tracker_known c.args.self.now.dictionary_tracker) (tracker_agrees c.args.self.now.dictionary_tracker) list fault may
     (started_schema a.state a.fields a.metadata a.ids a.pairs c.args.self.now.writable may.was) hands.refuses)
+
+pub returns-in_err-placed-clause-named : goal.returns-in_err-placed-clause-named
+returns-in_err-placed-clause-named g c =
+    let a = seen c.args.self.now in
+    let fault = c.in_err-placed.field-0.0 in
+    let e : c.from_residual-in_err-placed.result ≡ Err fault = search rules in
+    let hands = rw c.deref.ensures.value at c.in_err-placed.ensures in
+    rw e (sending_names a c.args.columns.now (map listed c.in_ok-dictionaries.dictionaries.items) fault hands.refuses)
 
 pub returns-in_err-placed-clause-means : goal.returns-in_err-placed-clause-means
 returns-in_err-placed-clause-means g c =
