@@ -8,7 +8,8 @@ use Rattle.ipc_model.specs.Batches.{Chunk}
 use Rattle.ipc_model.specs.Streams.{Head}
 use Rattle.ipc_write.specs.declared.stream.WriterState.TheVariants.{Finished, Started}
 use Rattle.ipc_file_write.specs.AppendLaws.{NoMore, Onward}
-use Rattle.ipc_file_write.specs.FileWriters.{AnswersFinish, EndsWith, FileSeen, HoldsBytes, IsOpenFile, IsWholeFile, ReachesEnd, Remains, SendsBytes, head_of_file}
+use Rattle.ipc_file_write.specs.Calls.{DoesFinish}
+use Rattle.ipc_file_write.specs.FileWriters.{EndsWith, FileSeen, HoldsBytes, IsOpenFile, IsWholeFile, ReachesEnd, Remains, SendsBytes, head_of_file}
 use Rattle.ipc_file_write.proofs.FileStates.{at_state}
 use Rattle.ipc_file_write.proofs.Onward.{onward_both}
 use Rattle.ipc_sessions.specs.Sessions.{IsEndedFile, taken_of}
@@ -115,11 +116,12 @@ module _ {W : Type 0} (known grows : Bool) (failures room : W → ℕ) (memory :
   session_leaves (Err e) sent ends reaches remains = record { onward = λ k inside. onward-all (Err e) sent k inside; ended = λ k. tt }
 
 pub ends_session : {W : Type 0} (known grows : Bool) (failures room : W → ℕ) (memory : W → Memory) (a b c : FileSeen W) (chunks : List (List AnyArray)) (answers : List (Result (Unit {0}) Fault)) (r : Result (Unit {0}) Fault)
-    → AreWritten known memory a chunks answers b → SendsBytes known grows failures room memory b r c → OnOk r (EndsWith b c) → OnOk r (ReachesEnd known memory b c) → Remains known memory b c → AnswersFinish b r
-    → EndsSession known memory a chunks answers r c.device
-ends_session known grows failures room memory a b c chunks answers r writes sent ends reaches remains exact = record {
+    → AreWritten known memory a chunks answers b → DoesFinish known grows failures room memory b r c → EndsSession known grows failures room memory a chunks answers r c.device
+ends_session known grows failures room memory a b c chunks answers r writes does = record {
   last = b;
   writes = writes;
-  ends = exact;
-  leaves = session_leaves known grows failures room memory a b c (taken_of chunks answers) (takes_all known memory a b chunks answers writes) r sent ends reaches remains;
+  finished = c;
+  ends = does;
+  left_is = refl;
+  leaves = session_leaves known grows failures room memory a b c (taken_of chunks answers) (takes_all known memory a b chunks answers writes) r does.step does.ok does.reaches does.means;
 }

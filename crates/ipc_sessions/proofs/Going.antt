@@ -15,6 +15,8 @@ use Rattle.ipc_model.specs.Entries.{Dictionaries}
 use Rattle.ipc_model.specs.Files.{FileMetadata, file_dictionaries, metadata_of}
 use Rattle.ipc_model.specs.Streams.{Head}
 use Rattle.ipc_model.proofs.Given.{some-same}
+use Rattle.ipc_files.specs.Dictionaries.{DictionariesReason}
+use Rattle.ipc_files.specs.Files.{FileFault, FileReason}
 use Rattle.ipc_file_laws.proofs.Appending.{stay_law}
 use Rattle.ipc_file_laws.specs.Appending.{MeansBefore, goes_on, normal_chunk, normal_schema}
 use Rattle.ipc_file_write.specs.AppendLaws.{NoMore}
@@ -22,7 +24,7 @@ use Rattle.ipc_file_write.specs.Appends.{GoesOn, GoesOnAgain, GoesOnWith, HasNoD
 use Rattle.ipc_file_write.specs.FileWriters.{FileSeen, HoldsBytes, head_of_file}
 use Rattle.ipc_file_write.proofs.Appends.{inside_file, same_head, schema_same}
 use Rattle.ipc_file_write.proofs.FileHeads.{is_headed}
-use Rattle.ipc_sessions.specs.Sessions.{Adds, AddsInTurn, CantGoOn, IsEndedFile, IsForeignFile, IsOldFile, KeepsOld, RefusesNoOld}
+use Rattle.ipc_sessions.specs.Sessions.{Adds, AddsInTurn, CantGoOn, HasNoMetadata, IsEndedFile, IsForeignFile, IsOldFile, KeepsOld, RefusesNoOld, RefusesSession}
 use Rattle.ipc_sessions.specs.Steps.{AreSessions, IsSessionOn, Leaves}
 
 -- ---- the file that it makes
@@ -165,13 +167,34 @@ refuses-read known old read m e same =
     own_one e (RefusesToGoOn m e ⊎ HasNoDictionaries known m read e) (RefusesToGoOn m e ⊎ HasNoDictionaries known m old e)
     (λ reason. elim reason [
       | inl own ↦ inl own
-      | inr lacks ↦ inr (record { kind = lacks.kind; none = λ k. ap (file_dictionaries m) (sym (same k)) ∙ lacks.none k })
+      | inr lacks ↦ inr (record {
+        kind = lacks.kind;
+        none = λ k. ap (file_dictionaries m) (sym (same k)) ∙ lacks.none k;
+        reason = λ k. subst (λ (xs : List ℕ). DictionariesReason m xs [] m.dictionaries e) (same k) (lacks.reason k);
+      })
     ])
 
 pub refused_as_read : (known : Bool) (old read : List ℕ) (m : FileMetadata) (e : Fault) → (IsTrue known → read ≡ old) → (IsTrue known → metadata_of old ≡ Some m) → RefusesFile known m read e → CantGoOn known old e
 refused_as_read known old read m e same is refused = record { metadata = m; is = is; refused = refuses-read known old read m e same refused }
 
--- a file that has none
+-- a claim that follows from three
+own-three : (e : Fault) (known : Bool) (P Q R S : Type 0) → (P → (IsTrue known → Q) → (IsTrue known → R) → S) → OwnFault e P → (IsTrue known → OwnFault e Q) → (IsTrue known → OwnFault e R) → OwnFault e S
+own-three NoMemory known P Q R S f p q r = tt
+own-three (Io x) known P Q R S f p q r = tt
+own-three _ known P Q R S f p q r = f p q r
+
+-- a file that has none, for this reason
+pub refused_unread : (known : Bool) (old mid : List ℕ) (place : ℕ) (e : Fault) → (IsTrue known → mid ≡ old) → (IsTrue known → place ≡ 0) → OwnFault e (FileFault e) → (IsTrue known → OwnFault e (metadata_of mid ≡ None))
+    → (IsTrue known → OwnFault e (FileReason place mid e)) → RefusesSession known old e
+refused_unread known old mid place e same at =
+    own-three e known (FileFault e) (metadata_of mid ≡ None) (FileReason place mid e) (HasNoMetadata known old e ⊎ CantGoOn known old e)
+    (λ kind none reason. inl (record {
+      kind = kind;
+      none = λ k. ap metadata_of (sym (same k)) ∙ none k;
+      reason = λ k. subst (λ (n : ℕ). FileReason n old e) (at k) (subst (λ (xs : List ℕ). FileReason place xs e) (same k) (reason k));
+    }))
+
+-- nothing refuses one of itself that isn't there
 pub none_read : (old mid : List ℕ) (e : Fault) → mid ≡ old → OwnFault e (metadata_of mid ≡ None) → (m : FileMetadata) → metadata_of old ≡ Some m → RefusesNoOld m old e
 none_read old mid e same none m is =
     own_one e (metadata_of mid ≡ None) _
@@ -201,11 +224,11 @@ in_turn_more n n' one old mid new cs ds f g =
 
 -- ---- lists of sessions
 
-module _ {W : Type 0} (known : Bool) (memory : W → Memory) where
+module _ {W : Type 0} (known grows : Bool) (failures room : W → ℕ) (memory : W → Memory) where
   -- one session more
-  pub sessions_more : (a m b : W) (cs : List (Vec (List AnyArray) Global)) (rs : List (Vec (Result (Unit {0}) Fault) Global)) (c : Vec (List AnyArray) Global) (r : Vec (Result (Unit {0}) Fault) Global) → AreSessions known memory a cs rs m
-      → IsSessionOn known memory m c.items r.items (Ok tt) b → AreSessions known memory a (cs ++ c ∷ []) (rs ++ r ∷ []) b
-  sessions_more a m b [] [] c r h last = (b, (subst (λ (d : W). IsSessionOn known memory d c.items r.items (Ok tt) b) h last, refl))
+  pub sessions_more : (a m b : W) (cs : List (Vec (List AnyArray) Global)) (rs : List (Vec (Result (Unit {0}) Fault) Global)) (c : Vec (List AnyArray) Global) (r : Vec (Result (Unit {0}) Fault) Global) → AreSessions known grows failures room memory a cs rs m
+      → IsSessionOn known grows failures room memory m c.items r.items (Ok tt) b → AreSessions known grows failures room memory a (cs ++ c ∷ []) (rs ++ r ∷ []) b
+  sessions_more a m b [] [] c r h last = (b, (subst (λ (d : W). IsSessionOn known grows failures room memory d c.items r.items (Ok tt) b) h last, refl))
   sessions_more a m b [] (x ∷ rs) c r h last = absurd h
   sessions_more a m b (d ∷ cs) [] c r h last = absurd h
   sessions_more a m b (d ∷ cs) (x ∷ rs) c r h last = (h.0, (h.1.0, sessions_more h.0 m b cs rs c r h.1.1 last))

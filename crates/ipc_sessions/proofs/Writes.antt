@@ -1,5 +1,5 @@
 -- What the writes of a session do, one and many.
-use Rattle.std.proofs.Common.{◌≡◌, ℕ, ◌≤◌, Bool, IsTrue, List, [], ◌∷◌, ◌++◌, length, None, Result, Ok, Err, refl, sym, ap, ◌∙◌, subst, arith, append-nil, append_assoc}
+use Rattle.std.proofs.Common.{◌≡◌, ℕ, ◌≤◌, Bool, IsTrue, List, [], ◌∷◌, ◌++◌, length, None, Result, Ok, Err, IfErr, refl, sym, ap, ◌∙◌, subst, arith, append-nil, append_assoc}
 use Rattle.lower_arrays.specs.declared.array.AnyArray.{AnyArray}
 use Rattle.ipc_devices.specs.Device.{Memory}
 use Rattle.ipc_devices.specs.declared.fault.Fault.{Fault}
@@ -13,7 +13,7 @@ use Rattle.ipc_write.specs.declared.stream.WriterState.{WriterState}
 use Rattle.ipc_write.specs.declared.stream.WriterState.TheVariants.{Failed, Started}
 use Rattle.ipc_file_write.specs.AppendLaws.{NoMore, Onward}
 use Rattle.ipc_file_write.specs.FileWriters.{FileSeen, FileStep, HoldsBytes, IsSameFile}
-use Rattle.ipc_file_write.specs.Writes.{Appends, SendsColumns, WritesExactly}
+use Rattle.ipc_file_write.specs.Writes.{Appends, NamesOne, SendsColumns, WritesExactly}
 use Rattle.ipc_file_write.proofs.Onward.{no_more, onward_both, over_onward}
 use Rattle.ipc_sessions.specs.Sessions.{taken_of}
 use Rattle.ipc_sessions.specs.Steps.{AreWritten, TakesChunks, WritesChunk}
@@ -99,9 +99,9 @@ module _ {W : Type 0} (known grows : Bool) (failures room : W → ℕ) (memory :
   state-then (Err (Io x)) sends = ap state_seen sends.step.io.0
   state-then (Err _) sends = ap state_seen sends.step.refused.state
 
-  pub writes_chunk : (r : Result (Unit {0}) Fault) → SendsColumns known grows failures room memory a r b columns → WritesExactly a columns None r → Appends known memory a r b (chunk_written columns)
+  pub writes_chunk : (r : Result (Unit {0}) Fault) → SendsColumns known grows failures room memory a r b columns → WritesExactly a columns None r → IfErr r (NamesOne a columns) → Appends known memory a r b (chunk_written columns)
       → WritesChunk known memory a columns r b
-  writes_chunk r sends exact appends = record { exact = exact; state = state-then r sends; takes = takes-one r sends appends }
+  writes_chunk r sends exact named appends = record { exact = exact; named = named; state = state-then r sends; takes = takes-one r sends appends }
 
 -- ---- lists of writes
 

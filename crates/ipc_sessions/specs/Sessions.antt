@@ -1,6 +1,6 @@
 -- Sessions on a file: which chunks they took, which files one can begin with, and what they leave.
 -- (Arrow columnar format, "IPC File Format".)
-use Rattle.std.specs.Prelude.{◌≡◌, ◌⊎◌, ℕ, ◌^◌, ◌<◌, ◌≤◌, Bool, false, IsTrue, List, [], ◌∷◌, ◌++◌, length, map, take, Some, Result, Vec, is_ok}
+use Rattle.std.specs.Prelude.{◌≡◌, ◌⊎◌, ℕ, ◌^◌, ◌<◌, ◌≤◌, Bool, false, IsTrue, List, [], ◌∷◌, ◌++◌, length, map, take, None, Some, Result, Vec, is_ok}
 use Rattle.std.specs.declared.alloc.Global.{Global}
 use Rattle.lower.specs.TypeTrees.{Pairs}
 use Rattle.lower_arrays.specs.declared.array.AnyArray.{AnyArray}
@@ -16,7 +16,7 @@ use Rattle.ipc_model.specs.Writers.{Call, taken, write_call}
 use Rattle.ipc_write.specs.Meaning.{chunk_written}
 use Rattle.ipc_file_laws.specs.Appending.{MeansBefore, goes_on, normal_chunk, normal_schema}
 use Rattle.ipc_file_laws.specs.FileBytes.{EndsStream, IsFile, file_so_far}
-use Rattle.ipc_files.specs.Files.{FileFault}
+use Rattle.ipc_files.specs.Files.{FileFault, FileReason}
 use Rattle.ipc_file_write.specs.Appends.{MayGoOn, RefusesFile}
 use Rattle.ipc_file_write.specs.FileWriters.{FileSeen, IsWholeFile, head_of_file}
 
@@ -94,9 +94,15 @@ pub record CantGoOn (known : Bool) (bytes : List ℕ) (e : Fault) : Type 0 where
   pub is : IsTrue known → metadata_of bytes ≡ Some metadata
   pub refused : RefusesFile known metadata bytes e
 
+-- the file has no metadata, for this reason
+pub record HasNoMetadata (known : Bool) (bytes : List ℕ) (e : Fault) : Type 0 where
+  pub kind : FileFault e
+  pub none : IsTrue known → metadata_of bytes ≡ None
+  pub reason : IsTrue known → FileReason 0 bytes e
+
 -- Why a session is refused on a file of these bytes: it has no metadata, or they are refused. Memory and the devices tell nothing.
 abbrev pub RefusesSession : Bool → List ℕ → Fault → Type 0
-RefusesSession known bytes e = OwnFault e (FileFault e ⊎ CantGoOn known bytes e)
+RefusesSession known bytes e = OwnFault e (HasNoMetadata known bytes e ⊎ CantGoOn known bytes e)
 
 -- ---- what is read of a file that a session left
 

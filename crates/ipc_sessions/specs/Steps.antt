@@ -1,6 +1,6 @@
 -- The calls of a session: what its writes do, what its end leaves, and which calls are made of which writers.
 -- (Arrow columnar format, "IPC File Format".)
-use Rattle.std.specs.Prelude.{◌≡◌, ◌⊎◌, ℕ, ◌≤◌, Bool, IsTrue, true, List, [], ◌∷◌, ◌++◌, length, Some, None, Result, Ok, Err, OnOk, Vec}
+use Rattle.std.specs.Prelude.{◌≡◌, ◌⊎◌, ℕ, ◌-◌, ◌≤◌, Bool, IsTrue, true, List, [], ◌∷◌, ◌++◌, length, Some, None, Result, Ok, Err, IfErr, OnOk, Vec, vec_capacity}
 use Rattle.std.specs.declared.alloc.Global.{Global}
 use Rattle.lower.specs.TypeTrees.{FieldTrees, Pairs}
 use Rattle.lower_types.specs.declared.Endianness.{Endianness}
@@ -23,14 +23,13 @@ use Rattle.ipc_schema_write.specs.WriterAnswers.{max_weight, written_as}
 use Rattle.ipc_write.specs.Calls.{outcome, state_seen}
 use Rattle.ipc_write.specs.Meaning.{chunk_written}
 use Rattle.ipc_write.specs.declared.stream.WriterState.TheVariants.{Failed, Started}
-use Rattle.ipc_files.specs.Files.{FileFault}
 use Rattle.ipc_file_write.specs.AppendLaws.{NoMore, Onward}
 use Rattle.ipc_file_write.specs.Appends.{GoesOn}
-use Rattle.ipc_file_write.specs.Calls.{vector}
-use Rattle.ipc_file_write.specs.FileWriters.{Agrees, AnswersFinish, FileSeen, HoldsBytes, IsFileOf, IsSameFile, head_of_file}
-use Rattle.ipc_file_write.specs.Writes.{WritesExactly}
+use Rattle.ipc_file_write.specs.Calls.{DoesFinish, vector}
+use Rattle.ipc_file_write.specs.FileWriters.{Agrees, FileSeen, HoldsBytes, IsFileOf, IsSameFile, head_of_file}
+use Rattle.ipc_file_write.specs.Writes.{NamesOne, WritesExactly}
 use Rattle.ipc_file_write.specs.WrittenFiles.{HasTooMany}
-use Rattle.ipc_sessions.specs.Sessions.{CantGoOn, IsEndedFile, taken_of}
+use Rattle.ipc_sessions.specs.Sessions.{CantGoOn, HasNoMetadata, IsEndedFile, taken_of}
 
 -- ---- what they do
 
@@ -54,10 +53,11 @@ pub record Leaves {W : Type 0} (known : Bool) (memory : W → Memory) (a : FileS
 
 -- ---- which calls are made
 
--- A write of these columns answers this: it is Ok exactly where the writer may take them, memory and devices aside. The writer fails where its
--- device did, and is started as before where it was refused.
+-- A write of these columns answers this: it is Ok exactly where the writer may take them, memory and devices aside; a dictionary that it names is
+-- one that is refused. The writer fails where its device did, and is started as before where it was refused.
 pub record WritesChunk {W : Type 0} (known : Bool) (memory : W → Memory) (a : FileSeen W) (columns : List AnyArray) (r : Result Unit Fault) (b : FileSeen W) : Type 0 where
   pub exact : WritesExactly a columns None r
+  pub named : IfErr r (NamesOne a columns)
   pub state : state_seen b.state ≡ state_after (write_call (chunk_written columns)) (outcome r) (state_seen a.state)
   pub takes : TakesChunks known memory a b (taken_of (columns ∷ []) (r ∷ []))
 
@@ -94,56 +94,64 @@ RefusesCreation fs es is order ps chunks (Argument TooLarge) = (¬ (file_weight 
 RefusesCreation fs es is order ps chunks (State faults.Failed) = MayCreate fs es is order ps chunks (λ w. w.state ≡ Failed)
 RefusesCreation fs es is order ps chunks _ = ⊥
 
--- The calls of a started writer: each chunk is written, and `finish` is called last, which answers `end`.
-pub record EndsSession {W : Type 0} (known : Bool) (memory : W → Memory) (opened : FileSeen W) (chunks : List (List AnyArray)) (answers : List (Result Unit Fault)) (end : Result Unit Fault) (left : W) : Type 0 where
+-- The calls of a started writer: each chunk is written, and `finish` is called last, which answers `end`. The device is what that call left.
+pub record EndsSession {W : Type 0} (known grows : Bool) (failures room : W → ℕ) (memory : W → Memory) (opened : FileSeen W) (chunks : List (List AnyArray)) (answers : List (Result Unit Fault)) (end : Result Unit Fault) (left : W) : Type 0 where
   pub last : FileSeen W
   pub writes : AreWritten known memory opened chunks answers last
-  pub ends : AnswersFinish last end
+  pub finished : FileSeen W
+  pub ends : DoesFinish known grows failures room memory last end finished
+  pub left_is : left ≡ finished.device
   pub leaves : Leaves known memory opened left end (taken_of chunks answers)
 
 -- A session by metadata that were read before: a writer goes on with the file, and these are its calls.
-pub record IsSession {W : Type 0} (known : Bool) (memory : W → Memory) (m : FileMetadata) (device : W) (chunks : List (List AnyArray)) (answers : List (Result Unit Fault)) (end : Result Unit Fault) (left : W) : Type 0 where
+pub record IsSession {W : Type 0} (known grows : Bool) (failures room : W → ℕ) (memory : W → Memory) (m : FileMetadata) (device : W) (chunks : List (List AnyArray)) (answers : List (Result Unit Fault)) (end : Result Unit Fault) (left : W) : Type 0 where
   pub opened : FileSeen W
   pub goes_on : GoesOn known memory m device opened
-  pub calls : EndsSession known memory opened chunks answers end left
+  pub calls : EndsSession known grows failures room memory opened chunks answers end left
 
 -- one by the metadata that the file has
-pub record IsSessionOn {W : Type 0} (known : Bool) (memory : W → Memory) (device : W) (chunks : List (List AnyArray)) (answers : List (Result Unit Fault)) (end : Result Unit Fault) (left : W) : Type 0 where
+pub record IsSessionOn {W : Type 0} (known grows : Bool) (failures room : W → ℕ) (memory : W → Memory) (device : W) (chunks : List (List AnyArray)) (answers : List (Result Unit Fault)) (end : Result Unit Fault) (left : W) : Type 0 where
   pub read : W
   pub same : IsTrue known → (memory read).whole ≡ (memory device).whole
   pub metadata : FileMetadata
   pub metadata_is : IsTrue known → metadata_of (memory device).whole ≡ Some metadata
-  pub session : IsSession known memory metadata read chunks answers end left
+  pub session : IsSession known grows failures room memory metadata read chunks answers end left
 
 -- the bytes of a file in memory, and the place in it
 abbrev pub in_memory : MemFile (Vec ℕ Global) → Memory
 in_memory f = record { whole = f.inner.items; place = f.position }
 
+-- how much it has room for behind that
+abbrev pub room_behind : MemFile (Vec ℕ Global) → ℕ
+room_behind f = vec_capacity f.inner - f.position
+
 -- sessions one after the other, each on the file that the one before it ended
-abbrev pub AreSessions : {W : Type 0} → Bool → (W → Memory) → W → List (Vec (List AnyArray) Global) → List (Vec (Result Unit Fault) Global) → W → Type 0
-AreSessions known memory device [] [] left = left ≡ device
-AreSessions {W = W} known memory device (cs ∷ rest) (rs ∷ answers) left = (next : W) × (IsSessionOn known memory device cs.items rs.items (Ok tt) next × AreSessions known memory next rest answers left)
-AreSessions known memory device _ _ left = ⊥
+abbrev pub AreSessions : {W : Type 0} → (known grows : Bool) (failures room : W → ℕ) (memory : W → Memory) → W → List (Vec (List AnyArray) Global) → List (Vec (Result Unit Fault) Global) → W → Type 0
+AreSessions known grows failures room memory device [] [] left = left ≡ device
+AreSessions {W = W} known grows failures room memory device (cs ∷ rest) (rs ∷ answers) left =
+    (next : W) × (IsSessionOn known grows failures room memory device cs.items rs.items (Ok tt) next × AreSessions known grows failures room memory next rest answers left)
+AreSessions known grows failures room memory device _ _ left = ⊥
 
 -- Why one session is refused: the file has no metadata, or can't be gone on with; or this is what its end answered, behind its writes.
-pub record EndsRefused {W : Type 0} (known : Bool) (memory : W → Memory) (device : W) (chunks : List (List AnyArray)) (e : Fault) : Type 0 where
+pub record EndsRefused {W : Type 0} (known grows : Bool) (failures room : W → ℕ) (memory : W → Memory) (device : W) (chunks : List (List AnyArray)) (e : Fault) : Type 0 where
   pub answers : List (Result Unit Fault)
   pub left : W
-  pub session : IsSessionOn known memory device chunks answers (Err e) left
+  pub session : IsSessionOn known grows failures room memory device chunks answers (Err e) left
 
-abbrev pub RefusesWhole : {W : Type 0} → Bool → (W → Memory) → W → List (List AnyArray) → Fault → Type 0
-RefusesWhole known memory device chunks e = (FileFault e ⊎ CantGoOn known (memory device).whole e) ⊎ EndsRefused known memory device chunks e
+abbrev pub RefusesWhole : {W : Type 0} → (known grows : Bool) (failures room : W → ℕ) (memory : W → Memory) → W → List (List AnyArray) → Fault → Type 0
+RefusesWhole known grows failures room memory device chunks e =
+    (HasNoMetadata known (memory device).whole e ⊎ CantGoOn known (memory device).whole e) ⊎ EndsRefused known grows failures room memory device chunks e
 
 -- Why some sessions are refused: those in front of one of them ended their file, and on what they left that one is refused.
-pub record RefusesInTurn {W : Type 0} (known : Bool) (memory : W → Memory) (device : W) (sessions : List (Vec (List AnyArray) Global)) (e : Fault) : Type 0 where
+pub record RefusesInTurn {W : Type 0} (known grows : Bool) (failures room : W → ℕ) (memory : W → Memory) (device : W) (sessions : List (Vec (List AnyArray) Global)) (e : Fault) : Type 0 where
   pub done : List (Vec (List AnyArray) Global)
   pub refused : Vec (List AnyArray) Global
   pub rest : List (Vec (List AnyArray) Global)
   pub sessions_are : sessions ≡ done ++ refused ∷ rest
   pub answers : List (Vec (Result Unit Fault) Global)
   pub left : W
-  pub made : AreSessions known memory device done answers left
-  pub why : RefusesWhole known memory left refused.items e
+  pub made : AreSessions known grows failures room memory device done answers left
+  pub why : RefusesWhole known grows failures room memory left refused.items e
 
 -- All sessions on a file in memory: the first created it, and each later one went on with it; these bytes are what the last one left.
 pub record AreAllSessions (fields : FieldTrees) (metadata : Pairs) (ids : IdTrees) (order : Endianness) (pairs : Pairs) (first : List (List AnyArray)) (answers : List (Result Unit Fault))
@@ -152,7 +160,7 @@ pub record AreAllSessions (fields : FieldTrees) (metadata : Pairs) (ids : IdTree
   pub created : MemFile (Vec ℕ Global)
   pub file : IsEndedFile true created.inner.items (written_as order fields metadata ids) pairs (taken_of first answers)
   pub left : MemFile (Vec ℕ Global)
-  pub sessions : AreSessions true in_memory created later others left
+  pub sessions : AreSessions true true (λ f. 0) room_behind in_memory created later others left
   pub bytes_are : left.inner.items ≡ bytes
 
 -- Why a later one is refused: the first created the file.
@@ -161,7 +169,7 @@ pub record RefusesLater (fields : FieldTrees) (metadata : Pairs) (ids : IdTrees)
   pub creation : IsCreation fields metadata ids order pairs first answers
   pub created : MemFile (Vec ℕ Global)
   pub file : IsEndedFile true created.inner.items (written_as order fields metadata ids) pairs (taken_of first answers)
-  pub refused : RefusesInTurn true in_memory created later e
+  pub refused : RefusesInTurn true true (λ f. 0) room_behind in_memory created later e
 
 -- Why they are refused, memory aside: the file isn't created, or a later one is refused.
 abbrev pub RefusesSessions : FieldTrees → Pairs → IdTrees → Endianness → Pairs → List (List AnyArray) → List (Vec (List AnyArray) Global) → Fault → Type 0

@@ -74,7 +74,7 @@ fn end_session<W: Writes + Drop>(
     mut writer: FileWriter<W>,
     chunks: &[Chunk<AnyArray>],
 ) -> Result<Session<W>, Fault>
-    ensures made { IfOk result (λ session. EndsSession W.known W.memory (seen writer) chunks.now session.answers.items session.end session.device) }
+    ensures made { IfOk result (λ session. EndsSession W.known W.grows W.failures W.room W.memory (seen writer) chunks.now session.answers.items session.end session.device) }
     ensures only { IfErr result (λ e. e ≡ Memory) }
 {
     let answers = write_chunks(alloc, &mut writer, chunks)?;
@@ -93,8 +93,8 @@ fn end_session<W: Writes + Drop>(
 ///
 /// In memory, where the end is Ok, the file has the schema and the pairs that it had, and behind its chunks exactly those of the writes
 /// that were Ok; it is a stream without its first eight bytes where it was one. Whatever the calls answer, the file is no shorter than it
-/// was, and these metadata give the dictionaries and the chunks that they gave. So they do where the end is refused: the device is handed
-/// back then too.
+/// was, and these metadata give the dictionaries and the chunks that they gave, where these need no byte behind the place where writing
+/// goes on. So they do where the end is refused: the device is handed back then too.
 ///
 /// Faults: those of [`FileWriter::try_from_file`], which change nothing; `Memory` where there is none to keep the answers, and then nothing
 /// was written. After these the device is dropped; one that was lent may stand at any place.
@@ -108,7 +108,7 @@ pub fn append_to_file<W: Reads + Writes + Seeks + Drop>(
         → IfOk result (λ session. OnOk session.end (Adds (W.memory device).whole (W.memory session.device).whole (taken_of chunks.now session.answers.items))) }
     ensures keeps { IsTrue W.known → metadata_of (W.memory device).whole ≡ Some (file_seen metadata)
         → IfOk result (λ session. KeepsOld (file_seen metadata) (W.memory device).whole (W.memory session.device).whole) }
-    ensures made { IfOk result (λ session. IsSession W.known W.memory (file_seen metadata) device chunks.now session.answers.items session.end session.device) }
+    ensures made { IfOk result (λ session. IsSession W.known W.grows W.failures W.room W.memory (file_seen metadata) device chunks.now session.answers.items session.end session.device) }
     ensures always { IsTrue W.known → metadata_of (W.memory device).whole ≡ Some (file_seen metadata)
         → IfErr result (RefusesNoOld (file_seen metadata) (W.memory device).whole) }
     ensures only { IfErr result (RefusesFile W.known (file_seen metadata) (W.memory device).whole) }
@@ -131,7 +131,7 @@ pub fn append_session<W: Reads + Writes + Seeks + Drop>(
     ensures adds { IsTrue W.known → IfOk result (λ session. OnOk session.end (Adds (W.memory device).whole (W.memory session.device).whole (taken_of chunks.now session.answers.items))) }
     ensures keeps { IsTrue W.known → IfOk result (λ session. (m : FileMeaning) → metadata_of (W.memory device).whole ≡ Some m
         → KeepsOld m (W.memory device).whole (W.memory session.device).whole) }
-    ensures made { IfOk result (λ session. IsSessionOn W.known W.memory device chunks.now session.answers.items session.end session.device) }
+    ensures made { IfOk result (λ session. IsSessionOn W.known W.grows W.failures W.room W.memory device chunks.now session.answers.items session.end session.device) }
     ensures always { IsTrue W.known → IfErr result (λ e. (m : FileMeaning) → metadata_of (W.memory device).whole ≡ Some m
         → RefusesNoOld m (W.memory device).whole e) }
     ensures only { IfErr result (RefusesSession W.known (W.memory device).whole) }
@@ -149,8 +149,8 @@ fn whole_session<W: Reads + Writes + Seeks + Drop>(
     chunks: &[Chunk<AnyArray>],
 ) -> Result<(W, Vec<Result<(), Fault>>), Fault>
     ensures adds { IsTrue W.known → IfOk result (λ left. Adds (W.memory device).whole (W.memory left.0).whole (taken_of chunks.now left.1.items)) }
-    ensures made { IfOk result (λ left. IsSessionOn W.known W.memory device chunks.now left.1.items (Ok tt) left.0) }
-    ensures only { IfErr result (λ e. OwnFault e (RefusesWhole W.known W.memory device chunks.now e)) }
+    ensures made { IfOk result (λ left. IsSessionOn W.known W.grows W.failures W.room W.memory device chunks.now left.1.items (Ok tt) left.0) }
+    ensures only { IfErr result (λ e. OwnFault e (RefusesWhole W.known W.grows W.failures W.room W.memory device chunks.now e)) }
 {
     let session = append_session(alloc, device, chunks)?;
     let Session {
@@ -174,10 +174,10 @@ pub fn run_sessions<W: Reads + Writes + Seeks + Drop>(
     mut device: W,
     sessions: &[Vec<Chunk<AnyArray>>],
 ) -> Result<Sessions<W>, Fault>
-    ensures made { IfOk result (λ left. AreSessions W.known W.memory device sessions.now left.answers.items left.device) }
+    ensures made { IfOk result (λ left. AreSessions W.known W.grows W.failures W.room W.memory device sessions.now left.answers.items left.device) }
     ensures adds { IsTrue W.known → IfOk result (λ left. AddsInTurn (length sessions.now) (W.memory device).whole (W.memory left.device).whole
         (all_taken_of sessions.now left.answers.items)) }
-    ensures only { IfErr result (λ e. OwnFault e (RefusesInTurn W.known W.memory device sessions.now e)) }
+    ensures only { IfErr result (λ e. OwnFault e (RefusesInTurn W.known W.grows W.failures W.room W.memory device sessions.now e)) }
 {
     let mut answers = Vec::new(alloc);
     for chunks in sessions {

@@ -1,9 +1,9 @@
-use Rattle.std.proofs.Common.{ℕ, List, OnOk, inl, inr, sym, ap, ◌∙◌}
+use Rattle.std.proofs.Common.{ℕ, List, OnOk, inr, sym, ap, ◌∙◌}
 use Rattle.std.proofs.lemmas.Result.{err_from_is_err_and}
 use Rattle.ipc_files.specs.Footers.{file_seen}
 use Rattle.ipc_model.specs.Files.{FileMetadata, metadata_of}
 use Rattle.ipc_sessions.specs.Sessions.{Adds, KeepsOld, RefusesNoOld, taken_of}
-use Rattle.ipc_sessions.proofs.Going.{as_read, none_read, own_one, refused_as_read}
+use Rattle.ipc_sessions.proofs.Going.{as_read, none_read, own_one, refused_as_read, refused_unread}
 use Rattle.ipc_sessions.proofs.sessions.append_session.Goals as goal
 
 pub returns-in_err-metadata-clause-always : goal.returns-in_err-metadata-clause-always
@@ -51,7 +51,10 @@ returns-clause-made g c = record {
 pub returns-in_err-metadata-clause-only : goal.returns-in_err-metadata-clause-only
 returns-in_err-metadata-clause-only g c =
     let p = err_from_is_err_and c.from_residual-in_err-metadata.result c.from_residual-in_err-metadata.ensures.1 in
-    rw (p.1, p.2) (own_one c.in_err-metadata.field-0.0 _ _ (λ fault. inl fault) c.in_err-metadata.ensures.only)
+    rw (p.1, p.2)
+    (refused_unread g.W.Failures.known (g.W.Failures.memory c.args.device).whole (g.W.Failures.memory c.seek_to.new.self).whole (g.W.Failures.memory c.seek_to.new.self).place c.in_err-metadata.field-0.0
+    (λ k. (c.in_ok-seek_to.ensures.memory k).whole) (λ k. (c.in_ok-seek_to.ensures.memory k).place) c.in_err-metadata.ensures.only (λ k. c.in_err-metadata.ensures.memory k (c.in_ok-seek_to.ensures.memory k).place)
+    c.in_err-metadata.ensures.reason)
 
 pub returns-in_err-session-clause-only : goal.returns-in_err-session-clause-only
 returns-in_err-session-clause-only g c =

@@ -26,7 +26,7 @@ loop-chunks-preserved g c =
     let one = c.in_ok-ended.ended.1 in
     let left = c.in_ok-ended.ended.0 in
     rw (next, c.in_ok-push.ensures.items) (
-      sessions_more known memory _ _ _ (take i sessions) answers chunks one inv.0 (rw c.deref.ensures.value at c.in_ok-ended.ensures.made),
+      sessions_more known g.W.Writes.grows g.W.Failures.failures g.W.Writes.room memory _ _ _ (take i sessions) answers chunks one inv.0 (rw c.deref.ensures.value at c.in_ok-ended.ensures.made),
       omega (arith, inv.1, length-append (take i sessions) (chunks ∷ []), length-append answers (one ∷ [])),
       λ k.
           subst (λ (xs : List Chunk). AddsInTurn (length (take i sessions ++ chunks ∷ [])) (memory c.args.device).whole (memory left).whole xs) (sym (all_taken_more (take i sessions) chunks answers one inv.1))
