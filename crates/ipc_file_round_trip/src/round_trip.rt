@@ -7,7 +7,7 @@ ghost use Rattle.ipc_schema_write.specs.WriterAnswers.{byte_order};
 ghost use Rattle.ipc_write.specs.Calls.{ended_as};
 ghost use Rattle.ipc_write.specs.Writers.{chosen_ids};
 ghost use Rattle.ipc_file_write.specs.WrittenFiles.{RefusesWholeFile, RunsToFile};
-ghost use Rattle.ipc_file_round_trip.specs.RoundTrip.{ComesBack};
+ghost use Rattle.ipc_file_round_trip.specs.RoundTrip.{ComesBack, ReadsWritten};
 
 use crate::read::{WholeFile, read_file};
 use ipc_base::ipc::IpcField;
@@ -45,6 +45,9 @@ pub fn file_round_trip(
 ) -> Result<FileRoundTrip, Fault>
     ensures back { let fields = fields_view schema.fields.items in
         IfOk result (λ r. ComesBack r.file (byte_order (not options.big_endian)) fields (pairs_of schema.metadata.entries)
+        (chosen_ids ipc_fields fields) (pairs_of custom_metadata.entries) (taken (answered (ended_as calls.now r.answers.items)))) }
+    ensures means { let fields = fields_view schema.fields.items in
+        IfOk result (λ r. ReadsWritten r.file (byte_order (not options.big_endian)) fields (pairs_of schema.metadata.entries)
         (chosen_ids ipc_fields fields) (pairs_of custom_metadata.entries) (taken (answered (ended_as calls.now r.answers.items)))) }
     ensures run { let fields = fields_view schema.fields.items in
         IfOk result (λ r. RunsToFile (byte_order (not options.big_endian)) fields (pairs_of schema.metadata.entries)

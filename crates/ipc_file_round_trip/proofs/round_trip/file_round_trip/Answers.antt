@@ -22,6 +22,15 @@ returns-clause-back c =
     written_law written.bytes.items (byte_order (not c.args.options.big_endian)) fields (pairs_of c.args.schema.metadata.entries) (chosen_ids c.args.ipc_fields fields) (pairs_of c.args.custom_metadata.entries)
     (taken (answered (ended_as c.args.calls.now written.answers.items))) c.in_ok-file.file c.in_ok-written.ensures.file read
 
+pub returns-clause-means : goal.returns-clause-means
+returns-clause-means c =
+    let bytes = c.in_ok-written.written.bytes.items in
+    record {
+      bytes = bytes;
+      written = c.in_ok-written.ensures.file;
+      read = subst (λ (xs : List ℕ). file_by None None xs ≡ Some (file_read c.in_ok-file.file)) c.deref.ensures.value c.in_ok-file.ensures.meaning;
+    }
+
 pub returns-clause-run : goal.returns-clause-run
 returns-clause-run c = c.in_ok-written.ensures.run
 
