@@ -174,7 +174,7 @@ ended_by known memory copied e a b anyway = by copied anyway.finished (sym anywa
 module _ {W : Type 0} (filled : Bool) (to : W → Memory) (opened : FileSeen W → Type 0) (v w x : FileWriter W) (e : Fault) (is : opened (files.seen v)) where
   -- columns that it refuses
   not_taken : (cs : List Chunk) (u : FileWriter W) (columns : List AnyArray) → FileTook filled to v cs u → FileRefuses u columns e → CantTake filled to opened e cs columns
-  not_taken cs u columns took refused = record { begun = files.seen v; is = is; writer = files.seen u; took = took; refused = refused }
+  not_taken cs u columns took refused = record { begun = files.seen v; is = is; writer = files.seen u; took = took; refused = refused.0; named = refused.1 }
 
   module _ {R : Type 0} (gives : Gives R) (known : Bool) (memory : R → Memory) (law : GivesInOrder gives) (ahead : GivesAhead known gives memory)
       (input device : R) (m : StreamMetadata) (r c : StreamReader R) (front : MetadataGave gives input (Ok m) device) (begins : Begins device m r) (whole : projection_of r ≡ None)

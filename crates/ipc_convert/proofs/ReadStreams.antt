@@ -27,6 +27,7 @@ use Rattle.ipc_convert.proofs.Own.{own}
 use Rattle.ipc_convert.specs.Copies.{CopiesStream, IsSound}
 use Rattle.ipc_convert.specs.Sources.{GaveChunks, GaveNoMore, StreamBreaks, StreamCame, StreamStopped, is_end, meant_by}
 use Rattle.ipc_convert.specs.declared.chunks.Ending.{Ending}
+use Rattle.ipc_convert.specs.declared.chunks.Ending.TheVariants.{Over, Waits}
 
 -- ---- what a device gave
 
@@ -96,14 +97,20 @@ step_gave gives known memory law a b x r is step unfinished =
     items_gave gives law (request_of a) x g.passed (known_of a) (known_of b) (begun_of a) (begun_of b) (device_of a) (device_of b)
     (subst (λ (y : Result (Option StreamState) Fault). ItemsGave gives (request_of a) g.passed (known_of a) (begun_of a) (device_of a) y (known_of b) (begun_of b) (device_of b)) is g.items)
 
+-- ---- streams that are over
+
+not_over : (over : Bool) → (over ≡ true → ⊥) → over ≡ false
+not_over true h = absurd (h refl)
+not_over false h = refl
+
 -- ---- one chunk
 
 same_reader : {R : Type 0} (a b : StreamReader R) (t : Known) (ys : List ℕ) → request_of b ≡ request_of a → chosen_meaning (request_of a) t (begun_of b ++ ys) ≡ meant_by b t ys
 same_reader a b t ys asked = ap (λ (h : Request). chosen_meaning h t (begun_of b ++ ys)) (sym asked)
 
-pub one_gave : {R : Type 0} (gives : Gives R) (known : Bool) (memory : R → Memory) → GivesInOrder gives → (a b : StreamReader R) (chunk : List AnyArray)
+chunk_gave : {R : Type 0} (gives : Gives R) (known : Bool) (memory : R → Memory) → GivesInOrder gives → (a b : StreamReader R) (chunk : List AnyArray)
     → NextStep gives known memory a (Some (Ok (states.Some chunk))) b → is_over a ≡ false → GaveChunks gives a (chunk_seen chunk ∷ []) b
-one_gave gives known memory law a b chunk step unfinished =
+chunk_gave gives known memory law a b chunk step unfinished =
     let g = step_gave gives known memory law a b (Ok (Some (states.Some chunk))) (Some (Ok (states.Some chunk))) refl step unfinished in
     let asked = same_request a b step.described step.projected in
     record {
@@ -116,14 +123,21 @@ one_gave gives known memory law a b chunk step unfinished =
           (read.0, read.1, read.2 ∙ ap (with_chunks (chunk_seen chunk ∷ [])) (same_reader a b read.0 ys asked));
     }
 
+pub one_gave : {R : Type 0} (gives : Gives R) (known : Bool) (memory : R → Memory) → GivesInOrder gives → (a b : StreamReader R) (chunk : List AnyArray)
+    → NextStep gives known memory a (Some (Ok (states.Some chunk))) b → StreamCame gives a (chunk_seen chunk ∷ []) b
+one_gave gives known memory law a b chunk step = record {
+  over = λ done. let none = (step.over done).0 in absurd cc;
+  gave = λ unfinished. chunk_gave gives known memory law a b chunk step unfinished;
+}
+
 -- ---- no chunk more
 
 ends_now : (over : Bool) (e : End) (m : Meant) → m ≡ record { chunks = []; end = e } → EndsAs over e → EndsNow over m
 ends_now over e m is ends = subst (λ (x : Meant). EndsNow over x) (sym is) (refl, ends)
 
-pub none_waits : {R : Type 0} (gives : Gives R) (known : Bool) (memory : R → Memory) → GivesInOrder gives → (a b : StreamReader R)
+waits_now : {R : Type 0} (gives : Gives R) (known : Bool) (memory : R → Memory) → GivesInOrder gives → (a b : StreamReader R)
     → NextStep gives known memory a (Some (Ok states.Waiting)) b → is_over a ≡ false → GaveNoMore gives a false b
-none_waits gives known memory law a b step unfinished =
+waits_now gives known memory law a b step unfinished =
     let g = step_gave gives known memory law a b (Ok (Some states.Waiting)) (Some (Ok states.Waiting)) refl step unfinished in
     record {
       bytes = g.bytes;
@@ -134,9 +148,16 @@ none_waits gives known memory law a b step unfinished =
           ends_now false (waits read.0 (begun_of b)) (meant_by a s g.bytes) (ap (meant_by a s) (sym (append-nil g.bytes)) ∙ read.2) tt;
     }
 
-pub none_over : {R : Type 0} (gives : Gives R) (known : Bool) (memory : R → Memory) → GivesInOrder gives → (a b : StreamReader R)
+pub none_waits : {R : Type 0} (gives : Gives R) (known : Bool) (memory : R → Memory) → GivesInOrder gives → (a b : StreamReader R)
+    → NextStep gives known memory a (Some (Ok states.Waiting)) b → StreamStopped gives a Waits b
+none_waits gives known memory law a b step = record {
+  over = λ done. let none = (step.over done).0 in absurd cc;
+  gave = λ unfinished. waits_now gives known memory law a b step unfinished;
+}
+
+over_now : {R : Type 0} (gives : Gives R) (known : Bool) (memory : R → Memory) → GivesInOrder gives → (a b : StreamReader R)
     → NextStep gives known memory a None b → is_over a ≡ false → GaveNoMore gives a true b
-none_over gives known memory law a b step unfinished =
+over_now gives known memory law a b step unfinished =
     let g = step_gave gives known memory law a b (Ok None) None refl step unfinished in
     record {
       bytes = g.bytes;
@@ -145,20 +166,29 @@ none_over gives known memory law a b step unfinished =
       ends = λ s at. ends_now true marked (meant_by a s g.bytes) (ap (meant_by a s) (sym (append-nil g.bytes)) ∙ (g.next [] (follows_going g.stop [] g.stops)).each s at) refl;
     }
 
+pub none_over : {R : Type 0} (gives : Gives R) (known : Bool) (memory : R → Memory) → GivesInOrder gives → (a b : StreamReader R) → NextStep gives known memory a None b → StreamStopped gives a Over b
+none_over gives known memory law a b step = record {
+  over = λ done. let still = step.over done in (refl, still.2);
+  gave = λ unfinished. over_now gives known memory law a b step unfinished;
+}
+
 -- ---- a fault
 
 pub one_fault : {R : Type 0} (gives : Gives R) (known : Bool) (memory : R → Memory) → GivesInOrder gives → (a b : StreamReader R) (e : Fault)
     → NextStep gives known memory a (Some (Err e)) b → OwnFault e (StreamBreaks gives a e)
-one_fault gives known memory law a b e step = own e (StreamBreaks gives a e) (λ it unfinished.
-    let g = step_gave gives known memory law a b (Err e) (Some (Err e)) refl step unfinished in
-    record {
-      bytes = g.bytes;
-      stop = g.stop;
-      left = device_of b;
-      gave = g.gave;
-      kind = it (IsStreamFault (request_of a) e) step.only;
-      means = λ s ys at f. it (meant_by a s (g.bytes ++ ys) ≡ record { chunks = []; end = faulty }) ((g.next ys f).each s at);
-    })
+one_fault gives known memory law a b e step = own e (StreamBreaks gives a e) (λ it.
+    let unfinished : is_over a ≡ false = not_over (is_over a) (λ done. let none = (step.over done).0 in absurd cc) in
+    let g = step_gave gives known memory law a b (Err e) (Some (Err e)) refl step unfinished in (
+      unfinished,
+      record {
+        bytes = g.bytes;
+        stop = g.stop;
+        left = device_of b;
+        gave = g.gave;
+        kind = it (IsStreamFault (request_of a) e) step.only;
+        means = λ s ys at f. it (meant_by a s (g.bytes ++ ys) ≡ record { chunks = []; end = faulty }) ((g.next ys f).each s at);
+      },
+    ))
 
 -- ---- all chunks
 
@@ -199,8 +229,8 @@ pub was_read : {R : Type 0} (gives : Gives R) → GivesInOrder gives → (input 
     → MetadataGave gives input (Ok m) device → Begins device m r → projection_of r ≡ None → StreamCame gives r cs b → StreamStopped gives b ending c
     → WasRead gives input (device_of c) m cs (is_end ending)
 was_read {R = R} gives law input device m r b c cs ending front begins whole came stopped =
-    let one = came begins.unfinished in
-    let none = stopped one.unfinished in
+    let one = came.gave begins.unfinished in
+    let none = stopped.gave one.unfinished in
     let from = front.run.bytes in
     let behind = one.bytes ++ none.bytes in
     let said : GivesMetadata (frame (from ++ behind)) (Ok m) behind = front.run.holds behind (follows_going front.stop behind front.stops) in

@@ -120,7 +120,7 @@ module _ {R : Type 0} (gives : Gives R) (known : Bool) (memory : R → Memory) (
   -- these chunks came, and of chunks of which they are the first it is refused
   pub first_refused : (cs : List Chunk) (c : StreamReader R) → StreamCame gives r cs c → ((first : List Chunk → Type 0) → first cs → refuses first (head_of m).schema e) → Why
   first_refused cs c came refused =
-      let one = came begins.unfinished in
+      let one = came.gave begins.unfinished in
       behind_front one.bytes going (device_of c) one.gave (λ all ys f is.
       let meant = meant_by r nothing_known (one.bytes ++ ys) in
       let p = one.rest nothing_known ys begins.knows in
@@ -133,8 +133,8 @@ module _ {R : Type 0} (gives : Gives R) (known : Bool) (memory : R → Memory) (
   -- behind these chunks came a fault
   fault_came : (cs : List Chunk) (b : StreamReader R) → StreamCame gives r cs b → StreamBreaks gives b e → Why
   fault_came cs b came breaks =
-      let one = came begins.unfinished in
-      let fault = breaks one.unfinished in
+      let one = came.gave begins.unfinished in
+      let fault = breaks.1 in
       behind_front (one.bytes ++ fault.bytes) fault.stop fault.left (law (device_of r) one.bytes (device_of b) fault.bytes fault.stop fault.left one.gave fault.gave) (λ all ys f is.
       let meant = meant_by r nothing_known ((one.bytes ++ fault.bytes) ++ ys) in
       let p = one.rest nothing_known (fault.bytes ++ ys) begins.knows in

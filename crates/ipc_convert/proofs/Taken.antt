@@ -109,9 +109,10 @@ pub stream_refuses : {W : Type 0} (v : WriterSeen W) (columns : List AnyArray) (
 stream_refuses v columns (Ok x) exact = tt
 stream_refuses v columns (Err e) exact = claimed e (WritesExactly v columns None (Err e)) exact
 
-pub file_refuses : {W : Type 0} (v : FileSeen W) (columns : List AnyArray) (r : Result (Unit {0}) Fault) → writes.WritesExactly v columns None r → IfErr r (λ e. OwnFault e (writes.WritesExactly v columns None (Err e)))
-file_refuses v columns (Ok x) exact = tt
-file_refuses v columns (Err e) exact = claimed e (writes.WritesExactly v columns None (Err e)) exact
+pub file_refuses : {W : Type 0} (v : FileSeen W) (columns : List AnyArray) (r : Result (Unit {0}) Fault) → writes.WritesExactly v columns None r → IfErr r (writes.NamesOne v columns)
+    → IfErr r (λ e. OwnFault e (writes.WritesExactly v columns None (Err e) × writes.NamesOne v columns e))
+file_refuses v columns (Ok x) exact named = tt
+file_refuses v columns (Err e) exact named = claimed e (writes.WritesExactly v columns None (Err e) × writes.NamesOne v columns e) (exact, named)
 
 -- ---- a stream
 

@@ -26,7 +26,7 @@ use Rattle.ipc_schema_write.specs.WriterAnswers.{RefusesSchema}
 use Rattle.ipc_round_trip.specs.Reading.{BlamesStream, IsReadable}
 use Rattle.ipc_file_write.specs.Appends.{GoesOn}
 use Rattle.ipc_file_write.specs.FileWriters.{AnswersFinish, FileSeen}
-use Rattle.ipc_file_write.specs.Writes.{WritesExactly}
+use Rattle.ipc_file_write.specs.Writes.{NamesOne, WritesExactly}
 use Rattle.ipc_sessions.specs.Sessions.{CantGoOn}
 use Rattle.ipc_convert.specs.Chunks.{AreTooMany}
 use Rattle.ipc_convert.specs.Copies.{AreSame}
@@ -75,6 +75,7 @@ pub record CantTake {W : Type 0} (known : Bool) (memory : W → Memory) (opened 
   pub writer : FileSeen W
   pub took : TookBlocks known memory begun before writer
   pub refused : WritesExactly writer columns None (Err e)
+  pub named : NamesOne writer columns e
 
 -- One that took the first chunks can't end its file, as it says itself.
 pub record CantEnd {W : Type 0} (known : Bool) (memory : W → Memory) (opened : FileSeen W → Type 0) (first : List Chunk → Type 0) (e : Fault) : Type 0 where

@@ -37,5 +37,6 @@ pub record TookBlocks {W : Type 0} (known : Bool) (memory : W → Memory) (v : f
 abbrev pub FileTook : {W : Type 0} → Bool → (W → Memory) → Moved (FileWriter W)
 FileTook known memory v cs w = TookBlocks known memory (files.seen v) cs (files.seen w)
 
+-- nor is it one that this one takes, and a dictionary that the fault names is one that is refused
 abbrev pub FileRefuses : {W : Type 0} → RefusesAt (FileWriter W)
-FileRefuses v columns e = writes.WritesExactly (files.seen v) columns None (Err e)
+FileRefuses v columns e = writes.WritesExactly (files.seen v) columns None (Err e) × writes.NamesOne (files.seen v) columns e

@@ -17,12 +17,15 @@ use Rattle.ipc_convert.specs.Sources.{FileCame, FirstAre, GaveBlocks, GaveChunks
 -- ---- a stream
 
 pub stream_came_nothing : {R : Type 0} (gives : Gives R) → GivesNothing gives → Nothing (StreamCame gives)
-stream_came_nothing gives law a = λ unfinished. record {
-  unfinished = unfinished;
-  asked = refl;
-  bytes = [];
-  gave = law (device_of a);
-  rest = λ s ys at. (s, at, refl);
+stream_came_nothing gives law a = record {
+  over = λ done. (refl, done);
+  gave = λ unfinished. record {
+    unfinished = unfinished;
+    asked = refl;
+    bytes = [];
+    gave = law (device_of a);
+    rest = λ s ys at. (s, at, refl);
+  };
 }
 
 more_left : (xs ys : List Chunk) (n : Meant) → with_chunks xs (with_chunks ys n) ≡ with_chunks (xs ++ ys) n
@@ -41,9 +44,15 @@ gave_chunks gives law a b c xs ys one more = record {
 }
 
 pub stream_came_in_order : {R : Type 0} (gives : Gives R) → GivesInOrder gives → InOrder (StreamCame gives)
-stream_came_in_order gives law a xs b ys c one more = λ unfinished.
-    let first = one unfinished in
-    gave_chunks gives law a b c xs ys first (more first.unfinished)
+stream_came_in_order gives law a xs b ys c one more = record {
+  over = λ done.
+      let none = one.over done in
+      let still = more.over none.1 in
+      (ap (λ (cs : List Chunk). cs ++ ys) none.0 ∙ still.0, still.1);
+  gave = λ unfinished.
+      let first = one.gave unfinished in
+      gave_chunks gives law a b c xs ys first (more.gave first.unfinished);
+}
 
 -- ---- a file
 

@@ -57,14 +57,25 @@ abbrev pub is_end : Ending → Bool
 is_end Waits = false
 is_end Over = true
 
+-- These chunks came. From a stream that was over none did, and it is over still.
+pub record CameOn {R : Type 0} (gives : Gives R) (a : StreamReader R) (cs : List Chunk) (b : StreamReader R) : Type 0 where
+  pub over : is_over a ≡ true → (cs ≡ []) × (is_over b ≡ true)
+  pub gave : is_over a ≡ false → GaveChunks gives a cs b
+
+-- No chunk came, and so it ended. Of a stream that was over that is said again, and its device isn't asked.
+pub record EndedSo {R : Type 0} (gives : Gives R) (a : StreamReader R) (ending : Ending) (b : StreamReader R) : Type 0 where
+  pub over : is_over a ≡ true → (ending ≡ Over) × (device_of b ≡ device_of a)
+  pub gave : is_over a ≡ false → GaveNoMore gives a (is_end ending) b
+
 abbrev pub StreamCame : {R : Type 0} → Gives R → Moved (StreamReader R)
-StreamCame gives a cs b = is_over a ≡ false → GaveChunks gives a cs b
+StreamCame gives a cs b = CameOn gives a cs b
 
 abbrev pub StreamStopped : {R : Type 0} → Gives R → StreamReader R → Ending → StreamReader R → Type 0
-StreamStopped gives a ending b = is_over a ≡ false → GaveNoMore gives a (is_end ending) b
+StreamStopped gives a ending b = EndedSo gives a ending b
 
+-- a fault comes of a stream that isn't over
 abbrev pub StreamBreaks : {R : Type 0} → Gives R → BreaksAt (StreamReader R)
-StreamBreaks gives a e = is_over a ≡ false → GaveFault gives a e
+StreamBreaks gives a e = (is_over a ≡ false) × GaveFault gives a e
 
 -- ---- a file
 

@@ -28,7 +28,7 @@ use std::alloc::Global;
 /// Faults, those of memory and of devices aside each only where it is so: those of [`read_stream_metadata`], and the `Argument` faults of a
 /// schema that can't be written: nothing is written then. Behind the schema those of the calls of [`StreamReader`] and [`FileWriter`], and
 /// `Argument(TooLarge)` where `2^64 - 1` chunks came and no end: the file is finished then with the chunks that were taken, unless its device
-/// failed. Both devices are dropped with a fault: who wants what was written lends them.
+/// failed or no memory was left for its footer. Both devices are dropped with a fault: who wants what was written lends them.
 pub fn stream_to_file<R: Reads + Drop, W: Writes + Drop>(
     alloc: Global,
     input: R,
@@ -52,14 +52,14 @@ pub fn stream_to_file<R: Reads + Drop, W: Writes + Drop>(
     Ok((reader.into_inner(), writer.into_inner()))
 }
 
-/// Writes the file at `file` again as a file to `out`, which it gives back: its schema, in the normal form and with the ids of its
-/// dictionaries, then the chunk at each block, in their order and each as soon as it is read, and the footer with the file's own pairs.
-/// The dictionaries are read with the first block.
+/// Writes the file at `file`, at whose beginning the device has to stand, again as a file to `out`, which it gives back: its schema, in the
+/// normal form and with the ids of its dictionaries, then the chunk at each block, in their order and each as soon as it is read, and the
+/// footer with the file's own pairs. The dictionaries are read with the first block.
 ///
 /// Faults, those of memory and of devices aside each, of a file in memory, only where it is so: those of [`read_file_metadata`], and the
 /// `Argument` faults of a schema that can't be written, or that is too heavy with the pairs (`TooLarge`): nothing is written then. Behind the
 /// schema those of the calls of [`FileReader`] and [`FileWriter`]: the file is finished then with the chunks that were taken, unless its device
-/// failed. Both devices are dropped with a fault: who wants what was written lends them.
+/// failed or no memory was left for its footer. Both devices are dropped with a fault: who wants what was written lends them.
 pub fn file_to_file<F: Reads + Seeks + Drop, W: Writes + Drop>(
     alloc: Global,
     file: F,

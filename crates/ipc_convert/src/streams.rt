@@ -23,8 +23,8 @@ use std::alloc::Global;
 ///
 /// Faults, those of memory and of devices aside each only where it is so: those of [`read_stream_metadata`] and of the calls of
 /// [`StreamReader`] and [`StreamWriter`]; the `Argument` faults among them tell that a schema or a chunk can't be written, or, as `TooLarge`,
-/// that `2^64 - 1` chunks came and no end. What was read by then has been written, without the mark. Both devices are dropped with a fault: who
-/// wants what was written lends them.
+/// that `2^64 - 1` chunks came and no end. The chunks that were taken by then have been written, without the mark. Both devices are dropped
+/// with a fault: who wants what was written lends them.
 pub fn stream_to_stream<R: Reads + Drop, W: Writes + Drop>(
     alloc: Global,
     input: R,
@@ -47,14 +47,14 @@ pub fn stream_to_stream<R: Reads + Drop, W: Writes + Drop>(
     Ok((reader.into_inner(), writer.into_inner()))
 }
 
-/// Writes the file at `file` as a stream to `out`, which it gives back: its schema, in the normal form and with the ids of its
-/// dictionaries, then the chunk at each block, in their order and each as soon as it is read, and the mark. The pairs of the file itself
-/// are left out: a stream has none.
+/// Writes the file at `file`, at whose beginning the device has to stand, as a stream to `out`, which it gives back: its schema, in the normal
+/// form and with the ids of its dictionaries, then the chunk at each block, in their order and each as soon as it is read, and the mark. The
+/// pairs of the file itself are left out: a stream has none.
 ///
 /// Faults, those of memory and of devices aside each, of a file in memory, only where it is so: those of [`read_file_metadata`] and of the
-/// calls of [`FileReader`] and [`StreamWriter`]; the `Argument` faults among them tell that the schema or a chunk can't be written. What was
-/// read by then has been written, without the mark. Both devices are dropped with a fault: who wants what was written lends them. The
-/// dictionaries are read with the first block.
+/// calls of [`FileReader`] and [`StreamWriter`]; the `Argument` faults among them tell that the schema or a chunk can't be written. The chunks
+/// that were taken by then have been written, without the mark. Both devices are dropped with a fault: who wants what was written lends them.
+/// The dictionaries are read with the first block.
 pub fn file_to_stream<F: Reads + Seeks + Drop, W: Writes + Drop>(
     alloc: Global,
     file: F,

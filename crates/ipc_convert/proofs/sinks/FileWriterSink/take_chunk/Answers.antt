@@ -7,15 +7,15 @@ pub returns-clause-taken : goal.returns-clause-taken
 returns-clause-taken g c =
     file_took g.W.Failures.known g.W.Writes.grows g.W.Failures.failures g.W.Writes.room g.W.Failures.memory (seen c.args.self.now) (seen c.write.new.self) _ c.write.result
     (writes_chunk g.W.Failures.known g.W.Writes.grows g.W.Failures.failures g.W.Writes.room g.W.Failures.memory (seen c.args.self.now) (seen c.write.new.self) _ c.write.result c.write.ensures.step
-    c.write.ensures.exact c.write.ensures.means)
+    c.write.ensures.exact c.write.ensures.named c.write.ensures.means)
     c.write.ensures.step
 
 pub returns-clause-kept : goal.returns-clause-kept
 returns-clause-kept g c =
     file_kept g.W.Failures.known g.W.Writes.grows g.W.Failures.failures g.W.Writes.room g.W.Failures.memory (seen c.args.self.now) (seen c.write.new.self) _ c.write.result
     (writes_chunk g.W.Failures.known g.W.Writes.grows g.W.Failures.failures g.W.Writes.room g.W.Failures.memory (seen c.args.self.now) (seen c.write.new.self) _ c.write.result c.write.ensures.step
-    c.write.ensures.exact c.write.ensures.means)
+    c.write.ensures.exact c.write.ensures.named c.write.ensures.means)
     c.write.ensures.step
 
 pub returns-clause-refused : goal.returns-clause-refused
-returns-clause-refused g c = file_refuses (seen c.args.self.now) _ c.write.result c.write.ensures.exact
+returns-clause-refused g c = file_refuses (seen c.args.self.now) _ c.write.result c.write.ensures.exact c.write.ensures.named

@@ -4,19 +4,19 @@ use Rattle.ipc_convert.proofs.ReadStreams.{none_over, none_waits, one_fault, one
 use Rattle.ipc_convert.proofs.sources.StreamReaderSource.next_chunk.Goals as goal
 
 pub returns-in-None-clause-came : goal.returns-in-None-clause-came
-returns-in-None-clause-came g c = λ unfinished.
+returns-in-None-clause-came g c =
     let e : c.next.result ≡ None = search rules in
-    none_over g.R.Reads.gives g.R.Failures.known g.R.Failures.memory g.met.R.Reads.gives_in_order c.args.self.now c.next.new.self (rw e at c.next.ensures.steps) unfinished
+    none_over g.R.Reads.gives g.R.Failures.known g.R.Failures.memory g.met.R.Reads.gives_in_order c.args.self.now c.next.new.self (rw e at c.next.ensures.steps)
 
 pub returns-in-Some-Ok-Waiting-clause-came : goal.returns-in-Some-Ok-Waiting-clause-came
-returns-in-Some-Ok-Waiting-clause-came g c = λ unfinished.
+returns-in-Some-Ok-Waiting-clause-came g c =
     let e : c.next.result ≡ Some (Ok states.Waiting) = search rules in
-    none_waits g.R.Reads.gives g.R.Failures.known g.R.Failures.memory g.met.R.Reads.gives_in_order c.args.self.now c.next.new.self (rw e at c.next.ensures.steps) unfinished
+    none_waits g.R.Reads.gives g.R.Failures.known g.R.Failures.memory g.met.R.Reads.gives_in_order c.args.self.now c.next.new.self (rw e at c.next.ensures.steps)
 
 pub returns-in-Some-Ok-Some-clause-came : goal.returns-in-Some-Ok-Some-clause-came
-returns-in-Some-Ok-Some-clause-came g c = λ unfinished.
+returns-in-Some-Ok-Some-clause-came g c =
     let step = rw (c.in-Some-Ok-Some.field-0-is, c.in-Some-Ok-Some.field-0-0-is) at c.in-Some-Ok-Some.ensures.steps in
-    one_gave g.R.Reads.gives g.R.Failures.known g.R.Failures.memory g.met.R.Reads.gives_in_order c.args.self.now c.next.new.self _ step unfinished
+    one_gave g.R.Reads.gives g.R.Failures.known g.R.Failures.memory g.met.R.Reads.gives_in_order c.args.self.now c.next.new.self _ step
 
 pub returns-in-Some-Err-clause-broken : goal.returns-in-Some-Err-clause-broken
 returns-in-Some-Err-clause-broken g c =
