@@ -1,15 +1,20 @@
 -- What the programs tell of a fault.
-use Rattle.std.specs.Prelude.{ℕ, List, ◌++◌, codes}
+use Rattle.std.specs.Prelude.{ℕ, Bool, List, ◌++◌, codes, Result}
 use Rattle.ipc_devices.specs.declared.fault.Fault.{Fault}
-use Rattle.ipc_devices.specs.Device.{Memory}
-use Rattle.ipc_plan.specs.Sending.{WritesSome}
+use Rattle.ipc_plan.specs.Sending.{DeviceSeen, Sends}
 use Rattle.ipc_tools.specs.Classes.{class}
 
 -- the line of a program that a fault ended
 abbrev pub line_of : List ℕ → Fault → List ℕ
 line_of program fault = program ++ (codes ": " ++ (class fault ++ codes "\n"))
 
--- Of such a line the first bytes were written, as many as went out, and nothing else was.
-pub record Tells (program : List ℕ) (m m' : Memory) : Type 0 where
+-- These bytes were sent to a device: all of them, or the first ones up to where it failed. Nothing else was.
+pub record Told (known grows : Bool) (d d' : DeviceSeen) (bytes : List ℕ) : Type 0 where
+  pub answer : Result Unit Fault
+  pub sends : Sends known grows d d' answer bytes
+
+-- So was the line of a program that a fault ended.
+pub record Tells (program : List ℕ) (known grows : Bool) (d d' : DeviceSeen) : Type 0 where
   pub fault : Fault
-  pub some : WritesSome m m' (line_of program fault)
+  pub answer : Result Unit Fault
+  pub sends : Sends known grows d d' answer (line_of program fault)

@@ -1,8 +1,8 @@
 //! `ipcat`: writes the documented example as an Arrow IPC stream, and shows the streams and files that it is given.
-ghost use Rattle.std.specs.Prelude.{◌≡◌, ◌≤◌, codes, map, option_and_then, option_map, string_bytes, false, None, Some, Ok, Err, IfErr, IfOk, IfSome, IsSome, IsTrue};
+ghost use Rattle.std.specs.Prelude.{◌≡◌, ◌≤◌, codes, map, option_and_then, option_map, string_bytes, false, None, Some, Ok, Err, IfErr, IfOk, IfSome, IsSome};
 ghost use Rattle.ipc_devices.specs.Faults.{IsIo};
-ghost use Rattle.ipc_plan.specs.Sending.{WritesSome};
-ghost use Rattle.ipc_tools.specs.Lines.{Tells};
+ghost use Rattle.ipc_plan.specs.Sending.{seen_by};
+ghost use Rattle.ipc_tools.specs.Lines.{Tells, Told};
 ghost use Rattle.ipc_tools.specs.CatWords.{asked, asked_by, judges_columns, opened_for, reads_input};
 ghost use Rattle.ipc_tools.specs.declared.cat.show.Outcome.TheVariants.{Done};
 
@@ -53,15 +53,17 @@ pub fn run<R: Reads, F: Reads + Seeks + Drop, O: Writes, E: Writes>(
     ensures usage { asked (map string_bytes words.now) ≡ None → result ≡ 2 }
     ensures unopened { IfSome (option_and_then opened_for (asked (map string_bytes words.now))) (λ path. file ≡ None → result ≡ 1) }
     ensures unread { IfSome (asked (map string_bytes words.now)) (λ form. reads_input form ≡ false → input.new ≡ input.old) }
-    ensures line { result ≡ 1 → IsTrue E.known → Tells (codes "ipcat") (E.memory err.old) (E.memory err.new) }
+    ensures line { result ≡ 1 → Tells (codes "ipcat") E.known E.grows
+        (seen_by E.failures E.room E.memory err.old) (seen_by E.failures E.room E.memory err.new) }
     ensures unopened_told { IfSome (option_and_then opened_for (asked (map string_bytes words.now)))
-        (λ path. file ≡ None → IsTrue E.known
-        → WritesSome (E.memory err.old) (E.memory err.new) (codes "ipcat: input or output failed\n")) }
+        (λ path. file ≡ None → Told E.known E.grows
+        (seen_by E.failures E.room E.memory err.old) (seen_by E.failures E.room E.memory err.new) (codes "ipcat: input or output failed\n")) }
     ensures judged { IfSome (asked (map string_bytes words.now)) (λ form. judges_columns form ≡ false → result ≤ 1) }
     ensures silent { result ≡ 0 → err.new ≡ err.old }
-    ensures usage_told { result ≡ 2 → IsTrue E.known → WritesSome (E.memory err.old) (E.memory err.new) USAGE.now }
-    ensures told { asked (map string_bytes words.now) ≡ None → IsTrue E.known
-        → WritesSome (E.memory err.old) (E.memory err.new) USAGE.now }
+    ensures usage_told { result ≡ 2 → Told E.known E.grows
+        (seen_by E.failures E.room E.memory err.old) (seen_by E.failures E.room E.memory err.new) USAGE.now }
+    ensures told { asked (map string_bytes words.now) ≡ None → Told E.known E.grows
+        (seen_by E.failures E.room E.memory err.old) (seen_by E.failures E.room E.memory err.new) USAGE.now }
     ensures untouched { asked (map string_bytes words.now) ≡ None → (input.new ≡ input.old) × (out.new ≡ out.old) }
 {
     let outcome = match form_of(words) {

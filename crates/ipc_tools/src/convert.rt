@@ -1,8 +1,8 @@
 //! `ipconvert`: reads an Arrow IPC stream or file and writes it again as a stream or a file, in either byte order; or goes on with a file.
 ghost use Rattle.std.specs.Prelude.{◌≡◌, ◌≤◌, codes, ◌↔◌, map, option_and_then, option_map, string_bytes, false, None, Some, Ok, IfErr, IfOk, IfSome, IsSome, IsTrue, OnOk};
 ghost use Rattle.ipc_devices.specs.Faults.{IsIo};
-ghost use Rattle.ipc_plan.specs.Sending.{WritesSome};
-ghost use Rattle.ipc_tools.specs.Lines.{Tells};
+ghost use Rattle.ipc_plan.specs.Sending.{seen_by};
+ghost use Rattle.ipc_tools.specs.Lines.{Tells, Told};
 ghost use Rattle.ipc_tools.specs.ConvertWords.{asked, asked_by, place_for, reads_input, writes_output};
 ghost use Rattle.ipc_tools.specs.Written.{Appended, Copied};
 
@@ -38,8 +38,9 @@ pub fn place_of(words: &[String]) -> Option<Place<'_>>
 /// of the file at a path, whose order of bytes stays. `file` is what stands at the path that the words name (see [`place_of`]), and None
 /// where that can't be opened, which is a fault where the words ask for it.
 ///
-/// A stream that waits is written as a stream that waits, and ends a file. A fault before the schema was written leaves `out`, and a file
-/// that is to be gone on with, as they were; one behind it ends a file with the chunks that were taken, and a stream without a mark.
+/// A stream that waits is written as a stream that waits, and ends a file. A fault before the schema was written leaves what stands at `out`,
+/// and in a file that is to be gone on with, as it was; one behind it ends a file with the chunks that were taken, and a stream without a
+/// mark. `out` is flushed then too, but for a file that isn't there.
 pub fn run<R: Reads, F: Reads + Writes + Seeks + Drop, O: Writes, E: Writes>(
     alloc: Global,
     words: &[String],
@@ -53,19 +54,20 @@ pub fn run<R: Reads, F: Reads + Writes + Seeks + Drop, O: Writes, E: Writes>(
     ensures unopened { IfSome (option_and_then place_for (asked (map string_bytes words.now))) (λ place. file ≡ None → result ≡ 1) }
     ensures unread { IfSome (asked (map string_bytes words.now)) (λ form. reads_input form ≡ false → input.new ≡ input.old) }
     ensures unwritten { IfSome (asked (map string_bytes words.now)) (λ form. writes_output form ≡ false → out.new ≡ out.old) }
-    ensures line { result ≡ 1 → IsTrue E.known → Tells (codes "ipconvert") (E.memory err.old) (E.memory err.new) }
+    ensures line { result ≡ 1 → Tells (codes "ipconvert") E.known E.grows
+        (seen_by E.failures E.room E.memory err.old) (seen_by E.failures E.room E.memory err.new) }
     ensures silent { result ≡ 0 → err.new ≡ err.old }
     ensures spared { IfSome (option_and_then place_for (asked (map string_bytes words.now)))
         (λ place. file ≡ None → (input.new ≡ input.old) × (out.new ≡ out.old)) }
     ensures unopened_told { IfSome (option_and_then place_for (asked (map string_bytes words.now)))
-        (λ place. file ≡ None → IsTrue E.known
-        → WritesSome (E.memory err.old) (E.memory err.new) (codes "ipconvert: input or output failed\n")) }
+        (λ place. file ≡ None → Told E.known E.grows
+        (seen_by E.failures E.room E.memory err.old) (seen_by E.failures E.room E.memory err.new) (codes "ipconvert: input or output failed\n")) }
     ensures copied { result ≡ 0 → IsTrue O.known → IfSome (asked (map string_bytes words.now))
         (λ form. Copied R.gives F.known F.memory form input.old input.new file (O.memory out.old) (O.memory out.new)) }
     ensures appended { result ≡ 0 → IfSome (asked (map string_bytes words.now))
         (λ form. Appended R.gives F.known F.memory form input.old input.new file) }
-    ensures told { asked (map string_bytes words.now) ≡ None → IsTrue E.known
-        → WritesSome (E.memory err.old) (E.memory err.new) USAGE.now }
+    ensures told { asked (map string_bytes words.now) ≡ None → Told E.known E.grows
+        (seen_by E.failures E.room E.memory err.old) (seen_by E.failures E.room E.memory err.new) USAGE.now }
     ensures untouched { asked (map string_bytes words.now) ≡ None → (input.new ≡ input.old) × (out.new ≡ out.old) }
 {
     let Some(form) = form_of(words) else {
@@ -127,6 +129,7 @@ fn opened<F>(file: Option<F>) -> Result<F, Fault>
 // What came of a copy, once all is sent that was written.
 fn flushed<O: Writes>(copied: Result<(), Fault>, out: &mut O) -> Result<(), Fault>
     ensures same { IfOk result (λ done. copied ≡ Ok done) }
+    ensures both { OnOk result (O.failures out.new ≡ O.failures out.old) }
     ensures memory { IsTrue O.known → O.memory out.new ≡ O.memory out.old }
 {
     let sent = out.flush();

@@ -5,4 +5,4 @@ use Rattle.ipc_tools.proofs.convert.run.Goals as goal
 
 pub returns-in-Err-clause-unopened_told : goal.returns-in-Err-clause-unopened_told
 returns-in-Err-clause-unopened_told g c =
-    unopened_line place_for _ (asked_by c.in-Some.form) c.args.file c.in-Err.fault _ _ _ (codes "ipconvert") c.in-Some.ensures c.in-Err.ensures.missing c.tell.ensures.sends.part
+    unopened_line place_for _ (asked_by c.in-Some.form) c.args.file c.in-Err.fault _ _ _ _ _ (codes "ipconvert") c.in-Some.ensures c.in-Err.ensures.missing c.tell.ensures.sends
