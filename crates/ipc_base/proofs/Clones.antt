@@ -3,7 +3,7 @@ use Rattle.std.proofs.Common.{◌≡◌, ℕ, Bool, IsTrue, refl, List, [], ◌�
 use Rattle.std.specs.List.{All, AllZip}
 use Rattle.std.specs.Cmp.Lexicographic.{pointwise}
 use Rattle.std.proofs.lemmas.List.Elements.{All-nil, All-cons, All-head, All-tail}
-use Rattle.ipc_base.specs.Chunks.{AreEqualRows, row_count}
+use Rattle.ipc_base.specs.Chunks.{AreEqualRows}
 
 module _ {A : Type 0} (rows : A → ℕ) (is_clone : A → A → Type 0) (kept : (x y : A) → is_clone x y → rows y ≡ rows x) where
   kept_rows : (n : ℕ) (xs ys : List A) → AllZip is_clone xs ys → All (λ x. rows x ≡ n) xs → All (λ y. rows y ≡ n) ys

@@ -5,12 +5,12 @@ use Rattle.lower.specs.TypeTrees.{TypeTree}
 use Rattle.lower_arrays.specs.Layouts.{Layout, layouts, type_of}
 use Rattle.ipc_base.specs.Fitting.{AllFit}
 use Rattle.ipc_base.specs.IdTrees.{IdTrees, no_ids, more_ids}
-use Rattle.ipc_model.specs.Accepted.{IsEncoded, fields_of, types_of}
+use Rattle.ipc_model.specs.Accepted.{fields_of, types_of}
 use Rattle.ipc_model.specs.Offers.{offer_of, values_of}
 use Rattle.ipc_model.specs.Writable.{IsWritable}
 use Rattle.ipc_chunks.proofs.MessageLengths.{bodies_said, nodes_said}
 use Rattle.ipc_chunks.specs.Chunks.{encoded_fields, id_number}
-use Rattle.ipc_chunks.specs.Laws.{IsTaken, TakenLaw}
+use Rattle.ipc_chunks.specs.Laws.{TakenLaw}
 
 -- the types of the columns
 pub types_same : (columns : List Layout) (is : IdTrees) → map (λ c. c.type) (offer_of columns is).columns ≡ map type_of columns

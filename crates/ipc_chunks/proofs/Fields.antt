@@ -5,7 +5,7 @@ use Rattle.lower.specs.TypeViews.{field_view, fields_view}
 use Rattle.lower.specs.TypeViews as views
 use Rattle.lower.specs.declared.datatypes.Field.{Field}
 use Rattle.lower_arrays.specs.AnyLayouts.{layout_of}
-use Rattle.lower_arrays.specs.Layouts.{Layout, type_of}
+use Rattle.lower_arrays.specs.Layouts.{type_of}
 use Rattle.lower_arrays.specs.declared.array.AnyArray.{AnyArray}
 use Rattle.ipc_model.specs.Accepted.{fields_of}
 use Rattle.ipc_chunks.specs.Chunks.{encoded_fields}

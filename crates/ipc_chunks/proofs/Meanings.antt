@@ -3,7 +3,6 @@ use Rattle.std.proofs.Common.{ℕ, List, [], ◌∷◌, map, arith, refl, sym, a
 use Rattle.lower_types.specs.declared.Endianness.{Endianness}
 use Rattle.lower_arrays.specs.Layouts.{Layout, layouts, len_of}
 use Rattle.ipc_base.specs.Chunks.{row_count}
-use Rattle.ipc_base.specs.IdTrees.{IdTrees}
 use Rattle.ipc_encode.specs.Encoding.{IsEncoded}
 use Rattle.ipc_encode.specs.declared.batches.BatchKind.TheVariants.{Record, Dictionary}
 use Rattle.ipc_encode.specs.declared.common.EncodedData.{EncodedData}
@@ -11,12 +10,11 @@ use Rattle.ipc_laws.proofs.Bodies.{plan_law}
 use Rattle.ipc_laws.proofs.Chunks.{encoded_chunk_law, listed_law}
 use Rattle.ipc_laws.proofs.Fitting.{filled_law}
 use Rattle.ipc_laws.specs.Bodies.{ColumnsMessage, HoldColumns, ValuesMessage}
-use Rattle.ipc_laws.specs.Chunks.{Encodes, Lists as Sent, head_encoded}
-use Rattle.ipc_laws.specs.Messages.{message_bytes}
+use Rattle.ipc_laws.specs.Chunks.{HasMessages, ListsUnwritten as Sent}
 use Rattle.ipc_laws.specs.Remembered.{Filled, filled_of, filled_place}
-use Rattle.ipc_model.specs.Offers.{FilledPlace, values_of}
+use Rattle.ipc_model.specs.Offers.{FilledPlace}
 use Rattle.ipc_plan.specs.Batches.{HaveRows, lists_of_plan}
-use Rattle.ipc_tracker.specs.Listings.{Lists, remembering_all}
+use Rattle.ipc_tracker.specs.Listings.{ListsUnwritten, remembering_all}
 use Rattle.ipc_tracker.specs.Trackers.{IsSameMemory, Remembered, dictionary_of, remembering}
 use Rattle.ipc_chunks.specs.Messages.{AreAllValues, data_seen}
 use Rattle.ipc_chunks.proofs.Acceptance.{taken_law}
@@ -24,7 +22,7 @@ use Rattle.ipc_chunks.specs.Laws.{MeaningLaw, encoded_bytes}
 
 -- ---- which dictionaries are sent
 
-pub sent_of : (m : Remembered) (ps : List Filled) (ws : List FilledPlace) (after : Remembered) → Lists m (map filled_place ps) ws → IsSameMemory (remembering_all ws m) after → Sent m ps ws after
+pub sent_of : (m : Remembered) (ps : List Filled) (ws : List FilledPlace) (after : Remembered) → ListsUnwritten m (map filled_place ps) ws → IsSameMemory (remembering_all ws m) after → Sent m ps ws after
 sent_of m [] ws after l same = (l, λ i. same i ∙ ap (λ (vs : List FilledPlace). remembering_all vs m i) l)
 sent_of m (p ∷ ps) ws after (inl l) same = inl (l.0, sent_of m ps ws after l.1 same)
 sent_of m (p ∷ ps) ws after (inr l) same =
@@ -80,7 +78,7 @@ columns_message order columns metadata sent rows h =
           subst (λ (xs : List ℕ). HoldColumns order (lists_of_plan h.plan) xs columns) (sym h.body_is) (plan_law order h.plan columns h.plans h.arrays);
     }
 
-encodes_all : (order : Endianness) (ps : List FilledPlace) (ds : List EncodedData) → AreAllValues order ps (map data_seen ds) → Encodes order ps (encoded_bytes ds)
+encodes_all : (order : Endianness) (ps : List FilledPlace) (ds : List EncodedData) → AreAllValues order ps (map data_seen ds) → HasMessages order ps (encoded_bytes ds)
 unfolding values_message
 encodes_all order [] [] h = refl
 encodes_all order [] (d ∷ ds) h = absurd h
@@ -91,7 +89,7 @@ pub meaning_law : MeaningLaw
 unfolding columns_message
 meaning_law order m after fixed columns is dictionaries encoded e =
     let places = filled_of (layouts columns) is in
-    let lists : Lists m (map filled_place places) e.list = subst (λ (ps : List FilledPlace). Lists m ps e.list) (sym (filled_law (layouts columns) is)) e.lists.lists in
+    let lists : ListsUnwritten m (map filled_place places) e.list = subst (λ (ps : List FilledPlace). ListsUnwritten m ps e.list) (sym (filled_law (layouts columns) is)) e.lists.lists in
     let taken = taken_law order m after fixed columns is dictionaries encoded e in
     encoded_chunk_law order is columns m after _ e.are.record_is.arrays taken.accepted (record {
       dictionaries = encoded_bytes dictionaries;

@@ -14,7 +14,7 @@ use Rattle.ipc_model.specs.Offers.{FilledPlace}
 use Rattle.ipc_model.specs.WrittenBatches as written
 use Rattle.ipc_plan.specs.Batches.{body_of_plan}
 use Rattle.ipc_plan.specs.Bodies.{PlansColumns}
-use Rattle.ipc_plan.specs.Levels.{joined}
+use Rattle.ipc_plan.specs.Levels.{joined_buffers}
 use Rattle.ipc_plan.specs.Pieces.{pieces_bytes}
 use Rattle.ipc_plan.specs.Plans.{body}
 use Rattle.ipc_plan.specs.declared.plan.Plan.{Plan}
@@ -22,7 +22,7 @@ use Rattle.ipc_tracker.specs.Listings.{listed}
 use Rattle.ipc_tracker.specs.declared.tracker.NewDictionary.{NewDictionary}
 use Rattle.ipc_chunks.proofs.SameMessages.{same_message}
 use Rattle.ipc_chunks.proofs.Taken.{map_more, taken_next}
-use Rattle.ipc_chunks.specs.Messages.{AreAllValues, AreValues, IsSendable, IsWhole, Message, RefusesSome, RefusesValues, data_seen, message_seen}
+use Rattle.ipc_chunks.specs.Messages.{AreAllValues, AreValueMessages, IsSendable, HasWholeBody, Message, RefusesSome, RefusesValues, data_seen, message_seen}
 
 -- ---- padding
 
@@ -47,7 +47,7 @@ metadata_whole (Dictionary id) n nodes buffers e = omega (arith, e)
 
 planned_whole : (order : Endianness) (ls : List Layout) (p : Plan) (sent : List ℕ) → PlansColumns order ls p → sent ≡ body_of_plan p → length sent % 64 ≡ 0
 planned_whole order ls p sent plans e =
-    subst (λ (xs : List ℕ). length xs % 64 ≡ 0) (sym (e ∙ ap (λ (o : Endianness). pieces_bytes o p.pieces.items) plans.order_is ∙ plans.body_is)) (body_whole (joined plans.buffers))
+    subst (λ (xs : List ℕ). length xs % 64 ≡ 0) (sym (e ∙ ap (λ (o : Endianness). pieces_bytes o p.pieces.items) plans.order_is ∙ plans.body_is)) (body_whole (joined_buffers plans.buffers))
 
 -- the metadata and the body of one that was encoded end at their multiples
 pub encoded_whole : (kind : BatchKind) (order : Endianness) (ls : List Layout) (n : ℕ) (metadata sent : List ℕ) → IsEncoded kind order ls n metadata sent → length metadata % 8 ≡ 0
@@ -77,20 +77,20 @@ pub seen_encoded : (kind kind' : BatchKind) (order : Endianness) (ls ls' : List 
 seen_encoded kind kind' order ls ls' n n' e h same k l m =
     same_message order kind kind' ls ls' n n' _ _ k l m (subst (λ (o : Endianness). IsEncoded kind order ls n e.metadata.items (pieces_bytes o e.body.pieces.items)) (sym same) h)
 
-pub whole_encoded : (order : Endianness) (e : Encoded) → e.body.end ≡ length (pieces_bytes order e.body.pieces.items) → e.body.order ≡ order → IsWhole e
+pub whole_encoded : (order : Endianness) (e : Encoded) → e.body.end ≡ length (pieces_bytes order e.body.pieces.items) → e.body.order ≡ order → HasWholeBody e
 whole_encoded order e long same = record { end = long ∙ ap (λ (o : Endianness). length (pieces_bytes o e.body.pieces.items)) (sym same) }
 
 -- ---- one after another
 
 -- one more of those that are encoded
-values_more : (order : Endianness) (ps : List FilledPlace) (ms : List Message) (p : FilledPlace) (m : Message) → AreAllValues order ps ms → AreValues order p m → AreAllValues order (ps ++ p ∷ []) (ms ++ m ∷ [])
+values_more : (order : Endianness) (ps : List FilledPlace) (ms : List Message) (p : FilledPlace) (m : Message) → AreAllValues order ps ms → AreValueMessages order p m → AreAllValues order (ps ++ p ∷ []) (ms ++ m ∷ [])
 values_more order [] [] p m a h = (h, tt)
 values_more order [] (n ∷ ms) p m a h = absurd a
 values_more order (q ∷ ps) [] p m a h = absurd a
 values_more order (q ∷ ps) (n ∷ ms) p m a h = (a.0, values_more order ps ms p m a.1 h)
 
 pub values_next : (order : Endianness) (list : List NewDictionary) (i : ℕ) (x d : NewDictionary) (es : List Encoded) (e : Encoded) → i < length list → x ≡ get_or list i d
-    → AreAllValues order (map listed (take i list)) (map message_seen es) → AreValues order (listed x) (message_seen e)
+    → AreAllValues order (map listed (take i list)) (map message_seen es) → AreValueMessages order (listed x) (message_seen e)
     → AreAllValues order (map listed (take (i + 1) list)) (map message_seen (es ++ e ∷ []))
 values_next order list i x d es e inside is a h =
     subst (λ (ms : List Message). AreAllValues order (map listed (take (i + 1) list)) ms) (sym (map_more message_seen es e))

@@ -1,9 +1,7 @@
 -- Which condition a chunk that is refused doesn't meet.
-use Rattle.std.proofs.Common.{◌≡◌, ◌⊎◌, ◌<◌, Bool, List, [], ◌∷◌, length, sym, subst, arith, inl, inr}
-use Rattle.std.specs.List.{AllByRecursion}
-use Rattle.lower.specs.Normal.{norm}
+use Rattle.std.proofs.Common.{◌≡◌, ◌⊎◌, ◌<◌, Bool, List, [], ◌∷◌, sym, subst, arith, inl, inr}
 use Rattle.lower.specs.TypeTrees.{TypeTree}
-use Rattle.lower_arrays.specs.Layouts.{Layout, layouts, len_of, type_of}
+use Rattle.lower_arrays.specs.Layouts.{Layout, layouts, len_of}
 use Rattle.lower_arrays.specs.Slots.{AreArrays}
 use Rattle.ipc_base.specs.Chunks.{row_count}
 use Rattle.ipc_base.specs.IdTrees.{IdTrees}
@@ -14,25 +12,22 @@ use Rattle.ipc_devices.specs.declared.fault.Fault.TheVariants.{Argument, Memory}
 use Rattle.ipc_encode.proofs.ShortMetadata.{short_metadata_law}
 use Rattle.ipc_encode.specs.Encoding.{RefusesBatch, levels_of}
 use Rattle.ipc_encode.specs.declared.batches.BatchKind.TheVariants.{Record}
-use Rattle.ipc_laws.proofs.Fitting.{filled_law}
-use Rattle.ipc_laws.specs.Remembered.{filled_of}
-use Rattle.ipc_model.specs.Batches.{places}
 use Rattle.ipc_model.specs.Accepted.{fields_of}
-use Rattle.ipc_model.specs.Offers.{FilledPlace, offer_of, values_of}
+use Rattle.ipc_model.specs.Offers.{FilledPlace, values_of}
 use Rattle.ipc_model.specs.Writable.{IsWritable}
 use Rattle.ipc_tracker.proofs.Refusals.{refusal_law}
-use Rattle.ipc_tracker.specs.Listings.{Lists, RefusesAll, remembering_all}
+use Rattle.ipc_tracker.specs.Listings.{ListsUnwritten, RefusesAll}
 use Rattle.ipc_tracker.specs.Trackers.{Remembered, dictionary_of, remembering}
 use Rattle.ipc_chunks.proofs.Acceptance.{fit_number, types_same}
 use Rattle.ipc_chunks.proofs.MessageLengths.{last_body, last_lens, rows_short, some_large, some_long}
 use Rattle.ipc_chunks.proofs.Types.{own_ids, own_like, own_short, own_type}
-use Rattle.ipc_chunks.specs.Chunks.{RefusesChunk, RefusesColumns, RefusesListed, encoded_fields}
+use Rattle.ipc_chunks.specs.Chunks.{RefusesChunk, RefusesColumns, encoded_fields}
 use Rattle.ipc_chunks.specs.Messages.{RefusesMessages, RefusesSome, RefusesValues}
 use Rattle.ipc_chunks.specs.Laws.{IsTaken, Misses, MissesLaw}
 
 -- ---- what is listed is among the places
 
-pub some_listed : (m : Remembered) (ps ws : List FilledPlace) (e : Fault) → Lists m ps ws → RefusesSome ws e → RefusesSome ps e
+pub some_listed : (m : Remembered) (ps ws : List FilledPlace) (e : Fault) → ListsUnwritten m ps ws → RefusesSome ws e → RefusesSome ps e
 some_listed m [] ws e l h = subst (λ (vs : List FilledPlace). RefusesSome vs e) l h
 some_listed m (p ∷ ps) ws e (inl l) h = inr (some_listed m ps ws e l.1 h)
 some_listed m (p ∷ ps) ws e (inr l) h =
@@ -103,7 +98,7 @@ places_some : (m : Remembered) (fixed : Bool) (columns : List Layout) (is : IdTr
 places_some m fixed columns is e arrays w h = some_miss m fixed columns is e arrays w h (of_some (values_of (layouts columns) is) e h)
 
 listed_miss : (m : Remembered) (fixed : Bool) (columns : List Layout) (is : IdTrees) (e : Fault) (ws : List FilledPlace) → AreArrays (layouts columns) → IsWritable (encoded_fields columns) [] is
-    → Lists m (values_of (layouts columns) is) ws → RefusesMessages ws columns e → Misses m fixed columns is e
+    → ListsUnwritten m (values_of (layouts columns) is) ws → RefusesMessages ws columns e → Misses m fixed columns is e
 listed_miss m fixed columns is e ws arrays w l (inl (inl h)) = places_some m fixed columns is e arrays w (some_listed m (values_of (layouts columns) is) ws e l h)
 listed_miss m fixed columns is e ws arrays w l (inl (inr h)) = memory_miss m fixed columns is e h
 listed_miss m fixed columns is e ws arrays w l (inr h) = record_miss m fixed columns is e arrays w h

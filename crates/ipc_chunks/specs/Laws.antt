@@ -15,7 +15,7 @@ use Rattle.ipc_encode.specs.declared.common.EncodedData.{EncodedData}
 use Rattle.ipc_laws.specs.Chunks.{head_encoded}
 use Rattle.ipc_laws.specs.Messages.{chunk_written, message_bytes}
 use Rattle.ipc_laws.specs.Moves.{MeansChunk}
-use Rattle.ipc_model.specs.Accepted.{AreKept, AreShared, IsEncoded, IsSayable, body_length}
+use Rattle.ipc_model.specs.Accepted.{AreKept, AreShared, MayBeEncoded, IsSayable, body_length}
 use Rattle.ipc_model.specs.Offers.{offer_of}
 use Rattle.ipc_model.specs.Writable.{IsWritable}
 use Rattle.ipc_tracker.specs.Trackers.{Remembered}
@@ -41,7 +41,7 @@ MeaningLaw = (order : Endianness) (m after : Remembered) (fixed : Bool) (columns
 -- Columns are taken with these ids: they are accepted, with their types as a schema that can be written; and where nothing may be replaced,
 -- what is remembered stays.
 pub record IsTaken (m : Remembered) (fixed : Bool) (columns : List Layout) (is : IdTrees) : Type 0 where
-  pub accepted : IsEncoded is (offer_of columns is)
+  pub accepted : MayBeEncoded is (offer_of columns is)
   pub kept : IsTrue fixed → AllByRecursion (λ p. AreKept (m p.id) p.values) (offer_of columns is).dictionaries
 
 -- What is encoded is taken.

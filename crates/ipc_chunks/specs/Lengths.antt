@@ -7,7 +7,7 @@ use Rattle.ipc_devices.specs.declared.fault.Fault.{Fault}
 use Rattle.ipc_encode.specs.Encoding.{levels_of}
 use Rattle.ipc_model.specs.Accepted.{IsSayable, body_length}
 use Rattle.ipc_model.specs.Offers.{FilledPlace, body_lengths, is_keyed}
-use Rattle.ipc_plan.specs.Taking.{AreShort, Refuses}
+use Rattle.ipc_plan.specs.Taking.{AreShort, RefusesLength}
 
 -- ---- lengths
 
@@ -18,7 +18,7 @@ pub record HasLengths (l : Layout) : Type 0 where
 
 -- why it can't
 abbrev pub RefusesLengths : Layout → Fault → Type 0
-RefusesLengths l e = Refuses (AreShort (levels_of (l ∷ []))) (body_length (body_lengths (levels_of (l ∷ [])))) e
+RefusesLengths l e = RefusesLength (AreShort (levels_of (l ∷ []))) (body_length (body_lengths (levels_of (l ∷ [])))) e
 
 -- those of some dictionaries can
 abbrev pub HaveLengths : List FilledPlace → Type 0

@@ -47,23 +47,23 @@ pub record AreSendable (ms : Messages) : Type 0 where
   pub record_batch : IsSendable ms.record_batch
 
 -- The body is as long as its plan says.
-pub record IsWhole (e : Encoded) : Type 0 where
+pub record HasWholeBody (e : Encoded) : Type 0 where
   pub end : e.body.end ≡ length (pieces_bytes e.body.order e.body.pieces.items)
 
-pub record AreWhole (ms : Messages) : Type 0 where
-  pub dictionaries : All IsWhole ms.dictionaries.items
-  pub record_batch : IsWhole ms.record_batch
+pub record HaveWholeBodies (ms : Messages) : Type 0 where
+  pub dictionaries : All HasWholeBody ms.dictionaries.items
+  pub record_batch : HasWholeBody ms.record_batch
 
 -- ---- a chunk
 
 -- the message of the values of a dictionary
-abbrev pub AreValues : Endianness → FilledPlace → Message → Type 0
-AreValues order p m = IsEncoded (Dictionary p.id) order (p.values ∷ []) (len_of p.values) m.metadata m.body
+abbrev pub AreValueMessages : Endianness → FilledPlace → Message → Type 0
+AreValueMessages order p m = IsEncoded (Dictionary p.id) order (p.values ∷ []) (len_of p.values) m.metadata m.body
 
 -- a message for each of some dictionaries, in order
 abbrev pub AreAllValues : Endianness → List FilledPlace → List Message → Type 0
 AreAllValues order [] [] = Unit {0}
-AreAllValues order (p ∷ ps) (m ∷ ms) = AreValues order p m × AreAllValues order ps ms
+AreAllValues order (p ∷ ps) (m ∷ ms) = AreValueMessages order p m × AreAllValues order ps ms
 AreAllValues order _ _ = ⊥
 
 -- The messages of some columns: of the dictionaries on this list, in its order, and of the columns, which are equally long.

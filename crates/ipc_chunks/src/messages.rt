@@ -11,7 +11,7 @@ ghost use Rattle.ipc_model.specs.Offers.{values_of};
 ghost use Rattle.ipc_tracker.specs.Listings.{ListsAll, listed};
 ghost use Rattle.ipc_tracker.specs.Trackers.{remembered};
 ghost use Rattle.ipc_chunks.specs.Lengths.{HaveLengths};
-ghost use Rattle.ipc_chunks.specs.Messages.{AreAllValues, AreMessages, AreSendable, AreValues, AreWhole, IsWhole, RefusesAllValues, RefusesMessages, RefusesPlaces, RefusesValues, dictionaries_seen, message_seen};
+ghost use Rattle.ipc_chunks.specs.Messages.{AreAllValues, AreMessages, AreSendable, AreValueMessages, HaveWholeBodies, HasWholeBody, RefusesAllValues, RefusesMessages, RefusesPlaces, RefusesValues, dictionaries_seen, message_seen};
 
 use crate::lengths::check_lengths;
 use ipc_base::chunk::Chunk;
@@ -59,8 +59,8 @@ fn encode_dictionary<'a>(
     dictionary: &'a NewDictionary,
     is_little_endian: bool,
 ) -> Result<Encoded<'a>, Fault>
-    ensures encodes { IfOk result (λ encoded. AreValues (order_of is_little_endian) (listed dictionary.now) (message_seen encoded)) }
-    ensures whole { IfOk result IsWhole }
+    ensures encodes { IfOk result (λ encoded. AreValueMessages (order_of is_little_endian) (listed dictionary.now) (message_seen encoded)) }
+    ensures whole { IfOk result HasWholeBody }
     ensures refused { IfErr result (RefusesValues (listed dictionary.now)) }
 {
     let values = &*dictionary.values;
@@ -81,7 +81,7 @@ fn encode_dictionaries<'a>(
     is_little_endian: bool,
 ) -> Result<Vec<Encoded<'a>>, Fault>
     ensures encodes { IfOk result (λ encoded. AreAllValues (order_of is_little_endian) (map listed dictionaries.now) (map message_seen encoded.items)) }
-    ensures whole { IfOk result (λ encoded. All IsWhole encoded.items) }
+    ensures whole { IfOk result (λ encoded. All HasWholeBody encoded.items) }
     ensures refused { IfErr result (RefusesAllValues (map listed dictionaries.now)) }
 {
     let mut encoded = Vec::new(alloc);
@@ -105,7 +105,7 @@ pub fn encode_messages<'a>(
     ensures encodes { IfOk result (λ messages. AreMessages (order_of is_little_endian) (map layout_of columns.now) (map listed dictionaries.now)
         (dictionaries_seen messages) (message_seen messages.record_batch)) }
     ensures sendable { IfOk result AreSendable }
-    ensures whole { IfOk result AreWhole }
+    ensures whole { IfOk result HaveWholeBodies }
     ensures takes { MatchResult result (λ _. IsEncodable Record (row_count len_of (map layout_of columns.now)) (levels_of (map layout_of columns.now)))
         (RefusesMessages (map listed dictionaries.now) (map layout_of columns.now)) }
 {

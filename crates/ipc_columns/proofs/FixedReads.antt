@@ -1,5 +1,5 @@
 -- Columns of lists of a fixed size.
-use Rattle.std.proofs.Common.{arith, ◌≡◌, ℕ, ℤ, ◌+◌, ◌*◌, ◌/◌, ◌<◌, List, [], ◌∷◌, Option, sym, ap, subst, ◌∙◌}
+use Rattle.std.proofs.Common.{arith, ◌≡◌, ℕ, ℤ, ◌+◌, ◌*◌, ◌/◌, ◌<◌, [], ◌∷◌, Option, sym, ap, subst, ◌∙◌}
 use Rattle.std.proofs.Math.Nat.{mul-div_cancel}
 use Rattle.lower.specs.TypeTrees.{TypeTree, FieldTree, FieldTrees, no_fields, more_fields}
 use Rattle.lower.specs.Physical.{physical}

@@ -1,6 +1,5 @@
 -- What an array holds that is made of what was read, by what its buffers list.
-use Rattle.std.proofs.Common.{arith, ◌≡◌, refl, ℕ, ℤ, pos, ◌+◌, ◌*◌, ◌≤◌, ◌==◌, ◌&&◌, Bool, true, false, cond, List, [], ◌∷◌, ◌++◌, map, length, Option, None, Some, sym, ap, subst, ◌∙◌}
-use Rattle.std.proofs.lemmas.Bool.Decides.{nat_tests}
+use Rattle.std.proofs.Common.{arith, ◌≡◌, refl, ℕ, ℤ, ◌+◌, ◌*◌, ◌≤◌, ◌==◌, ◌&&◌, Bool, true, false, cond, List, [], ◌∷◌, ◌++◌, map, length, Option, None, Some, sym, ap, ◌∙◌}
 use Rattle.std.proofs.lemmas.List.{length-map}
 use Rattle.lower.specs.Physical.{physical, integer}
 use Rattle.lower.specs.TypeTrees.{TypeTree, plain}
@@ -15,12 +14,11 @@ use Rattle.lower_flat.specs.Primitives.{PrimitiveSeen, primitive_seen}
 use Rattle.lower_flat.specs.Booleans.{BooleanSeen, boolean_seen}
 use Rattle.lower_flat.specs.FixedBinaries.{FixedBinarySeen, fixed_seen}
 use Rattle.lower_flat.specs.Spans.{SpansSeen, spans_seen}
-use Rattle.lower_rules.specs.Ids.{union_ids}
 use Rattle.lower_rules.specs.Keys.{KeysSeen, keys_in}
 use Rattle.lower_arrays.specs.Dictionaries.{dictionary_seen, dictionary_layout}
 use Rattle.lower_arrays.specs.Flat.{boolean_layout, fixed_layout, bytes_layout, texts_layout}
 use Rattle.lower_arrays.specs.Held.{bytes_of_bits, validity_held, width_in, held, all_held}
-use Rattle.lower_arrays.specs.Layouts.{Layout, Layouts, layouts}
+use Rattle.lower_arrays.specs.Layouts.{Layout, layouts}
 use Rattle.lower_arrays.specs.Lists.{list_seen, list_layout}
 use Rattle.lower_arrays.specs.Maps.{map_seen, map_layout}
 use Rattle.lower_arrays.specs.Primitives.{primitive_layout}

@@ -9,8 +9,8 @@ use Rattle.lower_rules.specs.Fields.{child_fields}
 use Rattle.lower_arrays.specs.Layouts.{nothing, truths, numbers, fixed_bytes, bytes, texts, lists, fixed_lists, maps, records, choices, keys, Layout, layout, no_layouts, more_layouts}
 use Rattle.ipc_devices.specs.Device.{Memory}
 use Rattle.ipc_model.specs.Kinds.{offsets_32, offset_width, Kind, null_kind, boolean_kind, number_kind, float_kind, fixed_binary_kind, binary_kind, utf8_kind, list_kind, map_kind, fixed_list_kind, struct_kind, union_kind, dictionary_kind, extension_kind, Kinds, no_kinds, more_kinds, count, nodes, buffers}
-use Rattle.ipc_model.specs.Entries.{Entries, node, Limit, rows, times, bytes_for, Need}
-use Rattle.ipc_model.specs.Columns.{Begins, last_offset, HasBytes, AreTexts, HasTypes, Reaches, HasValues, IsPair, IsList, IsWell, AllHaveRows}
+use Rattle.ipc_model.specs.Entries.{Entries, Limit, rows, times, bytes_for, Need}
+use Rattle.ipc_model.specs.Columns.{Begins, last_offset, HasBytes, AreTexts, HasTypes, Reaches, HasValues, IsPairKind, IsList, IsWell, AllHaveRows}
 use Rattle.ipc_model.specs.ReadArrays.{bits_of, numbers_of, integers_of, offsets_of, bytes_of, offset_type, key_type, first_type, other_fields, only, masked_level, whole_level, cut_by, array_at, arrays_at}
 use Rattle.ipc_columns.specs.Bodies.{entries}
 use Rattle.ipc_columns.specs.Limits.{IsTimes, SameRows}
@@ -75,7 +75,7 @@ mutual
       subst (λ (k : ℕ). Begins s a b k × HasBytes s (b + 1) (offset_width f) k × AreTexts s (b + 1) (offset_width f) k) (row_same s l m h a) w
   well_same s (list_kind f t) a b l m h w = subst (λ (k : ℕ). IsList s (offset_width f) a b k (λ x. IsWell s t (a + 1) (b + 2) x)) (row_same s l m h a) w
   well_same s (map_kind t) a b l m h w =
-      subst (λ (k : ℕ). IsPair t × IsList s (offset_width offsets_32) a b k (λ x. IsWell s t (a + 1) (b + 2) x)) (row_same s l m h a) w
+      subst (λ (k : ℕ). IsPairKind t × IsList s (offset_width offsets_32) a b k (λ x. IsWell s t (a + 1) (b + 2) x)) (row_same s l m h a) w
   well_same s (fixed_list_kind n t) a b l m h w =
       let e = row_same s l m h a in
       let below = same_times s l m n w.0 h in (

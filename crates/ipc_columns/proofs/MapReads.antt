@@ -21,7 +21,7 @@ use Rattle.ipc_base.specs.IdTrees.{IdTrees}
 use Rattle.ipc_model.specs.Kinds.{offsets_32, offset_width, Kind, map_kind}
 use Rattle.ipc_model.specs.TypeKinds.{first_ids, plain_kind, field_kind, kind_of}
 use Rattle.ipc_model.specs.Entries.{Entries, Limit, rows}
-use Rattle.ipc_model.specs.Columns.{Begins, Offsets, last_offset, IsPair as IsPairKind, IsWell}
+use Rattle.ipc_model.specs.Columns.{Begins, Offsets, last_offset, IsPairKind, IsWell}
 use Rattle.ipc_model.specs.ReadArrays.{first_type, array_at}
 use Rattle.ipc_columns.specs.ListHeads.{AreLists, AreListsAt}
 use Rattle.ipc_columns.proofs.ColumnLevels.{array_len, array_type}

@@ -15,7 +15,7 @@ use Rattle.ipc_model.specs.Entries.{Entries, Limit, rows}
 use Rattle.ipc_model.specs.Columns.{IsSome, AllHaveRows, IsWell}
 use Rattle.ipc_model.specs.ReadArrays.{array_at, arrays_at}
 use Rattle.ipc_columns.specs.Bodies.{entries}
-use Rattle.ipc_columns.specs.Kinds.{Follows}
+use Rattle.ipc_columns.specs.Kinds.{IsBehind}
 use Rattle.ipc_columns.specs.StructLevels.{over, Left, HaveRows, SoFar}
 use Rattle.ipc_columns.specs.declared.read.body.Body.{Body}
 use Rattle.ipc_columns.specs.declared.read.body.Place.{Place}
@@ -45,7 +45,7 @@ over_none (x ∷ xs) = ap (λ zs. more_layouts x zs) (over_none xs)
 pub left_start : (extra : ℕ) (all : Kinds) (p : Place) → Left extra all all p p
 left_start extra all p = record { node = refl; buffer = refl }
 
-pub left_more : (extra : ℕ) (all rest rest' : Kinds) (t : Kind) (start p q : Place) → rest ≡ more_kinds t rest' → Left extra all rest start p → Follows extra t p q → Left extra all rest' start q
+pub left_more : (extra : ℕ) (all rest rest' : Kinds) (t : Kind) (start p q : Place) → rest ≡ more_kinds t rest' → Left extra all rest start p → IsBehind extra t p q → Left extra all rest' start q
 left_more extra all rest rest' t start p q e l next =
     let n = ap all_nodes e in
     let m = ap (all_buffers extra) e in
@@ -56,7 +56,7 @@ so_start s vs all fs p limit k = record { on = λ h. h; back = λ h. h; same = r
 
 -- one more column, of k slots
 module _ (extra : ℕ) (s : Entries) (vs : Option ℤ → Layout) (all rest rest' : Kinds) (t : Kind) (f : FieldTree) (fs gs gs' : FieldTrees) (start p q : Place) (limit : Limit) (k : ℕ) (xs : List Layout)
-    (same_extra : extra ≡ s.extra) (more : rest ≡ more_kinds t rest') (more_gs : gs ≡ more_fields f gs') (next : Follows extra t p q)
+    (same_extra : extra ≡ s.extra) (more : rest ≡ more_kinds t rest') (more_gs : gs ≡ more_fields f gs') (next : IsBehind extra t p q)
     (so : SoFar s vs all rest fs gs start p limit k xs) where
   behind : q.buffer ≡ p.buffer + buffers s.extra t
   behind = next.buffer ∙ ap (λ n. p.buffer + buffers n t) same_extra

@@ -9,7 +9,7 @@ use Rattle.std.proofs.lemmas.List.Recursion.{is_position_or_len}
 use Rattle.std.proofs.lemmas.Map.Keys.{apart_from_distinct, IsDistinct-from_apart}
 use Rattle.lower_rules.specs.Ids.{TypeIds, IdsFit, NamesChild, place_among, child_number}
 use Rattle.lower_rules.specs.Keys.{KeyFits}
-use Rattle.ipc_model.specs.Columns.{AreIds, child_named}
+use Rattle.ipc_model.specs.Columns.{AreUnionIds, child_named}
 use Rattle.ipc_model.specs.Entries.{IsIndex}
 
 -- ---- places below a number
@@ -36,7 +36,7 @@ get_any [] i d e h = absurd (omega (arith, h))
 get_any (x ∷ xs) zero d e h = refl
 get_any (x ∷ xs) (suc i) d e h = get_any xs i d e (omega (arith, h))
 
-pub ids_are : (ids : TypeIds) (n : ℕ) → IdsFit ids n → AreIds ids n
+pub ids_are : (ids : TypeIds) (n : ℕ) → IdsFit ids n → AreUnionIds ids n
 ids_are None n h = tt
 ids_are (Some xs) n h = (
   h.count,
@@ -47,7 +47,7 @@ ids_are (Some xs) n h = (
   λ i d inside. subst (λ (z : ℤ). IsIndex z 127) (get_any xs i (pos 0) d inside) (key_index (get_or xs i (pos 0)) 127 (h.range i inside)),
 )
 
-pub ids_were : (ids : TypeIds) (n : ℕ) → AreIds ids n → IdsFit ids n
+pub ids_were : (ids : TypeIds) (n : ℕ) → AreUnionIds ids n → IdsFit ids n
 ids_were None n h = tt
 ids_were (Some xs) n h = record {
   count = h.0;

@@ -20,7 +20,7 @@ use Rattle.lower_arrays.specs.Choices.{ChoicesFit}
 use Rattle.lower_arrays.specs.Unions.{union_seen, union_layout, IsUnion as IsUnionArray, BreaksUnion}
 use Rattle.ipc_model.specs.Kinds.{Kinds, no_kinds, more_kinds, count, nodes, buffers, union_kind}
 use Rattle.ipc_model.specs.Entries.{Entries, IsSize, IsIndex, node, Need, Limit, rows, integer}
-use Rattle.ipc_model.specs.Columns.{child_rows, IsUnion, type_at, child_at, HasTypes, place_at, Reaches, IsWell, AllHaveRows, AllWell}
+use Rattle.ipc_model.specs.Columns.{child_rows, IsUnionKind, type_at, child_at, HasTypes, place_at, Reaches, IsWell, AllHaveRows, AllWell}
 use Rattle.ipc_model.specs.ReadArrays.{integers_of, other_fields, first_type, array_at, arrays_at}
 use Rattle.ipc_columns.proofs.ColumnLevels.{array_len}
 use Rattle.ipc_columns.proofs.Records.{so_many}
@@ -109,7 +109,7 @@ module _ (s : Entries) (ids : TypeIds) (n t k : ℕ) (zs : List ℤ) (types : zs
 module _ (s : Entries) (vs : Option ℤ → Layout) (ids : TypeIds) (ts : Kinds) (u : TypeTree) (fs : FieldTrees) (a b t : ℕ) (limit : Limit) (zs : List ℤ) (cs : List Layout)
     (lies : physical u ≡ Union) (named : union_ids u ≡ ids) (fields : child_fields u ≡ fs) (at : t ≡ b + s.extra) (types : zs ≡ integers_of s t Int8 (rows s a limit))
     (typed : ChildTypes (child_fields u) (layouts cs)) (many : child_count (layouts cs) ≡ count ts) where
-  choices_fit : (os : Option (List ℤ)) → IsUnion ids (count ts) → AreNamed ids zs (count ts) → OffsetsGiven (union_mode u) os (length zs) → PlacesFit ids zs os (lens_of (layouts cs))
+  choices_fit : (os : Option (List ℤ)) → IsUnionKind ids (count ts) → AreNamed ids zs (count ts) → OffsetsGiven (union_mode u) os (length zs) → PlacesFit ids zs os (lens_of (layouts cs))
       → ChoicesFit u (union_ids u) zs os (layouts cs)
   choices_fit os h names given places = record {
     lies = lies;
@@ -129,7 +129,7 @@ module _ (s : Entries) (vs : Option ℤ → Layout) (ids : TypeIds) (ts : Kinds)
   names_kept : (os : Option (List ℤ)) → ChoicesFit u (union_ids u) zs os (layouts cs) → AreNamed ids zs (count ts)
   names_kept os w = subst (λ (m : ℕ). AreNamed ids zs m) many (subst (λ (js : TypeIds). AreNamed js zs (child_count (layouts cs))) named w.names)
 
-  union_kept : (os : Option (List ℤ)) → ChoicesFit u (union_ids u) zs os (layouts cs) → IsUnion ids (count ts)
+  union_kept : (os : Option (List ℤ)) → ChoicesFit u (union_ids u) zs os (layouts cs) → IsUnionKind ids (count ts)
   union_kept os w = record { some = omega (arith, many, w.some); few = omega (arith, many, w.few); distinct = ids_are ids (count ts) (ids_kept os w) }
 
   -- the children stand slot by slot
@@ -143,7 +143,7 @@ module _ (s : Entries) (vs : Option ℤ → Layout) (ids : TypeIds) (ts : Kinds)
   pub sparse_well : IsSize (node s a).length × Need s t (rows s a limit) → AllHaveRows s ts (a + 1) (t + 1) limit (rows s a limit) → ChoicesFit u (union_ids u) zs None (layouts cs)
       → IsWell s (union_kind Sparse ids ts) a b limit
   sparse_well head even w =
-      subst (λ (m : ℕ). IsSize (node s a).length × IsUnion ids (count ts) × HasTypes s ids (count ts) m (rows s a limit) × AllHaveRows s ts (a + 1) (m + 1) limit (rows s a limit)) at
+      subst (λ (m : ℕ). IsSize (node s a).length × IsUnionKind ids (count ts) × HasTypes s ids (count ts) m (rows s a limit) × AllHaveRows s ts (a + 1) (m + 1) limit (rows s a limit)) at
       (head.0, union_kept None w, record { types = head.1; named = names_were s ids (count ts) t (rows s a limit) zs types (ids_kept None w) (names_kept None w) }, even)
 
   pub sparse_array : (x : Layout) → layouts cs ≡ arrays_at s vs ts fs (a + 1) (t + 1) limit → x ≡ union_layout (union_seen u zs cs None) → x ≡ array_at s vs (union_kind Sparse ids ts) u a b limit
@@ -176,7 +176,7 @@ module _ (s : Entries) (vs : Option ℤ → Layout) (ids : TypeIds) (ts : Kinds)
         let fit = ids_kept (Some os) w in
         let names = names_were s ids (count ts) t k zs types fit (names_kept (Some os) w) in
         let reach : OffsetsFit ids zs os (lens_of (layouts cs)) = subst (λ (js : TypeIds). PlacesFit js zs (Some os) (lens_of (layouts cs))) named w.places in
-        subst (λ (m : ℕ). IsSize (node s a).length × IsUnion ids (count ts) × HasTypes s ids (count ts) m k × Reaches s ids ts (a + 1) m k × AllWell s ts (a + 1) (m + 2)) at (
+        subst (λ (m : ℕ). IsSize (node s a).length × IsUnionKind ids (count ts) × HasTypes s ids (count ts) m k × Reaches s ids ts (a + 1) m k × AllWell s ts (a + 1) (m + 2)) at (
           head.0,
           union_kept (Some os) w,
           record { types = head.1; named = names },

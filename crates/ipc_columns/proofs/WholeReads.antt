@@ -7,7 +7,7 @@ use Rattle.ipc_model.specs.Kinds.{Kind, Kinds, no_kinds, more_kinds, buffers}
 use Rattle.ipc_model.specs.Entries.{Entries}
 use Rattle.ipc_model.specs.Columns.{IsWell, AllWell}
 use Rattle.ipc_model.specs.ReadArrays.{array_at, arrays_at}
-use Rattle.ipc_columns.specs.Kinds.{Follows}
+use Rattle.ipc_columns.specs.Kinds.{IsBehind}
 use Rattle.ipc_columns.specs.StructLevels.{over}
 use Rattle.ipc_columns.specs.UnionLevels.{AreWhole, WholeSoFar}
 use Rattle.ipc_columns.specs.declared.read.body.Place.{Place}
@@ -24,7 +24,7 @@ whole_one s vs all rest rest' t fs gs start p xs more so h =
 
 -- one more column
 module _ (extra : ℕ) (s : Entries) (vs : Option ℤ → Layout) (all rest rest' : Kinds) (t : Kind) (f : FieldTree) (fs gs gs' : FieldTrees) (start p q : Place) (xs : List Layout)
-    (same_extra : extra ≡ s.extra) (more : rest ≡ more_kinds t rest') (more_gs : gs ≡ more_fields f gs') (next : Follows extra t p q)
+    (same_extra : extra ≡ s.extra) (more : rest ≡ more_kinds t rest') (more_gs : gs ≡ more_fields f gs') (next : IsBehind extra t p q)
     (so : WholeSoFar s vs all rest fs gs start p xs) where
   behind : q.buffer ≡ p.buffer + buffers s.extra t
   behind = next.buffer ∙ ap (λ n. p.buffer + buffers n t) same_extra

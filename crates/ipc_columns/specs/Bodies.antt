@@ -65,5 +65,5 @@ pub record HasRoom {R : Type 0} (s : Body R) (p : Place) (n m : ℕ) : Type 0 wh
   pub buffers_in : p.buffer + m ≤ length s.buffers
 
 -- a device whose bytes stay has those that it had when reading began
-abbrev pub Stands : {R : Type 0} → Bool → (R → Memory) → R → Body R → Type 0
-Stands still memory r b = IsTrue still → (memory r).whole ≡ source memory b
+abbrev pub KeepsBytes : {R : Type 0} → Bool → (R → Memory) → R → Body R → Type 0
+KeepsBytes still memory r b = IsTrue still → (memory r).whole ≡ source memory b

@@ -27,7 +27,7 @@ form_of true = offsets_64
 form_of false = offsets_32
 
 -- the next column begins behind one
-pub record Follows (extra : ℕ) (t : Kind) (p q : Place) : Type 0 where
+pub record IsBehind (extra : ℕ) (t : Kind) (p q : Place) : Type 0 where
   pub node : q.node ≡ p.node + nodes t
   pub buffer : q.buffer ≡ p.buffer + buffers extra t
 

@@ -6,13 +6,13 @@ use Rattle.ipc_devices.specs.declared.fault.Fault.{Fault}
 use Rattle.ipc_model.specs.Batches.{Chunk, Schema}
 use Rattle.ipc_model.specs.Files.{FileMetadata, metadata_of}
 use Rattle.ipc_readers.specs.Metadata.{MetadataGave}
-use Rattle.ipc_readers.specs.Streams.{Begins, device_of, head_of, projection_of}
+use Rattle.ipc_readers.specs.Streams.{IsUnread, device_of, head_of, projection_of}
 use Rattle.ipc_readers.specs.declared.read.stream.metadata.StreamMetadata.{StreamMetadata}
 use Rattle.ipc_readers.specs.declared.read.stream.reader.StreamReader.{StreamReader}
 use Rattle.ipc_file_write.specs.Appends.{GoesOn, GoesOnAgain, GoesOnWith}
 use Rattle.ipc_file_write.specs.FileWriters.{seen}
 use Rattle.ipc_file_write.specs.declared.file.FileWriter.{FileWriter}
-use Rattle.ipc_sessions.specs.Sessions.{Adds, KeepsOld}
+use Rattle.ipc_sessions.specs.Sessions.{GainsChunks, KeepsOld}
 use Rattle.ipc_sessions.specs.Steps.{Leaves}
 use Rattle.ipc_sessions.proofs.Ends.{session_leaves}
 use Rattle.ipc_sessions.proofs.Going.{adds_ok, keeps_old}
@@ -36,13 +36,13 @@ appends_to {F = F} known grows failures room memory file device end m schema cs 
     let read : metadata_of (memory device).whole ≡ Some m = ap metadata_of same ∙ is in
     let leaves : Leaves known memory (seen v) (seen x).device (Ok tt) ds =
     session_leaves known grows failures room memory (seen v) (seen w) (seen x) ds took.takes (Ok tt) ends.sends ends.ends ends.reaches ends.remains in
-    let adds : Adds (memory device).whole (memory (seen x).device).whole ds = adds_ok known memory m device (seen v) (seen x).device ds goes k read (Ok tt) leaves again means in
+    let adds : GainsChunks (memory device).whole (memory (seen x).device).whole ds = adds_ok known memory m device (seen v) (seen x).device ds goes k read (Ok tt) leaves again means in
     let keeps : KeepsOld m (memory device).whole (memory (seen x).device).whole = keeps_old known memory m device (seen v) (seen x).device ds goes k read (Ok tt) leaves in
     record {
       metadata = m;
       read = is;
       same = alike;
-      adds = subst (λ (y : F). Adds (memory file).whole (memory y).whole ds) (sym same_end) (subst (λ (xs : List ℕ). Adds xs (memory (seen x).device).whole ds) same adds);
+      adds = subst (λ (y : F). GainsChunks (memory file).whole (memory y).whole ds) (sym same_end) (subst (λ (xs : List ℕ). GainsChunks xs (memory (seen x).device).whole ds) same adds);
       keeps = subst (λ (y : F). KeepsOld m (memory file).whole (memory y).whole) (sym same_end) (subst (λ (xs : List ℕ). KeepsOld m xs (memory (seen x).device).whole) same keeps);
     }
 
@@ -50,7 +50,7 @@ pub stream_appended : {F R : Type 0} (gives : Gives R) (known grows : Bool) (fai
     → (file device end : F) (input begun last : R) (m : FileMetadata) (s : StreamMetadata) (r c : StreamReader R) (v w x : FileWriter F) (result : Result Ending Fault) (ending : Ending)
     → IsTrue known → metadata_of (memory file).whole ≡ Some m → (memory device).whole ≡ (memory file).whole
     → GoesOn known memory m device (seen v) → GoesOnWith known memory m device (seen v) → GoesOnAgain known memory m device (seen v)
-    → MetadataGave gives input (Ok s) begun → Begins begun s r → projection_of r ≡ None
+    → MetadataGave gives input (Ok s) begun → IsUnread begun s r → projection_of r ≡ None
     → AreSame ((head_of s).schema.fields, (head_of s).schema.metadata) (head_of s).schema.ids (m.schema.fields, m.schema.metadata) m.schema.ids
     → IfOk result (λ e. Copied (StreamCame gives) (StreamStopped gives) (FileTook known memory) r v e c w) → EndsCopy known grows failures room memory result ending (seen w) (seen x)
     → last ≡ device_of c → end ≡ (seen x).device

@@ -11,7 +11,7 @@ use Rattle.ipc_model.specs.Batches.{Schema}
 use Rattle.ipc_model.specs.Files.{metadata_of}
 use Rattle.ipc_model.specs.Streams.{marked}
 use Rattle.ipc_readers.specs.Metadata.{MetadataGave}
-use Rattle.ipc_readers.specs.Streams.{Begins, device_of, head_of, projection_of}
+use Rattle.ipc_readers.specs.Streams.{IsUnread, device_of, head_of, projection_of}
 use Rattle.ipc_readers.specs.declared.read.stream.metadata.StreamMetadata.{StreamMetadata}
 use Rattle.ipc_readers.specs.declared.read.stream.reader.StreamReader.{StreamReader}
 use Rattle.ipc_files.specs.Footers.{file_seen}
@@ -29,7 +29,7 @@ use Rattle.ipc_convert.proofs.ReadFiles.{all_blocks, file_copied, new_whole}
 use Rattle.ipc_convert.proofs.Taken.{Holds, LeftAt, begun_stream, ended_stream, file_written_so, stream_written}
 use Rattle.ipc_convert.proofs.ReadStreams.{was_copied, was_read}
 use Rattle.ipc_convert.specs.Chunks.{Copied, Moved}
-use Rattle.ipc_convert.specs.Copies.{CopiesFile, CopiesStream, HasChunks, WritesFile, WritesStream}
+use Rattle.ipc_convert.specs.Copies.{CopiesFile, CopiesStream, HasBlockChunks, WritesFile, WritesStream}
 use Rattle.ipc_convert.specs.Sinks.{FileTook, StreamTook}
 use Rattle.ipc_convert.specs.Sources.{FileCame, FileStopped, StreamCame, StreamStopped, is_end}
 use Rattle.ipc_convert.specs.Steps.{BeginsFile, EndsAsSource, EndsCopy}
@@ -41,22 +41,22 @@ use Rattle.ipc_convert.specs.declared.chunks.Ending.{Ending}
 module _ {W : Type 0} (known : Bool) (memory : W → Memory) (order : Endianness) (out : W) (schema : Schema) where
   pub to_stream : {S : Type 0} (came : Moved S) (stopped : S → Ending → S → Type 0) (a c : S) (fields : FieldTrees) (metadata : Pairs) (ids : IdTrees) (u v w x : StreamWriter W) (ending : Ending) (y : Unit {0})
       → IsTrue known → fields ≡ schema.fields → metadata ≡ schema.metadata → ids ≡ schema.ids → (seen u).device ≡ out → (seen u).order ≡ order → streams.IsFresh memory (seen u)
-      → streams.Begins known memory (seen u) (Ok y) (seen v) (written_head_as (seen u).order fields metadata ids) → (seen v).state ≡ Started
+      → streams.BeginsStream known memory (seen u) (Ok y) (seen v) (written_head_as (seen u).order fields metadata ids) → (seen v).state ≡ Started
       → (copied : Copied came stopped (StreamTook known memory) a v ending c w) → EndsAsSource known memory ending (seen w) (seen x)
       → LeftAt (is_end ending) (seen x).state × Holds memory order out schema copied.handed.chunks (seen x)
   to_stream came stopped a c fs es ids u v w x ending y k f m i at ordered fresh begun started copied ends =
       let took = copied.handed.took_all in
       let cs = copied.handed.chunks in
       let head : written_head_as (seen u).order fs es ids ≡ written_head_as order schema.fields schema.metadata ids = λ j. written_head_as (ordered j) (f j) (m j) ids in
-      let starts = subst (λ (h : _). streams.Begins known memory (seen u) (Ok y) (seen v) h) head begun in
+      let starts = subst (λ (h : _). streams.BeginsStream known memory (seen u) (Ok y) (seen v) h) head begun in
       let holds = begun_stream known memory order out schema ids (seen u) (seen v) (seen w) cs y k i at fresh starts took in
       ended_stream known memory order out schema cs ending (seen v) (seen w) (seen x) k started took.state ends holds
 
 pub stream_streamed : {R W : Type 0} (gives : Gives R) (known : Bool) (memory : W → Memory) (order : Endianness) → GivesInOrder gives
     → (input device last : R) (out end : W) (m shown : StreamMetadata) (r c : StreamReader R) (ids : IdTrees) (u v w x : StreamWriter W) (ending : Ending) (y : Unit {0})
-    → IsTrue known → MetadataGave gives input (Ok m) device → Begins device m r → projection_of r ≡ None → shown ≡ m → ids ≡ all_ids_view m.ipc_schema.fields.items
+    → IsTrue known → MetadataGave gives input (Ok m) device → IsUnread device m r → projection_of r ≡ None → shown ≡ m → ids ≡ all_ids_view m.ipc_schema.fields.items
     → (seen u).device ≡ out → (seen u).order ≡ order → streams.IsFresh memory (seen u)
-    → streams.Begins known memory (seen u) (Ok y) (seen v) (written_head_as (seen u).order (fields_view shown.schema.fields.items) (pairs_of shown.schema.metadata.entries) ids)
+    → streams.BeginsStream known memory (seen u) (Ok y) (seen v) (written_head_as (seen u).order (fields_view shown.schema.fields.items) (pairs_of shown.schema.metadata.entries) ids)
     → (seen v).state ≡ Started → Copied (StreamCame gives) (StreamStopped gives) (StreamTook known memory) r v ending c w
     → EndsAsSource known memory ending (seen w) (seen x) → last ≡ device_of c → end ≡ (seen x).device
     → CopiesStream gives input last (WritesStream order (memory out) (memory end))
@@ -71,17 +71,17 @@ stream_streamed gives known memory order law input device last out end m shown r
 
 -- the chunks of a file that came are all of it
 chunks_of : {F T : Type 0} (known : Bool) (memory : F → Memory) (took : Moved T) (file device : F) (m : FileMetadata) (r c : FileReader F) (v w : T) (ending : Ending)
-    → IsTrue known → (memory device).whole ≡ (memory file).whole → blocks.Begins device m None None r → (copied : Copied (FileCame known memory) FileStopped took r v ending c w)
-    → HasChunks (memory file).whole (file_seen m) copied.handed.chunks
+    → IsTrue known → (memory device).whole ≡ (memory file).whole → blocks.IsUnread device m None None r → (copied : Copied (FileCame known memory) FileStopped took r v ending c w)
+    → HasBlockChunks (memory file).whole (file_seen m) copied.handed.chunks
 chunks_of known memory took file device m r c v w ending k same begins copied =
-    subst (λ (bytes : List ℕ). HasChunks bytes (file_seen m) copied.handed.chunks) same
+    subst (λ (bytes : List ℕ). HasBlockChunks bytes (file_seen m) copied.handed.chunks) same
     (all_blocks memory device m r copied.last copied.handed.chunks begins (copied.handed.came_all k (new_whole memory device m r begins)) copied.stops.1)
 
 pub file_streamed : {F W : Type 0} (there : Bool) (held : F → Memory) (known : Bool) (memory : W → Memory) (order : Endianness)
     → (file device : F) (out end : W) (m shown : FileMetadata) (r c : FileReader F) (ids : IdTrees) (u v w x : StreamWriter W) (ending : Ending) (y : Unit {0})
-    → IsTrue there → IsTrue known → metadata_of (held file).whole ≡ Some (file_seen m) → (held device).whole ≡ (held file).whole → blocks.Begins device m None None r → shown ≡ m → ids ≡ all_ids_view m.ipc_schema.fields.items
+    → IsTrue there → IsTrue known → metadata_of (held file).whole ≡ Some (file_seen m) → (held device).whole ≡ (held file).whole → blocks.IsUnread device m None None r → shown ≡ m → ids ≡ all_ids_view m.ipc_schema.fields.items
     → (seen u).device ≡ out → (seen u).order ≡ order → streams.IsFresh memory (seen u)
-    → streams.Begins known memory (seen u) (Ok y) (seen v) (written_head_as (seen u).order (fields_view shown.schema.fields.items) (pairs_of shown.schema.metadata.entries) ids)
+    → streams.BeginsStream known memory (seen u) (Ok y) (seen v) (written_head_as (seen u).order (fields_view shown.schema.fields.items) (pairs_of shown.schema.metadata.entries) ids)
     → (seen v).state ≡ Started → Copied (FileCame there held) FileStopped (StreamTook known memory) r v ending c w
     → EndsAsSource known memory ending (seen w) (seen x) → end ≡ (seen x).device
     → CopiesFile (held file).whole (λ schema pairs chunks. WritesStream order (memory out) (memory end) schema chunks marked)
@@ -99,7 +99,7 @@ file_streamed there held known memory order file device out end m shown r c ids 
 
 pub stream_filed : {R W : Type 0} (gives : Gives R) (known grows : Bool) (failures room : W → ℕ) (memory : W → Memory) (order : Endianness) → GivesInOrder gives
     → (input device last : R) (out end : W) (m : StreamMetadata) (r c : StreamReader R) (fields : FieldTrees) (metadata : Pairs) (ids : IdTrees) (given : Pairs) (v w x : FileWriter W) (result : Result Ending Fault) (ending : Ending)
-    → IsTrue known → MetadataGave gives input (Ok m) device → Begins device m r → projection_of r ≡ None → fields ≡ fields_view m.schema.fields.items → metadata ≡ pairs_of m.schema.metadata.entries
+    → IsTrue known → MetadataGave gives input (Ok m) device → IsUnread device m r → projection_of r ≡ None → fields ≡ fields_view m.schema.fields.items → metadata ≡ pairs_of m.schema.metadata.entries
     → ids ≡ all_ids_view m.ipc_schema.fields.items → given ≡ [] → BeginsFile known memory out order fields metadata ids given (files.seen v)
     → IfOk result (λ e. Copied (StreamCame gives) (StreamStopped gives) (FileTook known memory) r v e c w) → EndsCopy known grows failures room memory result ending (files.seen w) (files.seen x)
     → last ≡ device_of c → end ≡ (files.seen x).device → CopiesStream gives input last (λ schema chunks e. WritesFile order (memory out) (memory end) schema [] chunks)
@@ -114,7 +114,7 @@ stream_filed gives known grows failures room memory order law input device last 
 
 pub file_filed : {F W : Type 0} (there : Bool) (held : F → Memory) (known grows : Bool) (failures room : W → ℕ) (memory : W → Memory) (order : Endianness)
     → (file device : F) (out end : W) (m : FileMetadata) (r c : FileReader F) (fields : FieldTrees) (metadata : Pairs) (ids : IdTrees) (given : Pairs) (v w x : FileWriter W) (result : Result Ending Fault) (ending : Ending)
-    → IsTrue there → IsTrue known → metadata_of (held file).whole ≡ Some (file_seen m) → (held device).whole ≡ (held file).whole → blocks.Begins device m None None r
+    → IsTrue there → IsTrue known → metadata_of (held file).whole ≡ Some (file_seen m) → (held device).whole ≡ (held file).whole → blocks.IsUnread device m None None r
     → fields ≡ fields_view m.schema.fields.items → metadata ≡ pairs_of m.schema.metadata.entries → ids ≡ all_ids_view m.ipc_schema.fields.items → given ≡ pairs_of m.custom_metadata.entries
     → BeginsFile known memory out order fields metadata ids given (files.seen v)
     → IfOk result (λ e. Copied (FileCame there held) FileStopped (FileTook known memory) r v e c w) → EndsCopy known grows failures room memory result ending (files.seen w) (files.seen x)

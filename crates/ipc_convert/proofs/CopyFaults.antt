@@ -18,7 +18,7 @@ use Rattle.ipc_model.specs.Writable.{file_weight}
 use Rattle.ipc_schema_write.specs.WriterAnswers.{RefusesSchema, max_weight}
 use Rattle.ipc_read.proofs.Refusals.{claims_through}
 use Rattle.ipc_readers.specs.Metadata.{MetadataGave}
-use Rattle.ipc_readers.specs.Streams.{Begins, head_of, projection_of}
+use Rattle.ipc_readers.specs.Streams.{IsUnread, head_of, projection_of}
 use Rattle.ipc_readers.specs.declared.read.stream.metadata.StreamMetadata.{StreamMetadata}
 use Rattle.ipc_readers.specs.declared.read.stream.reader.StreamReader.{StreamReader}
 use Rattle.ipc_files.specs.Files.{FileReason}
@@ -68,7 +68,7 @@ module _ {W : Type 0} (filled : Bool) (to : W → Memory) where
       (stream_misses filled to (seen v) (seen w) fs es ids cs columns e it starts.is starts.types starts.ids_are starts.writable took refused))
 
   module _ {R : Type 0} (gives : Gives R) (known : Bool) (memory : R → Memory) (law : GivesInOrder gives) (ahead : GivesAhead known gives memory)
-      (input device : R) (m : StreamMetadata) (r : StreamReader R) (e : Fault) (front : MetadataGave gives input (Ok m) device) (begins : Begins device m r) (whole : projection_of r ≡ None)
+      (input device : R) (m : StreamMetadata) (r : StreamReader R) (e : Fault) (front : MetadataGave gives input (Ok m) device) (begins : IsUnread device m r) (whole : projection_of r ≡ None)
       (shown : StreamMetadata) (ids : IdTrees) (is : shown ≡ m) (same : ids ≡ all_ids_view m.ipc_schema.fields.items) where
     abbrev WhyStream : Type 0
     WhyStream = HoldsOfGiven gives known memory input (λ bytes. CopiesNoStream RefusesAsStream bytes e)
@@ -92,7 +92,7 @@ module _ {W : Type 0} (filled : Bool) (to : W → Memory) where
         (λ first no. inr no) (it _ stops))
 
   module _ {F : Type 0} (known : Bool) (memory : F → Memory) (k : IsTrue known) (file device : F) (m : FileMetadata) (r : FileReader F) (e : Fault)
-      (read : model.metadata_of (memory file).whole ≡ Some (file_seen m)) (unchanged : (memory device).whole ≡ (memory file).whole) (begins : blocks.Begins device m None None r)
+      (read : model.metadata_of (memory file).whole ≡ Some (file_seen m)) (unchanged : (memory device).whole ≡ (memory file).whole) (begins : blocks.IsUnread device m None None r)
       (shown : FileMetadata) (ids : IdTrees) (is : shown ≡ m) (same : ids ≡ all_ids_view m.ipc_schema.fields.items) where
     abbrev StreamHeld : (List Chunk → Type 0) → Schema → Pairs → Fault → Type 0
     StreamHeld first schema pairs fault = RefusesAsStream first schema fault
@@ -138,7 +138,7 @@ same_begun known memory out order fs given es held ids are pairs those w f m i p
 }
 
 -- pairs that a new writer refuses
-pub pairs_refused : {W : Type 0} (w : FileSeen W) (fs : FieldTrees) (es : Pairs) (ids : IdTrees) (pairs : Pairs) (e : Fault) → w.state ≡ New → w.fields ≡ fs → w.metadata ≡ es → files.RefusesPairs w pairs e
+pub pairs_refused : {W : Type 0} (w : FileSeen W) (fs : FieldTrees) (es : Pairs) (ids : IdTrees) (pairs : Pairs) (e : Fault) → w.state ≡ New → w.fields ≡ fs → w.metadata ≡ es → files.TakesNoPairs w pairs e
     → OwnFault e (RefusesWithPairs fs es ids pairs e)
 pairs_refused w fs es ids pairs (faults.State x) new f m h = (let none : None ≡ Some x = subst (λ (s : WriterState). files.fault_if_over s ≡ Some x) new h in absurd cc)
 pairs_refused w fs es ids pairs (faults.Argument TooLarge) new f m h =
@@ -177,7 +177,7 @@ module _ {W : Type 0} (filled : Bool) (to : W → Memory) (opened : FileSeen W �
   not_taken cs u columns took refused = record { begun = files.seen v; is = is; writer = files.seen u; took = took; refused = refused.0; named = refused.1 }
 
   module _ {R : Type 0} (gives : Gives R) (known : Bool) (memory : R → Memory) (law : GivesInOrder gives) (ahead : GivesAhead known gives memory)
-      (input device : R) (m : StreamMetadata) (r c : StreamReader R) (front : MetadataGave gives input (Ok m) device) (begins : Begins device m r) (whole : projection_of r ≡ None)
+      (input device : R) (m : StreamMetadata) (r c : StreamReader R) (front : MetadataGave gives input (Ok m) device) (begins : IsUnread device m r) (whole : projection_of r ≡ None)
       (refuses : (List Chunk → Type 0) → Schema → Fault → Type 0) (told : (first : List Chunk → Type 0) → RefusesInBlocks filled to opened first e → refuses first (head_of m).schema e) where
     pub stream_blocks_stop : (copied : Result Ending Fault) → IfErr copied (λ y. OwnFault y (StopsCopy (StreamCame gives) (StreamBreaks gives) (FileTook filled to) FileRefuses r v y))
         → IfOk copied (λ ending. Copied (StreamCame gives) (StreamStopped gives) (FileTook filled to) r v ending c w) → EndsAnyway filled to copied (Err e) (files.seen w) (files.seen x)
@@ -201,7 +201,7 @@ module _ {W : Type 0} (filled : Bool) (to : W → Memory) (opened : FileSeen W �
         ])
 
   module _ {F : Type 0} (known : Bool) (memory : F → Memory) (k : IsTrue known) (file device : F) (m : FileMetadata) (r c : FileReader F)
-      (read : model.metadata_of (memory file).whole ≡ Some (file_seen m)) (unchanged : (memory device).whole ≡ (memory file).whole) (begins : blocks.Begins device m None None r)
+      (read : model.metadata_of (memory file).whole ≡ Some (file_seen m)) (unchanged : (memory device).whole ≡ (memory file).whole) (begins : blocks.IsUnread device m None None r)
       (refuses : (List Chunk → Type 0) → Schema → Pairs → Fault → Type 0) (told : (first : List Chunk → Type 0) → RefusesInBlocks filled to opened first e → refuses first (file_seen m).schema (file_seen m).pairs e) where
     pub file_blocks_stop : (copied : Result Ending Fault) → IfErr copied (λ y. OwnFault y (StopsCopy (FileCame known memory) (FileBreaks known memory) (FileTook filled to) FileRefuses r v y))
         → IfOk copied (λ ending. Copied (FileCame known memory) FileStopped (FileTook filled to) r v ending c w) → EndsAnyway filled to copied (Err e) (files.seen w) (files.seen x)

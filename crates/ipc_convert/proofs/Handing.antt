@@ -8,7 +8,7 @@ use Rattle.ipc_devices.specs.declared.fault.Fault.TheVariants.{Argument, Io}
 use Rattle.ipc_model.specs.Batches.{Chunk}
 use Rattle.ipc_read.proofs.Refusals.{claims_through}
 use Rattle.ipc_read.specs.Chunks.{chunk_seen}
-use Rattle.ipc_convert.specs.Chunks.{BreaksAt, Copied, CopiedOne, Handed, HandedOne, InOrder, Moved, Nothing, RefusesAt, StopsCopy, StopsOne, TookWhatCame}
+use Rattle.ipc_convert.specs.Chunks.{BreaksAt, Copied, CopiedOne, Handed, HandedOne, MovedInTurn, Moved, Nothing, RefusesAt, StopsCopy, StopsOne, TookWhatCame}
 use Rattle.ipc_convert.specs.declared.chunks.Ending.{Ending}
 
 -- So many chunks came, and were taken.
@@ -19,7 +19,7 @@ pub record HandedMany {S T : Type 0} (came : Moved S) (took : Moved T) (n : ℕ)
 pub nothing_handed : {S T : Type 0} (came : Moved S) (took : Moved T) → Nothing came → Nothing took → (a : S) (v : T) → HandedMany came took 0 a v a v
 nothing_handed came took first second a v = record { handed = record { chunks = []; came_all = first a; took_all = second v }; count = refl }
 
-pub handed_on : {S T : Type 0} (came : Moved S) (took : Moved T) → InOrder came → InOrder took → (n : ℕ) (a b c : S) (u v w : T) → HandedMany came took n a u b v → HandedOne came took b v c w
+pub handed_on : {S T : Type 0} (came : Moved S) (took : Moved T) → MovedInTurn came → MovedInTurn took → (n : ℕ) (a b c : S) (u v w : T) → HandedMany came took n a u b v → HandedOne came took b v c w
     → HandedMany came took (n + 1) a u c w
 handed_on came took first second n a b c u v w many one = record {
   handed = record {
@@ -37,7 +37,7 @@ all_handed came stopped took a b c u v w o ending is one none =
     record { last = b; handed = subst (λ (x : _). Handed came took a u b x) (sym stops.1) one; stops = stops.0 }
 
 -- a step that took nothing leaves what was taken
-pub none_more : {S T : Type 0} (came : Moved S) (took : Moved T) → InOrder took → (a b : S) (u v w : T) → Handed came took a u b v → took v [] w → TookWhatCame came took a u w
+pub none_more : {S T : Type 0} (came : Moved S) (took : Moved T) → MovedInTurn took → (a b : S) (u v w : T) → Handed came took a u b v → took v [] w → TookWhatCame came took a u w
 none_more came took law a b u v w one none = record {
   last = b;
   handed = record {

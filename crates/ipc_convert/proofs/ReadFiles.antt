@@ -19,11 +19,11 @@ use Rattle.ipc_read.proofs.Fields.{field_count}
 use Rattle.ipc_read.specs.Chunks.{chunk_seen}
 use Rattle.ipc_files.specs.Batches.{RecordReason}
 use Rattle.ipc_files.specs.Footers.{file_seen}
-use Rattle.ipc_file_readers.specs.Readers.{Answer, AreKnown, Begins, NextStep, WasNext, WereRefused, asked_of, block_of, file_of, is_over, known_of, less, metadata_of, remaining_of, rows_given}
+use Rattle.ipc_file_readers.specs.Readers.{Answer, AreKnown, IsUnread, NextStep, WasNext, WereRefused, asked_of, block_of, file_of, is_over, known_of, less, metadata_of, remaining_of, rows_given}
 use Rattle.ipc_files.specs.declared.read.file.metadata.FileMetadata as files
 use Rattle.ipc_file_readers.specs.declared.read.reader.state.FileReader.{FileReader}
 use Rattle.ipc_convert.proofs.Own.{own}
-use Rattle.ipc_convert.specs.Copies.{CopiesFile, HasChunks}
+use Rattle.ipc_convert.specs.Copies.{CopiesFile, HasBlockChunks}
 use Rattle.ipc_convert.specs.Refusals.{AreFirstBlocks}
 use Rattle.ipc_convert.specs.Sources.{AreOfFile, FileBreaks, FileCame, FirstAre, GaveBlocks, LacksChunk, LacksPart, ReadsWhole, bytes_of}
 
@@ -174,7 +174,7 @@ first_blocks memory a b cs front gave =
 -- ---- all of them
 
 -- a new reader that all of each chunk is asked of
-pub new_whole : {R : Type 0} (memory : R → Memory) (device : R) (m : files.FileMetadata) (r : FileReader R) → Begins device m None None r → ReadsWhole memory r
+pub new_whole : {R : Type 0} (memory : R → Memory) (device : R) (m : files.FileMetadata) (r : FileReader R) → IsUnread device m None None r → ReadsWhole memory r
 new_whole memory device m r begins = record {
   columns = begins.asked_for;
   rows = begins.remaining;
@@ -186,11 +186,11 @@ no_items [] e = refl
 no_items (b ∷ bs) e = absurd (omega (arith, e))
 
 with_known : (m : FileMetadata) (bytes : List ℕ) (cs : List Chunk) (o : Option Dictionaries) → file_dictionaries m bytes ≡ o → IsSome o
-    → ((known : Dictionaries) → file_dictionaries m bytes ≡ Some known → chunks_at m known (all_of bytes) None None m.blocks ≡ map Some cs) → HasChunks bytes m cs
+    → ((known : Dictionaries) → file_dictionaries m bytes ≡ Some known → chunks_at m known (all_of bytes) None None m.blocks ≡ map Some cs) → HasBlockChunks bytes m cs
 with_known m bytes cs None is some chunks = absurd (cc some)
 with_known m bytes cs (Some ds) is some chunks = record { known = ds; dictionaries = inr is; chunks = chunks ds is }
 
-without : (m : FileMetadata) (bytes : List ℕ) (cs : List Chunk) → cs ≡ [] → m.blocks ≡ [] → HasChunks bytes m cs
+without : (m : FileMetadata) (bytes : List ℕ) (cs : List Chunk) → cs ≡ [] → m.blocks ≡ [] → HasBlockChunks bytes m cs
 without m bytes cs none empty = record {
   known = [];
   dictionaries = inl empty;
@@ -198,13 +198,13 @@ without m bytes cs none empty = record {
 }
 
 -- what came of a file up to its end are all of its chunks
-pub all_blocks : {R : Type 0} (memory : R → Memory) (device : R) (m : files.FileMetadata) (a b : FileReader R) (cs : List Chunk) → Begins device m None None a → GaveBlocks memory a cs b → is_over b ≡ true
-    → HasChunks (memory device).whole (file_seen m) cs
+pub all_blocks : {R : Type 0} (memory : R → Memory) (device : R) (m : files.FileMetadata) (a b : FileReader R) (cs : List Chunk) → IsUnread device m None None a → GaveBlocks memory a cs b → is_over b ≡ true
+    → HasBlockChunks (memory device).whole (file_seen m) cs
 all_blocks {R = R} memory device m a b cs begins gave over =
     let past : vec_len b.metadata.blocks ≤ block_of b = search arith in
     let long : length (file_of a).blocks ≡ length (file_of b).blocks = ap (λ (x : FileMetadata). length x.blocks) (sym gave.file) in
     let behind : length (file_of a).blocks ≤ block_of b = omega (arith, past, long, b.metadata.blocks.ok) in
-    let has : HasChunks (bytes_of memory a) (file_of a) cs = elim gave.some [
+    let has : HasBlockChunks (bytes_of memory a) (file_of a) cs = elim gave.some [
       | inl none ↦
           (let size = ap (λ (l : List Chunk). length l) none in
           without (file_of a) (bytes_of memory a) cs none (no_items (file_of a).blocks (omega (arith, behind, gave.block, begins.block, size))))
@@ -212,8 +212,8 @@ all_blocks {R = R} memory device m a b cs begins gave over =
           (λ ds found. all_at (file_of a) ds (bytes_of memory a) (block_of b) cs behind
           (gave.chunks ds [] found (none_at (file_of a) ds (bytes_of memory a) (block_of a) begins.block)))
     ] in
-    subst (λ (x : files.FileMetadata). HasChunks (memory device).whole (file_seen x) cs) begins.described
-    (subst (λ (x : R). HasChunks (memory x).whole (file_of a) cs) begins.device has)
+    subst (λ (x : files.FileMetadata). HasBlockChunks (memory device).whole (file_seen x) cs) begins.described
+    (subst (λ (x : R). HasBlockChunks (memory x).whole (file_of a) cs) begins.device has)
   where
     all_at : (m : FileMetadata) (ds : Dictionaries) (bytes : List ℕ) (i : ℕ) (cs : List Chunk) → length m.blocks ≤ i → FirstAre m ds bytes i cs → chunks_at m ds (all_of bytes) None None m.blocks ≡ map Some cs
     all_at m ds bytes i cs past first = ap (λ (bs : List Block). chunks_at m ds (all_of bytes) None None bs) (sym (take_all i m.blocks past)) ∙ first
@@ -221,6 +221,6 @@ all_blocks {R = R} memory device m a b cs begins gave over =
     none_at : (m : FileMetadata) (ds : Dictionaries) (bytes : List ℕ) (i : ℕ) → i ≡ 0 → FirstAre m ds bytes i []
     none_at m ds bytes i e = subst (λ (j : ℕ). FirstAre m ds bytes j []) (sym e) refl
 
-pub file_copied : (bytes : List ℕ) (m : FileMetadata) (cs : List Chunk) (Writes : _ → _ → List Chunk → Type 0) → metadata_in bytes ≡ Some m → HasChunks bytes m cs → Writes m.schema m.pairs cs
+pub file_copied : (bytes : List ℕ) (m : FileMetadata) (cs : List Chunk) (Writes : _ → _ → List Chunk → Type 0) → metadata_in bytes ≡ Some m → HasBlockChunks bytes m cs → Writes m.schema m.pairs cs
     → CopiesFile bytes Writes
 file_copied bytes m cs Writes read has writes = record { metadata = m; read = read; chunks = cs; has = has; written = writes }

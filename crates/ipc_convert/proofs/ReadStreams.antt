@@ -16,7 +16,7 @@ use Rattle.ipc_readers.proofs.Loops.{same_request}
 use Rattle.ipc_readers.specs.ChosenStreams.{Request, chosen_meaning}
 use Rattle.ipc_readers.specs.Metadata.{GivesMetadata, MetadataGave}
 use Rattle.ipc_readers.specs.Refusals.{IsStreamFault}
-use Rattle.ipc_readers.specs.Streams.{Begins, GivesNext, ItemStop, ItemsGave, Knows, NextStep, ReadsItem, ReadsNext, begun_of, device_of, head_of, is_over, known_of, last_found, next_result, projection_of, request_of}
+use Rattle.ipc_readers.specs.Streams.{IsUnread, GivesNext, ItemStop, ItemsGave, Knows, NextStep, ReadsItem, ReadsNext, begun_of, device_of, head_of, is_over, known_of, last_found, next_result, projection_of, request_of}
 use Rattle.ipc_readers.specs.declared.read.stream.metadata.StreamMetadata.{StreamMetadata}
 use Rattle.ipc_readers.specs.declared.read.stream.reader.StreamReader.{StreamReader}
 use Rattle.ipc_readers.specs.declared.read.stream.reader.StreamState.{StreamState}
@@ -203,11 +203,11 @@ all_given gives a b c cs over one none s at =
     )
 
 -- all is asked of a new reader
-pub new_request : {R : Type 0} (device : R) (m : StreamMetadata) (r : StreamReader R) → Begins device m r → projection_of r ≡ None → request_of r ≡ record { head = head_of m; projection = None }
+pub new_request : {R : Type 0} (device : R) (m : StreamMetadata) (r : StreamReader R) → IsUnread device m r → projection_of r ≡ None → request_of r ≡ record { head = head_of m; projection = None }
 new_request device m r begins all = λ i. record { head = head_of (begins.described i); projection = all i }
 
 -- so it means what its device has ahead
-pub new_meant : {R : Type 0} (device : R) (m : StreamMetadata) (r : StreamReader R) (bytes : List ℕ) → Begins device m r → projection_of r ≡ None
+pub new_meant : {R : Type 0} (device : R) (m : StreamMetadata) (r : StreamReader R) (bytes : List ℕ) → IsUnread device m r → projection_of r ≡ None
     → meant_by r nothing_known bytes ≡ meaning (head_of m) nothing_known bytes
 new_meant device m r bytes begins all =
     let asked = new_request device m r begins all in
@@ -226,7 +226,7 @@ pub record WasRead {R : Type 0} (gives : Gives R) (a b : R) (m : StreamMetadata)
   pub ends : EndsAs over meant.end
 
 pub was_read : {R : Type 0} (gives : Gives R) → GivesInOrder gives → (input device : R) (m : StreamMetadata) (r b c : StreamReader R) (cs : List Chunk) (ending : Ending)
-    → MetadataGave gives input (Ok m) device → Begins device m r → projection_of r ≡ None → StreamCame gives r cs b → StreamStopped gives b ending c
+    → MetadataGave gives input (Ok m) device → IsUnread device m r → projection_of r ≡ None → StreamCame gives r cs b → StreamStopped gives b ending c
     → WasRead gives input (device_of c) m cs (is_end ending)
 was_read {R = R} gives law input device m r b c cs ending front begins whole came stopped =
     let one = came.gave begins.unfinished in

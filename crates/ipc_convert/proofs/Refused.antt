@@ -21,7 +21,7 @@ use Rattle.ipc_read.specs.Chunks.{chunk_seen}
 use Rattle.ipc_readers.specs.ChosenStreams.{Request}
 use Rattle.ipc_readers.specs.Metadata.{GivesMetadata, MetadataGave}
 use Rattle.ipc_readers.specs.Refusals.{IsStreamFault}
-use Rattle.ipc_readers.specs.Streams.{Begins, device_of, head_of, projection_of}
+use Rattle.ipc_readers.specs.Streams.{IsUnread, device_of, head_of, projection_of}
 use Rattle.ipc_readers.specs.declared.read.stream.metadata.StreamMetadata.{StreamMetadata}
 use Rattle.ipc_readers.specs.declared.read.stream.reader.StreamReader.{StreamReader}
 use Rattle.ipc_files.specs.Footers.{file_seen}
@@ -99,7 +99,7 @@ schema_refused gives known memory ahead input device m e refuses front refused =
 
 -- A stream whose schema message was read, by a reader that is new then.
 module _ {R : Type 0} (gives : Gives R) (known : Bool) (memory : R → Memory) (law : GivesInOrder gives) (ahead : GivesAhead known gives memory) (input device : R) (m : StreamMetadata) (r : StreamReader R) (e : Fault)
-    (front : MetadataGave gives input (Ok m) device) (begins : Begins device m r) (whole : projection_of r ≡ None) (refuses : Held) where
+    (front : MetadataGave gives input (Ok m) device) (begins : IsUnread device m r) (whole : projection_of r ≡ None) (refuses : Held) where
   abbrev Why : Type 0
   Why = HoldsOfGiven gives known memory input (λ bytes. CopiesNoStream refuses bytes e)
 
@@ -173,7 +173,7 @@ FileHeld = (List Chunk → Type 0) → Schema → Pairs → Fault → Type 0
 
 -- A file in memory whose metadata were read, by a reader that is new then.
 module _ {F : Type 0} (known : Bool) (memory : F → Memory) (k : IsTrue known) (file device : F) (m : FileMetadata) (r : FileReader F) (e : Fault)
-    (read : model.metadata_of (memory file).whole ≡ Some (file_seen m)) (same : (memory device).whole ≡ (memory file).whole) (begins : blocks.Begins device m None None r) (refuses : FileHeld) where
+    (read : model.metadata_of (memory file).whole ≡ Some (file_seen m)) (same : (memory device).whole ≡ (memory file).whole) (begins : blocks.IsUnread device m None None r) (refuses : FileHeld) where
   abbrev WhyFile : Type 0
   WhyFile = CopiesNoFile refuses (memory file).whole e
 

@@ -17,20 +17,20 @@ use Rattle.ipc_model.specs.Streams.{End, Head, faulty, marked, waits}
 use Rattle.ipc_read.specs.Chunks.{chunk_seen}
 use Rattle.ipc_schema_write.specs.WriterAnswers.{byte_order, written_head_as}
 use Rattle.ipc_write.specs.Agreement as streams
-use Rattle.ipc_write.specs.Agreement.{Agrees, Begins, IsClosed, IsFresh, IsOpen, StreamIs}
+use Rattle.ipc_write.specs.Agreement.{Agrees, BeginsStream, HasEnded, IsFresh, IsOpen, StreamIs}
 use Rattle.ipc_write.specs.Meaning.{chunk_written}
-use Rattle.ipc_write.specs.Writers.{SendsChunk, TakesChunk, WriterSeen, WritesExactly}
+use Rattle.ipc_write.specs.Writers.{SendsStep, TakesChunk, WriterSeen, WritesExactly}
 use Rattle.ipc_write.specs.declared.stream.WriterState.{WriterState}
 use Rattle.ipc_write.specs.declared.stream.WriterState.TheVariants.{Started, Finished}
 use Rattle.ipc_footers.specs.Footers.{file_written}
 use Rattle.ipc_file_laws.specs.Appending.{normal_chunk}
-use Rattle.ipc_file_laws.specs.FileBytes.{EndsStream, IsFile}
+use Rattle.ipc_file_laws.specs.FileBytes.{EndsStreamBehind, IsFile}
 use Rattle.ipc_file_write.specs.Calls.{IsWrittenFile}
 use Rattle.ipc_file_write.specs.FileWriters as files
-use Rattle.ipc_file_write.specs.FileWriters.{EndsWith, FileIs, FileSeen, HoldsBytes, IsWholeFile}
+use Rattle.ipc_file_write.specs.FileWriters.{FileIs, FileSeen, HoldsBytes, IsWholeFile}
 use Rattle.ipc_file_write.specs.Writes as writes
 use Rattle.ipc_round_trip.specs.Reading.{EndsAs}
-use Rattle.ipc_sessions.specs.Steps.{TakesChunks, WritesChunk}
+use Rattle.ipc_sessions.specs.Steps.{TakesChunks, WritesNext}
 use Rattle.ipc_convert.specs.Copies.{EndsSo, WritesFile, WritesStream, normal_chunks, normal_head}
 use Rattle.ipc_convert.specs.Sources.{is_end}
 use Rattle.ipc_convert.specs.Steps.{BeginsFile, EndsAsSource, EndsCopy}
@@ -62,7 +62,7 @@ stream_took known memory v w columns ids (Ok x) appends takes = one_took known m
 stream_took known memory v w columns ids (Err e) appends takes = tt
 
 pub file_took : {W : Type 0} (known grows : Bool) (failures room : W → ℕ) (memory : W → Memory) (v w : FileSeen W) (columns : List AnyArray) (r : Result (Unit {0}) Fault)
-    → WritesChunk known memory v columns r w → writes.SendsColumns known grows failures room memory v r w columns → OnOk r (TookBlocks known memory v (chunk_seen columns ∷ []) w)
+    → WritesNext known memory v columns r w → writes.SendsColumns known grows failures room memory v r w columns → OnOk r (TookBlocks known memory v (chunk_seen columns ∷ []) w)
 file_took known grows failures room memory v w columns (Ok x) wrote sends = record {
   state = sends.takes.is ∙ sym sends.takes.was;
   takes = subst (λ (c : Chunk). TakesChunks known memory v w (c ∷ [])) (written_seen columns) wrote.takes;
@@ -86,22 +86,22 @@ none_took known memory v w state types ids stays = record {
 }
 
 pub stream_kept : {W : Type 0} (known grows : Bool) (failures room : W → ℕ) (memory : W → Memory) (v w : WriterSeen W) (columns : List AnyArray) (r : Result (Unit {0}) Fault)
-    → streams.Appends known memory v r w (chunk_written columns) → SendsChunk known grows failures room memory v r w columns → OnRefused r (TookChunks known memory v [] w)
+    → streams.Appends known memory v r w (chunk_written columns) → SendsStep known grows failures room memory v r w columns → OnRefused r (TookChunks known memory v [] w)
 stream_kept known grows failures room memory v w columns r appends sends =
     if_refused r (λ e is kept.
     none_took known memory v w kept.state kept.types kept.ids
     (λ k base head so_far agrees. subst (λ (x : Result (Unit {0}) Fault). OnErr x (Agrees memory w base head so_far)) is (appends.kept k base head so_far agrees)))
     sends.step.refused
 
-took_none : {W : Type 0} (known : Bool) (memory : W → Memory) (v w : FileSeen W) (columns : List AnyArray) (e : Fault) → WritesChunk known memory v columns (Err e) w → TakesChunks known memory v w []
+took_none : {W : Type 0} (known : Bool) (memory : W → Memory) (v w : FileSeen W) (columns : List AnyArray) (e : Fault) → WritesNext known memory v columns (Err e) w → TakesChunks known memory v w []
 took_none known memory v w columns e wrote = wrote.takes
 
 pub file_kept : {W : Type 0} (known grows : Bool) (failures room : W → ℕ) (memory : W → Memory) (v w : FileSeen W) (columns : List AnyArray) (r : Result (Unit {0}) Fault)
-    → WritesChunk known memory v columns r w → writes.SendsColumns known grows failures room memory v r w columns → OnRefused r (TookBlocks known memory v [] w)
+    → WritesNext known memory v columns r w → writes.SendsColumns known grows failures room memory v r w columns → OnRefused r (TookBlocks known memory v [] w)
 file_kept known grows failures room memory v w columns r wrote sends =
     if_refused r (λ e is kept. record {
       state = kept.state;
-      takes = took_none known memory v w columns e (subst (λ (x : Result (Unit {0}) Fault). WritesChunk known memory v columns x w) is wrote);
+      takes = took_none known memory v w columns e (subst (λ (x : Result (Unit {0}) Fault). WritesNext known memory v columns x w) is wrote);
     }) sends.step.refused
 
 -- why it is, as the call says it
@@ -121,7 +121,7 @@ abbrev pub Holds : {W : Type 0} → (W → Memory) → Endianness → W → Sche
 Holds memory order out schema cs w = Agrees memory w (before (memory out)) (normal_head order schema) (normal_chunks cs)
 
 pub begun_stream : {W : Type 0} (known : Bool) (memory : W → Memory) (order : Endianness) (out : W) (schema : Schema) (ids : IdTrees) (u v w : WriterSeen W) (cs : List Chunk) (x : Unit {0})
-    → IsTrue known → ids ≡ schema.ids → u.device ≡ out → IsFresh memory u → Begins known memory u (Ok x) v (written_head_as order schema.fields schema.metadata ids)
+    → IsTrue known → ids ≡ schema.ids → u.device ≡ out → IsFresh memory u → BeginsStream known memory u (Ok x) v (written_head_as order schema.fields schema.metadata ids)
     → TookChunks known memory v cs w → Holds memory order out schema cs w
 begun_stream {W = W} known memory order out schema ids u v w cs x k same at fresh begun took =
     let head_with : IdTrees → Head = λ is. written_head_as order schema.fields schema.metadata is in
@@ -136,7 +136,7 @@ LeftAt true s = s ≡ Finished
 LeftAt false s = s ≡ Started
 
 ends_so : {W : Type 0} (over : Bool) (e : End) (w : WriterSeen W) (bytes : List ℕ) (head : Head) (cs : List Chunk) → EndsAs over e → LeftAt over w.state → StreamIs w.state w bytes head cs → EndsSo e bytes head cs
-ends_so true marked w bytes head cs is left h = let closed : IsClosed bytes head cs = subst (λ (s : WriterState). StreamIs s w bytes head cs) left h in closed.stream
+ends_so true marked w bytes head cs is left h = let closed : HasEnded bytes head cs = subst (λ (s : WriterState). StreamIs s w bytes head cs) left h in closed.stream
 ends_so true (waits known begun) w bytes head cs is left h = (let no : waits known begun ≡ marked = is in absurd cc)
 ends_so true faulty w bytes head cs is left h = (let no : faulty ≡ marked = is in absurd cc)
 ends_so false (waits known begun) w bytes head cs is left h =
@@ -179,7 +179,7 @@ whole_file w order fs es ids pairs bytes cs o f m i p whole =
       dictionaries = w.dictionaries;
       blocks = w.blocks;
       file = subst (λ (x : FileMetadata). IsFile bytes x cs) said whole.file;
-      stream = subst (λ (x : Head). EndsStream bytes x cs) begun (whole.stream refl);
+      stream = subst (λ (x : Head). EndsStreamBehind bytes x cs) begun (whole.stream refl);
     }
 
 -- a writer that was made, took its pairs and was started

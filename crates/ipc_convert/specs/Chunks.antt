@@ -27,8 +27,8 @@ abbrev pub Nothing : {S : Type 0} → Moved S → Type 0
 Nothing {S} moved = (a : S) → moved a [] a
 
 -- what moved in two steps moved one behind the other
-abbrev pub InOrder : {S : Type 0} → Moved S → Type 0
-InOrder {S} moved = (a : S) (xs : List Chunk) (b : S) (ys : List Chunk) (c : S) → moved a xs b → moved b ys c → moved a (xs ++ ys) c
+abbrev pub MovedInTurn : {S : Type 0} → Moved S → Type 0
+MovedInTurn {S} moved = (a : S) (xs : List Chunk) (b : S) (ys : List Chunk) (c : S) → moved a xs b → moved b ys c → moved a (xs ++ ys) c
 
 -- the next chunk came, or none, and so it ended
 abbrev pub CameNext : {S : Type 0} → Moved S → (S → Ending → S → Type 0) → S → Next → S → Type 0

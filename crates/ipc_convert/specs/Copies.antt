@@ -17,12 +17,12 @@ use Rattle.ipc_schema_write.specs.WriterAnswers.{written_head_as}
 use Rattle.ipc_write.specs.Agreement.{WasStarted}
 use Rattle.ipc_file_laws.specs.Appending.{normal_chunk}
 use Rattle.ipc_file_write.specs.Calls.{IsWrittenFile}
-use Rattle.ipc_sessions.specs.Sessions.{Adds, KeepsOld}
+use Rattle.ipc_sessions.specs.Sessions.{GainsChunks, KeepsOld}
 
 -- ---- what is read
 
 -- The chunks at the blocks of a file are these. Where it has no block, its dictionaries are not asked for.
-pub record HasChunks (bytes : List ℕ) (m : FileMetadata) (cs : List Chunk) : Type 0 where
+pub record HasBlockChunks (bytes : List ℕ) (m : FileMetadata) (cs : List Chunk) : Type 0 where
   pub known : Dictionaries
   pub dictionaries : (m.blocks ≡ []) ⊎ (file_dictionaries m bytes ≡ Some known)
   pub chunks : chunks_at m known (all_of bytes) None None m.blocks ≡ map Some cs
@@ -64,7 +64,7 @@ pub record AppendsTo (old new : List ℕ) (schema : Schema) (cs : List Chunk) : 
   pub metadata : FileMetadata
   pub read : metadata_of old ≡ Some metadata
   pub same : AreSame (schema.fields, schema.metadata) schema.ids (metadata.schema.fields, metadata.schema.metadata) metadata.schema.ids
-  pub adds : Adds old new (normal_chunks cs)
+  pub adds : GainsChunks old new (normal_chunks cs)
   pub keeps : KeepsOld metadata old new
 
 -- ---- one from the other
@@ -90,7 +90,7 @@ pub record CopiesFile (bytes : List ℕ) (Writes : Schema → Pairs → List Chu
   pub metadata : FileMetadata
   pub read : metadata_of bytes ≡ Some metadata
   pub chunks : List Chunk
-  pub has : HasChunks bytes metadata chunks
+  pub has : HasBlockChunks bytes metadata chunks
   pub written : Writes metadata.schema metadata.pairs chunks
 
 -- the same of a device, where it is memory and the file stands at its beginning

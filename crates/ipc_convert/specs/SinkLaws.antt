@@ -9,7 +9,7 @@ use Rattle.ipc_write.specs.Writers.{WriterSeen, seen}
 use Rattle.ipc_file_write.specs.FileWriters as files
 use Rattle.ipc_sessions.specs.Steps.{TakesChunks}
 use Rattle.ipc_sessions.proofs.Writes.{takes_both, takes_none}
-use Rattle.ipc_convert.specs.Chunks.{InOrder, Nothing}
+use Rattle.ipc_convert.specs.Chunks.{MovedInTurn, Nothing}
 use Rattle.ipc_convert.specs.Copies.{normal_chunks}
 use Rattle.ipc_convert.specs.Sinks.{FileTook, StreamTook, TookChunks}
 
@@ -36,13 +36,13 @@ stream_took_nothing known memory a = record {
   stream = λ k base head so_far agrees. subst (λ (cs : List Chunk). Agrees memory (seen a) base head cs) (sym (append-nil so_far)) agrees;
 }
 
-pub stream_took_in_order : {W : Type 0} (known : Bool) (memory : W → Memory) → InOrder (StreamTook known memory)
+pub stream_took_in_order : {W : Type 0} (known : Bool) (memory : W → Memory) → MovedInTurn (StreamTook known memory)
 stream_took_in_order known memory a xs b ys c one more = took_chunks known memory (seen a) (seen b) (seen c) xs ys one more
 
 pub file_took_nothing : {W : Type 0} (known : Bool) (memory : W → Memory) → Nothing (FileTook known memory)
 file_took_nothing known memory a = record { state = refl; takes = takes_none known memory (files.seen a) }
 
-pub file_took_in_order : {W : Type 0} (known : Bool) (memory : W → Memory) → InOrder (FileTook known memory)
+pub file_took_in_order : {W : Type 0} (known : Bool) (memory : W → Memory) → MovedInTurn (FileTook known memory)
 file_took_in_order known memory a xs b ys c one more = record {
   state = more.state ∙ one.state;
   takes = subst (λ (cs : List Chunk). TakesChunks known memory (files.seen a) (files.seen c) cs) (sym (map-append normal_chunk xs ys))

@@ -11,7 +11,7 @@ use Rattle.ipc_readers.specs.Streams.{device_of}
 use Rattle.ipc_readers.specs.declared.read.stream.reader.StreamReader.{StreamReader}
 use Rattle.ipc_file_readers.specs.Readers as files
 use Rattle.ipc_file_readers.specs.declared.read.reader.state.FileReader.{FileReader}
-use Rattle.ipc_convert.specs.Chunks.{InOrder, Nothing}
+use Rattle.ipc_convert.specs.Chunks.{MovedInTurn, Nothing}
 use Rattle.ipc_convert.specs.Sources.{FileCame, FirstAre, GaveBlocks, GaveChunks, StreamCame, bytes_of, meant_by}
 
 -- ---- a stream
@@ -43,7 +43,7 @@ gave_chunks gives law a b c xs ys one more = record {
       (q.0, q.1, ap (meant_by a s) (append_assoc one.bytes more.bytes zs) ∙ p.2 ∙ ap (with_chunks xs) q.2 ∙ more_left xs ys (meant_by c q.0 zs));
 }
 
-pub stream_came_in_order : {R : Type 0} (gives : Gives R) → GivesInOrder gives → InOrder (StreamCame gives)
+pub stream_came_in_order : {R : Type 0} (gives : Gives R) → GivesInOrder gives → MovedInTurn (StreamCame gives)
 stream_came_in_order gives law a xs b ys c one more = record {
   over = λ done.
       let none = one.over done in
@@ -101,7 +101,7 @@ gave_blocks memory a b c xs ys one more = record {
       (then ds (so_far ++ xs) found (one.chunks ds so_far found first));
 }
 
-pub file_came_in_order : {R : Type 0} (known : Bool) (memory : R → Memory) → InOrder (FileCame known memory)
+pub file_came_in_order : {R : Type 0} (known : Bool) (memory : R → Memory) → MovedInTurn (FileCame known memory)
 file_came_in_order known memory a xs b ys c one more = λ k whole.
     let first = one k whole in
     gave_blocks memory a b c xs ys first (more k first.whole)

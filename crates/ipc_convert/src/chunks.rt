@@ -3,7 +3,7 @@ ghost use Rattle.std.specs.Prelude.{◌≡◌, ◌∷◌, [], IfErr, IfOk, List,
 ghost use Rattle.ipc_devices.specs.Faults.{OnRefused, OwnFault};
 ghost use Rattle.ipc_model.specs.Batches.{Chunk as ChunkMeant};
 ghost use Rattle.ipc_read.specs.Chunks.{chunk_seen};
-ghost use Rattle.ipc_convert.specs.Chunks.{CameNext, Copied, CopiedOne, InOrder, Nothing, StopsCopy, StopsOne, TookWhatCame};
+ghost use Rattle.ipc_convert.specs.Chunks.{CameNext, Copied, CopiedOne, MovedInTurn, Nothing, StopsCopy, StopsOne, TookWhatCame};
 
 use ipc_base::chunk::Chunk;
 use ipc_devices::fault::{ArgFault, Fault};
@@ -49,7 +49,7 @@ pub trait Source {
     // Laws: at first none came, and what came twice stands one behind the other.
     ghost came_nothing: { Nothing came };
 
-    ghost came_in_order: { InOrder came };
+    ghost came_in_order: { MovedInTurn came };
 }
 
 /// What chunks are written to.
@@ -72,7 +72,7 @@ pub trait Sink {
     // Laws: at first none were taken, and what was taken twice stands one behind the other.
     ghost took_nothing: { Nothing took };
 
-    ghost took_in_order: { InOrder took };
+    ghost took_in_order: { MovedInTurn took };
 }
 
 /// Reads all chunks that come, and writes each as soon as it is read: just these were taken then.

@@ -1,7 +1,7 @@
 -- Runs of reads one after another, and over memory.
-use Rattle.std.proofs.Common.{◌≡◌, ℕ, ◌+◌, List, [], ◌++◌, length, refl, sym, ap, ◌∙◌, subst, IsTrue, Bool, append_assoc, append-nil}
+use Rattle.std.proofs.Common.{◌≡◌, ℕ, ◌+◌, List, [], ◌++◌, refl, sym, ◌∙◌, subst, IsTrue, Bool, append_assoc, append-nil}
 use Rattle.ipc_devices.specs.Device.{Memory, after}
-use Rattle.ipc_devices.specs.Gives.{Stop, going, ended, failed, Gives, GivesInOrder, GivesAhead, GivesNothing, Takes, Follows, Gave, GaveTo}
+use Rattle.ipc_devices.specs.Gives.{Stop, going, ended, failed, Gives, GivesInOrder, GivesAhead, GivesNothing, Follows, Gave, GaveTo}
 
 -- one run behind another: what is left of the first is ahead of the second
 pub gave_then : {S : Type 0} (gives : Gives S) → GivesInOrder gives → (V W X : List ℕ → Type 0) (P Q T : List ℕ → List ℕ → Type 0) (a b : S) (e : Stop) (c : S)

@@ -1,8 +1,8 @@
 -- What the reads of memory give.
-use Rattle.std.proofs.Common.{◌≡◌, ◌⊎◌, ℕ, ◌+◌, ◌<◌, ◌≤◌, List, [], ◌++◌, length, take, drop, min, refl, sym, ap, ◌∙◌, arith, add-zero, inl, inr, length-drop, length-take, take-append-drop}
-use Rattle.std.proofs.lemmas.List.{nil_from_length, take_at, take_all, drop-drop, length-take-le}
+use Rattle.std.proofs.Common.{◌≡◌, ◌⊎◌, ℕ, ◌+◌, ◌<◌, ◌≤◌, List, [], ◌++◌, length, take, drop, min, refl, sym, ◌∙◌, arith, add-zero, inl, inr, length-take, take-append-drop}
+use Rattle.std.proofs.lemmas.List.{nil_from_length, take_at, drop-drop, length-take-le}
 use Rattle.std.proofs.lemmas.Bool.{cases_lt}
-use Rattle.ipc_devices.specs.Device.{Memory, after, most}
+use Rattle.ipc_devices.specs.Device.{most}
 use Rattle.ipc_devices.specs.Gives.{going, ended, MemoryGives}
 
 -- the next n bytes

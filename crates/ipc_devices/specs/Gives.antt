@@ -1,5 +1,5 @@
 -- What the reads of a device gave, from one state of it to another.
-use Rattle.std.specs.Prelude.{◌≡◌, ◌⊎◌, ℕ, ◌+◌, ◌<◌, ◌≤◌, min, Bool, IsTrue, List, [], ◌++◌, length, take, drop, Option, Some, None, Result, Ok, Err}
+use Rattle.std.specs.Prelude.{◌≡◌, ◌⊎◌, ℕ, ◌+◌, ◌<◌, ◌≤◌, min, Bool, IsTrue, List, [], ◌++◌, length, take, Option, Some, None, Result, Ok, Err}
 use Rattle.ipc_devices.specs.Device.{Memory, Rises, after, most}
 use Rattle.ipc_devices.specs.declared.fault.Fault.{Fault}
 use Rattle.ipc_devices.specs.declared.fault.Fault.TheVariants.{Ended, Io}
@@ -53,12 +53,12 @@ GivesAhead {S} known gives memory = (a : S) (xs : List ℕ) (e : Stop) (b : S) �
     → Takes e xs (after (memory a)) (after (memory b))
 
 -- the bytes are the same, and the place is behind those that were given: where none were, nothing changed
-abbrev pub Moves : (m : Memory) (n : ℕ) (m' : Memory) → Type 0
-Moves m n m' = (m'.whole ≡ m.whole) × (m'.place ≡ m.place + n)
+abbrev pub MovesPlace : (m : Memory) (n : ℕ) (m' : Memory) → Type 0
+MovesPlace m n m' = (m'.whole ≡ m.whole) × (m'.place ≡ m.place + n)
 
 abbrev pub GivesStill : {S : Type 0} → Bool → Gives S → (S → Memory) → Type 0
 GivesStill {S} still gives memory = (a : S) (xs : List ℕ) (e : Stop) (b : S) → IsTrue still → gives a xs e b
-    → Moves (memory a) (length xs) (memory b)
+    → MovesPlace (memory a) (length xs) (memory b)
 
 -- ---- one call
 
@@ -83,7 +83,7 @@ SkipGives gives a count (Err e) b = (xs : List ℕ) × (length xs < count) × gi
 
 -- the reads of memory
 pub record MemoryGives (m : Memory) (given : ℕ) (xs : List ℕ) (e : Stop) (m' : Memory) (given' : ℕ) : Type 0 where
-  pub moves : Moves m (length xs) m'
+  pub moves : MovesPlace m (length xs) m'
   pub counts : Counts given (length xs) given'
   pub takes : Takes e xs (after m) (after m')
   pub succeeds : Fails e 0 0

@@ -1,8 +1,7 @@
 -- The laws of reads, for memory and for devices of which the counts alone are known.
-use Rattle.std.proofs.Common.{◌≡◌, ℕ, ◌+◌, ◌-◌, ◌<◌, ◌≤◌, List, [], ◌∷◌, ◌++◌, length, take, drop, min, refl, sym, ap, arith, length-append, ◌∙◌, append_assoc, IsTrue, false}
-use Rattle.std.proofs.lemmas.List.{take_at, take_all, take-take, length-take}
+use Rattle.std.proofs.Common.{◌≡◌, ℕ, ◌+◌, ◌-◌, ◌<◌, ◌≤◌, List, [], ◌∷◌, ◌++◌, length, take, refl, sym, ap, arith, length-append, ◌∙◌, append_assoc, IsTrue, false}
 use Rattle.std.proofs.Math.Seq.{take-append-add}
-use Rattle.ipc_devices.specs.Device.{Memory, after, Rises, most}
+use Rattle.ipc_devices.specs.Device.{Memory, after}
 use Rattle.ipc_devices.specs.Gives.{Stop, going, ended, failed, Fails, Counts, Takes, MemoryGives, CountsGive}
 
 pub counts_more : (g n m k h : ℕ) → Counts g n h → Counts h m k → Counts g (n + m) k

@@ -3,9 +3,9 @@
 //! The standard devices don't say when a call of theirs may fail. These do: a call answers an error
 //! only where the device counted a failure in it, or where the growth of a writer over memory was
 //! refused. A call that failed isn't tried again.
-ghost use Rattle.std.specs.Prelude.{◌≡◌, ℕ, ◌+◌, ◌<◌, ◌≤◌, ◌↔◌, Bool, List, [], length, take, drop, IsTrue, IsSome, ◌⊎◌, IfOk, IfSome, OnOk, OnErr, MatchResult, MatchOption};
+ghost use Rattle.std.specs.Prelude.{◌≡◌, ℕ, ◌+◌, ◌<◌, ◌≤◌, ◌↔◌, Bool, List, [], length, take, IsTrue, IsSome, ◌⊎◌, IfOk, IfSome, OnOk, OnErr, MatchResult, MatchOption};
 ghost use Rattle.std.specs.Io.{ReadsAtMost, WritesAtMost};
-ghost use Rattle.ipc_devices.specs.Device.{Rises, after, counted, Memory, ReadsFront, WritesOver, GoesTo};
+ghost use Rattle.ipc_devices.specs.Device.{Rises, counted, Memory, ReadsFront, WritesOver, GoesTo};
 ghost use Rattle.ipc_devices.specs.Gives.{Stop, going, failed, ReadGives, SkipGives, GivesNothing, GivesInOrder, GivesCounted, GivesFails, GivesAhead, GivesStill};
 ghost use Rattle.std.specs.Io.BufRead.{Rests};
 ghost use types.Logic.{sem};

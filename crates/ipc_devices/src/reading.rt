@@ -3,7 +3,7 @@ ghost use Rattle.std.specs.Prelude.{◌≡◌, ◌+◌, ◌^◌, ◌<◌, ◌≤
 ghost use Rattle.ipc_devices.specs.Device.{Rises, after};
 ghost use Rattle.ipc_devices.specs.Faults.{OnIo, UnlessIo, OwnFault, Answers};
 ghost use Rattle.ipc_devices.specs.Gives.{FillGives, IntoGives, PieceGives, StopsBefore, going};
-ghost use Rattle.ipc_devices.specs.Reading.{Filled, MovesBytes};
+ghost use Rattle.ipc_devices.specs.Reading.{HasRead, MovesBytes};
 ghost use Rattle.ipc_devices.specs.declared.fault.Fault.TheVariants.{Ended};
 
 use crate::device::Reads;
@@ -23,7 +23,7 @@ pub fn fill<R: Reads>(reader: &mut R, buf: &mut [u8]) -> io::Result<usize>
     ensures done { OnOk result (R.failures reader.new ≡ R.failures reader.old) }
     ensures given { R.given reader.new ≤ R.given reader.old + length buf.old }
     ensures memory { IsTrue R.known → IfOk result (λ n.
-        Filled (after (R.memory reader.old)) (after (R.memory reader.new)) n buf.new) }
+        HasRead (after (R.memory reader.old)) (after (R.memory reader.new)) n buf.new) }
     ensures whole { IsTrue R.still → (R.memory reader.new).whole ≡ (R.memory reader.old).whole }
 {
     let mut at = 0;

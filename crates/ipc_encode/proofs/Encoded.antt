@@ -22,7 +22,7 @@ use Rattle.ipc_model.specs.Accepted.{body_length}
 use Rattle.ipc_model.specs.Offers.{body_lengths}
 use Rattle.ipc_plan.specs.Batches.{body_of_plan, lists_of_plan}
 use Rattle.ipc_plan.specs.Bodies.{PlansColumns}
-use Rattle.ipc_plan.specs.Levels.{joined}
+use Rattle.ipc_plan.specs.Levels.{joined_buffers}
 use Rattle.ipc_plan.specs.Pieces.{pieces_bytes}
 use Rattle.ipc_plan.specs.Taking.{AreShort}
 use Rattle.ipc_plan.specs.declared.plan.Plan.{Plan}
@@ -42,7 +42,7 @@ pub encoded : (kind : BatchKind) (order : Endianness) (ls : List Layout) (rows :
     → AreArrays (layouts ls) → PlansColumns order ls p → AreShort (levels_of ls) → p.end ≡ body_length (body_lengths (levels_of ls)) → p.end < 2 ^ 63 → IsMessageOfPlan m kind given p → IdFits kind → given ≡ pos rows → rows < 2 ^ 63
     → IsEncoding metadata (message_slots m) → HaveRoot metadata (IsMessage 0) m → q.pieces.items ≡ p.pieces.items → IsEncoded kind order ls rows metadata (pieces_bytes order q.pieces.items)
 encoded kind order ls rows p q m given metadata arrays plans short room small is id_fits same few encodes root left =
-    let bs = joined plans.buffers in
+    let bs = joined_buffers plans.buffers in
     let sent = pieces_bytes order q.pieces.items in
     let bytes : sent ≡ body_of_plan p = ap (λ ps. pieces_bytes order ps) left ∙ sym (planned order ls p plans) in
     let long : p.end ≡ length sent = planned_end order ls p plans ∙ ap (λ ps. length (pieces_bytes order ps)) (sym left) in

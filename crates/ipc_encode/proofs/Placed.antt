@@ -5,7 +5,7 @@ use Rattle.std.proofs.lemmas.List.{take_at, drop_at, length-replicate}
 use Rattle.ipc_views.specs.declared.message.FieldNode.{FieldNode}
 use Rattle.ipc_model.specs.Entries.{Entries, Part, part_at, buffer}
 use Rattle.ipc_model.specs.WrittenBatches.{padded, entry}
-use Rattle.ipc_plan.specs.Meaning.{IsPart, NodesStand, PartsStand}
+use Rattle.ipc_plan.specs.Meaning.{IsBufferOf, NodesStand, PartsStand}
 use Rattle.ipc_plan.specs.Plans.{body, end_from, entries_from}
 
 -- ---- lists
@@ -36,7 +36,7 @@ length_padded xs =
     omega (arith, length-append xs (replicate n zero_byte), length-replicate n zero_byte)
 
 -- the buffer at place o of a body, whose bytes stand behind `front` in the source
-part_placed : (source front : List ℕ) (base o : ℕ) (x rest : List ℕ) → source ≡ front ++ (padded x ++ rest) → length front ≡ base + o → IsPart (part_at source base (entry (pos o) (length x))) x
+part_placed : (source front : List ℕ) (base o : ℕ) (x rest : List ℕ) → source ≡ front ++ (padded x ++ rest) → length front ≡ base + o → IsBufferOf (part_at source base (entry (pos o) (length x))) x
 part_placed source front base o x rest e h = record {
   offset_is = search rules;
   listed_is = refl;
@@ -58,7 +58,7 @@ parts_placed s source done base o front behind (x ∷ bs) rest e f h =
     let far : length (done ++ padded x) ≡ base + (o + n) = omega (arith, length-append done (padded x), length_padded x, h) in
     let long : length (front ++ p ∷ []) ≡ length front + 1 = length-append front (p ∷ []) in
     let is : buffer s (length front) ≡ p = ap (λ (ps : List Part). get_or ps (length front) (record { offset = pos 0; length = pos 0; bytes = [] })) e ∙ at_front front p _ _ in (
-      subst (λ (q : Part). IsPart q x) (sym is) (part_placed source done base o x (body bs ++ rest) here h),
+      subst (λ (q : Part). IsBufferOf q x) (sym is) (part_placed source done base o x (body bs ++ rest) here h),
       subst (λ (k : ℕ). PartsStand s k bs) long (parts_placed s source (done ++ padded x) base (o + n) (front ++ p ∷ []) behind bs rest (e ∙ one_more front p _) then far),
     )
 

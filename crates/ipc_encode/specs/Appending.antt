@@ -16,10 +16,10 @@ use Rattle.ipc_model.specs.Entries.{Dictionaries, Entries, size}
 use Rattle.ipc_model.specs.Kinds.{Kind}
 use Rattle.ipc_model.specs.Offers.{body_lengths, whole_levels}
 use Rattle.ipc_model.specs.TypeKinds.{kind_of}
-use Rattle.ipc_plan.specs.Levels.{HaveBuffers, joined, node_of}
+use Rattle.ipc_plan.specs.Levels.{HaveBuffers, joined_buffers, node_of}
 use Rattle.ipc_plan.specs.Meaning.{Knows}
 use Rattle.ipc_plan.specs.Plans.{Adds, body, entries_from}
-use Rattle.ipc_plan.specs.Taking.{AreShort, Refuses}
+use Rattle.ipc_plan.specs.Taking.{AreShort, RefusesLength}
 use Rattle.ipc_plan.specs.declared.plan.Plan.{Plan}
 
 -- the parts of a batch: its nodes, its buffers, the bytes of its body, and where the next buffer begins, counted from the body's first byte
@@ -51,9 +51,9 @@ pub record PlansFrom (order : Endianness) (start : ℕ) (hs : List Level) (p : P
   pub adds : Adds begun p hs
 
 -- Levels are taken just where each length, and the place behind them, can be said, or memory was refused.
-abbrev pub Answers : {X : Type 0} → Result X Fault → List Level → ℕ → Type 0
-Answers r hs start =
-    MatchResult r (λ _. AreShort hs × IsSayable (start + body_length (body_lengths hs))) (Refuses (AreShort hs) (start + body_length (body_lengths hs)))
+abbrev pub TakesSayable : {X : Type 0} → Result X Fault → List Level → ℕ → Type 0
+TakesSayable r hs start =
+    MatchResult r (λ _. AreShort hs × IsSayable (start + body_length (body_lengths hs))) (RefusesLength (AreShort hs) (start + body_length (body_lengths hs)))
 
 -- ---- what is appended, and what it means
 
@@ -65,7 +65,7 @@ pub record Has {A : Type 0} (all : List A) (k : ℕ) (part : List A) : Type 0 wh
   pub place_is : length before ≡ k
 
 -- the column at node a and buffer b is well formed, without a limit, and has just these slots
-pub record IsColumn (s : Entries) (t : Kind) (a b : ℕ) (xs : List Slot) : Type 0 where
+pub record MeansSlots (s : Entries) (t : Kind) (a b : ℕ) (xs : List Slot) : Type 0 where
   pub well : IsWell s t a b None
   pub slots_are : column s t a b None ≡ xs
 
@@ -76,24 +76,24 @@ MeansArray order l offset nodes buffers bytes =
     (lists : Lists) (body : Body) (a b : ℕ) (known : Dictionaries) (id : Option ℤ) (is : IdTrees)
     → Has lists.nodes a nodes → Has lists.buffers b buffers → Has body.source (body.base + offset) bytes
     → Knows (entries_of lists body order 0 known) l id is
-    → IsColumn (entries_of lists body order 0 known) (kind_of (type_of l) id is) a b (slots l)
+    → MeansSlots (entries_of lists body order 0 known) (kind_of (type_of l) id is) a b (slots l)
 
 -- To the parts of a batch are appended the nodes of an array's levels and their buffers, one behind the other from the offset on, each padded with zeros to a
 -- multiple of 64 bytes; the offset is then behind them. They mean the array.
-pub record Appends (order : Endianness) (l : Layout) (old new : BatchParts) : Type 0 where
+pub record JoinsParts (order : Endianness) (l : Layout) (old new : BatchParts) : Type 0 where
   pub buffers : List (List (List ℕ))
   pub have : HaveBuffers order (whole_levels l) buffers
   pub nodes_are : new.nodes ≡ old.nodes ++ map node_of (whole_levels l)
-  pub buffers_are : new.buffers ≡ old.buffers ++ entries_from (size old.offset) (joined buffers)
-  pub bytes_are : new.bytes ≡ old.bytes ++ body (joined buffers)
-  pub offset_is : new.offset ≡ pos (size old.offset + length (body (joined buffers)))
-  pub means : MeansArray order l (size old.offset) (map node_of (whole_levels l)) (entries_from (size old.offset) (joined buffers)) (body (joined buffers))
+  pub buffers_are : new.buffers ≡ old.buffers ++ entries_from (size old.offset) (joined_buffers buffers)
+  pub bytes_are : new.bytes ≡ old.bytes ++ body (joined_buffers buffers)
+  pub offset_is : new.offset ≡ pos (size old.offset + length (body (joined_buffers buffers)))
+  pub means : MeansArray order l (size old.offset) (map node_of (whole_levels l)) (entries_from (size old.offset) (joined_buffers buffers)) (body (joined_buffers buffers))
 
 -- ---- equal arrays
 
 -- Two arrays of one type with the same slots, however they lie in memory, mean the same column: of the same kind under the same ids, and with the same slots.
 abbrev pub SameMeaningLaw : Type 0
 SameMeaningLaw = (s s' : Entries) (a b a' b' : ℕ) (l l' : Layout) (id : Option ℤ) (is : IdTrees) → type_of l ≡ type_of l' → slots l ≡ slots l'
-    → IsColumn s (kind_of (type_of l) id is) a b (slots l) → IsColumn s' (kind_of (type_of l') id is) a' b' (slots l')
+    → MeansSlots s (kind_of (type_of l) id is) a b (slots l) → MeansSlots s' (kind_of (type_of l') id is) a' b' (slots l')
     → (kind_of (type_of l) id is ≡ kind_of (type_of l') id is)
     × (column s (kind_of (type_of l) id is) a b None ≡ column s' (kind_of (type_of l') id is) a' b' None)

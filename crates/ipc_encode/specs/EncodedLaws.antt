@@ -8,7 +8,7 @@ use Rattle.lower_arrays.specs.Slots.{slots}
 use Rattle.ipc_model.specs.Batches.{Place, Schema, dictionary_meaning, place_of, places, extra_of}
 use Rattle.ipc_model.specs.Entries.{Dictionaries, Entries}
 use Rattle.ipc_model.specs.Streams.{Head, Header, Known, header_of, whole}
-use Rattle.ipc_model.specs.WrittenLaws.{IsWritten}
+use Rattle.ipc_model.specs.WrittenLaws.{BeginsWithRecord}
 use Rattle.ipc_plan.specs.Batches.{AreLike, HaveRows, chunk_named}
 use Rattle.ipc_plan.specs.Meaning.{Knows, KnowsAll}
 use Rattle.ipc_encode.specs.Encoding.{IsEncoded}
@@ -24,7 +24,7 @@ EncodedRecordLaw = (head : Head) (s : Known) (columns : List Layout) (rows : ℕ
     → IsEncoded Record head.schema.order columns rows metadata sent → extra_of head.version ≡ 0
     → AreLike head.schema.fields (layouts columns) → HaveRows rows columns
     → KnowsAll (knowing s.dictionaries head.schema.order) (layouts columns) head.schema.ids
-    → IsWritten head s metadata sent (chunk_named head.schema.fields columns)
+    → BeginsWithRecord head s metadata sent (chunk_named head.schema.fields columns)
 
 -- The values of a place are known where the message was read: they stand in front of those that were known before.
 pub record AreWrittenValues (schema : Schema) (known : Dictionaries) (id : ℤ) (p : Place) (values : Layout) (metadata sent : List ℕ) : Type 0 where

@@ -3,7 +3,7 @@ ghost use Rattle.std.specs.Prelude.{◌≡◌, ◌+◌, ◌^◌, ◌<◌, ◌++�
 ghost use Rattle.lower_arrays.specs.AnyLayouts.{layout_of};
 ghost use Rattle.lower_arrays.specs.Slots.{IsArray};
 ghost use Rattle.ipc_devices.specs.declared.fault.Fault.TheVariants.{Memory};
-ghost use Rattle.ipc_encode.specs.Appending.{Answers, Appends, PlansFrom, order_of};
+ghost use Rattle.ipc_encode.specs.Appending.{TakesSayable, JoinsParts, PlansFrom, order_of};
 ghost use Rattle.ipc_model.specs.Entries.{IsSize, size};
 ghost use Rattle.ipc_model.specs.Offers.{whole_levels};
 ghost use Rattle.ipc_plan.specs.Pieces.{pieces_bytes};
@@ -39,7 +39,7 @@ fn plan_from<'a>(
     ensures plans { IfOk result (λ plan. PlansFrom order start (whole_levels (layout_of array.now)) plan) }
     ensures end { IfOk result (λ plan. plan.end ≡ start + length (pieces_bytes plan.order plan.pieces.items)) }
     ensures small { IfOk result (λ plan. plan.end < 2 ^ 63) }
-    ensures takes { Answers result (whole_levels (layout_of array.now)) start }
+    ensures takes { TakesSayable result (whole_levels (layout_of array.now)) start }
     ensures array { IsArray (layout_of array.now) }
 {
     let len = array.len();
@@ -98,10 +98,10 @@ pub fn write(
     is_little_endian: bool,
 ) -> Result<(), Fault>
     requires { IsSize offset.old }
-    ensures appends { OnOk result (Appends (order_of is_little_endian) (layout_of array.now)
+    ensures appends { OnOk result (JoinsParts (order_of is_little_endian) (layout_of array.now)
         (record { nodes = nodes.old.items; buffers = buffers.old.items; bytes = arrow_data.old.items; offset = offset.old })
         (record { nodes = nodes.new.items; buffers = buffers.new.items; bytes = arrow_data.new.items; offset = offset.new })) }
-    ensures takes { Answers result (whole_levels (layout_of array.now)) (size offset.old) }
+    ensures takes { TakesSayable result (whole_levels (layout_of array.now)) (size offset.old) }
     ensures nodes { OnErr result (nodes.new.items ≡ nodes.old.items) }
     ensures buffers { OnErr result (buffers.new.items ≡ buffers.old.items) }
     ensures bytes { OnErr result (arrow_data.new.items ≡ arrow_data.old.items) }

@@ -14,7 +14,7 @@ use Rattle.ipc_laws.specs.Messages.{message_bytes}
 use Rattle.ipc_laws.specs.Places.{head_written}
 use Rattle.ipc_laws.specs.Remembered.{filled_of}
 use Rattle.ipc_footers.proofs.FileTails.{law}
-use Rattle.ipc_file_laws.specs.FileBytes.{AreValues, FileEndLaw, FileGrowLaw, FileSizeLaw, FileStartLaw, FileWriteLaw, IsColumns, Sent, all_bytes, block_at, blocks_at, chunk_bytes, file_so_far, sent_bytes}
+use Rattle.ipc_file_laws.specs.FileBytes.{AreValueMessages, FileEndLaw, FileGrowLaw, FileSizeLaw, FileStartLaw, FileWriteLaw, IsColumns, Sent, all_bytes, block_at, blocks_at, chunk_bytes, file_so_far, sent_bytes}
 
 pub start_law : FileStartLaw
 start_law schema size bytes = record { chunks = λ pairs. record { known = []; agrees = record { each = λ i. refl }; blocks = record { dictionaries = refl; chunks = refl } } }
@@ -64,7 +64,7 @@ stands-at m front behind w metadata body e f room = record {
   room = omega (arith, ap length f, room);
 }
 
-stand-in-order : (order : Endianness) (m : FileMetadata) (front back : List ℕ) (ps : List FilledPlace) (ws : List Sent) → AreValues order ps ws → length (all_bytes ws) ≤ m.size
+stand-in-order : (order : Endianness) (m : FileMetadata) (front back : List ℕ) (ps : List FilledPlace) (ws : List Sent) → AreValueMessages order ps ws → length (all_bytes ws) ≤ m.size
     → StandInOrder m (all_of (front ++ (all_bytes ws ++ back))) order ps (blocks_at (length front) ws)
 stand-in-order order m front back [] [] v room = refl
 stand-in-order order m front back [] (w ∷ ws) v room = absurd v

@@ -8,7 +8,7 @@ use Rattle.lower.specs.TypeTrees.{Pairs, Single, list, large_list, fixed_list, e
 use Rattle.ipc_base.specs.Fitting.{AllFit, ChildrenFit, Fits}
 use Rattle.ipc_base.specs.IdTrees.{IdTree, ids, IdTrees, no_ids, more_ids}
 use Rattle.ipc_model.specs.Batches.{Place, places}
-use Rattle.ipc_model.specs.Columns.{IsUnion}
+use Rattle.ipc_model.specs.Columns.{IsUnionKind}
 use Rattle.ipc_model.specs.Writable.{AreWritable, IsPairType, IsPlainStorage, IsPlainValue, IsWritable, IsWritableField, IsWritableGroup, IsWritableSingle, IsWritableType, SameUnderId, field_number, fields_weight, file_weight, pairs_weight, weight}
 use Rattle.ipc_laws.proofs.NormalForms.{normal_place, places_normal}
 
@@ -63,7 +63,7 @@ number-normal (more_fields f fs) = ap (λ (n : ℕ). 1 + n) (number-normal fs)
 
 group-normal : (g : Group) (fs : FieldTrees) → IsWritableGroup g fs → IsWritableGroup g (norm_fields fs)
 group-normal structure fs h = subst (λ (n : ℕ). 1 ≤ n) (sym (number-normal fs)) h
-group-normal (choice type_ids mode) fs h = subst (λ (n : ℕ). IsUnion type_ids n) (sym (number-normal fs)) h
+group-normal (choice type_ids mode) fs h = subst (λ (n : ℕ). IsUnionKind type_ids n) (sym (number-normal fs)) h
 
 value-normal : (t : TypeTree) → IsPlainValue t → IsPlainValue (norm t)
 value-normal (plain p) h = tt

@@ -13,12 +13,12 @@ use Rattle.ipc_model.specs.Writers.{IsFinished}
 use Rattle.ipc_model.specs.WrittenLaws.{prefix}
 use Rattle.ipc_laws.proofs.Chunks.{listed_law, written_chunk_law}
 use Rattle.ipc_laws.proofs.Running.{open_start, open_write}
-use Rattle.ipc_laws.specs.Chunks.{Encodes}
+use Rattle.ipc_laws.specs.Chunks.{HasMessages}
 use Rattle.ipc_laws.specs.Messages.{message_bytes}
 use Rattle.ipc_laws.specs.Places.{head_written}
 use Rattle.ipc_laws.specs.Remembered.{Remembered, filled_of, nothing_remembered}
 use Rattle.ipc_laws.specs.Runs.{IsOpen}
-use Rattle.ipc_file_laws.specs.FileBytes.{AreValues, Sent, StreamEndLaw, StreamStartLaw, StreamWriteLaw, all_bytes, chunk_bytes, file_head, sent_bytes}
+use Rattle.ipc_file_laws.specs.FileBytes.{AreValueMessages, Sent, StreamEndLaw, StreamStartLaw, StreamWriteLaw, all_bytes, chunk_bytes, file_head, sent_bytes}
 
 pub stream_start_law : StreamStartLaw
 stream_start_law metadata h some short e = record {
@@ -34,7 +34,7 @@ stream_start_law metadata h some short e = record {
 same-bytes : (metadata body : List ℕ) (w : Sent) → metadata ≡ w.metadata → body ≡ w.body → sent_bytes w ≡ message_bytes metadata body
 same-bytes metadata body w e f = ap (λ (xs : List ℕ). message_bytes xs w.body) (sym e) ∙ ap (λ (xs : List ℕ). message_bytes metadata xs) (sym f)
 
-encodes : (order : Endianness) (ps : List FilledPlace) (ws : List Sent) → AreValues order ps ws → Encodes order ps (all_bytes ws)
+encodes : (order : Endianness) (ps : List FilledPlace) (ws : List Sent) → AreValueMessages order ps ws → HasMessages order ps (all_bytes ws)
 encodes order [] [] v = refl
 encodes order [] (w ∷ ws) v = absurd v
 encodes order (p ∷ ps) [] v = absurd v

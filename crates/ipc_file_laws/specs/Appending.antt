@@ -7,7 +7,7 @@ use Rattle.ipc_model.specs.Batches.{Chunk, Column, Schema}
 use Rattle.ipc_model.specs.Entries.{Dictionaries, size}
 use Rattle.ipc_model.specs.FileFollowLaws.{BlocksMean}
 use Rattle.ipc_model.specs.Files.{FileMetadata, all_of}
-use Rattle.ipc_laws.specs.Remembered.{Agrees, Remembered}
+use Rattle.ipc_laws.specs.Remembered.{KnowsRemembered, Remembered}
 use Rattle.ipc_file_laws.specs.FileBytes.{HoldsFile}
 
 -- ---- the numbers of blocks
@@ -73,5 +73,5 @@ normal_chunk c = map normal_column c
 
 -- A writer that knows the dictionaries of a file goes on with its chunks, in the normal form of its schema.
 abbrev pub GoOnLaw : Type 0
-GoOnLaw = (m : FileMetadata) (bytes : List ℕ) (known : Dictionaries) (r : Remembered) (cs : List Chunk) → Agrees r known → MeansBefore m bytes known cs
+GoOnLaw = (m : FileMetadata) (bytes : List ℕ) (known : Dictionaries) (r : Remembered) (cs : List Chunk) → KnowsRemembered r known → MeansBefore m bytes known cs
     → HoldsFile (normal_schema m.schema) m.size (take (goes_on m) bytes) m.dictionaries m.blocks r (map normal_chunk cs)

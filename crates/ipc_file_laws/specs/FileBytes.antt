@@ -18,7 +18,7 @@ use Rattle.ipc_model.specs.Writers.{IsFinished}
 use Rattle.ipc_model.specs.WrittenLaws.{prefix}
 use Rattle.ipc_laws.specs.Blocks.{IsOfVersion}
 use Rattle.ipc_laws.specs.Bodies.{ColumnsMessage, ValuesMessage}
-use Rattle.ipc_laws.specs.Chunks.{Lists}
+use Rattle.ipc_laws.specs.Chunks.{ListsUnwritten}
 use Rattle.ipc_laws.specs.FileChunks.{HasChunks}
 use Rattle.ipc_laws.specs.Kept.{OfferKeeps}
 use Rattle.ipc_laws.specs.Messages.{chunk_written, message_bytes}
@@ -62,11 +62,11 @@ pub record IsValues (order : Endianness) (p : FilledPlace) (w : Sent) : Type 0 w
   pub version : IsOfVersion message.metadata 0
 
 -- one for each place, in order
-abbrev pub AreValues : Endianness → List FilledPlace → List Sent → Type 0
-AreValues order [] [] = Unit {0}
-AreValues order [] (w ∷ ws) = ⊥
-AreValues order (p ∷ ps) [] = ⊥
-AreValues order (p ∷ ps) (w ∷ ws) = IsValues order p w × AreValues order ps ws
+abbrev pub AreValueMessages : Endianness → List FilledPlace → List Sent → Type 0
+AreValueMessages order [] [] = Unit {0}
+AreValueMessages order [] (w ∷ ws) = ⊥
+AreValueMessages order (p ∷ ps) [] = ⊥
+AreValueMessages order (p ∷ ps) (w ∷ ws) = IsValues order p w × AreValueMessages order ps ws
 
 -- the message of some columns, of version 5
 pub record IsColumns (order : Endianness) (columns : List Layout) (w : Sent) : Type 0 where
@@ -82,8 +82,8 @@ pub record SendsChunk (order : Endianness) (fs : FieldTrees) (is : IdTrees) (bef
   pub accepted : IsAcceptedChunk fs is columns
   pub kept : OfferKeeps before (offer_of columns is)
   pub list : List FilledPlace
-  pub lists : Lists before (filled_of (layouts columns) is) list after
-  pub values : AreValues order list ws
+  pub lists : ListsUnwritten before (filled_of (layouts columns) is) list after
+  pub values : AreValueMessages order list ws
   pub own_is : IsColumns order columns own
 
 -- the bytes of it
@@ -137,28 +137,28 @@ FileEndLaw = (order : Endianness) (fs : FieldTrees) (metadata : Pairs) (is : IdT
 -- ---- without the first eight bytes
 
 -- behind what a file begins with there is a stream of these chunks
-pub record HoldsStream (bytes : List ℕ) (h : Head) (r : Remembered) (cs : List Chunk) : Type 0 where
+pub record HasStreamBehind (bytes : List ℕ) (h : Head) (r : Remembered) (cs : List Chunk) : Type 0 where
   pub stream : List ℕ
   pub bytes_are : bytes ≡ file_head ++ stream
   pub goes_on : IsOpen stream h r cs
 
 -- one that is finished
-pub record EndsStream (bytes : List ℕ) (h : Head) (cs : List Chunk) : Type 0 where
+pub record EndsStreamBehind (bytes : List ℕ) (h : Head) (cs : List Chunk) : Type 0 where
   pub stream : List ℕ
   pub bytes_are : bytes ≡ file_head ++ stream
   pub finished : IsFinished stream h cs
 
 abbrev pub StreamStartLaw : Type 0
 StreamStartLaw = (metadata : List ℕ) (h : Head) → 0 < length metadata → length metadata < 2 ^ 31 → head_of metadata ≡ Some h
-    → HoldsStream (file_head ++ message_bytes metadata []) h nothing_remembered []
+    → HasStreamBehind (file_head ++ message_bytes metadata []) h nothing_remembered []
 
 abbrev pub StreamWriteLaw : Type 0
 StreamWriteLaw = (order : Endianness) (fs : FieldTrees) (metadata : Pairs) (is : IdTrees) (bytes : List ℕ) (before after : Remembered) (cs : List Chunk)
     (columns : List Layout) (ws : List Sent) (own : Sent) → IsWritable fs metadata is
-    → HoldsStream bytes (head_written order fs metadata is) before cs → SendsChunk order fs is before after columns ws own
-    → HoldsStream (bytes ++ chunk_bytes ws own) (head_written order fs metadata is) after (cs ++ chunk_written columns ∷ [])
+    → HasStreamBehind bytes (head_written order fs metadata is) before cs → SendsChunk order fs is before after columns ws own
+    → HasStreamBehind (bytes ++ chunk_bytes ws own) (head_written order fs metadata is) after (cs ++ chunk_written columns ∷ [])
 
 -- the mark ends it, whatever stands behind
 abbrev pub StreamEndLaw : Type 0
-StreamEndLaw = (bytes rest : List ℕ) (h : Head) (r : Remembered) (cs : List Chunk) → HoldsStream bytes h r cs
-    → EndsStream (bytes ++ (prefix 0 ++ rest)) h cs
+StreamEndLaw = (bytes rest : List ℕ) (h : Head) (r : Remembered) (cs : List Chunk) → HasStreamBehind bytes h r cs
+    → EndsStreamBehind (bytes ++ (prefix 0 ++ rest)) h cs

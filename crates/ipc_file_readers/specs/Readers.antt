@@ -88,7 +88,7 @@ abbrev pub columns_asked : FileMetadata → Option (List ℕ) → List ℕ
 columns_asked m asked = chosen asked (length m.schema.fields.items)
 
 -- A reader begins at the first block, and no dictionary was read. Its rooms are empty.
-pub record Begins {R : Type 0} (reader : R) (metadata : FileMetadata) (asked : Option (List ℕ)) (limit : Limit) (x : FileReader R) : Type 0 where
+pub record IsUnread {R : Type 0} (reader : R) (metadata : FileMetadata) (asked : Option (List ℕ)) (limit : Limit) (x : FileReader R) : Type 0 where
   pub device : device_of x ≡ reader
   pub described : metadata_of x ≡ metadata
   pub asked_for : asked_of x ≡ asked

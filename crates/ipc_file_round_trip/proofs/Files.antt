@@ -20,7 +20,7 @@ use Rattle.ipc_readers.proofs.OfMemory.{no_failure}
 use Rattle.ipc_files.specs.Files.{FileReason}
 use Rattle.ipc_files.specs.Footers.{GivesPart, file_seen, optional_blocks}
 use Rattle.ipc_files.specs.declared.read.file.metadata.FileMetadata.{FileMetadata}
-use Rattle.ipc_file_round_trip.specs.Reading.{ChunksReason, HasRows, IsUnreadable, NamesOthers, ReadingReason, ReadsColumns, chunks_of, file_by, file_chunks, file_read}
+use Rattle.ipc_file_round_trip.specs.Reading.{ChunksReason, HasFirstRows, IsUnreadable, NamesOthers, ReadingReason, ReadsColumns, chunks_of, file_by, file_chunks, file_read}
 use Rattle.ipc_file_round_trip.specs.declared.read.WholeFile.{WholeFile}
 
 -- ---- what is read
@@ -91,8 +91,8 @@ metadata_refused p limit bytes e h = claims_through e _ _ (λ none. record {
   none = no_metadata p limit bytes none;
 }) h
 
-pub rows_same : (p : Option (List ℕ)) (limit : Limit) (bytes : List ℕ) (m n : Meaning) (gs : List Chunk) → n ≡ m → HasRows m bytes p limit gs → HasRows n bytes p limit gs
-rows_same p limit bytes m n gs same h = subst (λ (x : Meaning). HasRows x bytes p limit gs) (sym same) h
+pub rows_same : (p : Option (List ℕ)) (limit : Limit) (bytes : List ℕ) (m n : Meaning) (gs : List Chunk) → n ≡ m → HasFirstRows m bytes p limit gs → HasFirstRows n bytes p limit gs
+rows_same p limit bytes m n gs same h = subst (λ (x : Meaning). HasFirstRows x bytes p limit gs) (sym same) h
 
 -- ---- the metadata
 

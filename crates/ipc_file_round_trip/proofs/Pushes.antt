@@ -7,7 +7,7 @@ use Rattle.ipc_devices.specs.declared.fault.Fault.{Fault}
 use Rattle.ipc_file_readers.specs.Readers.{Answer, NextStep}
 use Rattle.ipc_file_readers.specs.Runs.{Calls}
 use Rattle.ipc_file_readers.specs.declared.read.reader.state.FileReader.{FileReader}
-use Rattle.ipc_file_round_trip.specs.Steps.{GivesAll, RefusesAll, answers_of}
+use Rattle.ipc_file_round_trip.specs.Steps.{GivesAll, RefusesBlocks, answers_of}
 
 -- an answer more, and those behind it
 answers_more : (xs ys : List (List AnyArray)) (x : List AnyArray) (rs : List Answer) → ys ≡ xs ++ x ∷ [] → answers_of xs ++ Some (Ok x) ∷ rs ≡ answers_of ys ++ rs
@@ -33,7 +33,7 @@ module _ {R : Type 0} (known still : Bool) (memory : R → Memory) (failures giv
 
   -- a fault
   pub broken_off : (first a b : FileReader R) (xs : List (List AnyArray)) (e : Fault) → NextStep known still memory failures given a (Some (Err e)) b
-      → ((rs : List Answer) → Run a rs → Run first (answers_of xs ++ rs)) → RefusesAll known still memory failures given first e
+      → ((rs : List Answer) → Run a rs → Run first (answers_of xs ++ rs)) → RefusesBlocks known still memory failures given first e
   broken_off first a b xs e step so_far = inr (record { chunks = xs; calls = so_far (Some (Err e) ∷ []) (b, step, tt) })
 
   -- the first of some calls

@@ -19,7 +19,7 @@ use Rattle.ipc_file_write.specs.Calls.{IsWrittenFile}
 use Rattle.ipc_round_trip.proofs.Streams.{finished_law, readable_law}
 use Rattle.ipc_file_round_trip.proofs.Blocks.{as_many, block_of_each, pruned_blocks, whole_blocks}
 use Rattle.ipc_file_round_trip.proofs.Files.{meant_with}
-use Rattle.ipc_file_round_trip.specs.Laws.{BatchesLaw, ChosenLaw, ReadableStreamLaw, StreamLaw, WholeLaw, WrittenLaw}
+use Rattle.ipc_file_round_trip.specs.Laws.{BatchesLaw, ChosenLaw, ReadableStreamLaw, StreamLaw, WholeFileLaw, WrittenLaw}
 use Rattle.ipc_file_round_trip.specs.Reading.{FileMeant, all_pruned, chunks_by, dictionaries_for, file_read}
 
 -- ---- files that have a meaning
@@ -29,7 +29,7 @@ in_blocks : (p : Option (List ℕ)) (limit : Limit) (m : Meaning) (ds : Dictiona
 in_blocks p limit m ds source [] o file e = e
 in_blocks p limit m ds source (b ∷ bs) o file e = ap (λ (x : Option Dictionaries). given x (λ es. chunks_by m es source p limit (b ∷ bs))) file ∙ e
 
-pub whole_law : WholeLaw
+pub whole_law : WholeFileLaw
 whole_law bytes m cs h =
     meant_with None None bytes m (Some cs) h.means.metadata
     (in_blocks None None m h.known bytes m.blocks (Some cs) h.means.dictionaries (whole_blocks m h.known bytes m.blocks cs h.means.chunks))

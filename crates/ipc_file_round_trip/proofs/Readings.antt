@@ -19,14 +19,14 @@ use Rattle.ipc_files.specs.Footers.{file_seen}
 use Rattle.ipc_files.specs.declared.read.file.metadata.FileMetadata.{FileMetadata}
 use Rattle.ipc_file_readers.proofs.Rows.{rows_law}
 use Rattle.ipc_file_readers.proofs.Runs.{items_law, over_law, told_once_law}
-use Rattle.ipc_file_readers.specs.Readers.{Answer, Begins, asked_of, block_of, blocks_left, device_of, file_of, is_over, known_of, less, metadata_of, remaining_of}
+use Rattle.ipc_file_readers.specs.Readers.{Answer, IsUnread, asked_of, block_of, blocks_left, device_of, file_of, is_over, known_of, less, metadata_of, remaining_of}
 use Rattle.ipc_file_readers.specs.Rows.{AreChunks, Mean}
 use Rattle.ipc_file_readers.specs.Runs.{AreNone, Calls, HoldsDictionaries, IsToldOnce}
 use Rattle.ipc_file_readers.specs.declared.read.reader.state.FileReader.{FileReader}
 use Rattle.ipc_file_round_trip.proofs.Blocks.{all_items, as_many, block_of_each, some_items}
 use Rattle.ipc_file_round_trip.proofs.Pushes.{calls_front}
-use Rattle.ipc_file_round_trip.specs.Reading.{HasRows, chunks_by, chunks_seen, dictionaries_for, file_chunks, rows_of}
-use Rattle.ipc_file_round_trip.specs.Steps.{BreaksOff, GivesAll, RefusesAll, answers_of}
+use Rattle.ipc_file_round_trip.specs.Reading.{HasFirstRows, chunks_by, chunks_seen, dictionaries_for, file_chunks, rows_of}
+use Rattle.ipc_file_round_trip.specs.Steps.{GivesThenFails, GivesAll, RefusesBlocks, answers_of}
 
 -- ---- where nothing comes
 
@@ -152,7 +152,7 @@ module _ {R : Type 0} (known still : Bool) (memory : R → Memory) (failures giv
   broken_in [] xs e at h = absurd (none_broken xs e (over_law known still memory failures given stays a (Broken xs e) (over at) h))
   broken_in (b ∷ bs) xs e at h = broken_by b bs _ xs e at refl h
 
-  pub no_chunks : (e : Fault) → BreaksOff known still memory failures given a e → OwnFault e (file_chunks (file_of a) source_of (asked_of a) (remaining_of a) ≡ None)
+  pub no_chunks : (e : Fault) → GivesThenFails known still memory failures given a e → OwnFault e (file_chunks (file_of a) source_of (asked_of a) (remaining_of a) ≡ None)
   no_chunks e h = broken_in (file_of a).blocks h.chunks e refl h.calls
 
   -- ---- the rows
@@ -165,7 +165,7 @@ module _ {R : Type 0} (known still : Bool) (memory : R → Memory) (failures giv
       → chunks_at (file_of a) ds (all_of source_of) None None (file_of a).blocks ≡ map Some cs → GivesAll known still memory failures given a xs → length (chunks_seen xs) ≡ length cs
   as_long ds cs xs file means h = long_in (file_of a) ds source_of (asked_of a) (remaining_of a) (file_of a).blocks cs (chunks_seen xs) file means (all_chunks xs h)
 
-  pub all_rows : (xs : List (List AnyArray)) → GivesAll known still memory failures given a xs → HasRows (file_of a) source_of (asked_of a) (remaining_of a) (chunks_seen xs)
+  pub all_rows : (xs : List (List AnyArray)) → GivesAll known still memory failures given a xs → HasFirstRows (file_of a) source_of (asked_of a) (remaining_of a) (chunks_seen xs)
   all_rows xs h = record {
     rows = λ ds cs file means q j at.
         let m = metadata_of a in
@@ -185,7 +185,7 @@ moved P m n xs ys p q l k e f g h x =
     subst (λ (v : Meaning). P v ys q k) e (subst (λ (v : List ℕ). P m v q k) f (subst (λ (v : Option (List ℕ)). P m xs v k) g (subst (λ (v : Limit). P m xs p v) h x)))
 
 module _ {R : Type 0} (known still : Bool) (memory : R → Memory) (failures given : R → ℕ) (stays : IsTrue known → IsTrue still) (k : IsTrue known) (a : FileReader R) (device : R)
-    (m : FileMetadata) (p : Option (List ℕ)) (limit : Limit) (source : List ℕ) (begins : Begins device m p limit a) (whole : (memory device).whole ≡ source) where
+    (m : FileMetadata) (p : Option (List ℕ)) (limit : Limit) (source : List ℕ) (begins : IsUnread device m p limit a) (whole : (memory device).whole ≡ source) where
   to_source : (memory (device_of a)).whole ≡ source
   to_source = ap (λ (d : R). (memory d).whole) begins.device ∙ whole
 
@@ -196,10 +196,10 @@ module _ {R : Type 0} (known still : Bool) (memory : R → Memory) (failures giv
   chunks_read xs h =
       as_asked (λ n s q l. file_chunks n s q l ≡ Some (chunks_seen xs)) (all_chunks known still memory failures given stays a k begins.unread begins.block xs h)
 
-  pub rows_read : (xs : List (List AnyArray)) → GivesAll known still memory failures given a xs → HasRows (file_seen m) source p limit (chunks_seen xs)
-  rows_read xs h = as_asked (λ n s q l. HasRows n s q l (chunks_seen xs)) (all_rows known still memory failures given stays a k begins.unread begins.block xs h)
+  pub rows_read : (xs : List (List AnyArray)) → GivesAll known still memory failures given a xs → HasFirstRows (file_seen m) source p limit (chunks_seen xs)
+  rows_read xs h = as_asked (λ n s q l. HasFirstRows n s q l (chunks_seen xs)) (all_rows known still memory failures given stays a k begins.unread begins.block xs h)
 
-  pub chunks_refused : (e : Fault) → RefusesAll known still memory failures given a e → OwnFault e (file_chunks (file_seen m) source p limit ≡ None)
+  pub chunks_refused : (e : Fault) → RefusesBlocks known still memory failures given a e → OwnFault e (file_chunks (file_seen m) source p limit ≡ None)
   chunks_refused e h = elim h [
     | inl is ↦ subst (λ (x : Fault). OwnFault x (file_chunks (file_seen m) source p limit ≡ None)) (sym is) tt
     | inr off ↦ as_asked (λ n s q l. OwnFault e (file_chunks n s q l ≡ None)) (no_chunks known still memory failures given stays a k begins.unread begins.block e off)

@@ -20,13 +20,13 @@ use Rattle.ipc_files.specs.Dictionaries.{DictionariesReason}
 use Rattle.ipc_files.specs.Footers.{file_seen}
 use Rattle.ipc_files.specs.declared.read.file.metadata.FileMetadata.{FileMetadata}
 use Rattle.ipc_file_readers.proofs.Runs.{held_before, over_law, read_now}
-use Rattle.ipc_file_readers.specs.Readers.{Answer, AreKnown, Begins, NextStep, WasNext, asked_of, block_of, columns_asked, device_of, file_of, is_over, known_of, less, metadata_of, remaining_of}
+use Rattle.ipc_file_readers.specs.Readers.{Answer, AreKnown, IsUnread, NextStep, WasNext, asked_of, block_of, columns_asked, device_of, file_of, is_over, known_of, less, metadata_of, remaining_of}
 use Rattle.ipc_file_readers.specs.Runs.{Calls}
 use Rattle.ipc_file_readers.specs.declared.read.reader.state.FileReader.{FileReader}
 use Rattle.ipc_file_round_trip.proofs.Blocks.{at_front, found_at, rows_seen, then_next}
 use Rattle.ipc_file_round_trip.proofs.Readings.{as_asked, moved, none_broken}
 use Rattle.ipc_file_round_trip.specs.Reading.{BlocksReason, ChunksReason, dictionaries_for, rows_of}
-use Rattle.ipc_file_round_trip.specs.Steps.{BreaksOff, RefusesAll, answers_of}
+use Rattle.ipc_file_round_trip.specs.Steps.{GivesThenFails, RefusesBlocks, answers_of}
 
 -- whether blocks are left, of so many
 left_over : (n i k : ℕ) → n - i ≡ suc k → nat_le n i ≡ false
@@ -162,15 +162,15 @@ module _ {R : Type 0} (known still : Bool) (memory : R → Memory) (failures giv
   reason_in [] xs a unread at h = absurd (none_broken xs e (over_law known still memory failures given stays a (Broken xs) (over a at) h))
   reason_in (b ∷ bs) xs a unread at h = first_reason xs b bs a _ unread at refl h
 
-  pub broken_reason : (a : FileReader R) → known_of a ≡ None → block_of a ≡ 0 → BreaksOff known still memory failures given a e
+  pub broken_reason : (a : FileReader R) → known_of a ≡ None → block_of a ≡ 0 → GivesThenFails known still memory failures given a e
       → OwnFault e (ChunksReason (file_of a) (whole_of a) (asked_of a) (remaining_of a) e)
   broken_reason a unread first off = reason_in (file_of a).blocks off.chunks a unread (ap (λ (i : ℕ). drop i (file_of a).blocks) first) off.calls
 
 -- ---- by what was asked of it
 
 module _ {R : Type 0} (known still : Bool) (memory : R → Memory) (failures given : R → ℕ) (stays : IsTrue known → IsTrue still) (k : IsTrue known) (a : FileReader R) (device : R)
-    (m : FileMetadata) (p : Option (List ℕ)) (limit : Limit) (source : List ℕ) (begins : Begins device m p limit a) (whole : (memory device).whole ≡ source) where
-  pub all_reason : (e : Fault) → RefusesAll known still memory failures given a e → OwnFault e (ChunksReason (file_seen m) source p limit e)
+    (m : FileMetadata) (p : Option (List ℕ)) (limit : Limit) (source : List ℕ) (begins : IsUnread device m p limit a) (whole : (memory device).whole ≡ source) where
+  pub all_reason : (e : Fault) → RefusesBlocks known still memory failures given a e → OwnFault e (ChunksReason (file_seen m) source p limit e)
   all_reason e h = elim h [
     | inl is ↦ subst (λ (x : Fault). OwnFault x (ChunksReason (file_seen m) source p limit x)) (sym is) tt
     | inr off ↦

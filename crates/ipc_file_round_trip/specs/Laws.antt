@@ -29,8 +29,8 @@ use Rattle.ipc_file_round_trip.specs.declared.read.WholeFile.{WholeFile}
 -- ---- files that are read back
 
 -- a whole file is read as what it means
-abbrev pub WholeLaw : Type 0
-WholeLaw = (bytes : List ℕ) (m : Meaning) (cs : List Chunk) → IsFile bytes m cs → file_by None None bytes ≡ Some (record { metadata = m; chunks = cs })
+abbrev pub WholeFileLaw : Type 0
+WholeFileLaw = (bytes : List ℕ) (m : Meaning) (cs : List Chunk) → IsFile bytes m cs → file_by None None bytes ≡ Some (record { metadata = m; chunks = cs })
 
 -- by any columns, each once, and any limit as the first rows of these columns
 abbrev pub ChosenLaw : Type 0
@@ -65,20 +65,20 @@ ReadableStreamLaw = (bytes : List ℕ) (order : Endianness) (fields : FieldTrees
 -- ---- files that agree
 
 -- two files agree at block i for the columns that are asked for
-pub record AgreeAt (m : Meaning) (p : Option (List ℕ)) (xs ys : List ℕ) (i : ℕ) : Type 0 where
+pub record AgreeAtBlock (m : Meaning) (p : Option (List ℕ)) (xs ys : List ℕ) (i : ℕ) : Type 0 where
   pub agree : (b : Block) → slice_get m.blocks i ≡ Some b → FilesAgree m b p xs ys
 
 -- they have one chunk there, or both none
 abbrev pub AgreeingChunksLaw : Type 0
-AgreeingChunksLaw = (m : Meaning) (known : Dictionaries) (p : Option (List ℕ)) (limit : Limit) (xs ys : List ℕ) (i : ℕ) → AgreeAt m p xs ys i
+AgreeingChunksLaw = (m : Meaning) (known : Dictionaries) (p : Option (List ℕ)) (limit : Limit) (xs ys : List ℕ) (i : ℕ) → AgreeAtBlock m p xs ys i
     → file_chunk m known xs p limit i ≡ file_chunk m known ys p limit i
 
 -- what is answered of one is right of the other
 abbrev pub AgreeingAnswersLaw : Type 0
-AgreeingAnswersLaw = (m : Meaning) (known : Dictionaries) (p : Option (List ℕ)) (limit : Limit) (xs ys : List ℕ) (i : ℕ) (r : Result (List AnyArray) Fault) → AgreeAt m p xs ys i
+AgreeingAnswersLaw = (m : Meaning) (known : Dictionaries) (p : Option (List ℕ)) (limit : Limit) (xs ys : List ℕ) (i : ℕ) (r : Result (List AnyArray) Fault) → AgreeAtBlock m p xs ys i
     → GivesPart chunk_seen r (file_chunk m known xs p limit i) → GivesPart chunk_seen r (file_chunk m known ys p limit i)
 
 -- where they agree at all blocks, and have the same dictionaries, all chunks are the same
 abbrev pub AgreeingFilesLaw : Type 0
 AgreeingFilesLaw = (m : Meaning) (p : Option (List ℕ)) (limit : Limit) (xs ys : List ℕ) → file_dictionaries m xs ≡ file_dictionaries m ys
-    → ((i : ℕ) → AgreeAt m p xs ys i) → file_chunks m xs p limit ≡ file_chunks m ys p limit
+    → ((i : ℕ) → AgreeAtBlock m p xs ys i) → file_chunks m xs p limit ≡ file_chunks m ys p limit

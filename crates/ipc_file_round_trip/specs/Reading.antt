@@ -89,14 +89,14 @@ abbrev pub file_read : WholeFile → FileMeant
 file_read f = record { metadata = file_seen f.metadata; chunks = chunks_of f }
 
 -- Where a file has a meaning, the rows of these chunks, joined, are the first rows of the columns that are asked for.
-pub record HasRows (m : Meaning) (source : List ℕ) (p : Option (List ℕ)) (limit : Limit) (gs : List Chunk) : Type 0 where
+pub record HasFirstRows (m : Meaning) (source : List ℕ) (p : Option (List ℕ)) (limit : Limit) (gs : List Chunk) : Type 0 where
   pub rows : (ds : Dictionaries) (cs : List Chunk) → file_dictionaries m source ≡ Some ds → chunks_at m ds (all_of source) None None m.blocks ≡ map Some cs
       → (q j : ℕ) → slice_get (chosen p (count (kinds m.schema))) q ≡ Some j → joined gs q ≡ first_of limit (joined cs j)
 
 -- so do those of what was read, where something was
-abbrev pub HaveRows : Option (List ℕ) → Limit → List ℕ → Option WholeFile → Type 0
-HaveRows p limit bytes None = Unit {0}
-HaveRows p limit bytes (Some f) = HasRows (file_seen f.metadata) bytes p limit (chunks_of f)
+abbrev pub HaveFirstRows : Option (List ℕ) → Limit → List ℕ → Option WholeFile → Type 0
+HaveFirstRows p limit bytes None = Unit {0}
+HaveFirstRows p limit bytes (Some f) = HasFirstRows (file_seen f.metadata) bytes p limit (chunks_of f)
 
 -- All of a file was read by columns that it has, each asked for once.
 pub record IsReadBy (p : Option (List ℕ)) (limit : Limit) (bytes : List ℕ) (f : WholeFile) : Type 0 where

@@ -32,10 +32,10 @@ pub record GivesAll {R : Type 0} (known still : Bool) (memory : R → devices.Me
   pub calls : Calls known still memory failures given a (answers_of xs ++ None ∷ [])
 
 -- They gave some chunks, and then a fault.
-pub record BreaksOff {R : Type 0} (known still : Bool) (memory : R → devices.Memory) (failures given : R → ℕ) (a : FileReader R) (e : Fault) : Type 0 where
+pub record GivesThenFails {R : Type 0} (known still : Bool) (memory : R → devices.Memory) (failures given : R → ℕ) (a : FileReader R) (e : Fault) : Type 0 where
   pub chunks : List (List AnyArray)
   pub calls : Calls known still memory failures given a (answers_of chunks ++ Some (Err e) ∷ [])
 
 -- why not all chunks were read: a fault that a call gave, or memory
-abbrev pub RefusesAll : {R : Type 0} → (known still : Bool) (memory : R → devices.Memory) (failures given : R → ℕ) → FileReader R → Fault → Type 0
-RefusesAll known still memory failures given a e = (e ≡ Memory) ⊎ BreaksOff known still memory failures given a e
+abbrev pub RefusesBlocks : {R : Type 0} → (known still : Bool) (memory : R → devices.Memory) (failures given : R → ℕ) → FileReader R → Fault → Type 0
+RefusesBlocks known still memory failures given a e = (e ≡ Memory) ⊎ GivesThenFails known still memory failures given a e

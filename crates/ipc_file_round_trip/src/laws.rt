@@ -1,11 +1,11 @@
 //! Laws of files that are read.
-ghost use Rattle.ipc_file_round_trip.specs.Laws.{AgreeingAnswersLaw, AgreeingChunksLaw, AgreeingFilesLaw, BatchesLaw, ChosenLaw, ReadableStreamLaw, StreamLaw, WholeLaw, WrittenLaw};
+ghost use Rattle.ipc_file_round_trip.specs.Laws.{AgreeingAnswersLaw, AgreeingChunksLaw, AgreeingFilesLaw, BatchesLaw, ChosenLaw, ReadableStreamLaw, StreamLaw, WholeFileLaw, WrittenLaw};
 
 /// A whole file is read as what it means, and by any columns, each asked for once, and any limit as the first rows of these columns. One
 /// that was written has the schema in its normal form with its ids, its pairs and its chunks; so the batch at each block, read at any
 /// time, is its chunk, and without the first eight bytes it can be read as a stream of the same.
 pub fn files_read_back()
-    ensures whole { WholeLaw }
+    ensures whole { WholeFileLaw }
     ensures chosen { ChosenLaw }
     ensures written { WrittenLaw }
     ensures batches { BatchesLaw }

@@ -8,8 +8,8 @@ ghost use Rattle.ipc_files.specs.Files.{FileReason};
 ghost use Rattle.ipc_files.specs.Footers.{GivesPart, file_seen};
 ghost use Rattle.ipc_projections.specs.ChosenColumns.{items_of};
 ghost use Rattle.ipc_file_readers.specs.Readers.{device_of};
-ghost use Rattle.ipc_file_round_trip.specs.Reading.{ChunksReason, HasRows, HaveRows, ReadingReason, ReadsColumns, chunks_of, file_by, file_chunks, file_read};
-ghost use Rattle.ipc_file_round_trip.specs.Steps.{GivesAll, PushesNext, RefusesAll};
+ghost use Rattle.ipc_file_round_trip.specs.Reading.{ChunksReason, HasFirstRows, HaveFirstRows, ReadingReason, ReadsColumns, chunks_of, file_by, file_chunks, file_read};
+ghost use Rattle.ipc_file_round_trip.specs.Steps.{GivesAll, PushesNext, RefusesBlocks};
 
 use ipc_base::chunk::Chunk;
 use ipc_devices::{Fault, MemFile, Reads, Seeks};
@@ -54,7 +54,7 @@ fn read_chunks<R: Reads + Seeks + Drop>(
     ensures monotone { R.failures (device_of reader.old) ≤ R.failures (device_of reader.new) }
     ensures failed { OnIo result (Rises (R.failures (device_of reader.old)) (R.failures (device_of reader.new))) }
     ensures all { IfOk result (λ chunks. GivesAll R.known R.still R.memory R.failures R.given reader.old chunks.items) }
-    ensures refused { IfErr result (RefusesAll R.known R.still R.memory R.failures R.given reader.old) }
+    ensures refused { IfErr result (RefusesBlocks R.known R.still R.memory R.failures R.given reader.old) }
 {
     let mut chunks = Vec::new(alloc);
     while push_next(reader, &mut chunks)? {}
@@ -72,7 +72,7 @@ fn read_by(
     requires { IsProjection (items_of projection) (length metadata.schema.fields.items) }
     ensures described { IfOk result (λ f. file_seen f.metadata ≡ file_seen metadata) }
     ensures chunks { GivesPart chunks_of result (file_chunks (file_seen metadata) bytes.now (items_of projection) limit) }
-    ensures rows { IfOk result (λ f. HasRows (file_seen metadata) bytes.now (items_of projection) limit (chunks_of f)) }
+    ensures rows { IfOk result (λ f. HasFirstRows (file_seen metadata) bytes.now (items_of projection) limit (chunks_of f)) }
     ensures reason { IfErr result (λ e. OwnFault e (ChunksReason (file_seen metadata) bytes.now (items_of projection) limit e)) }
     ensures device { OnIo result ⊥ }
 {
@@ -138,7 +138,7 @@ pub fn read_file_columns(
     limit: Option<usize>,
 ) -> Result<Option<WholeFile>, Fault>
     ensures columns { ReadsColumns (items_of projection) limit bytes.now result }
-    ensures rows { IfOk result (HaveRows (items_of projection) limit bytes.now) }
+    ensures rows { IfOk result (HaveFirstRows (items_of projection) limit bytes.now) }
     ensures reason { IfErr result (λ e. OwnFault e (ReadingReason (items_of projection) limit bytes.now e)) }
     ensures device { OnIo result ⊥ }
 {

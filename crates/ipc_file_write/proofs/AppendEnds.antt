@@ -1,5 +1,5 @@
 -- Where the blocks of a file that is gone on with end, and why it is refused.
-use Rattle.std.proofs.Common.{◌≡◌, ◌==◌, false, ◌⊎◌, inl, inr, ℕ, pos, ◌+◌, ◌-◌, ◌^◌, ◌<◌, ◌≤◌, min, max, Bool, IsTrue, List, [], ◌∷◌, ◌++◌, length, drop, get_or, None, refl, sym, ap, ◌∙◌, subst, arith}
+use Rattle.std.proofs.Common.{◌≡◌, ◌==◌, false, ◌⊎◌, inl, inr, ℕ, pos, ◌+◌, ◌-◌, ◌^◌, ◌<◌, ◌≤◌, min, max, Bool, IsTrue, List, [], ◌∷◌, ◌++◌, length, drop, get_or, None, sym, ap, ◌∙◌, subst, arith}
 use Rattle.std.proofs.lemmas.List.{drop_all, drop_more}
 use Rattle.ipc_devices.specs.Device.{Memory}
 use Rattle.ipc_devices.specs.Faults.{OwnFault}
@@ -11,7 +11,7 @@ use Rattle.ipc_model.specs.Files.{FileMetadata, file_dictionaries}
 use Rattle.ipc_files.specs.Dictionaries.{DictionariesReason, IsDictionaryBlockFault}
 use Rattle.ipc_file_laws.proofs.Ends.{back-has, ends-both, front-has, none_has}
 use Rattle.ipc_file_laws.specs.Appending.{HasNegative, HaveNegative, end_of, goes_on, greatest_end}
-use Rattle.ipc_file_write.specs.Appends.{CanBeWritten, HasNoDictionaries, MayGoOn, RefusesFile, RefusesNoWhole, RefusesToGoOn}
+use Rattle.ipc_file_write.specs.Appends.{CanBeWritten, MayGoOn, RefusesFile, RefusesNoWhole, RefusesToGoOn}
 use Rattle.ipc_file_write.proofs.Appends.{never_refused}
 
 -- ---- block after block

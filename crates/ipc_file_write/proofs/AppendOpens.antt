@@ -1,5 +1,5 @@
 -- What is known of a writer that goes on with a file.
-use Rattle.std.proofs.Common.{◌≡◌, ℕ, ℤ, Bool, IsTrue, List, Option, Some, None, refl, sym, ap, ◌∙◌}
+use Rattle.std.proofs.Common.{◌≡◌, ℕ, ℤ, Bool, IsTrue, Option, Some, None, refl, sym, ◌∙◌}
 use Rattle.std.specs.HashMap.{HashMap, get}
 use Rattle.std.specs.Option.{option_map}
 use Rattle.std.specs.Ordering.{int_eq}
@@ -10,13 +10,12 @@ use Rattle.lower_arrays.specs.declared.array.AnyArray.{AnyArray}
 use Rattle.ipc_columns.proofs.KnownValues.{dictionary_found}
 use Rattle.ipc_columns.specs.Bodies.{known_dictionaries}
 use Rattle.ipc_read.proofs.KnownDictionaries.{known_at}
-use Rattle.ipc_model.specs.Entries.{Dictionary}
 use Rattle.ipc_model.specs.Files.{FileMetadata, file_dictionaries}
 use Rattle.ipc_laws.specs.Agreement.{AreAlike}
 use Rattle.ipc_laws.specs.Remembered.{dictionary_of}
 use Rattle.ipc_write.specs.declared.stream.WriterState.TheVariants.{Started}
 use Rattle.ipc_file_laws.specs.Appending.{goes_on}
-use Rattle.ipc_file_write.specs.Appends.{GoesOn, MayGoOn, RemembersFile}
+use Rattle.ipc_file_write.specs.Appends.{GoesOn, MayGoOn}
 use Rattle.ipc_file_write.specs.FileWriters.{FileSeen}
 
 found-same : {Z : Type 0} (o : Option (Rc AnyArray Z)) → option_map (λ (values : Rc AnyArray Z). dictionary_of (layout_of values.value)) o ≡ dictionary_found o

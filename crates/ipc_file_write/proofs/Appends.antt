@@ -1,5 +1,5 @@
 -- What a writer that goes on with a file holds.
-use Rattle.std.proofs.Common.{◌≡◌, ◌⊎◌, inl, inr, None, ℕ, ℤ, ◌+◌, ◌-◌, ◌^◌, ◌<◌, ◌≤◌, min, max, Bool, IsTrue, true, false, List, [], ◌∷◌, ◌++◌, length, map, take, drop, replicate, Some, Option, refl, sym, ap, ap₂, ◌∙◌, subst, append-nil, arith, length-append, length-take-le, take-append-drop}
+use Rattle.std.proofs.Common.{◌≡◌, ◌⊎◌, inl, inr, None, ℕ, ℤ, ◌+◌, ◌-◌, ◌^◌, ◌<◌, ◌≤◌, max, Bool, IsTrue, false, List, [], ◌∷◌, ◌++◌, length, map, take, Some, Option, refl, sym, ap, ap₂, ◌∙◌, subst, append-nil, arith, length-append, length-take-le}
 use Rattle.std.proofs.lemmas.List.{take-take, take_at}
 use Rattle.std.proofs.Math.Seq.{take-append-add}
 use Rattle.lower.proofs.Laws.{norm_fields-norm_fields}
@@ -7,8 +7,7 @@ use Rattle.lower.specs.Normal.{norm_fields}
 use Rattle.lower.specs.TypeTrees.{Pairs}
 use Rattle.ipc_devices.specs.Device.{GoesTo, Memory, before}
 use Rattle.ipc_model.specs.Batches.{Chunk, Schema}
-use Rattle.ipc_model.specs.Entries.{Dictionaries, dictionary_at}
-use Rattle.ipc_model.specs.FileFollowLaws.{BlocksMean}
+use Rattle.ipc_model.specs.Entries.{Dictionaries}
 use Rattle.ipc_model.proofs.Given.{some-same}
 use Rattle.ipc_model.specs.Files.{FileMetadata, all_of, dictionaries_after, file_dictionaries, metadata_of}
 use Rattle.ipc_model.specs.Streams.{Head}
@@ -20,13 +19,13 @@ use Rattle.ipc_devices.specs.declared.fault.Fault.{Fault}
 use Rattle.ipc_devices.specs.declared.fault.Fault.TheVariants.{Argument, Io, Memory as NoMemory, OutOfSpec}
 use Rattle.ipc_devices.specs.declared.fault.OutOfSpecKind.TheVariants.{UnexpectedNegativeInteger}
 use Rattle.ipc_laws.specs.Agreement.{AreAlike}
-use Rattle.ipc_laws.specs.Remembered.{Agrees as KnowsJust, Remembered}
+use Rattle.ipc_laws.specs.Remembered.{KnowsRemembered, Remembered}
 use Rattle.ipc_write.specs.declared.stream.WriterState.TheVariants.{Started}
 use Rattle.ipc_file_laws.proofs.Appending.{go_on_law, stay_law}
 use Rattle.ipc_file_laws.proofs.NormalWritable.{file_weight_normal, writable_normal}
-use Rattle.ipc_file_laws.specs.Appending.{HaveNegative, MeansBefore, goes_on, greatest_end, normal_chunk, normal_schema}
+use Rattle.ipc_file_laws.specs.Appending.{HaveNegative, goes_on, greatest_end, normal_chunk, normal_schema}
 use Rattle.ipc_file_laws.proofs.FileSteps.{grow_law, size_law}
-use Rattle.ipc_file_laws.specs.FileBytes.{HoldsFile, HoldsStream, file_so_far}
+use Rattle.ipc_file_laws.specs.FileBytes.{HoldsFile, HasStreamBehind, file_so_far}
 use Rattle.ipc_footers.specs.Footers.{file_written}
 use Rattle.ipc_views.specs.declared.file.Block.{Block}
 use Rattle.ipc_file_write.specs.Appends.{GoesOn, GoesOnAgain, GoesOnWith, HasNoDictionaries, MayGoOn, RefusesFile, RefusesNoWhole, RefusesToGoOn, RemembersFile}
@@ -42,7 +41,7 @@ before_inside m m' p at inside =
     rw (at.whole, at.place, none) (append-nil (take p m.whole))
 
 -- what is remembered is what the file's dictionaries mean
-knows : (m : FileMetadata) (bytes : List ℕ) (r : Remembered) (known : Dictionaries) → RemembersFile m bytes r → file_dictionaries m bytes ≡ Some known → KnowsJust r known
+knows : (m : FileMetadata) (bytes : List ℕ) (r : Remembered) (known : Dictionaries) → RemembersFile m bytes r → file_dictionaries m bytes ≡ Some known → KnowsRemembered r known
 knows m bytes r known h is =
     let alike : AreAlike (Some known) (Some h.found) = subst (λ (o : Option Dictionaries). AreAlike o (Some h.found)) is h.alike in
     record { each = λ id. alike.each id ∙ sym (h.each id) }
@@ -173,7 +172,7 @@ module _ {W : Type 0} (known : Bool) (memory : W → Memory) (m : FileMetadata) 
       rw (g.dictionaries ∙ same-dictionaries, g.blocks ∙ same-blocks, g.size ∙ size-is, front-then)
       (subst (λ (x : Head). HoldsFile x.schema (length bytes) (h.front ++ more) a.dictionaries a.blocks w.remembers cs) same_head same)
 
-  stream-then : IsTrue is_stream → HoldsStream (take (goes_on m) bytes) (head_of_file w) w.remembers cs
+  stream-then : IsTrue is_stream → HasStreamBehind (take (goes_on m) bytes) (head_of_file w) w.remembers cs
   stream-then is_one =
       let place : goes_on m ≡ length h.front = omega (arith, open_front.last is_one, same-ends, open_front.place, far, size-is, longer) in
       let whole : take (goes_on m) bytes ≡ h.front = ap (take (goes_on m)) h.bytes_are ∙ take_at h.front h.behind (goes_on m) (sym place) in

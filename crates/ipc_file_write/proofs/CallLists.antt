@@ -21,14 +21,14 @@ use Rattle.ipc_write.specs.declared.calls.StreamCall.TheVariants.{Start, Write, 
 use Rattle.ipc_write.specs.declared.stream.WriterState.{WriterState}
 use Rattle.ipc_write.specs.declared.stream.WriterState.TheVariants.{New, Started, Finished, Failed}
 use Rattle.ipc_base.specs.IdTrees.{IdTrees}
-use Rattle.ipc_file_write.specs.Calls.{AreMade, EndsFile, Follows, HasChosen, IdsAre, IsMade, IsWrittenFile, Moves, vector, writer_seen}
+use Rattle.ipc_file_write.specs.Calls.{AreMade, EndsFile, GrowsBy, HasChosen, IdsAre, IsMade, IsWrittenFile, MakesCall, vector, writer_seen}
 use Rattle.ipc_file_write.specs.FileWriters.{Agrees, EndsWith, FileIs, FileSeen, HasNothing, IsFileOf, IsSameFile, IsWholeFile, Remains, SendsBytes, StartsWith, StateComesFirst, TakesPairs}
 use Rattle.ipc_file_write.specs.Writes.{Appends, SendsColumns}
 
 -- all calls are made, each of the writer that the one before it left
 abbrev pub AllMove : {W : Type 0} → Bool → (W → Memory) → FileSeen W → List StreamCall → List (Result (Unit {0}) Fault) → FileSeen W → Type 0
 AllMove known memory a [] [] b = b ≡ a
-AllMove {W = W} known memory a (call ∷ calls) (r ∷ rs) b = (m : FileSeen W) × (Moves known memory a call r m × AllMove known memory m calls rs b)
+AllMove {W = W} known memory a (call ∷ calls) (r ∷ rs) b = (m : FileSeen W) × (MakesCall known memory a call r m × AllMove known memory m calls rs b)
 AllMove known memory a _ _ b = ⊥
 
 module _ {W : Type 0} (known : Bool) (memory : W → Memory) where
@@ -43,7 +43,7 @@ module _ {W : Type 0} (known : Bool) (memory : W → Memory) where
   taken_first call true ps = ap (λ (cs : List Chunk). cs ++ taken ps) (append-nil (added_by call))
   taken_first call false ps = refl
 
-  pub moves_follow : (a b : FileSeen W) (calls : List StreamCall) (rs : List (Result (Unit {0}) Fault)) → AllMove known memory a calls rs b → Follows known memory a b (taken (answered (ended_as calls rs)))
+  pub moves_follow : (a b : FileSeen W) (calls : List StreamCall) (rs : List (Result (Unit {0}) Fault)) → AllMove known memory a calls rs b → GrowsBy known memory a b (taken (answered (ended_as calls rs)))
   moves_follow a b [] [] h = record { followed = λ k base cs at. subst (λ (w : FileSeen W). Agrees memory w base (cs ++ [])) (sym h) (subst (λ (xs : List Chunk). Agrees memory a base xs) (sym (append-nil cs)) at) }
   moves_follow a b [] (r ∷ rs) h = absurd h
   moves_follow a b (call ∷ calls) [] h = absurd h
@@ -113,10 +113,10 @@ chosen_of : {W : Type 0} (a b : FileSeen W) → a.state ≡ Started → b.ids �
 chosen_of a b was f g h = let had : a.ids ≡ a.chosen = subst (λ (s : WriterState). IdsAre s a.ids a.chosen) was h in f ∙ had ∙ sym g
 
 module _ {W : Type 0} (known grows : Bool) (failures room : W → ℕ) (memory : W → Memory) (a b : FileSeen W) where
-  remains : Remains known memory a b → Follows known memory a b []
+  remains : Remains known memory a b → GrowsBy known memory a b []
   remains h = record { followed = λ k base cs at. subst (λ (xs : List Chunk). Agrees memory b base xs) (sym (append-nil cs)) (h.kept k true base cs at) }
 
-  pub start_moves : (r : Result (Unit {0}) Fault) → StateComesFirst (fault_unless_new a.state) a r b → SendsBytes known grows failures room memory a r b → OnOk r (StartsWith a b) → Remains known memory a b → Moves known memory a Start r b
+  pub start_moves : (r : Result (Unit {0}) Fault) → StateComesFirst (fault_unless_new a.state) a r b → SendsBytes known grows failures room memory a r b → OnOk r (StartsWith a b) → Remains known memory a b → MakesCall known memory a Start r b
   start_moves (Ok x) first sends ok means = record {
     may = ap state_seen ok.was;
     after = writer_after_is a b _ (ap state_seen ok.is) sends.step.same.order sends.step.same.pairs;
@@ -139,7 +139,7 @@ module _ {W : Type 0} (known grows : Bool) (failures room : W → ℕ) (memory :
     chosen = chosen_stay a b sends.step.refused.state sends.step.refused.ids sends.step.same.chosen;
   }
 
-  pub finish_moves : (r : Result (Unit {0}) Fault) → StateComesFirst (fault_unless_started a.state) a r b → SendsBytes known grows failures room memory a r b → OnOk r (EndsWith a b) → Remains known memory a b → Moves known memory a Finish r b
+  pub finish_moves : (r : Result (Unit {0}) Fault) → StateComesFirst (fault_unless_started a.state) a r b → SendsBytes known grows failures room memory a r b → OnOk r (EndsWith a b) → Remains known memory a b → MakesCall known memory a Finish r b
   finish_moves (Ok x) first sends ok means = record {
     may = ap state_seen ok.was;
     after = writer_after_is a b _ (ap state_seen ok.is) sends.step.same.order sends.step.same.pairs;
@@ -163,7 +163,7 @@ module _ {W : Type 0} (known grows : Bool) (failures room : W → ℕ) (memory :
   }
 
   pub write_moves : (chunk : Bor (List AnyArray)) (r : Result (Unit {0}) Fault) → StateComesFirst (fault_unless_started a.state) a r b → SendsColumns known grows failures room memory a r b chunk.now → Appends known memory a r b (chunk_written chunk.now)
-      → Moves known memory a (Write chunk) r b
+      → MakesCall known memory a (Write chunk) r b
   write_moves chunk (Ok x) first sends means = record {
     may = ap state_seen sends.takes.was;
     after = writer_after_is a b _ (ap state_seen sends.takes.is) sends.step.same.order sends.step.same.pairs;
@@ -195,7 +195,7 @@ module _ {W : Type 0} (known grows : Bool) (failures room : W → ℕ) (memory :
   abbrev AllMade : FileSeen W → List StreamCall → List (Result (Unit {0}) Fault) → FileSeen W → Type 0
   AllMade = AreMade known grows failures room memory
 
-  pub moves_one : (a b : FileSeen W) (call : StreamCall) (r : Result (Unit {0}) Fault) → Made a call r b → Moves known memory a call r b
+  pub moves_one : (a b : FileSeen W) (call : StreamCall) (r : Result (Unit {0}) Fault) → Made a call r b → MakesCall known memory a call r b
   moves_one a b Start r h = start_moves known grows failures room memory a b r h.first h.step h.ok h.means
   moves_one a b (Write chunk) r h = write_moves known grows failures room memory a b chunk r h.first h.step h.means
   moves_one a b Finish r h = finish_moves known grows failures room memory a b r h.first h.step h.ok h.means
@@ -248,7 +248,7 @@ finished_before a v is over =
 
 -- a new writer, its pairs, and its calls
 pub file_written_by : (a b w : FileSeen (Vec ℕ Global)) (bytes : List ℕ) (fs : FieldTrees) (es : Pairs) (is : IdTrees) (order : Endianness) (pairs : Pairs) (cs : List Chunk) → IsFileOf a fs es is order [] → a.state ≡ New → HasNothing vector a
-    → a.device.items ≡ [] → TakesPairs a b pairs → Remains true vector a b → IsSameFile b w → (HasChosen b → HasChosen w) → Follows true vector b w cs → EndsFile w bytes → IsWrittenFile bytes order fs es is pairs cs
+    → a.device.items ≡ [] → TakesPairs a b pairs → Remains true vector a b → IsSameFile b w → (HasChosen b → HasChosen w) → GrowsBy true vector b w cs → EndsFile w bytes → IsWrittenFile bytes order fs es is pairs cs
 file_written_by a b w bytes fs es is order pairs cs of new nothing empty takes remains same chosen follows ends =
     let none : before (vector a.device) ≡ [] = vector_before a.device ∙ empty in
     let first : Agrees vector a [] [] = subst (λ (xs : List ℕ). Agrees vector a xs []) none nothing.agrees in

@@ -10,14 +10,14 @@ use Rattle.ipc_encode.specs.declared.batches.Encoded.{Encoded}
 use Rattle.ipc_laws.proofs.Fitting.{filled_law}
 use Rattle.ipc_laws.specs.Remembered.{Remembered, filled_of}
 use Rattle.ipc_model.specs.Offers.{FilledPlace, IsAcceptedChunk}
-use Rattle.ipc_tracker.specs.Listings.{Lists, ListsAll, remembering_all}
+use Rattle.ipc_tracker.specs.Listings.{ListsUnwritten, ListsAll, remembering_all}
 use Rattle.ipc_tracker.specs.Trackers.{IsSameMemory}
 use Rattle.ipc_views.specs.declared.schema.MetadataVersion.TheVariants.{V5}
 use Rattle.ipc_chunks.proofs.Meanings.{columns_message, sent_of, values_message}
 use Rattle.ipc_write.proofs.MessageLists.{bytes_last, in_stream}
-use Rattle.ipc_chunks.specs.Messages.{AreAllValues, AreMessages, AreValues, Message, message_seen}
+use Rattle.ipc_chunks.specs.Messages.{AreAllValues, AreMessages, AreValueMessages, Message, message_seen}
 use Rattle.ipc_write.specs.Messages.{messages_bytes}
-use Rattle.ipc_file_laws.specs.FileBytes.{AreValues as ValuesSent, IsColumns, IsValues, SendsChunk, Sent, all_bytes, chunk_bytes}
+use Rattle.ipc_file_laws.specs.FileBytes.{AreValueMessages as ValuesSent, IsColumns, IsValues, SendsChunk, Sent, all_bytes, chunk_bytes}
 use Rattle.ipc_file_write.specs.Blocks.{sent, sent_seen}
 
 pub seen_sent : (es : List Encoded) → map sent (map message_seen es) ≡ map sent_seen es
@@ -27,7 +27,7 @@ seen_sent (e ∷ es) = ap (λ (ws : List Sent). sent_seen e ∷ ws) (seen_sent e
 -- ---- what they are
 
 -- the values of a dictionary
-values_sent : (order : Endianness) (p : FilledPlace) (m : Message) → AreValues order p m → IsValues order p (sent m)
+values_sent : (order : Endianness) (p : FilledPlace) (m : Message) → AreValueMessages order p m → IsValues order p (sent m)
 unfolding values_message
 values_sent order p m h =
     let said = h.metadata_are in
@@ -65,7 +65,7 @@ sends_chunk order fs is m after columns list ds own accepted lists same all = re
   accepted = accepted;
   kept = lists.kept refl;
   list = list;
-  lists = sent_of m (filled_of (layouts columns) is) list after (subst (λ (ps : List FilledPlace). Lists m ps list) (sym (filled_law (layouts columns) is)) lists.lists) same;
+  lists = sent_of m (filled_of (layouts columns) is) list after (subst (λ (ps : List FilledPlace). ListsUnwritten m ps list) (sym (filled_law (layouts columns) is)) lists.lists) same;
   values = all_sent order list ds all.values;
   own_is = columns_sent order columns list ds own all;
 }

@@ -19,8 +19,8 @@ use Rattle.ipc_encode.specs.declared.batches.BatchKind.TheVariants.{Record, Dict
 use Rattle.ipc_model.specs.Accepted.{AreBlocks, AreKept, Brought, block_end, body_length, written_bodies}
 use Rattle.ipc_model.specs.Entries.{Dictionaries, Dictionary as Values, IsSize, dictionary_at}
 use Rattle.ipc_model.specs.Offers.{FilledPlace, body_lengths, messages, whole_levels}
-use Rattle.ipc_laws.specs.Remembered.{Agrees}
-use Rattle.ipc_tracker.specs.Listings.{Lists, listed, remembering_all}
+use Rattle.ipc_laws.specs.Remembered.{KnowsRemembered}
+use Rattle.ipc_tracker.specs.Listings.{ListsUnwritten, listed, remembering_all}
 use Rattle.ipc_tracker.specs.declared.tracker.DictionaryTracker.{DictionaryTracker}
 use Rattle.ipc_tracker.specs.declared.tracker.NewDictionary.{NewDictionary}
 use Rattle.ipc_tracker.specs.Places.{Finds}
@@ -34,7 +34,7 @@ use Rattle.ipc_file_write.proofs.PlacedMessages.{length-sent}
 -- ---- which dictionaries are listed
 
 -- there is one list
-pub lists_one : (m : Remembered) (ps ws vs : List FilledPlace) → Lists m ps ws → Lists m ps vs → ws ≡ vs
+pub lists_one : (m : Remembered) (ps ws vs : List FilledPlace) → ListsUnwritten m ps ws → ListsUnwritten m ps vs → ws ≡ vs
 lists_one m [] ws vs a b = a ∙ sym b
 lists_one m (p ∷ ps) ws vs (inl a) (inl b) = lists_one m ps ws vs a.1 b.1
 lists_one m (p ∷ ps) ws vs (inl a) (inr b) = absurd (b.0 a.0)
@@ -164,7 +164,7 @@ is_size : (n : ℕ) → IsSize (pos n)
 is_size n = search rules
 
 places_are : (order : Endianness) (columns : List Layout) (rows : ℕ) (own : Message) → IsEncoded Record order columns rows own.metadata own.body → (last m : Remembered) (known : Dictionaries) (ps list : List FilledPlace) (ds : List Message) (place : ℕ)
-    → SomeAgree m known → AreOpen m ps → Finds last ps → Lists m ps list → AreAllValues order list ds → place + length (chunk_bytes (map sent ds) (sent own)) < 2 ^ 63
+    → SomeAgree m known → AreOpen m ps → Finds last ps → ListsUnwritten m ps list → AreAllValues order list ds → place + length (chunk_bytes (map sent ds) (sent own)) < 2 ^ 63
     → AreBlocks place (blocks_at place (map sent ds ++ sent own ∷ [])) (written_bodies known (map brought ps) (map body_lengths (messages columns ps)))
 places_are order columns rows own is last m known [] list [] place agree open_places found lists values short =
     (refl, is_size (8 + length own.metadata), ap pos is.long, (let at = ends_behind place (sent own) in omega (arith, at, short)), tt)
@@ -212,7 +212,7 @@ all_open m (p ∷ ps) h = (kept_open (m p.id) p h.0, all_open m ps h.1)
 
 -- the blocks of the messages of a chunk are those that an accepted chunk adds
 pub chunk_places : (order : Endianness) (columns : List Layout) (m : Remembered) (known : Dictionaries) (ps list : List FilledPlace) (ds : List Message) (own : Message) (place : ℕ)
-    → Agrees m known → AllByRecursion (λ (b : Brought). AreKept (m b.id) b.values) (map brought ps) → Finds (remembering_all list m) ps → Lists m ps list → AreMessages order columns list ds own
+    → KnowsRemembered m known → AllByRecursion (λ (b : Brought). AreKept (m b.id) b.values) (map brought ps) → Finds (remembering_all list m) ps → ListsUnwritten m ps list → AreMessages order columns list ds own
     → place + length (chunk_bytes (map sent ds) (sent own)) < 2 ^ 63
     → AreBlocks place (blocks_at place (map sent ds ++ sent own ∷ [])) (written_bodies known (map brought ps) (map body_lengths (messages columns ps)))
 chunk_places order columns m known ps list ds own place agrees kept found lists are short =
@@ -221,11 +221,11 @@ chunk_places order columns m known ps list ds own place agrees kept found lists 
 -- ---- what is known
 
 -- what is kept of what is remembered, and of what is known
-pub kept_known : (m : Remembered) (known : Dictionaries) (bs : List Brought) → Agrees m known → AllByRecursion (λ (b : Brought). AreKept (m b.id) b.values) bs → AllByRecursion (λ (b : Brought). AreKept (dictionary_at known b.id) b.values) bs
+pub kept_known : (m : Remembered) (known : Dictionaries) (bs : List Brought) → KnowsRemembered m known → AllByRecursion (λ (b : Brought). AreKept (m b.id) b.values) bs → AllByRecursion (λ (b : Brought). AreKept (dictionary_at known b.id) b.values) bs
 kept_known m known [] agrees h = tt
 kept_known m known (b ∷ bs) agrees h = (subst (λ (o : Option Values). AreKept o b.values) (sym (agrees.each b.id)) h.0, kept_known m known bs agrees h.1)
 
-pub kept_remembered : (m : Remembered) (known : Dictionaries) (bs : List Brought) → Agrees m known → AllByRecursion (λ (b : Brought). AreKept (dictionary_at known b.id) b.values) bs → AllByRecursion (λ (b : Brought). AreKept (m b.id) b.values) bs
+pub kept_remembered : (m : Remembered) (known : Dictionaries) (bs : List Brought) → KnowsRemembered m known → AllByRecursion (λ (b : Brought). AreKept (dictionary_at known b.id) b.values) bs → AllByRecursion (λ (b : Brought). AreKept (m b.id) b.values) bs
 kept_remembered m known [] agrees h = tt
 kept_remembered m known (b ∷ bs) agrees h = (subst (λ (o : Option Values). AreKept o b.values) (agrees.each b.id) h.0, kept_remembered m known bs agrees h.1)
 
@@ -243,14 +243,14 @@ known_at {X = X} f (e ∷ es) id =
           ∙ sym (ap (λ (b : Bool). option_map f (cond b (Some e.1) (lookup (int_eq id) es))) other)
     ]
 
-pub known_agrees : {X : Type 0} (f : X → Values) (es : List (ℤ × X)) → Agrees (λ id. option_map f (lookup (int_eq id) es)) (known_of f es)
+pub known_agrees : {X : Type 0} (f : X → Values) (es : List (ℤ × X)) → KnowsRemembered (λ id. option_map f (lookup (int_eq id) es)) (known_of f es)
 known_agrees f es = record { each = known_at f es }
 
 -- the dictionaries of a tracker
 abbrev pub tracker_known : DictionaryTracker → Dictionaries
 tracker_known t = known_of (λ values. dictionary_of (layout_of values.value)) t.dictionaries.entries
 
-pub tracker_agrees : (t : DictionaryTracker) → Agrees (remembered t) (tracker_known t)
+pub tracker_agrees : (t : DictionaryTracker) → KnowsRemembered (remembered t) (tracker_known t)
 tracker_agrees t = known_agrees (λ values. dictionary_of (layout_of values.value)) t.dictionaries.entries
 
 pub count_listed : (ds : List NewDictionary) (n : ℕ) → n ≡ length ds → n ≡ length (map listed ds)

@@ -19,7 +19,7 @@ use Rattle.ipc_model.specs.Accepted.{most_blocks}
 use Rattle.ipc_model.specs.Entries.{Dictionaries}
 use Rattle.ipc_model.specs.Offers.{FilledPlace, offer_of, values_of}
 use Rattle.ipc_model.specs.Writable.{IsWritable}
-use Rattle.ipc_laws.specs.Remembered.{Agrees}
+use Rattle.ipc_laws.specs.Remembered.{KnowsRemembered}
 use Rattle.ipc_tracker.proofs.Refusals.{refusal_law}
 use Rattle.ipc_write.proofs.Acceptance.{accepted, like_fields}
 use Rattle.ipc_chunks.proofs.Dictionaries.{one_type_of}
@@ -29,7 +29,7 @@ use Rattle.ipc_chunks.specs.Messages.{AreAllValues, AreMessages, Message, Refuse
 use Rattle.ipc_write.specs.Writers.{RefusesChunk as StreamRefuses, fault_unless_started}
 use Rattle.ipc_write.specs.declared.stream.WriterState.TheVariants.{Started}
 use Rattle.ipc_file_laws.specs.FileBytes.{Sent, all_bytes, sent_bytes}
-use Rattle.ipc_file_write.specs.Blocks.{IsPlaced, RefusesPlace, RefusesPlaces, sent}
+use Rattle.ipc_file_write.specs.Blocks.{HasBlocksFrom, RefusesPlace, RefusesBlockRoom, sent}
 use Rattle.ipc_file_write.specs.FileWriters.{FileSeen}
 use Rattle.ipc_file_write.specs.Writes.{AnswersWrite, HasNoPlace, MayBeWritten, MayList, MissesWrite, RefusesChunk, RefusesRoom, RefusesSending, WritesExactly, as_stream, block_count}
 use Rattle.ipc_file_write.specs.declared.blocks.Placed.{Placed}
@@ -69,7 +69,7 @@ here_passes : (place : ℕ) (w : Sent) (ws : List Sent) (e : Fault) → IsShortH
 here_passes place w ws (Argument TooLarge) s h = inr (refl, here_far place w ws s h)
 here_passes place w ws _ s h = absurd h
 
-passes_end : (place : ℕ) (ws : List Sent) (e : Fault) → AllByRecursion IsShortHead ws → RefusesPlaces place ws e → PassesEnd place ws e
+passes_end : (place : ℕ) (ws : List Sent) (e : Fault) → AllByRecursion IsShortHead ws → RefusesBlockRoom place ws e → PassesEnd place ws e
 passes_end place ws Memory s h = inl refl
 passes_end place [] e s h = absurd h
 passes_end place (w ∷ ws) e s (inl h) = here_passes place w ws e s.0 h
@@ -77,7 +77,7 @@ passes_end place (w ∷ ws) e s (inr h) = passes_more place w ws e (passes_end (
 
 -- ---- which condition isn't met
 
-module _ {W : Type 0} (w : FileSeen W) (known : Dictionaries) (columns : List AnyArray) (ids : Option IdTrees) (agrees : Agrees w.remembers known) (writable : IsWritable w.fields w.metadata w.ids) where
+module _ {W : Type 0} (w : FileSeen W) (known : Dictionaries) (columns : List AnyArray) (ids : Option IdTrees) (agrees : KnowsRemembered w.remembers known) (writable : IsWritable w.fields w.metadata w.ids) where
   chunk_missed : (e : Fault) → RefusesChunk w columns ids e → MissesWrite w known columns ids e
   chunk_missed (Argument (DictionaryReplaced j)) (inl h) = absurd h
   chunk_missed (Argument (DictionaryReplaced j)) (inr h) =
@@ -160,8 +160,8 @@ pub answers_io : {W : Type 0} (w : FileSeen W) (known : Dictionaries) (columns :
 answers_io w known columns ids x = (tt, tt)
 
 -- a chunk that was sent
-pub answers_sent : {W : Type 0} (w : FileSeen W) (known : Dictionaries) (columns : List AnyArray) (ids : Option IdTrees) (list : List FilledPlace) (ds : List Message) (own : Message) (p : Placed) → Agrees w.remembers known
-    → MayList w columns ids list → AreMessages w.order (map layout_of columns) list ds own → IsEncodable Record (row_count len_of (map layout_of columns)) (levels_of (map layout_of columns)) → IsPlaced w.place (map sent ds) (sent own) p
+pub answers_sent : {W : Type 0} (w : FileSeen W) (known : Dictionaries) (columns : List AnyArray) (ids : Option IdTrees) (list : List FilledPlace) (ds : List Message) (own : Message) (p : Placed) → KnowsRemembered w.remembers known
+    → MayList w columns ids list → AreMessages w.order (map layout_of columns) list ds own → IsEncodable Record (row_count len_of (map layout_of columns)) (levels_of (map layout_of columns)) → HasBlocksFrom w.place (map sent ds) (sent own) p
     → block_count w + length list + 1 ≤ most_blocks → MayBeWritten w known columns ids
 answers_sent w known columns ids list ds own p agrees may are said placed few =
     let values = values_count w.order list ds are.values in
@@ -200,7 +200,7 @@ not_denied w known columns ids Memory nn f = (tt, tt)
 not_denied w known columns ids (Io x) nn f = (tt, tt)
 not_denied w known columns ids _ nn f = absurd (nn (λ k. (f k).0))
 
-module _ {W : Type 0} (w : FileSeen W) (columns : List AnyArray) (ids : Option IdTrees) (known : Dictionaries) (agrees : Agrees w.remembers known) where
+module _ {W : Type 0} (w : FileSeen W) (columns : List AnyArray) (ids : Option IdTrees) (known : Dictionaries) (agrees : KnowsRemembered w.remembers known) where
   pub refused_exactly : {X : Type 0} (e : Fault) (r : Result X Fault) → r ≡ Err e → IfSome (fault_unless_started w.state) (λ f. r ≡ Err (State f)) → (w.state ≡ Started → ¬ (¬ IsWritable w.fields w.metadata w.ids))
       → RefusesChunk w columns ids e → WritesExactly w columns ids (Err e)
   refused_exactly e r was first writable h = record {
@@ -234,7 +234,7 @@ module _ {W : Type 0} (w : FileSeen W) (columns : List AnyArray) (ids : Option I
   }
 
   pub sent_exactly : (list : List FilledPlace) (dictionaries : List Message) (own : Message) (p : Placed) (count : ℕ) → MayList w columns ids list → AreMessages w.order (map layout_of columns) list dictionaries own
-      → IsEncodable Record (row_count len_of (map layout_of columns)) (levels_of (map layout_of columns)) → IsPlaced w.place (map sent dictionaries) (sent own) p → count ≡ length list → block_count w + count + 1 ≤ most_blocks → WritesExactly w columns ids (Ok tt)
+      → IsEncodable Record (row_count len_of (map layout_of columns)) (levels_of (map layout_of columns)) → HasBlocksFrom w.place (map sent dictionaries) (sent own) p → count ≡ length list → block_count w + count + 1 ≤ most_blocks → WritesExactly w columns ids (Ok tt)
   sent_exactly list dictionaries own p count may are said placed same few = record {
     known = known;
     agrees = agrees;

@@ -1,5 +1,5 @@
 -- What the bytes of a file's writer are after each call.
-use Rattle.std.proofs.Common.{◌≡◌, ℕ, ◌+◌, ◌-◌, ◌<◌, ◌≤◌, max, Bool, IsTrue, List, [], ◌∷◌, ◌++◌, length, take, replicate, Some, refl, sym, ap, ◌∙◌, subst, append_assoc, append-nil, length-append, arith, Ok, Err}
+use Rattle.std.proofs.Common.{◌≡◌, ℕ, ◌+◌, ◌-◌, ◌<◌, ◌≤◌, Bool, IsTrue, List, [], ◌∷◌, ◌++◌, length, take, replicate, Some, refl, sym, ap, ◌∙◌, subst, append_assoc, append-nil, length-append, arith, Ok, Err}
 use Rattle.ipc_devices.specs.Device.{Memory, WritesOver, before}
 use Rattle.ipc_devices.specs.Faults.{OnIo, OnRefused}
 use Rattle.ipc_devices.specs.declared.fault.Fault.{Fault}
@@ -23,11 +23,10 @@ use Rattle.ipc_write.specs.declared.stream.WriterState.TheVariants.{New, Started
 use Rattle.ipc_footers.specs.Footers.{HasFooter, tail_of}
 use Rattle.std.proofs.lemmas.List.{length-replicate, take-append-le}
 use Rattle.ipc_file_laws.proofs.Ends.{chunk_ends, chunk_natural, chunk_reaches, no_ends, none_at_all}
-use Rattle.ipc_file_laws.specs.Appending.{greatest_end}
-use Rattle.ipc_file_laws.specs.FileBytes.{EndsStream, HoldsFile, HoldsStream, SendsChunk, Sent, all_bytes, block_at, blocks_at, chunk_bytes, file_head}
+use Rattle.ipc_file_laws.specs.FileBytes.{EndsStreamBehind, HoldsFile, HasStreamBehind, SendsChunk, Sent, all_bytes, block_at, blocks_at, chunk_bytes, file_head}
 use Rattle.ipc_file_laws.proofs.FileSteps.{end_law, grow_law, start_law, write_law}
 use Rattle.ipc_file_laws.proofs.StreamSteps.{stream_end_law, stream_start_law, stream_write_law}
-use Rattle.ipc_file_write.specs.FileWriters.{Agrees, Delivers, FileIs, FileSeen, FileStep, HoldsBytes, IsFresh, IsOpenFile, IsSameFile, Kept, MayFinish, MayStart, ReachesEnd, RefusesFinish, RefusesStart, Remains, RemembersSame, SendsBytes, ending_bytes, head_of_file}
+use Rattle.ipc_file_write.specs.FileWriters.{Delivers, FileIs, FileSeen, FileStep, HoldsBytes, IsFresh, IsOpenFile, IsSameFile, Kept, MayFinish, MayStart, ReachesEnd, RefusesFinish, RefusesStart, Remains, RemembersSame, SendsBytes, ending_bytes, head_of_file}
 use Rattle.ipc_file_write.specs.declared.sending.Ending.{Ending}
 use Rattle.ipc_file_write.specs.declared.writer.Starting.{Starting}
 
@@ -122,11 +121,11 @@ fresh_file schema size bytes ds bs r cs e f g same =
     let none = remembers_same schema size bytes [] [] nothing_remembered r [] same (start_law schema size bytes) in
     rw (e, f, g) none
 
-pub stream_same : (bytes bytes' : List ℕ) (h h' : Head) (r r' : Remembered) (cs cs' : List Chunk) → bytes ≡ bytes' → h ≡ h' → ((id : _) → r' id ≡ r id) → cs ≡ cs' → HoldsStream bytes h r cs → HoldsStream bytes' h' r' cs'
+pub stream_same : (bytes bytes' : List ℕ) (h h' : Head) (r r' : Remembered) (cs cs' : List Chunk) → bytes ≡ bytes' → h ≡ h' → ((id : _) → r' id ≡ r id) → cs ≡ cs' → HasStreamBehind bytes h r cs → HasStreamBehind bytes' h' r' cs'
 stream_same bytes bytes' h h' r r' cs cs' e f same g held =
-    subst (λ (xs : List ℕ). HoldsStream xs h' r' cs') e
-    (subst (λ (x : Head). HoldsStream bytes x r' cs') f
-    (subst (λ (ys : List Chunk). HoldsStream bytes h r' ys) g (record {
+    subst (λ (xs : List ℕ). HasStreamBehind xs h' r' cs') e
+    (subst (λ (x : Head). HasStreamBehind bytes x r' cs') f
+    (subst (λ (ys : List Chunk). HasStreamBehind bytes h r' ys) g (record {
       stream = held.stream;
       bytes_are = held.bytes_are;
       goes_on = record { known = held.goes_on.known; agrees = record { each = λ i. held.goes_on.agrees.each i ∙ sym (same i) }; none = held.goes_on.none; stream = held.goes_on.stream };
@@ -265,7 +264,7 @@ module _ {W : Type 0} (known grows : Bool) (failures room : W → ℕ) (memory :
           held = held_more (memory a.device) (memory b.device) base h.bytes rest h.held (sent.memory k);
           file = at_state is_stream Finished b.state b all cs (sym is) (record {
             file = rw (same.order, same.fields, same.metadata, same.ids, same.pairs, same.dictionaries, same.blocks) whole;
-            stream = λ is_one. subst (λ (h : Head). EndsStream all h cs) (head_same a b same) (stream_end_law h.bytes (gap ++ e.bytes.items) (head_of_file a) a.remembers cs (open_file.stream is_one));
+            stream = λ is_one. subst (λ (h : Head). EndsStreamBehind all h cs) (head_same a b same) (stream_end_law h.bytes (gap ++ e.bytes.items) (head_of_file a) a.remembers cs (open_file.stream is_one));
             front = h.bytes;
             behind = rest;
             bytes_are = refl;
@@ -321,7 +320,7 @@ module _ {W : Type 0} (known grows : Bool) (failures room : W → ℕ) (memory :
           begun = take-append-le 6 h.bytes added (omega (arith, open_file.long)) ∙ open_file.begun;
           long = omega (arith, longer, open_file.long);
           file = rw (ds, bs, size) (subst (λ (x : Head). HoldsFile x.schema a.size all (a.dictionaries ++ blocks_at (length h.bytes) ws) (a.blocks ++ block_at (length h.bytes + length (all_bytes ws)) own ∷ []) b.remembers then) head file);
-          stream = λ is_one. subst (λ (x : Head). HoldsStream all x b.remembers then) head
+          stream = λ is_one. subst (λ (x : Head). HasStreamBehind all x b.remembers then) head
               (stream_write_law a.order a.fields a.metadata a.ids h.bytes a.remembers b.remembers cs columns ws own open_file.writable (open_file.stream is_one) sends);
           place = omega (arith, place, at, longer);
           natural = rw (dictionaries, blocks) (chunk_natural a.dictionaries a.blocks a.place ws own open_file.natural);

@@ -11,7 +11,7 @@ use Rattle.ipc_model.specs.Offers.{FilledPlace}
 use Rattle.ipc_chunks.proofs.Refusals.{IsOfMessage}
 use Rattle.ipc_write.proofs.Refusals.{of_messages}
 use Rattle.ipc_file_laws.specs.FileBytes.{Sent, sent_bytes}
-use Rattle.ipc_file_write.specs.Blocks.{RefusesPlaces}
+use Rattle.ipc_file_write.specs.Blocks.{RefusesBlockRoom}
 use Rattle.ipc_file_write.specs.FileWriters.{FileSeen}
 use Rattle.ipc_file_write.specs.Writes.{NamesOne, RefusesChunk, RefusesRoom, RefusesSending}
 
@@ -43,7 +43,7 @@ module _ {W : Type 0} (w : FileSeen W) (columns : List AnyArray) where
   io-names (Argument (DictionaryReplaced j)) h = absurd h
   io-names _ h = tt
 
-  places-name : (place : ℕ) (ws : List Sent) (e : Fault) → RefusesPlaces place ws e → NamesOne w columns e
+  places-name : (place : ℕ) (ws : List Sent) (e : Fault) → RefusesBlockRoom place ws e → NamesOne w columns e
   places-name place [] (Argument (SharedDictionary j)) h = absurd h
   places-name place (s ∷ ws) (Argument (SharedDictionary j)) (inl h) = absurd h
   places-name place (s ∷ ws) (Argument (SharedDictionary j)) (inr h) = places-name (place + length (sent_bytes s)) ws (Argument (SharedDictionary j)) h

@@ -1,9 +1,7 @@
 -- What bytes that are written leave of a memory.
-use Rattle.std.proofs.Common.{◌≡◌, ℕ, ◌+◌, ◌-◌, ◌≤◌, Bool, IsTrue, List, [], ◌++◌, length, take, drop, replicate, Some, Result, refl, sym, ap, ◌∙◌, arith, append-nil, length-append, length-drop, length-take-le, take-append-drop}
+use Rattle.std.proofs.Common.{◌≡◌, ℕ, ◌+◌, ◌-◌, ◌≤◌, List, [], ◌++◌, length, take, drop, sym, ap, ◌∙◌, arith, append-nil, length-drop, length-take-le}
 use Rattle.std.proofs.lemmas.List.{take-append-le, take-take, take_all}
 use Rattle.ipc_devices.specs.Device.{Memory, WritesOver, after, before}
-use Rattle.ipc_devices.specs.declared.fault.Fault.{Fault}
-use Rattle.ipc_plan.specs.Sending.{WritesSome}
 use Rattle.ipc_file_laws.proofs.Appending.{stay_law}
 use Rattle.ipc_file_laws.specs.Appending.{goes_on}
 use Rattle.ipc_file_write.specs.AppendLaws.{NoMore, Onward, OnwardBothLaw, OnwardLaw, StillGivesLaw}

@@ -5,7 +5,7 @@ use Rattle.std.proofs.Math.Seq.{split_at}
 use Rattle.ipc_devices.specs.declared.fault.Fault.{Fault}
 use Rattle.ipc_devices.specs.declared.fault.Fault.TheVariants.{Memory}
 use Rattle.ipc_encode.specs.declared.batches.Encoded.{Encoded}
-use Rattle.ipc_file_write.specs.Blocks.{IsPlaced, RefusesPlace, RefusesPlaces, sent_seen}
+use Rattle.ipc_file_write.specs.Blocks.{HasBlocksFrom, RefusesPlace, RefusesBlockRoom, sent_seen}
 use Rattle.ipc_file_write.specs.declared.blocks.Placed.{Placed}
 use Rattle.ipc_views.specs.declared.file.Block.{Block}
 use Rattle.ipc_file_laws.specs.FileBytes.{Sent, all_bytes, block_at, blocks_at, sent_bytes}
@@ -28,13 +28,13 @@ length-sent w = omega (arith, length-append w.metadata w.body)
 pub ruleset placed = (length-sent)
 
 -- one that has no block
-pub refused-front : (place : ℕ) (ws vs : List Sent) (e : Fault) → RefusesPlaces place ws e → RefusesPlaces place (ws ++ vs) e
+pub refused-front : (place : ℕ) (ws vs : List Sent) (e : Fault) → RefusesBlockRoom place ws e → RefusesBlockRoom place (ws ++ vs) e
 refused-front place ws vs Memory h = tt
 refused-front place [] vs e h = absurd h
 refused-front place (w ∷ ws) vs e (inl h) = inl h
 refused-front place (w ∷ ws) vs e (inr h) = inr (refused-front (place + length (sent_bytes w)) ws vs e h)
 
-pub in-front : (place : ℕ) (ws : List Sent) (w : Sent) (rest : List Sent) (e : Fault) → RefusesPlace (place + length (all_bytes ws)) w e → RefusesPlaces place (ws ++ w ∷ rest) e
+pub in-front : (place : ℕ) (ws : List Sent) (w : Sent) (rest : List Sent) (e : Fault) → RefusesPlace (place + length (all_bytes ws)) w e → RefusesBlockRoom place (ws ++ w ∷ rest) e
 in-front place [] w rest Memory h = tt
 in-front place [] w rest e h =
     let same : place + length (all_bytes []) ≡ place = omega arith in
@@ -46,11 +46,11 @@ in-front place (v ∷ ws) w rest e h =
 
 -- ---- a chunk
 
-pub placed-front : (place behind : ℕ) (ws : List Sent) (own : Sent) (e : Fault) → behind ≡ place + length (all_bytes ws) → RefusesPlace behind own e → RefusesPlaces place (ws ++ own ∷ []) e
+pub placed-front : (place behind : ℕ) (ws : List Sent) (own : Sent) (e : Fault) → behind ≡ place + length (all_bytes ws) → RefusesPlace behind own e → RefusesBlockRoom place (ws ++ own ∷ []) e
 placed-front place behind ws own e at h = in-front place ws own [] e (subst (λ (k : ℕ). RefusesPlace k own e) at h)
 
 pub chunk-placed : (place behind end : ℕ) (ws : List Sent) (own : Sent) (bs : List Block) (b : Block) (p : Placed) → bs ≡ blocks_at place ws → behind ≡ place + length (all_bytes ws) → b ≡ block_at behind own
-    → end ≡ behind + length (sent_bytes own) → end < 2 ^ 63 → p.dictionaries.items ≡ bs → p.record_batch ≡ b → p.end ≡ end → IsPlaced place ws own p
+    → end ≡ behind + length (sent_bytes own) → end < 2 ^ 63 → p.dictionaries.items ≡ bs → p.record_batch ≡ b → p.end ≡ end → HasBlocksFrom place ws own p
 chunk-placed place behind end ws own bs b p blocks at block on short f g h = record {
   dictionaries_are = f ∙ blocks;
   record_is = g ∙ block ∙ ap (λ (k : ℕ). block_at k own) at;
@@ -84,11 +84,11 @@ next-end place end behind es i e inside is at on =
     omega (arith, at, on, more, whole)
 
 pub refused_at : (place : ℕ) (es : List Encoded) (i : ℕ) (e : Encoded) (f : Fault) (end : ℕ) → i < length es → e ≡ get_or es i e → end ≡ place + length (all_bytes (map sent_seen (take i es)))
-    → RefusesPlace end (sent_seen e) f → RefusesPlaces place (map sent_seen es) f
+    → RefusesPlace end (sent_seen e) f → RefusesBlockRoom place (map sent_seen es) f
 refused_at place es i e f end inside is at h =
     let ws = map sent_seen (take i es) in
     let rest = map sent_seen (drop (suc i) es) in
     let here = subst (λ (k : ℕ). RefusesPlace k (sent_seen e) f) at h in
     let parts : map sent_seen es ≡ ws ++ sent_seen e ∷ rest =
     ap (map sent_seen) (split_at es i e inside) ∙ seen-both (take i es) (get_or es i e ∷ drop (suc i) es) ∙ ap (λ (x : Encoded). ws ++ sent_seen x ∷ rest) (sym is) in
-    subst (λ (xs : List Sent). RefusesPlaces place xs f) (sym parts) (in-front place ws (sent_seen e) rest f here)
+    subst (λ (xs : List Sent). RefusesBlockRoom place xs f) (sym parts) (in-front place ws (sent_seen e) rest f here)

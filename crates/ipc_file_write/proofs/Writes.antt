@@ -35,7 +35,7 @@ use Rattle.ipc_write.specs.Writers.{FitTypes}
 use Rattle.ipc_write.specs.declared.stream.WriterState.{WriterState}
 use Rattle.ipc_write.specs.declared.stream.WriterState.TheVariants.{Failed, Started}
 use Rattle.ipc_file_laws.specs.FileBytes.{Sent, chunk_bytes, sent_bytes}
-use Rattle.ipc_file_write.specs.Blocks.{IsPlaced, RefusesPlaces, sent}
+use Rattle.ipc_file_write.specs.Blocks.{HasBlocksFrom, RefusesBlockRoom, sent}
 use Rattle.ipc_file_write.specs.FileWriters.{Delivers, FileSeen, IsSameFile, Kept}
 use Rattle.ipc_file_write.specs.Writes.{Appends, HandsChunk, MayList, RefusesChunk, RefusesRoom, RefusesSending, SendsColumns, TakesChunk, WhereSent, as_stream, field_normal}
 use Rattle.ipc_file_write.specs.declared.blocks.Placed.{Placed}
@@ -72,7 +72,7 @@ of_message _ h P = tt
 pub messages_not_io : (list : List FilledPlace) (columns : List Layout) (e : Fault) → RefusesMessages list columns e → (P : Type 0) → OnIo {X = Unit {0}} (Err e) P
 messages_not_io list columns e h P = of_message e (of_messages list columns e h) P
 
-pub places_not_io : (place : ℕ) (ws : List Sent) (e : Fault) → RefusesPlaces place ws e → (P : Type 0) → OnIo {X = Unit {0}} (Err e) P
+pub places_not_io : (place : ℕ) (ws : List Sent) (e : Fault) → RefusesBlockRoom place ws e → (P : Type 0) → OnIo {X = Unit {0}} (Err e) P
 places_not_io place [] (Io x) h P = absurd h
 places_not_io place (w ∷ ws) (Io x) (inl h) P = absurd h
 places_not_io place (w ∷ ws) (Io x) (inr h) P = places_not_io (place + length (sent_bytes w)) ws (Io x) h P
@@ -247,7 +247,7 @@ module _ {W : Type 0} (known grows : Bool) (failures room : W → ℕ) (memory :
   hands_failed _ ds own are same h failed = absurd h.only
 
   pub hands_all : (p : Placed) (ds : List Message) (own : Message) → AreMessages order columns list ds own → messages_bytes (ds ++ own ∷ []) ≡ chunk_bytes (map sent ds) (sent own)
-      → IsEncodable Record (row_count len_of columns) (levels_of columns) → IsPlaced place (map sent ds) (sent own) p
+      → IsEncodable Record (row_count len_of columns) (levels_of columns) → HasBlocksFrom place (map sent ds) (sent own) p
       → Delivers {X = Unit {0}} known grows (seen_by failures room memory w) (seen_by failures room memory w') (Ok tt) (messages_bytes (ds ++ own ∷ [])) → s' ≡ s
       → HandsChunk known grows failures room memory order columns list place w s (Ok p) w' s'
   hands_all p ds own are same said placed h kept = record {

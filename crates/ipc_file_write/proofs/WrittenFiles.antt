@@ -20,7 +20,7 @@ use Rattle.ipc_write.specs.declared.stream.WriterState.{WriterState}
 use Rattle.ipc_write.specs.declared.stream.WriterState.TheVariants.{New, Started, Finished, Failed}
 use Rattle.ipc_file_write.proofs.CallLists.{AllMove, moves_all, moves_follow, moves_run, vector_before}
 use Rattle.ipc_file_write.specs.Calls.{AreMade, vector, writer_seen}
-use Rattle.ipc_file_write.specs.FileWriters.{Agrees, FileSeen, HasNothing, IsFileOf, MissesFinish, OrFails, RefusesFinish, RefusesPairs, Remains, StateComesFirst, TakesPairs, fault_if_over}
+use Rattle.ipc_file_write.specs.FileWriters.{Agrees, FileSeen, HasNothing, IsFileOf, MissesFinish, OrFails, RefusesFinish, TakesNoPairs, Remains, StateComesFirst, TakesPairs, fault_if_over}
 use Rattle.ipc_file_write.specs.WrittenFiles.{Leave, RefusesEnd, RefusesWholeFile, writer_in}
 
 -- ---- the end
@@ -105,7 +105,7 @@ left_after a b w calls answers fs es is order pairs of new nothing empty takes r
 
 module _ (order : Endianness) (fs : FieldTrees) (es : Pairs) (is : IdTrees) (ps : Pairs) (calls : List StreamCall) where
   -- the pairs
-  pub pairs_refused : (a : FileSeen (Vec ℕ Global)) (e : Fault) → a.state ≡ New → a.fields ≡ fs → a.metadata ≡ es → RefusesPairs a ps e → RefusesWholeFile order fs es is ps calls e
+  pub pairs_refused : (a : FileSeen (Vec ℕ Global)) (e : Fault) → a.state ≡ New → a.fields ≡ fs → a.metadata ≡ es → TakesNoPairs a ps e → RefusesWholeFile order fs es is ps calls e
   pairs_refused a (faults.State x) new f m h = let none : fault_if_over a.state ≡ None = ap fault_if_over new in let no : None ≡ Some x = sym none ∙ h in absurd cc
   pairs_refused a (faults.Argument args.TooLarge) new f m h = inl (rw (f, m) at h)
   pairs_refused a (faults.Argument x) new f m h = absurd h

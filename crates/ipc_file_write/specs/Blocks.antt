@@ -19,7 +19,7 @@ sent_seen e = sent (message_seen e)
 
 -- The blocks of these messages, which stand one behind the other from a place on, and the place behind them, which a signed number of
 -- 64 bits can say.
-pub record IsPlaced (place : ℕ) (ws : List Sent) (own : Sent) (p : Placed) : Type 0 where
+pub record HasBlocksFrom (place : ℕ) (ws : List Sent) (own : Sent) (p : Placed) : Type 0 where
   pub dictionaries_are : p.dictionaries.items ≡ blocks_at place ws
   pub record_is : p.record_batch ≡ block_at (place + length (all_bytes ws)) own
   pub end_is : p.end ≡ place + length (chunk_bytes ws own)
@@ -31,7 +31,7 @@ RefusesPlace place w (Argument TooLarge) = (2 ^ 31 ≤ 8 + length w.metadata) �
 RefusesPlace place w _ = ⊥
 
 -- why some messages have none from a place on
-abbrev pub RefusesPlaces : ℕ → List Sent → Fault → Type 0
-RefusesPlaces place ws Memory = Unit {0}
-RefusesPlaces place [] e = ⊥
-RefusesPlaces place (w ∷ ws) e = RefusesPlace place w e ⊎ RefusesPlaces (place + length (sent_bytes w)) ws e
+abbrev pub RefusesBlockRoom : ℕ → List Sent → Fault → Type 0
+RefusesBlockRoom place ws Memory = Unit {0}
+RefusesBlockRoom place [] e = ⊥
+RefusesBlockRoom place (w ∷ ws) e = RefusesPlace place w e ⊎ RefusesBlockRoom (place + length (sent_bytes w)) ws e

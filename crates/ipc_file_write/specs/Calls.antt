@@ -21,7 +21,7 @@ use Rattle.ipc_schema_write.specs.WriterAnswers.{written_head_as}
 use Rattle.ipc_write.specs.declared.stream.WriterState.{WriterState}
 use Rattle.ipc_write.specs.declared.stream.WriterState.TheVariants.{Started, Finished}
 use Rattle.ipc_footers.specs.Footers.{file_written}
-use Rattle.ipc_file_laws.specs.FileBytes.{EndsStream, IsFile}
+use Rattle.ipc_file_laws.specs.FileBytes.{EndsStreamBehind, IsFile}
 use Rattle.ipc_file_write.specs.FileWriters.{Agrees, AnswersFinish, AnswersStart, EndsWith, FileSeen, IsSameFile, OrFails, ReachesEnd, RefusesFinish, RefusesStart, Remains, SendsBytes, StartsWith, StateComesFirst}
 use Rattle.ipc_file_write.specs.Writes.{Appends, NamesOne, SendsColumns, WritesExactly}
 
@@ -82,7 +82,7 @@ abbrev pub writer_seen : {W : Type 0} → FileSeen W → Writer
 writer_seen w = record { state = state_seen w.state; order = w.order; pairs = w.pairs }
 
 -- calls from a to b: the file has these chunks more
-pub record Follows {W : Type 0} (known : Bool) (memory : W → Memory) (a b : FileSeen W) (added : List Chunk) : Type 0 where
+pub record GrowsBy {W : Type 0} (known : Bool) (memory : W → Memory) (a b : FileSeen W) (added : List Chunk) : Type 0 where
   pub followed : IsTrue known → (base : List ℕ) (cs : List Chunk) → Agrees memory a base cs → Agrees memory b base (cs ++ added)
 
 -- a writer whose file was started has the ids that were chosen
@@ -95,10 +95,10 @@ abbrev pub HasChosen : {W : Type 0} → FileSeen W → Type 0
 HasChosen w = IdsAre w.state w.ids w.chosen
 
 -- A call that was made and answered this: it may end so, it leaves the writer as such a call does, and the file has its chunk more where it was Ok.
-pub record Moves {W : Type 0} (known : Bool) (memory : W → Memory) (a : FileSeen W) (call : StreamCall) (r : Result Unit Fault) (b : FileSeen W) : Type 0 where
+pub record MakesCall {W : Type 0} (known : Bool) (memory : W → Memory) (a : FileSeen W) (call : StreamCall) (r : Result Unit Fault) (b : FileSeen W) : Type 0 where
   pub may : MayEnd (call_seen call) (outcome r) (writer_seen a).state
   pub after : writer_seen b ≡ writer_after (call_seen call) (outcome r) (writer_seen a)
-  pub follows : Follows known memory a b (taken (answered ((call_seen call, outcome r) ∷ [])))
+  pub follows : GrowsBy known memory a b (taken (answered ((call_seen call, outcome r) ∷ [])))
   pub same : IsSameFile a b
   pub chosen : HasChosen a → HasChosen b
 
@@ -110,7 +110,7 @@ pub record IsWrittenFile (bytes : List ℕ) (order : Endianness) (fields : Field
   pub dictionaries : List Block
   pub blocks : List Block
   pub file : IsFile bytes (file_written order fields metadata ids pairs dictionaries blocks (length bytes)) cs
-  pub stream : EndsStream bytes (written_head_as order fields metadata ids) cs
+  pub stream : EndsStreamBehind bytes (written_head_as order fields metadata ids) cs
 
 -- bytes in memory, and the place behind the last of them
 abbrev pub vector : Vec ℕ Global → Memory

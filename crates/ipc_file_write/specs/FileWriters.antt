@@ -32,7 +32,7 @@ use Rattle.ipc_write.specs.declared.stream.WriterState.{WriterState}
 use Rattle.ipc_write.specs.declared.stream.WriterState.TheVariants.{New, Started, Finished, Failed}
 use Rattle.ipc_footers.specs.Footers.{AreFew, RefusesFooter, WritesFooter, file_written, tail_of}
 use Rattle.ipc_file_laws.specs.Appending.{HaveNegative, greatest_end}
-use Rattle.ipc_file_laws.specs.FileBytes.{EndsStream, HoldsFile, HoldsStream, IsFile, file_head}
+use Rattle.ipc_file_laws.specs.FileBytes.{EndsStreamBehind, HoldsFile, HasStreamBehind, IsFile, file_head}
 use Rattle.ipc_file_write.specs.declared.file.FileWriter.{FileWriter}
 use Rattle.ipc_file_write.specs.declared.sending.Ending.{Ending}
 use Rattle.ipc_file_write.specs.declared.writer.Starting.{Starting}
@@ -112,7 +112,7 @@ pub record IsOpenFile {W : Type 0} (is_stream : Bool) (w : FileSeen W) (bytes : 
   pub begun : take 6 bytes ≡ magic
   pub long : 8 ≤ length bytes
   pub file : HoldsFile (head_of_file w).schema w.size bytes w.dictionaries w.blocks w.remembers cs
-  pub stream : IsTrue is_stream → HoldsStream bytes (head_of_file w) w.remembers cs
+  pub stream : IsTrue is_stream → HasStreamBehind bytes (head_of_file w) w.remembers cs
   pub place : w.place ≡ length bytes
   pub natural : HaveNegative (w.dictionaries ++ w.blocks) → ⊥
   pub reached : 0 < length w.blocks → w.place ≤ max 8 (greatest_end (w.dictionaries ++ w.blocks))
@@ -122,7 +122,7 @@ pub record IsOpenFile {W : Type 0} (is_stream : Bool) (w : FileSeen W) (bytes : 
 -- stream too, it is one of the same without its first eight bytes. What it has before its mark can be gone on with.
 pub record IsWholeFile {W : Type 0} (is_stream : Bool) (w : FileSeen W) (bytes : List ℕ) (cs : List Chunk) : Type 0 where
   pub file : IsFile bytes (file_written w.order w.fields w.metadata w.ids w.pairs w.dictionaries w.blocks (length bytes)) cs
-  pub stream : IsTrue is_stream → EndsStream bytes (head_of_file w) cs
+  pub stream : IsTrue is_stream → EndsStreamBehind bytes (head_of_file w) cs
   pub front : List ℕ
   pub behind : List ℕ
   pub bytes_are : bytes ≡ front ++ behind
@@ -324,10 +324,10 @@ fault_if_over Finished = Some faults.Finished
 fault_if_over Failed = Some faults.Failed
 
 -- why a writer refuses pairs
-abbrev pub RefusesPairs : {W : Type 0} → FileSeen W → Pairs → Fault → Type 0
-RefusesPairs w pairs (State e) = fault_if_over w.state ≡ Some e
-RefusesPairs w pairs (Argument TooLarge) = file_weight w.fields w.metadata pairs ≤ max_weight → ⊥
-RefusesPairs w pairs _ = ⊥
+abbrev pub TakesNoPairs : {W : Type 0} → FileSeen W → Pairs → Fault → Type 0
+TakesNoPairs w pairs (State e) = fault_if_over w.state ≡ Some e
+TakesNoPairs w pairs (Argument TooLarge) = file_weight w.fields w.metadata pairs ≤ max_weight → ⊥
+TakesNoPairs w pairs _ = ⊥
 
 -- the pairs took the place of those that were there, and nothing else changed
 pub record TakesPairs {W : Type 0} (a b : FileSeen W) (pairs : Pairs) : Type 0 where

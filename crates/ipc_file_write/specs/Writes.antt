@@ -25,8 +25,8 @@ use Rattle.ipc_model.specs.Batches.{Chunk}
 use Rattle.ipc_model.specs.Entries.{Dictionaries, dictionary_at}
 use Rattle.ipc_model.specs.Offers.{FilledPlace, offer_of, values_of}
 use Rattle.ipc_plan.specs.Sending.{seen_by}
-use Rattle.ipc_laws.specs.Remembered.{Agrees as AgreesWith}
-use Rattle.ipc_tracker.specs.Listings.{Lists, ListsAll, RefusesAll, remembering_all}
+use Rattle.ipc_laws.specs.Remembered.{KnowsRemembered}
+use Rattle.ipc_tracker.specs.Listings.{ListsUnwritten, ListsAll, RefusesAll, remembering_all}
 use Rattle.ipc_tracker.specs.Trackers.{IsSameMemory}
 use Rattle.ipc_chunks.specs.Lengths.{HaveLengths}
 use Rattle.ipc_write.specs.Meaning.{normal_types}
@@ -35,7 +35,7 @@ use Rattle.ipc_write.specs.Writers.{FitTypes, MissesWrite as StreamMisses, Refus
 use Rattle.ipc_write.specs.declared.stream.WriterState.{WriterState}
 use Rattle.ipc_write.specs.declared.stream.WriterState.TheVariants.{Failed, Started}
 use Rattle.ipc_file_laws.specs.FileBytes.{Sent, all_bytes, block_at, blocks_at, chunk_bytes}
-use Rattle.ipc_file_write.specs.Blocks.{IsPlaced, RefusesPlaces, sent}
+use Rattle.ipc_file_write.specs.Blocks.{HasBlocksFrom, RefusesBlockRoom, sent}
 use Rattle.ipc_file_write.specs.FileWriters.{Delivers, FileSeen, FileStep, HoldsBytes}
 use Rattle.ipc_file_write.specs.declared.blocks.Placed.{Placed}
 
@@ -91,7 +91,7 @@ pub record Written {W : Type 0} (w : FileSeen W) (columns : List AnyArray) : Typ
   pub list : List FilledPlace
   pub dictionaries : List Message
   pub own : Message
-  pub lists : Lists w.remembers (values_of (layouts (map layout_of columns)) w.ids) list
+  pub lists : ListsUnwritten w.remembers (values_of (layouts (map layout_of columns)) w.ids) list
   pub are : AreMessages w.order (map layout_of columns) list dictionaries own
 
 -- their blocks
@@ -107,7 +107,7 @@ pub record MayBeWritten {W : Type 0} (w : FileSeen W) (known : Dictionaries) (co
   pub accepted : IsAcceptedByFile w.fields known (block_count w) w.place (added_by w columns messages) (offer_of (map layout_of columns) w.ids)
 
 -- the messages have blocks, which have room in the file and in its footer
-pub record HavePlaces {W : Type 0} (w : FileSeen W) (known : Dictionaries) (columns : List AnyArray) : Type 0 where
+pub record HaveBlocks {W : Type 0} (w : FileSeen W) (known : Dictionaries) (columns : List AnyArray) : Type 0 where
   pub messages : Written w columns
   pub few : block_count w + length (added_by w columns messages) ≤ most_blocks
   pub places : AreBlocks w.place (added_by w columns messages) (written_bodies known (offer_of (map layout_of columns) w.ids).dictionaries (offer_of (map layout_of columns) w.ids).bodies)
@@ -117,7 +117,7 @@ abbrev pub MissesWrite : {W : Type 0} → FileSeen W → Dictionaries → List A
 MissesWrite w known columns ids (Argument (DictionaryReplaced j)) =
     ¬ AllByRecursion (λ p. AreKept (dictionary_at known p.id) p.values) (offer_of (map layout_of columns) w.ids).dictionaries
 MissesWrite w known columns ids (Argument TooLarge) =
-    ¬ (AllByRecursion (λ lengths. IsSayable (body_length lengths)) (offer_of (map layout_of columns) w.ids).bodies × HavePlaces w known columns)
+    ¬ (AllByRecursion (λ lengths. IsSayable (body_length lengths)) (offer_of (map layout_of columns) w.ids).bodies × HaveBlocks w known columns)
 MissesWrite w known columns ids e = StreamMisses (as_stream w) w.fields columns ids e
 
 -- Columns are written just where the writer takes them, memory and devices aside; a refusal names a condition, and it isn't met.
@@ -128,8 +128,8 @@ AnswersWrite w known columns ids (Err e) = MissesWrite w known columns ids e × 
 -- this by each list of the dictionaries that the writer remembers, of which there is one
 pub record WritesExactly {W : Type 0} (w : FileSeen W) (columns : List AnyArray) (ids : Option IdTrees) (r : Result Unit Fault) : Type 0 where
   pub known : Dictionaries
-  pub agrees : AgreesWith w.remembers known
-  pub exact : (ds : Dictionaries) → AgreesWith w.remembers ds → AnswersWrite w ds columns ids r
+  pub agrees : KnowsRemembered w.remembers known
+  pub exact : (ds : Dictionaries) → KnowsRemembered w.remembers ds → AnswersWrite w ds columns ids r
 
 -- A refusal that names a dictionary names one that is refused: places of its id have no values in common, or what the writer remembers of it
 -- are others than those of some place.
@@ -175,7 +175,7 @@ pub record HasNoPlace (order : Endianness) (columns : List Layout) (list : List 
   pub dictionaries : List Message
   pub own : Message
   pub are : AreMessages order columns list dictionaries own
-  pub refused : RefusesPlaces place (map sent dictionaries ++ sent own ∷ []) e
+  pub refused : RefusesBlockRoom place (map sent dictionaries ++ sent own ∷ []) e
 
 -- why the messages of some columns, of which the dictionaries on this list are to be written, aren't sent from a place on
 abbrev pub RefusesSending : Endianness → List Layout → List FilledPlace → ℕ → Fault → Type 0
@@ -187,7 +187,7 @@ pub record HandsChunk {W : Type 0} (known grows : Bool) (failures room : W → �
   pub own : Message
   pub are : WhereSent r (AreMessages order columns list dictionaries own)
   pub said : OnOk r (IsEncodable Record (row_count len_of columns) (levels_of columns))
-  pub placed : IfOk r (IsPlaced place (map sent dictionaries) (sent own))
+  pub placed : IfOk r (HasBlocksFrom place (map sent dictionaries) (sent own))
   pub refuses : IfErr r (λ e. IsIo e ⊎ RefusesSending order columns list place e)
   pub unsent : OnRefused r ((w' ≡ w) × (s' ≡ s))
   pub stays : OnOk r (s' ≡ s)

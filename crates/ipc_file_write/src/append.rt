@@ -1,5 +1,5 @@
 //! Goes on with files that are there: the Arrow columnar format, "IPC File Format".
-ghost use Rattle.std.specs.Prelude.{◌≡◌, [], ◌-◌, ◌^◌, min, max, IfErr, IfOk, IsTrue, OnOk};
+ghost use Rattle.std.specs.Prelude.{◌≡◌, [], ◌-◌, ◌^◌, min, max, IfErr, IfOk, OnOk};
 ghost use Rattle.ipc_devices.specs.declared.fault.Fault.TheVariants.{OutOfSpec};
 ghost use Rattle.ipc_devices.specs.declared.fault.OutOfSpecKind.TheVariants.{UnexpectedNegativeInteger};
 ghost use Rattle.ipc_files.specs.Footers.{file_seen};

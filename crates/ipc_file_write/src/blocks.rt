@@ -2,8 +2,8 @@
 ghost use Rattle.std.specs.Prelude.{◌≡◌, ◌+◌, ◌^◌, ◌<◌, ◌≤◌, ◌++◌, ◌∷◌, [], All, IfErr, IfOk, MatchBool, OnOk, length, map, vec_capacity, vec_len};
 ghost use Rattle.ipc_model.specs.Accepted.{most_blocks};
 ghost use Rattle.ipc_file_laws.specs.FileBytes.{all_bytes, block_at, blocks_at, sent_bytes};
-ghost use Rattle.ipc_chunks.specs.Messages.{AreWhole, IsWhole};
-ghost use Rattle.ipc_file_write.specs.Blocks.{IsPlaced, RefusesPlace, RefusesPlaces, sent_seen};
+ghost use Rattle.ipc_chunks.specs.Messages.{HaveWholeBodies, HasWholeBody};
+ghost use Rattle.ipc_file_write.specs.Blocks.{HasBlocksFrom, RefusesPlace, RefusesBlockRoom, sent_seen};
 ghost use Rattle.ipc_file_write.specs.Writes.{RefusesRoom};
 
 use ipc_chunks::messages::Messages;
@@ -24,7 +24,7 @@ fn is_inside(place: u64, head: u64, body: u64) -> bool
 // The block of a message that is sent at a place, and the place behind it.
 #[tactic(auto, using(crate::proofs::PlacedMessages::placed))]
 fn place_message(encoded: &Encoded<'_>, place: u64) -> Result<(Block, u64), Fault>
-    requires { IsWhole encoded.now }
+    requires { HasWholeBody encoded.now }
     ensures block { IfOk result (λ placed. placed.0 ≡ block_at place (sent_seen encoded.now)) }
     ensures end { IfOk result (λ placed. placed.1 ≡ place + length (sent_bytes (sent_seen encoded.now))) }
     ensures short { IfOk result (λ placed. placed.1 < 2 ^ 63) }
@@ -49,10 +49,10 @@ fn place_messages(
     messages: &[Encoded<'_>],
     place: u64,
 ) -> Result<(Vec<Block>, u64), Fault>
-    requires { All IsWhole messages.now }
+    requires { All HasWholeBody messages.now }
     ensures places { IfOk result (λ placed. placed.0.items ≡ blocks_at place (map sent_seen messages.now)) }
     ensures end { IfOk result (λ placed. placed.1 ≡ place + length (all_bytes (map sent_seen messages.now))) }
-    ensures only { IfErr result (RefusesPlaces place (map sent_seen messages.now)) }
+    ensures only { IfErr result (RefusesBlockRoom place (map sent_seen messages.now)) }
 {
     let mut blocks = Vec::new(alloc);
     let mut end = place;
@@ -79,9 +79,9 @@ pub(crate) fn place_chunk(
     messages: &Messages<'_>,
     place: u64,
 ) -> Result<Placed, Fault>
-    requires { AreWhole messages.now }
-    ensures ok { IfOk result (IsPlaced place (map sent_seen messages.now.dictionaries.items) (sent_seen messages.now.record_batch)) }
-    ensures only { IfErr result (RefusesPlaces place (map sent_seen messages.now.dictionaries.items ++ sent_seen messages.now.record_batch ∷ [])) }
+    requires { HaveWholeBodies messages.now }
+    ensures ok { IfOk result (HasBlocksFrom place (map sent_seen messages.now.dictionaries.items) (sent_seen messages.now.record_batch)) }
+    ensures only { IfErr result (RefusesBlockRoom place (map sent_seen messages.now.dictionaries.items ++ sent_seen messages.now.record_batch ∷ [])) }
 {
     let (dictionaries, behind) = place_messages(alloc, &messages.dictionaries, place)?;
     let (record_batch, end) = place_message(&messages.record_batch, behind)?;

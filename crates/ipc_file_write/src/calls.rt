@@ -7,7 +7,7 @@ ghost use Rattle.ipc_schema_write.specs.WriterAnswers.{byte_order};
 ghost use Rattle.ipc_write.specs.Calls.{ended_as};
 ghost use Rattle.ipc_write.specs.Writers.{chosen_ids};
 ghost use Rattle.ipc_write.specs.declared.stream.WriterState.TheVariants.{Finished, Started};
-ghost use Rattle.ipc_file_write.specs.Calls.{AreMade, EndsFile, FirstAreMade, Follows, HasChosen, IsMade, IsWrittenFile, Moves, writer_seen};
+ghost use Rattle.ipc_file_write.specs.Calls.{AreMade, EndsFile, FirstAreMade, GrowsBy, HasChosen, IsMade, IsWrittenFile, MakesCall, writer_seen};
 ghost use Rattle.ipc_file_write.specs.FileWriters.{IsSameFile, seen};
 ghost use Rattle.ipc_file_write.specs.WrittenFiles.{RefusesEnd, RefusesWholeFile, RunsToFile};
 
@@ -29,7 +29,7 @@ pub fn run_call<W: Writes + Drop>(
     call: &StreamCall,
 ) -> Result<(), Fault>
     ensures made { IsMade W.known W.grows W.failures W.room W.memory (seen writer.old) call.now result (seen writer.new) }
-    ensures moves { Moves W.known W.memory (seen writer.old) call.now result (seen writer.new) }
+    ensures moves { MakesCall W.known W.memory (seen writer.old) call.now result (seen writer.new) }
 {
     match call {
         StreamCall::Start => writer.start(),
@@ -50,7 +50,7 @@ pub fn run_calls<W: Writes + Drop>(
 ) -> Result<Vec<Result<(), Fault>>, AllocError>
     ensures made { IfOk result (λ answers. AreMade W.known W.grows W.failures W.room W.memory (seen writer.old) calls.now answers.items (seen writer.new)) }
     ensures run { IfOk result (λ answers. IsRun (writer_seen (seen writer.old)) (ended_as calls.now answers.items) (writer_seen (seen writer.new))) }
-    ensures follows { IfOk result (λ answers. Follows W.known W.memory (seen writer.old) (seen writer.new)
+    ensures follows { IfOk result (λ answers. GrowsBy W.known W.memory (seen writer.old) (seen writer.new)
         (taken (answered (ended_as calls.now answers.items)))) }
     ensures same { IfOk result (λ _. IsSameFile (seen writer.old) (seen writer.new)) }
     ensures chosen { IfOk result (λ _. HasChosen (seen writer.old) → HasChosen (seen writer.new)) }

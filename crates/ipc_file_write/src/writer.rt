@@ -12,7 +12,7 @@ ghost use Rattle.ipc_write.specs.Writers.{HaveTypes, RefusesState, RefusesTypes,
 ghost use Rattle.ipc_write.specs.declared.stream.WriterState.TheVariants.{New, Started};
 ghost use Rattle.ipc_file_write.specs.Beginnings.{StartsNew};
 ghost use Rattle.ipc_file_write.specs.Writes.{Appends, MayList, NamesOne, RefusesChunk, SendsColumns, WritesExactly, field_normal};
-ghost use Rattle.ipc_file_write.specs.FileWriters.{Agrees, AnswersFinish, AnswersStart, EndsWith, HasNothing, IsFileOf, MayFinish, MayStart, OrFails, ReachesEnd, RefusesFinish, RefusesPairs, RefusesStart, Remains, SendsBytes, StartsWith, StateComesFirst, TakesPairs, fault_if_over, scratches_of, seen};
+ghost use Rattle.ipc_file_write.specs.FileWriters.{Agrees, AnswersFinish, AnswersStart, EndsWith, HasNothing, IsFileOf, MayFinish, MayStart, OrFails, ReachesEnd, RefusesFinish, TakesNoPairs, RefusesStart, Remains, SendsBytes, StartsWith, StateComesFirst, TakesPairs, fault_if_over, scratches_of, seen};
 
 use crate::blocks::{add, add_all, make_room};
 pub use crate::file::FileWriter;
@@ -180,7 +180,7 @@ impl<W: Writes + Drop> FileWriter<W> {
     pub fn set_custom_metadata(&mut self, metadata: Metadata) -> Result<(), Fault>
         ensures first { StateComesFirst (fault_if_over (seen self.old).state) (seen self.old) result (seen self.new) }
         ensures ok { OnOk result (TakesPairs (seen self.old) (seen self.new) (pairs_of metadata.entries)) }
-        ensures only { IfErr result (RefusesPairs (seen self.old) (pairs_of metadata.entries)) }
+        ensures only { IfErr result (TakesNoPairs (seen self.old) (pairs_of metadata.entries)) }
         ensures kept { OnErr result (seen self.new ≡ seen self.old) }
         ensures means { Remains W.known W.memory (seen self.old) (seen self.new) }
         ensures scratches { scratches_of self.new ≡ scratches_of self.old }

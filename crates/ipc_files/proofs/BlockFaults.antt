@@ -16,7 +16,7 @@ use Rattle.ipc_model.specs.Files.{Placed, BlockHeader, placed}
 use Rattle.ipc_model.specs.Frame.{frame}
 use Rattle.ipc_files.specs.declared.read.file.block.BlockMessage.{BlockMessage}
 use Rattle.ipc_files.specs.Batches.{needed_record}
-use Rattle.ipc_files.specs.Blocks.{MessageReason, block_message, frame_fault, message_seen, needed_kind, opened_message, placed_message, prefix_of, result_and_then, seen, stated_metadata}
+use Rattle.ipc_files.specs.Blocks.{MessageReason, block_message, frame_fault, message_seen, needed_kind, opened_message, placed_message, prefix_of, result_and_then, answered_as, stated_metadata}
 use Rattle.ipc_files.specs.Dictionaries.{needed_dictionary}
 use Rattle.ipc_read.proofs.Refusals.{claims_own, claims_through, own_any}
 
@@ -42,25 +42,25 @@ module _ (negative : OutOfSpecKind) (o : Option ℕ) where
 abbrev header-of : MessageHeaderRef → ℕ → BlockHeader
 header-of u extra = record { tag = (header_parts u).0; table = (header_parts u).1; extra = extra }
 
-record-tag : (u : MessageHeaderRef) (extra : ℕ) → needed_kind 3 (header-of u extra) ≡ seen (λ (t : Spot). header-of u extra) (needed_record u)
+record-tag : (u : MessageHeaderRef) (extra : ℕ) → needed_kind 3 (header-of u extra) ≡ answered_as (λ (t : Spot). header-of u extra) (needed_record u)
 record-tag (headers.Schema t) extra = refl
 record-tag (headers.DictionaryBatch t) extra = refl
 record-tag (headers.RecordBatch t) extra = refl
 record-tag (headers.Tensor t) extra = refl
 record-tag (headers.SparseTensor t) extra = refl
 
-dictionary-tag : (u : MessageHeaderRef) (extra : ℕ) → needed_kind 2 (header-of u extra) ≡ seen (λ (t : Spot). header-of u extra) (needed_dictionary u)
+dictionary-tag : (u : MessageHeaderRef) (extra : ℕ) → needed_kind 2 (header-of u extra) ≡ answered_as (λ (t : Spot). header-of u extra) (needed_dictionary u)
 dictionary-tag (headers.Schema t) extra = refl
 dictionary-tag (headers.DictionaryBatch t) extra = refl
 dictionary-tag (headers.RecordBatch t) extra = refl
 dictionary-tag (headers.Tensor t) extra = refl
 dictionary-tag (headers.SparseTensor t) extra = refl
 
-pub record-kind : (x : BlockMessage) (r : Result Spot Fault) → r ≡ needed_record x.header → needed_kind 3 (message_seen x) ≡ seen (λ (t : Spot). message_seen x) r
-record-kind x r is = record-tag x.header (extra_of x.version) ∙ ap (seen (λ (t : Spot). message_seen x)) (sym is)
+pub record-kind : (x : BlockMessage) (r : Result Spot Fault) → r ≡ needed_record x.header → needed_kind 3 (message_seen x) ≡ answered_as (λ (t : Spot). message_seen x) r
+record-kind x r is = record-tag x.header (extra_of x.version) ∙ ap (answered_as (λ (t : Spot). message_seen x)) (sym is)
 
-pub dictionary-kind : (x : BlockMessage) (r : Result Spot Fault) → r ≡ needed_dictionary x.header → needed_kind 2 (message_seen x) ≡ seen (λ (t : Spot). message_seen x) r
-dictionary-kind x r is = dictionary-tag x.header (extra_of x.version) ∙ ap (seen (λ (t : Spot). message_seen x)) (sym is)
+pub dictionary-kind : (x : BlockMessage) (r : Result Spot Fault) → r ≡ needed_dictionary x.header → needed_kind 2 (message_seen x) ≡ answered_as (λ (t : Spot). message_seen x) r
+dictionary-kind x r is = dictionary-tag x.header (extra_of x.version) ∙ ap (answered_as (λ (t : Spot). message_seen x)) (sym is)
 
 -- ---- the message at a block
 

@@ -12,7 +12,7 @@ use Rattle.ipc_model.specs.Batches.{extra_of}
 use Rattle.ipc_model.specs.Files.{BlockHeader, block_header}
 use Rattle.ipc_model.specs.Schemas.{made, present, given}
 use Rattle.ipc_files.specs.declared.read.file.block.BlockMessage.{BlockMessage}
-use Rattle.ipc_files.specs.Blocks.{message_seen, needed_header, opened_message, opened_table, seen, stated_version, with_header}
+use Rattle.ipc_files.specs.Blocks.{message_seen, needed_header, opened_message, opened_table, answered_as, stated_version, with_header}
 use Rattle.ipc_files.specs.Footers.{GivesPart}
 
 abbrev found : Result BlockHeader Fault → Option BlockHeader
@@ -42,11 +42,11 @@ own-none faults.Memory p = tt
 own-none (faults.Io e) p = tt
 own-none _ p = p
 
-gives : (result : Result BlockMessage Fault) (h : Option BlockHeader) (o : Result BlockHeader Fault) → seen message_seen result ≡ o → h ≡ found o → GivesPart message_seen result h
+gives : (result : Result BlockMessage Fault) (h : Option BlockHeader) (o : Result BlockHeader Fault) → answered_as message_seen result ≡ o → h ≡ found o → GivesPart message_seen result h
 gives (Ok m) h o e f = rw (← e) at f
 gives (Err x) h o e f = own-none x (rw (← e) at f)
 
-pub gives-message : (metadata : List ℕ) (result : Result BlockMessage Fault) → seen message_seen result ≡ opened_message metadata → GivesPart message_seen result (block_header metadata)
+pub gives-message : (metadata : List ℕ) (result : Result BlockMessage Fault) → answered_as message_seen result ≡ opened_message metadata → GivesPart message_seen result (block_header metadata)
 gives-message metadata result e = gives result (block_header metadata) (opened_message metadata) e (found-header metadata)
 
 -- a message without bytes has no header

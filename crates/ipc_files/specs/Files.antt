@@ -97,12 +97,12 @@ HeadReason front (OutOfSpec InvalidHeader) = (6 ≤ length front) × (take 6 fro
 HeadReason front _ = ⊥
 
 -- there are less than 10 bytes, or less than those and the footer that is stated
-abbrev pub IsShort : List ℕ → Type 0
-IsShort bytes = (length bytes < 10) ⊎ ((n : ℕ) × (footer_length (last 10 bytes) ≡ Ok n) × (length bytes < n + 10))
+abbrev pub IsCutShort : List ℕ → Type 0
+IsCutShort bytes = (length bytes < 10) ⊎ ((n : ℕ) × (footer_length (last 10 bytes) ≡ Ok n) × (length bytes < n + 10))
 
 -- of the last ones: there are too few, or enough that state no length
 abbrev pub TailReason : List ℕ → Fault → Type 0
-TailReason bytes Ended = IsShort bytes
+TailReason bytes Ended = IsCutShort bytes
 TailReason bytes e = (10 ≤ length bytes) × (footer_length (last 10 bytes) ≡ Err e)
 
 -- of the footer: each tells of the slot that it names

@@ -15,7 +15,7 @@ use Rattle.ipc_views.specs.Spot.{Vector}
 use Rattle.ipc_views.specs.Tables.{and_then, number_at, root_at, spot_at}
 use Rattle.ipc_views.specs.declared.file.Block.{Block}
 use Rattle.ipc_tables.specs.Files.{footer_slots}
-use Rattle.ipc_tables.specs.Reads.{AreOptionalPairs, AreTables, IsFooter, IsPair, kept_block}
+use Rattle.ipc_tables.specs.Reads.{AreOptionalPairs, AreTables, IsFooter, IsPairTable, kept_block}
 use Rattle.ipc_tables.specs.Slots.{kept_bytes32, kept_bytes64}
 use Rattle.ipc_tables.specs.Schemas.{schema_slots}
 use Rattle.ipc_tables.specs.declared.schema.KeyValue.{KeyValue}
@@ -48,7 +48,7 @@ kept-blocks (b ∷ bs) ok =
 -- ---- pairs
 
 pairs-there : (r : Result (Option Vector) TableFault) (ps : List KeyValue) (es : Pairs) → Some (pairs_in ps) ≡ some_pairs es
-    → (v : Vector) × (r ≡ Ok (Some v)) × AreTables v IsPair ps → given (made r) pairs_at ≡ Some (put_pairs (pairs_in ps) [])
+    → (v : Vector) × (r ≡ Ok (Some v)) × AreTables v IsPairTable ps → given (made r) pairs_at ≡ Some (put_pairs (pairs_in ps) [])
 pairs-there r [] [] is h = cc
 pairs-there r [] (e ∷ es) is h = cc
 pairs-there r (p ∷ ps) es is h = pairs-read r (p ∷ ps) h

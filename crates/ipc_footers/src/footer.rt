@@ -1,5 +1,5 @@
 //! The footer of a file: Arrow columnar format, "IPC File Format", and `File.fbs`.
-ghost use Rattle.std.specs.Prelude.{◌≡◌, ◌+◌, ◌≤◌, ◌↔◌, All, IfOk, IsTrue, length, option_map};
+ghost use Rattle.std.specs.Prelude.{◌≡◌, ◌+◌, ◌≤◌, ◌↔◌, All, IfOk, IsTrue, option_map};
 ghost use Rattle.lower.specs.TypeViews.{fields_view, pairs_of};
 ghost use Rattle.ipc_base.specs.IdTrees.{all_ids_view};
 ghost use Rattle.ipc_tables.proofs.Kept.{BlockFits};

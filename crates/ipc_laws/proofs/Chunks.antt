@@ -5,8 +5,8 @@ use Rattle.ipc_model.specs.Accepted.{fields_of}
 use Rattle.ipc_model.specs.Batches.{Column, extra_of}
 use Rattle.ipc_model.specs.Offers.{FilledPlace, offer_of}
 use Rattle.ipc_model.specs.Streams.{Head}
-use Rattle.ipc_laws.specs.Chunks.{Encodes, SendsBodies, ListedLaw, WrittenChunkLaw, EncodedChunkLaw}
-use Rattle.ipc_laws.specs.Moves.{Sends}
+use Rattle.ipc_laws.specs.Chunks.{HasMessages, SendsBodies, ListedLaw, WrittenChunkLaw, EncodedChunkLaw}
+use Rattle.ipc_laws.specs.Moves.{SendsPlaces}
 use Rattle.ipc_laws.specs.Places.{head_written, HavePlaces}
 use Rattle.ipc_laws.specs.Remembered.{Remembered, remembering, dictionary_of, Filled, filled_of}
 use Rattle.ipc_laws.proofs.Bodies.{values_law, columns_law}
@@ -16,15 +16,15 @@ use Rattle.ipc_laws.proofs.Sending.{chunk_law}
 -- ---- what is listed
 
 pub listed_law : ListedLaw
-listed_law order m [] ws after bytes s e = (subst (λ (xs : List FilledPlace). Encodes order xs bytes) s.0 e, s.1)
+listed_law order m [] ws after bytes s e = (subst (λ (xs : List FilledPlace). HasMessages order xs bytes) s.0 e, s.1)
 listed_law order m (p ∷ ps) ws after bytes (inl s) e = inl (s.0, listed_law order m ps ws after bytes s.1 e)
 listed_law order m (p ∷ ps) ws after bytes (inr s) e =
-    let x = subst (λ (xs : List FilledPlace). Encodes order xs bytes) s.1 e in
+    let x = subst (λ (xs : List FilledPlace). HasMessages order xs bytes) s.1 e in
     inr (x.0, x.1, x.2, listed_law order (remembering p.id (dictionary_of p.values) m) ps s.0 after x.1 s.2 x.3)
 
 -- ---- chunks
 
-sends_bodies : (h : Head) (m : Remembered) (ps : List Filled) (bytes : List ℕ) (after : Remembered) → extra_of h.version ≡ 0 → HavePlaces h.schema ps → SendsBodies h.schema.order m ps bytes after → Sends h m ps bytes after
+sends_bodies : (h : Head) (m : Remembered) (ps : List Filled) (bytes : List ℕ) (after : Remembered) → extra_of h.version ≡ 0 → HavePlaces h.schema ps → SendsBodies h.schema.order m ps bytes after → SendsPlaces h m ps bytes after
 sends_bodies h m [] bytes after extra placed s = s
 sends_bodies h m (p ∷ ps) bytes after extra placed (inl s) = inl (s.0, sends_bodies h m ps bytes after extra placed.1 s.1)
 sends_bodies h m (p ∷ ps) bytes after extra placed (inr s) = inr (

@@ -12,11 +12,11 @@ use Rattle.ipc_model.specs.Schemas.{given}
 use Rattle.ipc_model.specs.Streams.{Head, Known}
 use Rattle.ipc_laws.specs.Blocks.{IsOfVersion}
 use Rattle.ipc_laws.specs.FileChunks.{ValuesAt, StandAt, StandInOrder, ListedBlocksLaw, with_blocks, FileChunkLaw}
-use Rattle.ipc_laws.specs.Kept.{Keeps, KnowsMore}
+use Rattle.ipc_laws.specs.Kept.{StillRemembers, KnowsMore}
 use Rattle.ipc_laws.specs.Messages.{chunk_written}
 use Rattle.ipc_laws.specs.Order.{Chooses, InOrder}
 use Rattle.ipc_laws.specs.Places.{HavePlaces, head_written}
-use Rattle.ipc_laws.specs.Remembered.{Remembered, remembering, Agrees, dictionary_of, Filled, filled_place, filled_below, filled_of}
+use Rattle.ipc_laws.specs.Remembered.{Remembered, remembering, KnowsRemembered, dictionary_of, Filled, filled_place, filled_below, filled_of}
 use Rattle.ipc_laws.proofs.Blocks.{block_record_law, block_dictionary_law}
 use Rattle.ipc_laws.proofs.Bodies.{values_law, columns_law}
 use Rattle.ipc_laws.proofs.Fitting.{fit_law}
@@ -61,7 +61,7 @@ chosen_of h m seen order r (p ∷ ps) bs after (inr s) =
 -- what is known after some blocks
 record Sets (m : FileMetadata) (seen : Block → List ℕ) (known : Dictionaries) (bs : List Block) (after : Remembered) : Type 0 where
   pub then_known : Dictionaries
-  pub agrees : Agrees after then_known
+  pub agrees : KnowsRemembered after then_known
   pub means : dictionaries_after m seen known bs ≡ Some then_known
 
 sets_at : (m : FileMetadata) (seen : Block → List ℕ) (known : Dictionaries) (bs cs : List Block) (after : Remembered) → bs ≡ cs → Sets m seen known cs after → Sets m seen known bs after
@@ -71,7 +71,7 @@ version_same : (h : Head) (metadata : List ℕ) → extra_of h.version ≡ 0 →
 version_same h metadata e v = subst (λ (n : ℕ). IsOfVersion metadata n) (sym e) v
 
 sets_each : (h : Head) (m : FileMetadata) (seen : Block → List ℕ) (r after : Remembered) (known : Dictionaries) (ps : List Filled) (bs : List Block) → m.schema ≡ h.schema → extra_of h.version ≡ 0
-    → HavePlaces h.schema ps → InOrder r ps after → StandEach m seen h.schema.order ps bs → Agrees r known → Sets m seen known bs after
+    → HavePlaces h.schema ps → InOrder r ps after → StandEach m seen h.schema.order ps bs → KnowsRemembered r known → Sets m seen known bs after
 unfolding StandEach
 sets_each h m seen r after known [] bs same extra have o s a =
     sets_at m seen known bs [] after s (record { then_known = known; agrees = record { each = λ i. a.each i ∙ sym (o i) }; means = refl })
@@ -83,7 +83,7 @@ sets_each h m seen r after known (p ∷ ps) bs same extra have o s a =
     let w = (values_law h p extra have.0 v.message).written state (finds_known r known (filled_below p.values p.ids) a o.0) in
     let one : dictionaries_at m known (seen b) b ≡ Some ((p.id, d) ∷ known) =
     block_dictionary_law m h state (seen b) b v.message.metadata v.message.body p.id d same v.stands w (version_same h v.message.metadata extra v.version) in
-    let agrees : Agrees (remembering p.id d r) ((p.id, d) ∷ known) = record { each = λ i. ap (λ (x : Option Dictionary). cond (int_eq p.id i) (Some d) x) (a.each i) } in
+    let agrees : KnowsRemembered (remembering p.id d r) ((p.id, d) ∷ known) = record { each = λ i. ap (λ (x : Option Dictionary). cond (int_eq p.id i) (Some d) x) (a.each i) } in
     let rest = sets_each h m seen (remembering p.id d r) after ((p.id, d) ∷ known) ps s.1 same extra have.1 o.1 s.4 agrees in
     sets_at m seen known bs (b ∷ s.1) after s.3 (record {
       then_known = rest.then_known;
@@ -117,7 +117,7 @@ chunks_then m seen ds es (a ∷ bs) b (d ∷ cs) c k e f =
     ap (λ (x : Option Chunk). x ∷ chunks_at m es seen None None (bs ++ b ∷ [])) here ∙ ap (λ (xs : List (Option Chunk)). Some d ∷ xs) rest
 
 -- what is remembered is known
-knows_more : (before after : Remembered) (ds es : Dictionaries) → Keeps before after → Agrees before ds → Agrees after es → KnowsMore ds es
+knows_more : (before after : Remembered) (ds es : Dictionaries) → StillRemembers before after → KnowsRemembered before ds → KnowsRemembered after es → KnowsMore ds es
 knows_more before after ds es k a b = record { still = λ id d e. b.each id ∙ k.still id d (sym (a.each id) ∙ e) }
 
 -- lists of blocks don't matter to a block

@@ -9,12 +9,12 @@ use Rattle.ipc_model.specs.Streams.{Head, meaning}
 use Rattle.ipc_model.specs.WrittenLaws.{prefix}
 use Rattle.ipc_laws.specs.Messages.{message_bytes, after_dictionary, MeansValues}
 use Rattle.ipc_laws.specs.Moves.{Moves}
-use Rattle.ipc_laws.specs.Remembered.{Remembered, remembering, Agrees, dictionary_of, Filled, filled_below, Finds}
+use Rattle.ipc_laws.specs.Remembered.{Remembered, remembering, KnowsRemembered, dictionary_of, Filled, filled_below, Finds}
 use Rattle.ipc_laws.proofs.Messages.{written_dictionary}
 
 -- ---- what is found
 
-pub finds_known : (m : Remembered) (known : Dictionaries) (ps : List Filled) → Agrees m known → Finds m ps → Finds (dictionary_at known) ps
+pub finds_known : (m : Remembered) (known : Dictionaries) (ps : List Filled) → KnowsRemembered m known → Finds m ps → Finds (dictionary_at known) ps
 finds_known m known [] a f = tt
 finds_known m known (p ∷ ps) a f = (a.each p.id ∙ f.0, finds_known m known ps a f.1)
 

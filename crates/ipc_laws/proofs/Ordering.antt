@@ -6,7 +6,7 @@ use Rattle.ipc_base.specs.IdTrees.{IdTrees}
 use Rattle.ipc_model.specs.Entries.{Dictionary}
 use Rattle.ipc_model.specs.Offers.{is_keyed, own_id, inner_ids}
 use Rattle.ipc_model.specs.TypeKinds.{first_ids, other_ids}
-use Rattle.ipc_laws.specs.Order.{Chooses, InOrder, OrderLaw}
+use Rattle.ipc_laws.specs.Order.{Chooses, InOrder, InnerFirstLaw}
 use Rattle.ipc_laws.specs.Remembered.{Remembered, remembering, dictionary_of, Filled, own_filled, filled_below, filled_inside, filled_of, Finds}
 use Rattle.ipc_laws.proofs.Moving.{finds_both, finds_front, finds_behind, finds_still, remembered_here, remembered_still}
 
@@ -148,7 +148,7 @@ mutual
       takes_both v (filled_below c inner ++ own_filled c id inner) (filled_of cs (other_ids is))
       (takes_field v c id inner (takes_below v c inner)) (takes_all v cs (other_ids is))
 
-pub order_law : OrderLaw
+pub order_law : InnerFirstLaw
 unfolding Takes
 order_law columns is before after ws v s =
     let x = takes_all v.0 (layouts columns) is before after ws v.1 s in

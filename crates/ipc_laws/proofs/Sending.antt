@@ -5,7 +5,7 @@ use Rattle.ipc_model.proofs.Meanings.{meaning_more}
 use Rattle.ipc_model.proofs.Written.{written_record}
 use Rattle.ipc_model.specs.Streams.{Head, meaning}
 use Rattle.ipc_laws.specs.Messages.{message_bytes, MeansValues, chunk_written}
-use Rattle.ipc_laws.specs.Moves.{Moves, Sends, MovesLaw, ChunkLaw}
+use Rattle.ipc_laws.specs.Moves.{Moves, SendsPlaces, MovesLaw, ChunkLaw}
 use Rattle.ipc_laws.specs.Order.{Chooses, InOrder}
 use Rattle.ipc_laws.specs.Remembered.{Remembered, remembering, dictionary_of, Filled, filled_of}
 use Rattle.ipc_laws.proofs.Moving.{finds_known, moves_none, moves_then, moves_fewer, message_then, moves_one}
@@ -24,7 +24,7 @@ record Chosen (h : Head) (m : Remembered) (ps : List Filled) (bytes : List ℕ) 
   pub sends : SendsEach h places bytes
   pub few : length places ≤ length ps
 
-chosen_of : (h : Head) (m : Remembered) (ps : List Filled) (bytes : List ℕ) (after : Remembered) → Sends h m ps bytes after → Chosen h m ps bytes after
+chosen_of : (h : Head) (m : Remembered) (ps : List Filled) (bytes : List ℕ) (after : Remembered) → SendsPlaces h m ps bytes after → Chosen h m ps bytes after
 unfolding SendsEach
 chosen_of h m [] bytes after s = record { places = []; chooses = (refl, s.1); sends = s.0; few = omega arith }
 chosen_of h m (p ∷ ps) bytes after (inl s) =

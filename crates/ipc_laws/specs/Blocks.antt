@@ -10,7 +10,7 @@ use Rattle.ipc_model.specs.Batches.{Schema, Body, Chunk, extra_of, record_meanin
 use Rattle.ipc_model.specs.Entries.{Dictionary, Dictionaries, Limit}
 use Rattle.ipc_model.specs.Files.{FileMetadata, chunk_at, dictionaries_at}
 use Rattle.ipc_model.specs.Streams.{Head, Known, whole}
-use Rattle.ipc_model.specs.WrittenLaws.{prefix, IsWritten}
+use Rattle.ipc_model.specs.WrittenLaws.{prefix, BeginsWithRecord}
 use Rattle.ipc_laws.specs.Messages.{message_bytes, IsWrittenDictionary}
 
 -- ---- bodies in a source
@@ -56,7 +56,7 @@ pub record IsOfVersion (metadata : List ℕ) (extra : ℕ) : Type 0 where
 -- A record that was written has its chunk at its block.
 abbrev pub BlockRecordLaw : Type 0
 BlockRecordLaw = (m : FileMetadata) (h : Head) (s : Known) (source : List ℕ) (b : Block) (metadata body : List ℕ) (c : Chunk) → m.schema ≡ h.schema
-    → StandsAt m source b metadata body → IsWritten h s metadata body c → IsOfVersion metadata (extra_of h.version)
+    → StandsAt m source b metadata body → BeginsWithRecord h s metadata body c → IsOfVersion metadata (extra_of h.version)
     → chunk_at m s.dictionaries source b None None ≡ Some c
 
 -- A dictionary that was written sets the values of its id there.

@@ -6,7 +6,7 @@ use Rattle.lower_types.specs.declared.Endianness.{Endianness}
 use Rattle.lower_arrays.specs.Layouts.{Layout, layouts}
 use Rattle.lower_arrays.specs.Slots.{AreArrays}
 use Rattle.ipc_base.specs.IdTrees.{IdTrees}
-use Rattle.ipc_model.specs.Accepted.{fields_of, IsEncoded}
+use Rattle.ipc_model.specs.Accepted.{fields_of, MayBeEncoded}
 use Rattle.ipc_model.specs.Offers.{FilledPlace, offer_of, IsAcceptedChunk}
 use Rattle.ipc_model.specs.Streams.{Head}
 use Rattle.ipc_model.specs.Writable.{IsWritable}
@@ -19,17 +19,17 @@ use Rattle.ipc_laws.specs.Remembered.{Remembered, remembering, dictionary_of, Fi
 -- ---- which dictionaries are sent
 
 -- Of each place the values are to be written, or they are remembered: the list of those that are, in order.
-abbrev pub Lists : Remembered → List Filled → List FilledPlace → Remembered → Type 0
-Lists m [] ws after = (ws ≡ []) × ((i : ℤ) → after i ≡ m i)
-Lists m (p ∷ ps) ws after =
-    ((m p.id ≡ Some (dictionary_of p.values)) × Lists m ps ws after)
-    ⊎ ((rest : List FilledPlace) × (ws ≡ filled_place p ∷ rest) × Lists (remembering p.id (dictionary_of p.values) m) ps rest after)
+abbrev pub ListsUnwritten : Remembered → List Filled → List FilledPlace → Remembered → Type 0
+ListsUnwritten m [] ws after = (ws ≡ []) × ((i : ℤ) → after i ≡ m i)
+ListsUnwritten m (p ∷ ps) ws after =
+    ((m p.id ≡ Some (dictionary_of p.values)) × ListsUnwritten m ps ws after)
+    ⊎ ((rest : List FilledPlace) × (ws ≡ filled_place p ∷ rest) × ListsUnwritten (remembering p.id (dictionary_of p.values) m) ps rest after)
 
 -- a message for each, in order
-abbrev pub Encodes : Endianness → List FilledPlace → List ℕ → Type 0
-Encodes order [] bytes = bytes ≡ []
-Encodes order (p ∷ ps) bytes =
-    (w : ValuesMessage order p) × (rest : List ℕ) × (bytes ≡ message_bytes w.metadata w.body ++ rest) × Encodes order ps rest
+abbrev pub HasMessages : Endianness → List FilledPlace → List ℕ → Type 0
+HasMessages order [] bytes = bytes ≡ []
+HasMessages order (p ∷ ps) bytes =
+    (w : ValuesMessage order p) × (rest : List ℕ) × (bytes ≡ message_bytes w.metadata w.body ++ rest) × HasMessages order ps rest
 
 -- The messages at some places, by their tables and bodies: at each the values, or none where they are remembered.
 abbrev pub SendsBodies : Endianness → Remembered → List Filled → List ℕ → Remembered → Type 0
@@ -42,7 +42,7 @@ SendsBodies order m (p ∷ ps) bytes after =
 -- The messages of what is listed are those that are sent at these places.
 abbrev pub ListedLaw : Type 0
 ListedLaw = (order : Endianness) (m : Remembered) (ps : List Filled) (ws : List FilledPlace) (after : Remembered) (bytes : List ℕ)
-    → Lists m ps ws after → Encodes order ws bytes → SendsBodies order m ps bytes after
+    → ListsUnwritten m ps ws after → HasMessages order ws bytes → SendsBodies order m ps bytes after
 
 -- ---- chunks
 
@@ -68,6 +68,6 @@ head_encoded order is columns = head_written order (fields_of (map (λ c. c.type
 -- The same of columns that are encoded without a schema.
 abbrev pub EncodedChunkLaw : Type 0
 EncodedChunkLaw = (order : Endianness) (is : IdTrees) (columns : List Layout) (before after : Remembered) (bytes : List ℕ)
-    → AreArrays (layouts columns) → IsEncoded is (offer_of columns is)
+    → AreArrays (layouts columns) → MayBeEncoded is (offer_of columns is)
     → WritesChunk (head_encoded order is columns) before columns bytes after
     → MeansChunk (head_encoded order is columns) bytes before after (chunk_written columns)

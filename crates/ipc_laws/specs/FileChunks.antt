@@ -15,11 +15,11 @@ use Rattle.ipc_model.specs.Offers.{FilledPlace, offer_of, IsAcceptedChunk}
 use Rattle.ipc_model.specs.Writable.{IsWritable}
 use Rattle.ipc_laws.specs.Blocks.{StandsAt, IsOfVersion}
 use Rattle.ipc_laws.specs.Bodies.{ValuesMessage, ColumnsMessage}
-use Rattle.ipc_laws.specs.Chunks.{Lists}
+use Rattle.ipc_laws.specs.Chunks.{ListsUnwritten}
 use Rattle.ipc_laws.specs.Kept.{OfferKeeps}
 use Rattle.ipc_laws.specs.Messages.{chunk_written}
 use Rattle.ipc_laws.specs.Places.{head_written}
-use Rattle.ipc_laws.specs.Remembered.{Remembered, remembering, Agrees, dictionary_of, Filled, filled_place, filled_of}
+use Rattle.ipc_laws.specs.Remembered.{Remembered, remembering, KnowsRemembered, dictionary_of, Filled, filled_place, filled_of}
 
 -- ---- what stands at blocks. `seen b` are the bytes that are seen from the block b.
 
@@ -52,14 +52,14 @@ StandInOrder m seen order (p ∷ ps) bs =
 -- The blocks of what is listed are those of the dictionaries at these places.
 abbrev pub ListedBlocksLaw : Type 0
 ListedBlocksLaw = (m : FileMetadata) (seen : Block → List ℕ) (order : Endianness) (r : Remembered) (ps : List Filled) (ws : List FilledPlace) (after : Remembered)
-    (bs : List Block) → Lists r ps ws after → StandInOrder m seen order ws bs → StandAt m seen order r ps bs after
+    (bs : List Block) → ListsUnwritten r ps ws after → StandInOrder m seen order ws bs → StandAt m seen order r ps bs after
 
 -- ---- a file so far
 
 -- its dictionaries are those that its writer remembers, and its records mean these chunks
 pub record HasChunks (m : FileMetadata) (seen : Block → List ℕ) (r : Remembered) (cs : List Chunk) : Type 0 where
   pub known : Dictionaries
-  pub agrees : Agrees r known
+  pub agrees : KnowsRemembered r known
   pub blocks : BlocksMean m seen known cs
 
 -- with the blocks of some dictionaries, and that of a record

@@ -34,23 +34,23 @@ OfferKeptLaw = (m : Remembered) (columns : List Layout) (is : IdTrees) → Offer
     → AreAllKept m (filled_of (layouts columns) is)
 
 -- what was remembered still is
-pub record Keeps (before after : Remembered) : Type 0 where
+pub record StillRemembers (before after : Remembered) : Type 0 where
   pub still : (id : ℤ) (d : Dictionary) → before id ≡ Some d → after id ≡ Some d
 
 -- Where no dictionary is replaced, what was remembered still is.
 abbrev pub KeptLaw : Type 0
 KeptLaw = (ps : List Filled) (before after : Remembered) (ws : List Filled) → AreConsistent ps → AreAllKept before ps
-    → Chooses before ps ws after → Keeps before after
+    → Chooses before ps ws after → StillRemembers before after
 
 -- So a record that was written before means its chunk against the dictionaries that came behind it, too: its values are still found.
 abbrev pub StillFoundLaw : Type 0
-StillFoundLaw = (before after : Remembered) (ps : List Filled) → Keeps before after → Finds before ps → Finds after ps
+StillFoundLaw = (before after : Remembered) (ps : List Filled) → StillRemembers before after → Finds before ps → Finds after ps
 
 -- ---- what a reader knows
 
 -- values are added, and none is replaced
 abbrev pub KnowsMore : Dictionaries → Dictionaries → Type 0
-KnowsMore ds es = Keeps (λ id. dictionary_at ds id) (λ id. dictionary_at es id)
+KnowsMore ds es = StillRemembers (λ id. dictionary_at ds id) (λ id. dictionary_at es id)
 
 -- A record that has a meaning keeps it where dictionaries are added and none is replaced.
 abbrev pub KeptRecordLaw : Type 0

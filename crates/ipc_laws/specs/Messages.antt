@@ -7,7 +7,7 @@ use Rattle.lower_arrays.specs.Slots.{slots}
 use Rattle.ipc_model.specs.Batches.{Column, Chunk, dictionary_meaning, extra_of}
 use Rattle.ipc_model.specs.Entries.{Dictionary, dictionary_at}
 use Rattle.ipc_model.specs.Streams.{Head, Known, Header, header_of, whole, most_dictionaries, more, item}
-use Rattle.ipc_model.specs.WrittenLaws.{prefix, IsWritten}
+use Rattle.ipc_model.specs.WrittenLaws.{prefix, BeginsWithRecord}
 use Rattle.ipc_laws.specs.Remembered.{Filled, filled_below, filled_of, Finds, dictionary_of}
 
 -- a message as it stands in a stream
@@ -51,4 +51,4 @@ chunk_written columns = map column_written columns
 -- The message of some columns: they are what it means to each reader that knows the values at their places.
 pub record MeansColumns (h : Head) (columns : List Layout) (metadata body : List ℕ) : Type 0 where
   pub written : (s : Known) → Finds (dictionary_at s.dictionaries) (filled_of (layouts columns) h.schema.ids)
-      → IsWritten h s metadata body (chunk_written columns)
+      → BeginsWithRecord h s metadata body (chunk_written columns)

@@ -6,32 +6,32 @@ use Rattle.ipc_model.specs.Batches.{Chunk}
 use Rattle.ipc_model.specs.Streams.{Head, Known, most_dictionaries, with_chunks, meaning}
 use Rattle.ipc_laws.specs.Messages.{message_bytes, MeansValues, MeansColumns, chunk_written}
 use Rattle.ipc_laws.specs.Order.{AreConsistent}
-use Rattle.ipc_laws.specs.Remembered.{Remembered, remembering, Agrees, dictionary_of, Filled, filled_of, Finds}
+use Rattle.ipc_laws.specs.Remembered.{Remembered, remembering, KnowsRemembered, dictionary_of, Filled, filled_of, Finds}
 
 -- ---- dictionaries
 
 -- A reader that knew s has read some bytes: it knows what is remembered now, at most n messages were dictionaries, and what
 -- follows is read on.
-pub record Moved (h : Head) (bytes : List ℕ) (n : ℕ) (after : Remembered) (s : Known) : Type 0 where
+pub record MovedReader (h : Head) (bytes : List ℕ) (n : ℕ) (after : Remembered) (s : Known) : Type 0 where
   pub known : Known
-  pub agrees : Agrees after known.dictionaries
+  pub agrees : KnowsRemembered after known.dictionaries
   pub few : known.count ≤ s.count + n
   pub means : (rest : List ℕ) → meaning h s (bytes ++ rest) ≡ meaning h known rest
 
 -- Bytes take each reader along from one that knows what is remembered before to one that knows what is remembered after: by at
 -- most n dictionary messages.
 pub record Moves (h : Head) (bytes : List ℕ) (n : ℕ) (before after : Remembered) : Type 0 where
-  pub moves : (s : Known) → Agrees before s.dictionaries → s.count + n ≤ most_dictionaries → Moved h bytes n after s
+  pub moves : (s : Known) → KnowsRemembered before s.dictionaries → s.count + n ≤ most_dictionaries → MovedReader h bytes n after s
 
 -- ---- a writer's messages
 
 -- The messages at some places: at each the values, or none where they are remembered.
-abbrev pub Sends : Head → Remembered → List Filled → List ℕ → Remembered → Type 0
-Sends h m [] bytes after = (bytes ≡ []) × ((i : ℤ) → after i ≡ m i)
-Sends h m (p ∷ ps) bytes after =
-    ((m p.id ≡ Some (dictionary_of p.values)) × Sends h m ps bytes after)
+abbrev pub SendsPlaces : Head → Remembered → List Filled → List ℕ → Remembered → Type 0
+SendsPlaces h m [] bytes after = (bytes ≡ []) × ((i : ℤ) → after i ≡ m i)
+SendsPlaces h m (p ∷ ps) bytes after =
+    ((m p.id ≡ Some (dictionary_of p.values)) × SendsPlaces h m ps bytes after)
     ⊎ ((metadata body rest : List ℕ) × MeansValues h p metadata body × (bytes ≡ message_bytes metadata body ++ rest)
-    × Sends h (remembering p.id (dictionary_of p.values) m) ps rest after)
+    × SendsPlaces h (remembering p.id (dictionary_of p.values) m) ps rest after)
 
 -- The messages at the places of a chunk take a reader along, and then the values of each place are known.
 pub record SendsLike (h : Head) (ps : List Filled) (bytes : List ℕ) (before after : Remembered) : Type 0 where
@@ -41,28 +41,28 @@ pub record SendsLike (h : Head) (ps : List Filled) (bytes : List ℕ) (before af
 abbrev pub MovesLaw : Type 0
 MovesLaw = (h : Head) (columns : List Layout) (before after : Remembered) (bytes : List ℕ)
     → AreConsistent (filled_of (layouts columns) h.schema.ids)
-    → Sends h before (filled_of (layouts columns) h.schema.ids) bytes after
+    → SendsPlaces h before (filled_of (layouts columns) h.schema.ids) bytes after
     → SendsLike h (filled_of (layouts columns) h.schema.ids) bytes before after
 
 -- ---- chunks
 
 pub record ReadsChunk (h : Head) (bytes : List ℕ) (after : Remembered) (c : Chunk) (s : Known) : Type 0 where
   pub known : Known
-  pub agrees : Agrees after known.dictionaries
+  pub agrees : KnowsRemembered after known.dictionaries
   pub none : known.count ≡ 0
   pub means : (rest : List ℕ) → meaning h s (bytes ++ rest) ≡ with_chunks (c ∷ []) (meaning h known rest)
 
 -- The messages of one chunk: whatever follows them, each reader that knows what is remembered before gives just this chunk, and
 -- knows then what is remembered after.
 pub record MeansChunk (h : Head) (bytes : List ℕ) (before after : Remembered) (c : Chunk) : Type 0 where
-  pub reads : (s : Known) → Agrees before s.dictionaries → s.count ≡ 0 → ReadsChunk h bytes after c s
+  pub reads : (s : Known) → KnowsRemembered before s.dictionaries → s.count ≡ 0 → ReadsChunk h bytes after c s
 
 -- the messages of a chunk of columns: those at its places, and that of the columns
 pub record SendsChunk (h : Head) (before : Remembered) (columns : List Layout) (bytes : List ℕ) (after : Remembered) : Type 0 where
   pub dictionaries : List ℕ
   pub metadata : List ℕ
   pub body : List ℕ
-  pub sent : Sends h before (filled_of (layouts columns) h.schema.ids) dictionaries after
+  pub sent : SendsPlaces h before (filled_of (layouts columns) h.schema.ids) dictionaries after
   pub record_means : MeansColumns h columns metadata body
   pub bytes_are : bytes ≡ dictionaries ++ message_bytes metadata body
 

@@ -27,6 +27,6 @@ pub record IsOrdered (before : Remembered) (ps ws : List Filled) (after : Rememb
   pub found : Finds after ps
 
 -- The places of a chunk are in order, inner before outer, whichever of them are left out because their values are remembered.
-abbrev pub OrderLaw : Type 0
-OrderLaw = (columns : List Layout) (is : IdTrees) (before after : Remembered) (ws : List Filled) → AreConsistent (filled_of (layouts columns) is)
+abbrev pub InnerFirstLaw : Type 0
+InnerFirstLaw = (columns : List Layout) (is : IdTrees) (before after : Remembered) (ws : List Filled) → AreConsistent (filled_of (layouts columns) is)
     → Chooses before (filled_of (layouts columns) is) ws after → IsOrdered before (filled_of (layouts columns) is) ws after

@@ -28,7 +28,7 @@ abbrev pub dictionary_of : Layout → Dictionary
 dictionary_of l = record { type = norm (type_of l); slots = slots l }
 
 -- a reader knows just what is remembered
-pub record Agrees (m : Remembered) (known : Dictionaries) : Type 0 where
+pub record KnowsRemembered (m : Remembered) (known : Dictionaries) : Type 0 where
   pub each : (id : ℤ) → dictionary_at known id ≡ m id
 
 -- ---- the dictionary places of a chunk

@@ -6,12 +6,12 @@ use Rattle.ipc_model.specs.Streams.{Head, Known, nothing_known}
 use Rattle.ipc_model.specs.Writers.{Call, start_call, write_call, finish_call, taken, IsStarted, IsFinished}
 use Rattle.ipc_model.specs.WrittenLaws.{prefix}
 use Rattle.ipc_laws.specs.Moves.{MeansChunk}
-use Rattle.ipc_laws.specs.Remembered.{Remembered, nothing_remembered, Agrees}
+use Rattle.ipc_laws.specs.Remembered.{Remembered, nothing_remembered, KnowsRemembered}
 
 -- a started stream with these chunks, whose reader knows what its writer remembers
 pub record IsOpen (bytes : List ℕ) (head : Head) (m : Remembered) (cs : List Chunk) : Type 0 where
   pub known : Known
-  pub agrees : Agrees m known.dictionaries
+  pub agrees : KnowsRemembered m known.dictionaries
   pub none : known.count ≡ 0
   pub stream : IsStarted bytes head known cs
 

@@ -9,7 +9,7 @@ ghost use Rattle.ipc_laws.specs.FileChunks.{FileChunkLaw, ListedBlocksLaw};
 ghost use Rattle.ipc_laws.specs.Kept.{KeptChunkLaw, KeptLaw, KeptRecordLaw, OfferKeptLaw, StillFoundLaw};
 ghost use Rattle.ipc_laws.specs.Messages.{WrittenDictionaryLaw};
 ghost use Rattle.ipc_laws.specs.Moves.{ChunkLaw, MovesLaw};
-ghost use Rattle.ipc_laws.specs.Order.{OrderLaw};
+ghost use Rattle.ipc_laws.specs.Order.{InnerFirstLaw};
 ghost use Rattle.ipc_laws.specs.Places.{AcceptedChunkLaw, FilledLaw, FitLaw, KnownLaw};
 ghost use Rattle.ipc_laws.specs.Runs.{FinishedRunLaw, OmitLaw, OpenFinishLaw, OpenRunLaw, OpenStartLaw, OpenWriteLaw};
 
@@ -32,7 +32,7 @@ pub fn omitted_dictionaries()
 
 /// The dictionaries of a chunk are written inner before outer, whichever of them are left out.
 pub fn ordered_dictionaries()
-    ensures { OrderLaw }
+    ensures { InnerFirstLaw }
 {}
 
 /// Dictionary messages one behind the other take a reader along with what is remembered.

@@ -15,7 +15,7 @@ use Rattle.lower_types.specs.NumberTypes.{width_of}
 use Rattle.lower_types.specs.declared.PrimitiveType.{PrimitiveType}
 use Rattle.ipc_model.specs.Kinds.{offsets_32, offset_width, Kind, null_kind, boolean_kind, number_kind, float_kind, fixed_binary_kind, binary_kind, utf8_kind, list_kind, map_kind, fixed_list_kind, struct_kind, union_kind, dictionary_kind, extension_kind, Kinds, no_kinds, more_kinds, count, nodes, buffers}
 use Rattle.ipc_model.specs.Entries.{Entries, IsSize, size, IsIndex, node, buffer, bytes, listed, Need, Limit, rows, times, bytes_for, integer, offset}
-use Rattle.ipc_model.specs.Columns.{Begins, is_valid, is_omitted, last_offset, Offsets, bytes_at, HasBytes, AreTexts, child_rows, AreIds, IsUnion, child_at, HasTypes, place_at, Reaches, values_type, values_slots, HasValues, IsPair, IsSome, WithRows, IsList, IsWell, AllHaveRows, AllWell}
+use Rattle.ipc_model.specs.Columns.{Begins, is_valid, is_omitted, last_offset, Offsets, bytes_at, HasBytes, AreTexts, child_rows, AreUnionIds, IsUnionKind, child_at, HasTypes, place_at, Reaches, values_type, values_slots, HasValues, IsPairKind, IsSome, WithRows, IsList, IsWell, AllHaveRows, AllWell}
 use Rattle.ipc_model.specs.TestLaws.{WellTestLaw}
 use Rattle.ipc_model.specs.Tests.{all_below, is_size, is_index, has_bytes, begins, has_offsets, has_values, are_texts, are_distinct, are_ids, is_union, has_types, reaches, is_type, has_dictionary, is_pair, is_some, with_rows, is_list, is_well, all_have_rows, all_well}
 
@@ -111,13 +111,13 @@ unfolding IsDistinct
 distinct_decides [] = (λ _. search rules, λ _. refl)
 distinct_decides (x ∷ xs) = Decides-and _ _ (others_decide x xs) (distinct_decides xs)
 
-ids_decides : (ids : Option (List ℤ)) (n : ℕ) → Decides (are_ids ids n) (AreIds ids n)
+ids_decides : (ids : Option (List ℤ)) (n : ℕ) → Decides (are_ids ids n) (AreUnionIds ids n)
 ids_decides None n = always
 ids_decides (Some ids) n =
     and3 _ _ _ (Decides-eqb (length ids) n) (distinct_decides ids)
     (Decides-by_and (λ x. is_index x 127) (λ x. IsIndex x 127) (list_all (λ x. is_index x 127)) (λ x. index_decides x 127) refl (λ _ _. refl) ids)
 
-pub union_decides : (ids : Option (List ℤ)) (n : ℕ) → Decides (is_union ids n) (IsUnion ids n)
+pub union_decides : (ids : Option (List ℤ)) (n : ℕ) → Decides (is_union ids n) (IsUnionKind ids n)
 union_decides ids n =
     Decides-like (is_union ids n) (λ v. record { some = v.0; few = v.1; distinct = v.2 }) (λ v. (v.some, v.few, v.distinct))
     (and3 _ _ _ (le_decides 1 n) (le_decides n 127) (ids_decides ids n))
@@ -157,13 +157,13 @@ dictionary_decides s f id t a b k =
 
 -- ---- columns
 
-kinds_pair : (t : Kinds) → Decides (is_pair (struct_kind t)) (IsPair (struct_kind t))
+kinds_pair : (t : Kinds) → Decides (is_pair (struct_kind t)) (IsPairKind (struct_kind t))
 kinds_pair no_kinds = never
 kinds_pair (more_kinds t no_kinds) = never
 kinds_pair (more_kinds t (more_kinds u no_kinds)) = always
 kinds_pair (more_kinds t (more_kinds u (more_kinds v vs))) = never
 
-pair_decides : (t : Kind) → Decides (is_pair t) (IsPair t)
+pair_decides : (t : Kind) → Decides (is_pair t) (IsPairKind t)
 pair_decides (struct_kind ts) = kinds_pair ts
 pair_decides _ = never
 

@@ -16,7 +16,7 @@ use Rattle.ipc_model.proofs.Limits.{kept_high, last_kept, stored_kept, offset_up
 use Rattle.ipc_model.specs.Numbers.{integer_of}
 use Rattle.ipc_model.specs.Kinds.{offsets_32, offset_width, Kind, null_kind, boolean_kind, number_kind, float_kind, fixed_binary_kind, binary_kind, utf8_kind, list_kind, map_kind, fixed_list_kind, struct_kind, union_kind, dictionary_kind, extension_kind, Kinds, no_kinds, more_kinds, count, nodes, all_nodes, buffers, all_buffers}
 use Rattle.ipc_model.specs.Entries.{Entries, Part, IsSize, size, IsIndex, node, buffer, bytes, Need, Limit, limited, rows, times, bytes_for, bit, value_bytes, offset}
-use Rattle.ipc_model.specs.Columns.{Begins, is_valid, masked, is_omitted, last_offset, Offsets, bytes_at, HasBytes, AreTexts, child_rows, IsUnion, IsSome, child_named, type_at, child_at, HasTypes, place_at, Reaches, values_slots, HasValues, WithRows, IsList, IsWell, AllHaveRows, AllWell, slots_between, list_at}
+use Rattle.ipc_model.specs.Columns.{Begins, is_valid, masked, is_omitted, last_offset, Offsets, bytes_at, HasBytes, AreTexts, child_rows, IsUnionKind, IsSome, child_named, type_at, child_at, HasTypes, place_at, Reaches, values_slots, HasValues, WithRows, IsList, IsWell, AllHaveRows, AllWell, slots_between, list_at}
 use Rattle.ipc_model.specs.Extending.{Longer, changed, Extends}
 use Rattle.ipc_model.proofs.Needs.{node_law}
 
@@ -358,7 +358,7 @@ mutual
       let here = node_here s ns ps a c b d (1 + all_nodes ts) ((1 + s.extra) + all_buffers s.extra ts) e (omega arith) in
       let types = e.parts_longer s.extra (omega arith) in
       let children = shift s ns ps a c b d (1 + all_nodes ts) ((1 + s.extra) + all_buffers s.extra ts) 1 (s.extra + 1) (all_nodes ts) (all_buffers s.extra ts) e (omega arith) (omega arith) in
-      subst (λ (k : ℕ). IsSize (node (changed s ns ps) c).length × IsUnion ids (count ts) × HasTypes (changed s ns ps) ids (count ts) (d + s.extra) k
+      subst (λ (k : ℕ). IsSize (node (changed s ns ps) c).length × IsUnionKind ids (count ts) × HasTypes (changed s ns ps) ids (count ts) (d + s.extra) k
       × AllHaveRows (changed s ns ps) ts (c + 1) (d + s.extra + 1) limit k) (sym (rows_same s ns ps a c limit here)) (
         subst (λ (n : FieldNode). IsSize n.length) (sym here) v.0,
         v.1,
@@ -371,7 +371,7 @@ mutual
       let places = further_part s ns ps a c b d (1 + all_nodes ts) ((2 + s.extra) + all_buffers s.extra ts) s.extra e (omega arith) in
       let children = shift s ns ps a c b d (1 + all_nodes ts) ((2 + s.extra) + all_buffers s.extra ts) 1 (s.extra + 2) (all_nodes ts) (all_buffers s.extra ts) e (omega arith) (omega arith) in
       let moved = further s ns ps (a + 1) (c + 1) b d s.extra 2 (all_nodes ts) (all_buffers s.extra ts) children in
-      subst (λ (k : ℕ). IsSize (node (changed s ns ps) c).length × IsUnion ids (count ts) × HasTypes (changed s ns ps) ids (count ts) (d + s.extra) k
+      subst (λ (k : ℕ). IsSize (node (changed s ns ps) c).length × IsUnionKind ids (count ts) × HasTypes (changed s ns ps) ids (count ts) (d + s.extra) k
       × Reaches (changed s ns ps) ids ts (c + 1) (d + s.extra) k × AllWell (changed s ns ps) ts (c + 1) (d + s.extra + 2)) (sym (rows_same s ns ps a c limit here)) (
         subst (λ (n : FieldNode). IsSize n.length) (sym here) v.0,
         v.1,

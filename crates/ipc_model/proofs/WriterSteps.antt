@@ -8,7 +8,7 @@ use Rattle.ipc_model.specs.Frame.{frame}
 use Rattle.ipc_model.specs.Streams.{Head, Known, nothing_known, marked, waits, done, frame_item, item, Meant, with_chunks, meaning}
 use Rattle.ipc_model.specs.WholeStreams.{stream_from, stream_of}
 use Rattle.ipc_model.specs.Writers.{IsStarted, StartLaw, after_record, WriteLaw, FinishLaw}
-use Rattle.ipc_model.specs.WrittenLaws.{prefix, IsWritten}
+use Rattle.ipc_model.specs.WrittenLaws.{prefix, BeginsWithRecord}
 
 pub item_none : (h : Head) (s : Known) → item h s [] ≡ done (waits s [])
 unfolding item frame
@@ -22,7 +22,7 @@ pub item_mark : (h : Head) (s : Known) → item h s (prefix 0) ≡ done marked
 unfolding item
 item_mark h s = ap (λ bytes. frame_item h s (frame bytes)) (sym (append-nil (prefix 0))) ∙ ap (frame_item h s) (written_mark [])
 
-meaning_record : (h : Head) (s : Known) (metadata body : List ℕ) (c : Chunk) → IsWritten h s metadata body c
+meaning_record : (h : Head) (s : Known) (metadata body : List ℕ) (c : Chunk) → BeginsWithRecord h s metadata body c
     → meaning h s (prefix (length metadata) ++ (metadata ++ body)) ≡ record { chunks = c ∷ []; end = waits (after_record s) [] }
 meaning_record h s metadata body c w =
     ap (λ b. meaning h s (prefix (length metadata) ++ (metadata ++ b))) (sym (append-nil body))

@@ -102,6 +102,6 @@ fields_of [] = no_fields
 fields_of (t ∷ ts) = more_fields (field [] t true []) (fields_of ts)
 
 -- Such columns are encoded with ids: their fields can be written with them, and what they bring is taken.
-pub record IsEncoded (is : IdTrees) (o : Offer) : Type 0 where
+pub record MayBeEncoded (is : IdTrees) (o : Offer) : Type 0 where
   pub writable : IsWritable (fields_of (map (λ c. c.type) o.columns)) [] is
   pub accepted : IsAccepted (fields_of (map (λ c. c.type) o.columns)) o

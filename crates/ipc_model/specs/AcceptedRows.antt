@@ -5,7 +5,7 @@ use Rattle.lower.specs.TypeTrees.{Pairs, TypeTree, FieldTrees, int32, float64, u
 use Rattle.ipc_base.specs.IdTrees.{ids, IdTrees, no_ids, more_ids}
 use Rattle.ipc_views.specs.declared.file.Block.{Block}
 use Rattle.lower_arrays.specs.Slots.{Slot}
-use Rattle.ipc_model.specs.Accepted.{Brought, Offer, body_length, IsAccepted, IsAcceptedByFile, fields_of, IsEncoded}
+use Rattle.ipc_model.specs.Accepted.{Brought, Offer, body_length, IsAccepted, IsAcceptedByFile, fields_of, MayBeEncoded}
 use Rattle.ipc_model.specs.Batches.{Column}
 use Rattle.ipc_model.specs.ColumnRows.{number}
 use Rattle.ipc_model.specs.DictionaryRows.{texts, a, b, values_are}
@@ -118,8 +118,8 @@ ids_of_both o = more_ids (ids None no_ids) (more_ids (ids o no_ids) no_ids)
 
 -- Columns are encoded with as many ids, which stand at dictionaries alone, where their types can be written. Their fields have no name.
 pub record EncodedRows : Type 0 where
-  pub with_an_id : IsEncoded (ids_of_both (Some (pos 0))) number_and_text
-  pub no_id : ¬ IsEncoded (ids_of_both None) number_and_text
-  pub few_ids : ¬ IsEncoded (more_ids (ids None no_ids) no_ids) number_and_text
-  pub a_float : ¬ IsEncoded (more_ids (ids None no_ids) no_ids) (offer (column_is (plain float64) [] ∷ []) [] 0)
+  pub with_an_id : MayBeEncoded (ids_of_both (Some (pos 0))) number_and_text
+  pub no_id : ¬ MayBeEncoded (ids_of_both None) number_and_text
+  pub few_ids : ¬ MayBeEncoded (more_ids (ids None no_ids) no_ids) number_and_text
+  pub a_float : ¬ MayBeEncoded (more_ids (ids None no_ids) no_ids) (offer (column_is (plain float64) [] ∷ []) [] 0)
   pub no_name : fields_of (plain int32 ∷ []) ≡ more_fields (field [] (plain int32) true []) no_fields

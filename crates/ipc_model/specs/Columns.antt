@@ -66,14 +66,14 @@ child_rows s (more_kinds t ts) a zero = rows s a None
 child_rows s (more_kinds t ts) a (suc n) = child_rows s ts (a + nodes t) n
 
 -- The ids of the children: given, or 0, 1 and on.
-abbrev pub AreIds : Option (List ℤ) → ℕ → Type 0
-AreIds None n = Unit {0}
-AreIds (Some ids) n = (length ids ≡ n) × IsDistinct int_eq ids × All (λ x. IsIndex x 127) ids
+abbrev pub AreUnionIds : Option (List ℤ) → ℕ → Type 0
+AreUnionIds None n = Unit {0}
+AreUnionIds (Some ids) n = (length ids ≡ n) × IsDistinct int_eq ids × All (λ x. IsIndex x 127) ids
 
-pub record IsUnion (ids : Option (List ℤ)) (n : ℕ) : Type 0 where
+pub record IsUnionKind (ids : Option (List ℤ)) (n : ℕ) : Type 0 where
   pub some : 1 ≤ n
   pub few : n ≤ 127
-  pub distinct : AreIds ids n
+  pub distinct : AreUnionIds ids n
 
 -- which of the n children an id names, n where none
 abbrev pub child_named : Option (List ℤ) → ℕ → ℤ → ℕ
@@ -126,9 +126,9 @@ pub record HasValues (s : Entries) (f : PrimitiveType) (id : Option ℤ) (t : Ty
 -- ---- columns
 
 -- a map's child is a record of a key and a value
-abbrev pub IsPair : Kind → Type 0
-IsPair (struct_kind (more_kinds key (more_kinds value no_kinds))) = Unit {0}
-IsPair _ = ⊥
+abbrev pub IsPairKind : Kind → Type 0
+IsPairKind (struct_kind (more_kinds key (more_kinds value no_kinds))) = Unit {0}
+IsPairKind _ = ⊥
 
 abbrev pub IsSome : Kinds → Type 0
 IsSome no_kinds = ⊥
@@ -163,17 +163,17 @@ abbrev mutual
       Begins s a b k × HasBytes s (b + 1) (offset_width w) k × AreTexts s (b + 1) (offset_width w) k
   AreWell s (list_kind w t) a b limit k = IsList s (offset_width w) a b k
       (λ l. AreWell s t (a + 1) (b + 2) l (rows s (a + 1) l))
-  AreWell s (map_kind t) a b limit k = IsPair t
+  AreWell s (map_kind t) a b limit k = IsPairKind t
       × IsList s (offset_width offsets_32) a b k (λ l. AreWell s t (a + 1) (b + 2) l (rows s (a + 1) l))
   AreWell s (fixed_list_kind n t) a b limit k =
       (0 < n) × Begins s a b k
       × HasRows s (a + 1) (times limit n) (k * n) (λ m. AreWell s t (a + 1) (b + 1) (times limit n) m)
   AreWell s (struct_kind ts) a b limit k = IsSome ts × Begins s a b k × AllHaveRows s ts (a + 1) (b + 1) limit k
   AreWell s (union_kind Sparse ids ts) a b limit k =
-      IsSize (node s a).length × IsUnion ids (count ts) × HasTypes s ids (count ts) (b + s.extra) k
+      IsSize (node s a).length × IsUnionKind ids (count ts) × HasTypes s ids (count ts) (b + s.extra) k
       × AllHaveRows s ts (a + 1) (b + s.extra + 1) limit k
   AreWell s (union_kind Dense ids ts) a b limit k =
-      IsSize (node s a).length × IsUnion ids (count ts) × HasTypes s ids (count ts) (b + s.extra) k
+      IsSize (node s a).length × IsUnionKind ids (count ts) × HasTypes s ids (count ts) (b + s.extra) k
       × Reaches s ids ts (a + 1) (b + s.extra) k × AllWell s ts (a + 1) (b + s.extra + 2)
   AreWell s (dictionary_kind f id t) a b limit k =
       Begins s a b k × Need s (b + 1) (width_of f * k) × HasValues s f id t a b k

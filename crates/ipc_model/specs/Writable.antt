@@ -8,7 +8,7 @@ use Rattle.lower.specs.declared.datatypes.TimeUnit.TheVariants.{Second, Millisec
 use Rattle.ipc_base.specs.Fitting.{AllFit}
 use Rattle.ipc_base.specs.IdTrees.{IdTrees}
 use Rattle.ipc_model.specs.Batches.{Place, places}
-use Rattle.ipc_model.specs.Columns.{IsUnion}
+use Rattle.ipc_model.specs.Columns.{IsUnionKind}
 
 -- ---- types
 
@@ -52,7 +52,7 @@ field_number (more_fields f fs) = 1 + field_number fs
 
 abbrev pub IsWritableGroup : Group → FieldTrees → Type 0
 IsWritableGroup structure fs = 1 ≤ field_number fs
-IsWritableGroup (choice type_ids mode) fs = IsUnion type_ids (field_number fs)
+IsWritableGroup (choice type_ids mode) fs = IsUnionKind type_ids (field_number fs)
 
 -- no dictionary right under a dictionary, and neither a dictionary nor an extension right under an extension
 abbrev pub IsPlainValue : TypeTree → Type 0

@@ -18,16 +18,16 @@ pub data Outcome : Type 0 where
   is_broken : Outcome
 
 -- the states in which a call may reach the device: a stream is started once, and then written until it is finished
-abbrev pub IsOpen : Call → State → Type 0
-IsOpen start_call s = s ≡ new_writer
-IsOpen (write_call c) s = s ≡ started_writer
-IsOpen finish_call s = s ≡ started_writer
+abbrev pub MaySend : Call → State → Type 0
+MaySend start_call s = s ≡ new_writer
+MaySend (write_call c) s = s ≡ started_writer
+MaySend finish_call s = s ≡ started_writer
 
 -- in any other state a call is refused
 abbrev pub MayEnd : Call → Outcome → State → Type 0
-MayEnd call is_taken s = IsOpen call s
+MayEnd call is_taken s = MaySend call s
 MayEnd call is_refused s = Unit {0}
-MayEnd call is_broken s = IsOpen call s
+MayEnd call is_broken s = MaySend call s
 
 -- the state after a call that is Ok, and after any
 abbrev pub opened_by : Call → State

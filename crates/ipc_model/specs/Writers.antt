@@ -5,7 +5,7 @@ use Rattle.ipc_model.specs.Batches.{Chunk}
 use Rattle.ipc_model.specs.Schemas.{head_of}
 use Rattle.ipc_model.specs.Streams.{Head, Known, nothing_known, marked, waits}
 use Rattle.ipc_model.specs.WholeStreams.{stream_of}
-use Rattle.ipc_model.specs.WrittenLaws.{prefix, IsWritten}
+use Rattle.ipc_model.specs.WrittenLaws.{prefix, BeginsWithRecord}
 
 -- ---- calls
 
@@ -47,7 +47,7 @@ after_record known = record { dictionaries = known.dictionaries; count = 0 }
 -- a record adds its chunk
 abbrev pub WriteLaw : Type 0
 WriteLaw = (bytes : List ℕ) (head : Head) (known : Known) (cs : List Chunk) (metadata body : List ℕ) (c : Chunk)
-    → IsStarted bytes head known cs → IsWritten head known metadata body c
+    → IsStarted bytes head known cs → BeginsWithRecord head known metadata body c
     → IsStarted (bytes ++ (prefix (length metadata) ++ (metadata ++ body))) head (after_record known) (cs ++ c ∷ [])
 
 -- the mark finishes it

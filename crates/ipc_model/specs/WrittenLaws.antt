@@ -21,7 +21,7 @@ WrittenMarkLaw = (rest : List ℕ) → frame (prefix 0 ++ rest) ≡ mark rest
 
 -- A record that was written has its chunk, and what follows it is read on: its header is that of a
 -- record, its body is as long as the header says, and the batch means the chunk.
-pub record IsWritten (h : Head) (s : Known) (metadata body : List ℕ) (c : Chunk) : Type 0 where
+pub record BeginsWithRecord (h : Head) (s : Known) (metadata body : List ℕ) (c : Chunk) : Type 0 where
   pub some : 0 < length metadata
   pub short : length metadata < 2 ^ 31
   pub header : Header
@@ -31,6 +31,6 @@ pub record IsWritten (h : Head) (s : Known) (metadata body : List ℕ) (c : Chun
   pub means : record_meaning h.schema (extra_of h.version) s.dictionaries (whole body) header.table None None ≡ Some c
 
 abbrev pub WrittenRecordLaw : Type 0
-WrittenRecordLaw = (h : Head) (s : Known) (metadata body rest : List ℕ) (c : Chunk) → IsWritten h s metadata body c
+WrittenRecordLaw = (h : Head) (s : Known) (metadata body rest : List ℕ) (c : Chunk) → BeginsWithRecord h s metadata body c
     → item h s (prefix (length metadata) ++ (metadata ++ (body ++ rest)))
     ≡ more (Some c) (record { dictionaries = s.dictionaries; count = 0 }) rest

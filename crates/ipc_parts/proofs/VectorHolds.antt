@@ -12,7 +12,7 @@ use Rattle.ipc_parts.specs.Sizes.{parts_size, size_of}
 use Rattle.ipc_parts.specs.Strict.{Grain, by_part, by_value, regions, offset_regions, part_regions, target_place, AreLaidOut}
 use Rattle.ipc_parts.proofs.LaidOut.{AreLaidOut-append, AreLaidOut-later}
 use Rattle.ipc_parts.specs.Pads.{le, missing, short, zeros}
-use Rattle.ipc_parts.specs.Parts.{joined, offsets, gap_after, vector_bytes, text_bytes, elements_bytes, Stands, IsPart, AreParts, end_parts, is_part}
+use Rattle.ipc_parts.specs.Parts.{joined_parts, offsets, gap_after, vector_bytes, text_bytes, elements_bytes, Stands, IsPart, AreParts, end_parts, is_part}
 use Rattle.ipc_views.specs.Tables.{bytes_at, number_at, target_at, text_at, vector_at, and_then, as_text}
 use Rattle.ipc_parts.proofs.Lengths.{length-le}
 use Rattle.ipc_parts.proofs.VectorLengths.{length-elements, length-offsets, length-text, length-vector}
@@ -97,24 +97,24 @@ count-is : (parts : List Built) (xs : Parts) → AreParts parts xs → count_par
 count-is _ _ end_parts = refl
 count-is _ _ (is_part {parts = parts} {rest = rest} is a) = omega (arith, count-is parts rest a)
 
-length-joined : (parts : List Built) (xs : Parts) → AreParts parts xs → length (joined parts) ≡ parts_size xs
+length-joined : (parts : List Built) (xs : Parts) → AreParts parts xs → length (joined_parts parts) ≡ parts_size xs
 length-joined _ _ end_parts = refl
 length-joined _ _ (is_part {parts = parts} {rest = rest} {y = y} is a) =
-    omega (arith, is.size, length-append y.bytes.items (joined parts), length-joined parts rest a)
+    omega (arith, is.size, length-append y.bytes.items (joined_parts parts), length-joined parts rest a)
 
 -- The offsets from place q on, and the parts after them and a gap, where the earlier parts take u bytes.
 record Row (m : List ℕ) (q gap u : ℕ) (parts : List Built) : Type 0 where
   offset : Stands m q (offsets gap u parts)
-  followed : Stands m (q + 4 * length parts + gap + u) (joined parts)
+  followed : Stands m (q + 4 * length parts + gap + u) (joined_parts parts)
   whole : (q + 4 * length parts + gap + u) % 8 ≡ 0
-  small : 4 * length parts + gap + u + length (joined parts) < 2 ^ 31
+  small : 4 * length parts + gap + u + length (joined_parts parts) < 2 ^ 31
 
 -- where the first offset leads to
 offset-is : (m : List ℕ) (q gap u : ℕ) (y : Built) (parts : List Built) → Row m q gap u (y ∷ parts)
     → target_at m q ≡ Ok (q + (4 * (length parts + 1) + (gap + u) + y.entry))
 offset-is m q gap u y parts r =
     let o = 4 * (length parts + 1) + (gap + u) + y.entry in
-    let cut = length-append y.bytes.items (joined parts) in
+    let cut = length-append y.bytes.items (joined_parts parts) in
     let small = r.small in
     let entry : y.entry < 2 ^ 16 = y.near in
     let same : short o ≡ o = omega arith in
@@ -124,23 +124,23 @@ offset-is m q gap u y parts r =
 next-row : (m : List ℕ) (q gap u : ℕ) (y : Built) (parts : List Built) → Row m q gap u (y ∷ parts) → Row m (q + 4) gap (u + length y.bytes.items) parts
 next-row m q gap u y parts r =
     let o = short (4 * (length parts + 1) + (gap + u) + y.entry) in
-    let cut = length-append y.bytes.items (joined parts) in
+    let cut = length-append y.bytes.items (joined_parts parts) in
     let small = r.small in
     let whole = r.whole in
     let length_is : length y.bytes.items % 8 ≡ 0 = y.whole in
     record {
       offset = stands-then m q (q + 4) (le 4 o) _ (omega (arith, length-le 4 o)) r.offset;
-      followed = stands-then m _ _ y.bytes.items (joined parts) (omega arith) r.followed;
+      followed = stands-then m _ _ y.bytes.items (joined_parts parts) (omega arith) r.followed;
       whole = omega arith;
       small = omega arith;
     }
 
 -- the first part stands where its offset leads to
 first-stands : (m : List ℕ) (q gap u : ℕ) (y : Built) (parts : List Built) → Row m q gap u (y ∷ parts) → Stands m (q + 4 * (length parts + 1) + gap + u) y.bytes.items
-first-stands m q gap u y parts r = stands-first m _ y.bytes.items (joined parts) (stands-at m _ _ _ (omega arith) r.followed)
+first-stands m q gap u y parts r = stands-first m _ y.bytes.items (joined_parts parts) (stands-at m _ _ _ (omega arith) r.followed)
 
 first-small : (m : List ℕ) (q gap u : ℕ) (y : Built) (parts : List Built) → Row m q gap u (y ∷ parts) → length y.bytes.items < 2 ^ 31
-first-small m q gap u y parts r = omega (arith, r.small, length-append y.bytes.items (joined parts))
+first-small m q gap u y parts r = omega (arith, r.small, length-append y.bytes.items (joined_parts parts))
 
 parts-hold : (m : List ℕ) (q gap u : ℕ) (parts : List Built) (xs : Parts) → AreParts parts xs → Row m q gap u parts → HoldsParts m q xs
 parts-hold m q gap u _ _ end_parts r = tt
@@ -161,14 +161,14 @@ offsets-laid q (part x rest) h =
     (omega arith, h, same-end _ (q + 4) _ _ _ (omega arith) (omega arith) (offsets-laid (q + 4) rest (omega arith)))
 
 parts-laid : (g : Grain) (m : List ℕ) (q gap u : ℕ) (parts : List Built) (xs : Parts) → AreParts parts xs → Row m q gap u parts
-    → AreLaidOut (q + 4 * length parts + gap + u) (part_regions g m q xs) (q + 4 * length parts + gap + u + length (joined parts))
+    → AreLaidOut (q + 4 * length parts + gap + u) (part_regions g m q xs) (q + 4 * length parts + gap + u + length (joined_parts parts))
 parts-laid g m q gap u _ _ end_parts r = omega arith
 parts-laid g m q gap u _ _ (is_part {parts = parts} {rest = rest} {y = y} {x = x} is a) r =
     let o = 4 * (length parts + 1) + (gap + u) + y.entry in
-    let cut = length-append y.bytes.items (joined parts) in
+    let cut = length-append y.bytes.items (joined_parts parts) in
     let whole = r.whole in
     let here = q + 4 * length (y ∷ parts) + gap + u in
-    let hi = here + length (y.bytes.items ++ joined parts) in
+    let hi = here + length (y.bytes.items ++ joined_parts parts) in
     subst (λ (k : ℕ). AreLaidOut here (regions g m k x ++ part_regions g m (q + 4) rest) hi) (sym (ap target_place (offset-is m q gap u y parts r)))
     (AreLaidOut-append here (here + length y.bytes.items) hi (regions g m (q + o) x) (part_regions g m (q + 4) rest)
     (laid-at g m here (q + o) _ y x is (first-small m q gap u y parts r) (omega arith) (omega arith) refl (stands-first m here y.bytes.items _ r.followed))
@@ -193,7 +193,7 @@ row-of m p parts small all =
     let tail = stands-then m (8 * p) (8 * p + (4 + 4 * n)) (le 4 s ++ offsets gap 0 parts) _ (omega arith) all in
     record {
       offset = stands-then m (8 * p) (8 * p + 4) (le 4 s) _ (omega arith) head;
-      followed = stands-then m (8 * p + (4 + 4 * n)) _ (zeros gap) (joined parts) (omega arith) tail;
+      followed = stands-then m (8 * p + (4 + 4 * n)) _ (zeros gap) (joined_parts parts) (omega arith) tail;
       whole = gap-whole p n;
       small = omega arith;
     }

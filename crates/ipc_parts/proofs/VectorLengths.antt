@@ -3,7 +3,7 @@ use Rattle.std.proofs.Common.{◌≡◌, ℕ, ◌+◌, ◌*◌, List, [], ◌∷
 use Rattle.std.proofs.lemmas.List.{length-replicate}
 use Rattle.ipc_parts.specs.declared.build.Built.{Built}
 use Rattle.ipc_parts.specs.Pads.{le, missing, short, zeros}
-use Rattle.ipc_parts.specs.Parts.{elements_bytes, gap_after, joined, offsets, text_bytes, vector_bytes}
+use Rattle.ipc_parts.specs.Parts.{elements_bytes, gap_after, joined_parts, offsets, text_bytes, vector_bytes}
 use Rattle.ipc_parts.specs.Sizes.{whole}
 use Rattle.ipc_parts.proofs.Lengths.{length-le}
 
@@ -13,16 +13,16 @@ length-offsets gap t (x ∷ rest) =
     let o = short (4 * (length rest + 1) + (gap + t) + x.entry) in
     omega (arith, length-append (le 4 o) (offsets gap (t + length x.bytes.items) rest), length-le 4 o, length-offsets gap (t + length x.bytes.items) rest)
 
-pub length-vector : (parts : List Built) → length (vector_bytes parts) ≡ whole (4 + 4 * length parts) + length (joined parts)
+pub length-vector : (parts : List Built) → length (vector_bytes parts) ≡ whole (4 + 4 * length parts) + length (joined_parts parts)
 unfolding vector_bytes
 length-vector parts =
     let n = length parts in
     let gap = gap_after parts in
     omega (
       arith,
-      length-append (le 4 (short n) ++ offsets gap 0 parts) (zeros gap ++ joined parts),
+      length-append (le 4 (short n) ++ offsets gap 0 parts) (zeros gap ++ joined_parts parts),
       length-append (le 4 (short n)) (offsets gap 0 parts),
-      length-append (zeros gap) (joined parts),
+      length-append (zeros gap) (joined_parts parts),
       length-le 4 (short n),
       length-offsets gap 0 parts,
       length-replicate {A = ℕ} gap 0,

@@ -54,9 +54,9 @@ table_bytes slots =
     vtable_bytes slots ++ (le 8 (vtable_size (length slots)) ++ (numbers 0 slots ++ tails slots))
 
 -- the bytes of the parts, one after the other
-abbrev pub joined : List Built → List ℕ
-joined [] = []
-joined (x ∷ rest) = x.bytes.items ++ joined rest
+abbrev pub joined_parts : List Built → List ℕ
+joined_parts [] = []
+joined_parts (x ∷ rest) = x.bytes.items ++ joined_parts rest
 
 -- the offsets of the last elements, where the parts of the earlier ones take t bytes, after a gap
 abbrev pub offsets : ℕ → ℕ → List Built → List ℕ
@@ -69,7 +69,7 @@ gap_after parts = missing (4 + 4 * length parts)
 
 unfoldable pub vector_bytes : List Built → List ℕ
 vector_bytes parts =
-    (le 4 (short (length parts)) ++ offsets (gap_after parts) 0 parts) ++ (zeros (gap_after parts) ++ joined parts)
+    (le 4 (short (length parts)) ++ offsets (gap_after parts) 0 parts) ++ (zeros (gap_after parts) ++ joined_parts parts)
 
 unfoldable pub text_bytes : List ℕ → List ℕ
 text_bytes s = padded ((le 4 (short (length s)) ++ s) ++ 0 ∷ [])

@@ -1,7 +1,7 @@
 //! Texts and vectors as bytes.
 ghost use Rattle.std.specs.Prelude.{ℕ, ◌≡◌, ◌<◌, ◌%◌, ◌^◌, ◌++◌, ◌+◌, ◌*◌, IfOk, OnOk, length};
 ghost use Rattle.ipc_parts.specs.Pads.{short};
-ghost use Rattle.ipc_parts.specs.Parts.{AreParts, IsPart, elements_bytes, gap_after, joined, offsets, text_bytes, vector_bytes};
+ghost use Rattle.ipc_parts.specs.Parts.{AreParts, IsPart, elements_bytes, gap_after, joined_parts, offsets, text_bytes, vector_bytes};
 ghost use Rattle.ipc_parts.specs.Tree.{Parts, elements, tables, text};
 
 use crate::build::{Built, pad, put_u32, put_zeros, short, together, whole};
@@ -74,7 +74,7 @@ fn gap_after(parts: &[Built]) -> usize
 
 // How many bytes the parts take.
 fn joined_len(parts: &[Built]) -> Result<usize, AllocError>
-    ensures value { IfOk result (λ len. len ≡ length (joined parts.now)) }
+    ensures value { IfOk result (λ len. len ≡ length (joined_parts parts.now)) }
     ensures small { IfOk result (λ len. len < 2 ^ 63) }
 {
     let mut len = 0;
@@ -87,7 +87,7 @@ fn joined_len(parts: &[Built]) -> Result<usize, AllocError>
 // The offsets to the parts, which stand behind a gap.
 fn put_offsets(bytes: &mut Vec<u8>, gap: usize, parts: &[Built]) -> Result<(), AllocError>
     requires gap { gap < 8 }
-    requires small { length (joined parts.now) < 2 ^ 63 }
+    requires small { length (joined_parts parts.now) < 2 ^ 63 }
     ensures { OnOk result (bytes.new.items ≡ bytes.old.items ++ offsets gap 0 parts.now) }
 {
     // How many bytes the earlier parts take.
@@ -100,7 +100,7 @@ fn put_offsets(bytes: &mut Vec<u8>, gap: usize, parts: &[Built]) -> Result<(), A
 }
 
 fn put_joined(bytes: &mut Vec<u8>, parts: &[Built]) -> Result<(), AllocError>
-    ensures { OnOk result (bytes.new.items ≡ bytes.old.items ++ joined parts.now) }
+    ensures { OnOk result (bytes.new.items ≡ bytes.old.items ++ joined_parts parts.now) }
 {
     for part in parts {
         bytes.extend_from_slice(&part.bytes)?;

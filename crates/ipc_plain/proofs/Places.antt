@@ -11,7 +11,7 @@ use Rattle.ipc_views.specs.declared.message.FieldNode.{FieldNode}
 use Rattle.ipc_plain.specs.PlainBatches.{reads}
 use Rattle.ipc_plain.specs.PlainEntries.{part_view}
 use Rattle.ipc_plain.specs.PlainKinds.{kind_view, kinds_view}
-use Rattle.ipc_plain.specs.Rooms.{HasRoom}
+use Rattle.ipc_plain.specs.Rooms.{HasEntries}
 use Rattle.ipc_plain.specs.declared.entries.PlainEntries.{PlainEntries}
 use Rattle.ipc_plain.specs.declared.entries.PlainPart.{PlainPart}
 use Rattle.ipc_plain.specs.declared.kinds.PlainKind.{PlainKind}
@@ -91,8 +91,8 @@ part_long xs from n k e h =
     let count : from + n - from ≡ k = omega arith in
     omega (arith, length-take (from + n - from) (drop from xs), length-drop from xs)
 
-pub room_of : (e : PlainEntries) (t u : Kind) (a b : ℕ) → t ≡ u → HasRoom e u a b → HasRoom e t a b
-room_of e t u a b same room = subst (λ (k : Kind). HasRoom e k a b) (sym same) room
+pub room_of : (e : PlainEntries) (t u : Kind) (a b : ℕ) → t ≡ u → HasEntries e u a b → HasEntries e t a b
+room_of e t u a b same room = subst (λ (k : Kind). HasEntries e k a b) (sym same) room
 
 pub read_is : (s o : Entries) (ts : Kinds) (t : Kind) (limit : Limit) (k j : ℕ) → o ≡ own s ts j → t ≡ kind_at ts j
     → (is_well o t 0 0 limit && (rows o 0 limit == k)) ≡ reads s ts limit k j

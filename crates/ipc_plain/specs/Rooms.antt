@@ -5,7 +5,7 @@ use Rattle.ipc_model.specs.Kinds.{Kind, nodes, buffers, Kinds, all_nodes, all_bu
 use Rattle.ipc_plain.specs.declared.entries.PlainEntries.{PlainEntries}
 
 -- the entries of a column at node a and buffer b are there
-pub record HasRoom (e : PlainEntries) (t : Kind) (a b : ℕ) : Type 0 where
+pub record HasEntries (e : PlainEntries) (t : Kind) (a b : ℕ) : Type 0 where
   pub nodes_in : a + nodes t ≤ length e.nodes.now
   pub buffers_in : b + buffers e.extra t ≤ length e.parts.now
 

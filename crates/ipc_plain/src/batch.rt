@@ -9,7 +9,7 @@ ghost use Rattle.ipc_plain.specs.PlainBatches.{columns_of, columns_view, reads};
 ghost use Rattle.ipc_plain.specs.PlainEntries.{entries_view};
 ghost use Rattle.ipc_plain.specs.PlainKinds.{kind_view, kinds_view};
 ghost use Rattle.ipc_plain.specs.PlainSlots.{slots_view};
-ghost use Rattle.ipc_plain.specs.Rooms.{HasRoom, IsEnough};
+ghost use Rattle.ipc_plain.specs.Rooms.{HasEntries, IsEnough};
 
 use crate::entries::{PlainEntries, size};
 use crate::kinds::{PlainKind, buffer_count, node_count};
@@ -142,7 +142,7 @@ fn own<'a>(entries: &PlainEntries<'a>, kinds: &[PlainKind], index: usize) -> Pla
     requires index { index < length kinds.now }
     requires enough { IsEnough entries.now (kinds_view kinds.now) }
     ensures own { entries_view result ≡ Batches.own (entries_view entries.now) (kinds_view kinds.now) index }
-    ensures room { HasRoom result (Batches.kind_at (kinds_view kinds.now) index) 0 0 }
+    ensures room { HasEntries result (Batches.kind_at (kinds_view kinds.now) index) 0 0 }
 {
     let kind = kind_at(kinds, index);
     let node = nodes_before(kinds, index);

@@ -11,7 +11,7 @@ ghost use Rattle.lower_arrays.specs.Slots.{slots_of};
 ghost use Rattle.ipc_plain.specs.PlainEntries.{entries_view};
 ghost use Rattle.ipc_plain.specs.PlainKinds.{kind_view, kinds_view};
 ghost use Rattle.ipc_plain.specs.PlainSlots.{slot_view, slots_view};
-ghost use Rattle.ipc_plain.specs.Rooms.{HasRoom, HasRooms};
+ghost use Rattle.ipc_plain.specs.Rooms.{HasEntries, HasRooms};
 
 use crate::entries::PlainEntries;
 use crate::kinds::{PlainKind, buffer_count, node_count};
@@ -77,7 +77,7 @@ pub fn slot_at(
     b: usize,
     i: usize,
 ) -> Result<PlainSlot, AllocError>
-    requires room { HasRoom entries.now (kind_view kind.now) a b }
+    requires room { HasEntries entries.now (kind_view kind.now) a b }
     requires slot { i < 2 ^ 63 }
     ensures { IfOk result (λ x. slot_view x ≡ Columns.slot_at (entries_view entries.now) (kind_view kind.now) a b i) }
 {
@@ -139,7 +139,7 @@ pub fn column(
     b: usize,
     limit: Option<usize>,
 ) -> Result<Vec<PlainSlot>, AllocError>
-    requires { HasRoom entries.now (kind_view kind.now) a b }
+    requires { HasEntries entries.now (kind_view kind.now) a b }
     ensures { IfOk result (λ v. slots_view v.items ≡ Columns.column (entries_view entries.now) (kind_view kind.now) a b limit) }
 {
     let mut slots = Vec::new(alloc);
@@ -158,7 +158,7 @@ pub fn plain_column(
     b: usize,
     limit: Option<usize>,
 ) -> Result<Option<Vec<PlainSlot>>, AllocError>
-    requires { HasRoom entries.now (kind_view kind.now) a b }
+    requires { HasEntries entries.now (kind_view kind.now) a b }
     ensures exact { IfOk result (λ r. option_map (λ v. slots_view v.items) r ≡ read (kind_view kind.now) a b limit (entries_view entries.now)) }
 {
     if !is_well(entries, kind, a, b, limit) {

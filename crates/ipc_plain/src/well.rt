@@ -7,7 +7,7 @@ ghost use Rattle.ipc_model.specs.TypeKinds.{key_form};
 ghost use Rattle.ipc_model.specs.Tests;
 ghost use Rattle.ipc_plain.specs.PlainEntries.{entries_view};
 ghost use Rattle.ipc_plain.specs.PlainKinds.{kind_view, kinds_view};
-ghost use Rattle.ipc_plain.specs.Rooms.{HasRoom, HasRooms};
+ghost use Rattle.ipc_plain.specs.Rooms.{HasEntries, HasRooms};
 
 use crate::entries::PlainEntries;
 use crate::kinds::{PlainKind, buffer_count, node_count};
@@ -49,7 +49,7 @@ pub fn is_well(
     b: usize,
     limit: Option<usize>,
 ) -> bool
-    requires { HasRoom entries.now (kind_view kind.now) a b }
+    requires { HasEntries entries.now (kind_view kind.now) a b }
     ensures { result ≡ Tests.is_well (entries_view entries.now) (kind_view kind.now) a b limit }
 {
     match kind {
@@ -78,7 +78,7 @@ fn is_well_struct(
     b: usize,
     limit: Option<usize>,
 ) -> bool
-    requires { HasRoom entries.now (struct_kind (kinds_view fields.now)) a b }
+    requires { HasEntries entries.now (struct_kind (kinds_view fields.now)) a b }
     ensures { result ≡ Tests.is_well (entries_view entries.now) (struct_kind (kinds_view fields.now)) a b limit }
 {
     let rows = entries.rows(a, limit);

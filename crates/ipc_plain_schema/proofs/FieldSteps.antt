@@ -10,7 +10,7 @@ use Rattle.ipc_views.specs.Spot.{Spot, Vector}
 use Rattle.ipc_views.specs.SchemaSlots.{field_name, field_nullable, field_type, field_dictionary, field_children, field_custom_metadata}
 use Rattle.ipc_views.specs.Tables.{map_ok}
 use Rattle.ipc_model.specs.Schemas.{Encoding, Read, ReadType, given, made, present, pairs_at, optional_encoding, field_at, field_count, field_from, field_with, first_field, group_with, is_group_tag, is_single_tag, plain_at, single_at, group_at, single_with, some_fields, type_of_field}
-use Rattle.ipc_plain_schema.specs.Heads.{Head, IsHead, head_at}
+use Rattle.ipc_plain_schema.specs.Heads.{FieldHead, IsHead, head_at}
 use Rattle.ipc_plain_schema.specs.Shapes.{Form, leaf, one, several, form_at, single_of, group_of, shape_of}
 use Rattle.ipc_plain_schema.specs.declared.head.Head.{Head as PlainHead}
 use Rattle.ipc_plain_schema.specs.declared.shape.Single.{Single as PlainSingle}
@@ -33,7 +33,7 @@ last_given : {A B C : Type 0} (o : Option A) (f : A → Option B) (g : A → C) 
 last_given None f g h same = refl
 last_given (Some x) f g h same = same x
 
-abbrev pub head : List ℕ → Bool → Pairs → Option Encoding → Head
+abbrev pub head : List ℕ → Bool → Pairs → Option Encoding → FieldHead
 head name nullable es encoding = record { name = name; nullable = nullable; metadata = es; encoding = encoding }
 
 with_dictionary : (d : Option (Option Spot)) (name : List ℕ) (nullable : Bool) (es : Pairs) (after : List ℕ → Bool → Pairs → Option Encoding → Option Read)
@@ -58,7 +58,7 @@ all_given (Some name) None m d after = refl
 all_given (Some name) (Some nullable) None d after = refl
 all_given (Some name) (Some nullable) (Some v) d after = with_pairs (pairs_at v) d name nullable after
 
-abbrev pub with_head : (Spot → Option Read) → Spot → Head → Option Read
+abbrev pub with_head : (Spot → Option Read) → Spot → FieldHead → Option Read
 with_head read t h = given (present (field_type t)) (λ type_. option_map (field_with h.name h.nullable h.metadata h.encoding) (type_of_field read t type_))
 
 field-by-head : (read : Spot → Option Read) (t : Spot) → field_from read t ≡ given (head_at t) (λ h. with_head read t h)
@@ -83,12 +83,12 @@ no-head levels t some none = level-down levels t some ∙ field-by-head (λ s. f
 pub no-type : (levels : ℕ) (t : Spot) → 0 < levels → present (field_type t) ≡ None → field_at levels t ≡ None
 no-type levels t some none = level-down levels t some ∙ field-by-head (λ s. field_at (levels - 1) s) t ∙ at (head_at t)
   where
-    at : (o : Option Head) → given o (λ h. with_head (λ s. field_at (levels - 1) s) t h) ≡ None
+    at : (o : Option FieldHead) → given o (λ h. with_head (λ s. field_at (levels - 1) s) t h) ≡ None
     at None = refl
     at (Some h) = ap (λ o. given o (λ type_. option_map (field_with h.name h.nullable h.metadata h.encoding) (type_of_field (λ s. field_at (levels - 1) s) t type_))) none
 
 -- a field whose head and type are there
-pub field-is : (levels : ℕ) (t : Spot) (p : PlainHead) (h : Head) (type_ : ℕ × Spot) → 0 < levels → head_at t ≡ Some h → IsHead p h → present (field_type t) ≡ Some type_
+pub field-is : (levels : ℕ) (t : Spot) (p : PlainHead) (h : FieldHead) (type_ : ℕ × Spot) → 0 < levels → head_at t ≡ Some h → IsHead p h → present (field_type t) ≡ Some type_
     → field_at levels t ≡ option_map (field_with (string_bytes p.name) p.is_nullable (pairs_of p.metadata.entries) h.encoding) (type_of_field (λ s. field_at (levels - 1) s) t type_)
 field-is levels t p h type_ some headed is typed =
     level-down levels t some ∙ field-by-head (λ s. field_at (levels - 1) s) t

@@ -9,13 +9,13 @@ use Rattle.ipc_model.specs.Schemas.{Encoding, given, made, present, pairs_at, op
 use Rattle.ipc_plain_schema.specs.declared.head.Head.{Head as PlainHead}
 
 -- the name, whether a slot may be null, the metadata, and the encoding where there is a dictionary
-pub record Head : Type 0 where
+pub record FieldHead : Type 0 where
   pub name : List ℕ
   pub nullable : Bool
   pub metadata : Pairs
   pub encoding : Option Encoding
 
-unfoldable pub head_at : Spot → Option Head
+unfoldable pub head_at : Spot → Option FieldHead
 head_at t =
     given (present (field_name t)) (λ name. given (made (field_nullable t)) (λ nullable.
     given (given (made (field_custom_metadata t)) pairs_at) (λ metadata.
@@ -23,7 +23,7 @@ head_at t =
     (λ encoding. Some (record { name = name; nullable = nullable; metadata = metadata; encoding = encoding })))))
 
 -- whether a head is as this program has it, which knows of a dictionary only that there is one
-pub record IsHead (p : PlainHead) (h : Head) : Type 0 where
+pub record IsHead (p : PlainHead) (h : FieldHead) : Type 0 where
   pub name : h.name ≡ string_bytes p.name
   pub nullable : h.nullable ≡ p.is_nullable
   pub metadata : h.metadata ≡ pairs_of p.metadata.entries

@@ -20,7 +20,7 @@ schema_view s = record {
 
 -- NoSchema: there is no meaning. Other: it has a type outside of this program's. Plain: it is this, and
 -- has no such type.
-abbrev pub Answers : PlainAnswer → Option Schema → Type 0
-Answers NoSchema meaning = meaning ≡ None
-Answers Other meaning = IsSomeAnd meaning (λ s. IsTrue (fields_have_other s.fields))
-Answers (Plain p) meaning = (meaning ≡ Some (schema_view p)) × IsFalse (fields_have_other (schema_view p).fields)
+abbrev pub FindsPlainly : PlainAnswer → Option Schema → Type 0
+FindsPlainly NoSchema meaning = meaning ≡ None
+FindsPlainly Other meaning = IsSomeAnd meaning (λ s. IsTrue (fields_have_other s.fields))
+FindsPlainly (Plain p) meaning = (meaning ≡ Some (schema_view p)) × IsFalse (fields_have_other (schema_view p).fields)

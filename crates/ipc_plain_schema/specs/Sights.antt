@@ -26,13 +26,13 @@ abbrev pub type_other : ReadType → Bool
 type_other x = type_has_other x.0
 
 -- the value itself, where it has no such type
-abbrev pub IsPlain : {X Y : Type 0} → (X → Y) → (Y → Bool) → Option X → Y → Type 0
-IsPlain view other None y = other y ≡ true
-IsPlain view other (Some x) y = (other y ≡ false) × (y ≡ view x)
+abbrev pub IsBare : {X Y : Type 0} → (X → Y) → (Y → Bool) → Option X → Y → Type 0
+IsBare view other None y = other y ≡ true
+IsBare view other (Some x) y = (other y ≡ false) × (y ≡ view x)
 
 -- of the fields that might be read, so many as it has were taken
 abbrev pub IsSeen : {X Y : Type 0} → (X → Y) → (Y → Bool) → (Y → ℕ) → ℕ → Seen X → Y → Type 0
-IsSeen view other count before s y = IsPlain view other s.plain y × (before ≡ s.left + count y)
+IsSeen view other count before s y = IsBare view other s.plain y × (before ≡ s.left + count y)
 
 -- None: it means nothing, or more fields than might be read
 abbrev pub Sees : {X Y : Type 0} → (X → Y) → (Y → Bool) → (Y → ℕ) → ℕ → Option (Seen X) → Option Y → Type 0

@@ -11,7 +11,7 @@ ghost use Rattle.ipc_model.specs.Schemas;
 ghost use Rattle.ipc_model.specs.Schemas.{Read, ReadAll, given, present};
 ghost use Rattle.ipc_plain_schema.specs.PlainTypes.{field_view, fields_view, type_view};
 ghost use Rattle.ipc_plain_schema.specs.Shapes.{group_of, leaf_of, single_of};
-ghost use Rattle.ipc_plain_schema.specs.Sights.{IsPlain, IsSeen, Sees, read_count, read_other, reads_count, reads_other, type_count, type_other};
+ghost use Rattle.ipc_plain_schema.specs.Sights.{IsBare, IsSeen, Sees, read_count, read_other, reads_count, reads_other, type_count, type_other};
 
 use crate::head::{field_with, head_at};
 use crate::seen::{Seen, present};
@@ -38,8 +38,8 @@ fn list_of(
     single: Single,
     child: Option<PlainField>,
 ) -> Result<Option<PlainType>, AllocError>
-    ensures { IfOk result (λ r. (s : trees.Single) → (x : Read) → single_of s ≡ single → IsPlain field_view read_other child x
-        → IsPlain type_view type_other r (Schemas.single_with s x)) }
+    ensures { IfOk result (λ r. (s : trees.Single) → (x : Read) → single_of s ≡ single → IsBare field_view read_other child x
+        → IsBare type_view type_other r (Schemas.single_with s x)) }
 {
     match single {
         Single::List => match child {
@@ -72,8 +72,8 @@ fn with_child(
 // The struct of some children, where the type is one.
 fn struct_of(group: Group, children: Option<Vec<PlainField>>) -> Option<PlainType>
     ensures { (g : trees.Group) → (all : ReadAll) → group_of g ≡ group
-        → IsPlain (λ v. fields_view v.items) reads_other children all
-        → IsPlain type_view type_other result (Schemas.group_with g all) }
+        → IsBare (λ v. fields_view v.items) reads_other children all
+        → IsBare type_view type_other result (Schemas.group_with g all) }
 {
     match group {
         Group::Struct => match children {
@@ -105,9 +105,9 @@ fn pushed(
     fields: Option<Vec<PlainField>>,
     field: Option<PlainField>,
 ) -> Result<Option<Vec<PlainField>>, AllocError>
-    ensures { IfOk result (λ r. (all : ReadAll) → (x : Read) → IsPlain (λ v. fields_view v.items) reads_other fields all
-        → IsPlain field_view read_other field x
-        → IsPlain (λ v. fields_view v.items) reads_other r (and_read all x)) }
+    ensures { IfOk result (λ r. (all : ReadAll) → (x : Read) → IsBare (λ v. fields_view v.items) reads_other fields all
+        → IsBare field_view read_other field x
+        → IsBare (λ v. fields_view v.items) reads_other r (and_read all x)) }
 {
     let Some(mut fields) = fields else {
         return Ok(None);

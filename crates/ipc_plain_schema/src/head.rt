@@ -8,7 +8,7 @@ ghost use Rattle.ipc_model.specs.Schemas;
 ghost use Rattle.ipc_model.specs.Schemas.{Encoding, ReadType, given, made};
 ghost use Rattle.ipc_plain_schema.specs.Heads.{IsHead, head_at};
 ghost use Rattle.ipc_plain_schema.specs.PlainTypes.{field_view, type_view};
-ghost use Rattle.ipc_plain_schema.specs.Sights.{IsPlain, Sees, read_count, read_other, type_count, type_other};
+ghost use Rattle.ipc_plain_schema.specs.Sights.{IsBare, Sees, read_count, read_other, type_count, type_other};
 
 use crate::metadata::pairs_of_field;
 use crate::seen::{Seen, made};
@@ -87,8 +87,8 @@ pub(crate) fn head_at(alloc: Global, field: &FieldRef<'_>) -> Result<Option<Head
 // The field of a head and a type, where the type is none of other kinds.
 fn field_of(head: Head, data_type: Option<PlainType>) -> Option<PlainField>
     ensures { (encoding : Option Encoding) → (t : ReadType) → is_some encoding ≡ head.is_encoded
-        → IsPlain type_view type_other data_type t
-        → IsPlain field_view read_other result
+        → IsBare type_view type_other data_type t
+        → IsBare field_view read_other result
         (Schemas.field_with (string_bytes head.name) head.is_nullable (pairs_of head.metadata.entries) encoding t) }
 {
     let Head {

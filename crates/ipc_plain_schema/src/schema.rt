@@ -3,7 +3,7 @@
 //! Arrow columnar format, "Schema message".
 ghost use Rattle.std.specs.Prelude.{◌≡◌, IfOk};
 ghost use Rattle.ipc_model.specs.Schemas;
-ghost use Rattle.ipc_plain_schema.specs.PlainSchemas.{Answers};
+ghost use Rattle.ipc_plain_schema.specs.PlainSchemas.{FindsPlainly};
 
 use crate::field::fields_from;
 use crate::metadata::pairs_of_schema;
@@ -43,7 +43,7 @@ fn schema_at(
     message: &[u8],
 ) -> Result<PlainAnswer, AllocError>
     requires { message.now ≡ schema.now.message }
-    ensures { IfOk result (λ answer. Answers answer (Schemas.schema_at schema.now)) }
+    ensures { IfOk result (λ answer. FindsPlainly answer (Schemas.schema_at schema.now)) }
 {
     let Ok(order) = schema.endianness() else {
         return Ok(PlainAnswer::NoSchema);
@@ -77,7 +77,7 @@ fn schema_at(
 /// bytes. The error is that memory was refused.
 #[tactic(auto, unfolding(ipc_model::specs::Schemas::schema_of))]
 pub fn plain_schema(alloc: Global, message: &[u8]) -> Result<PlainAnswer, AllocError>
-    ensures { IfOk result (λ answer. Answers answer (Schemas.schema_of message.now)) }
+    ensures { IfOk result (λ answer. FindsPlainly answer (Schemas.schema_of message.now)) }
 {
     let Ok(root) = MessageRef::read_as_root(message) else {
         return Ok(PlainAnswer::NoSchema);

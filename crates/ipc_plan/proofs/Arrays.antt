@@ -9,7 +9,7 @@ use Rattle.ipc_model.specs.Columns.{slot_at}
 use Rattle.ipc_model.specs.Entries.{Entries, Limit}
 use Rattle.ipc_model.specs.Offers.{own_id, inner_ids, levels_below}
 use Rattle.ipc_model.specs.TypeKinds.{first_ids, other_ids, kind_of}
-use Rattle.ipc_plan.specs.Meaning.{Stands, KnowsValues, WhereKeyed, Knows, KnowsAll, LevelsLaw, ArrayLaw}
+use Rattle.ipc_plan.specs.Meaning.{StandsAmong, KnowsValues, WhereKeyed, Knows, KnowsAll, LevelsLaw, ArrayLaw}
 use Rattle.ipc_plan.proofs.Dictionaries.{keys_mean}
 use Rattle.ipc_plan.proofs.FixedLists.{fixed_lists_mean}
 use Rattle.ipc_plan.proofs.Flat.{nulls_mean, truths_mean, numbers_mean, fixed_mean}
@@ -21,7 +21,7 @@ use Rattle.ipc_plan.proofs.Texts.{bytes_mean, texts_mean}
 use Rattle.ipc_plan.proofs.Unions.{sparse_mean, dense_mean}
 
 level_means : (s : Entries) (h : Level) (p : Parts) (cs : Layouts) (o n a b : ℕ) (limit : Limit) (id : Option ℤ) (is : IdTrees) (own : List (List ℕ)) → PartsFit h p cs → AreArrays cs
-    → WhereKeyed p (KnowsValues s cs id) (ChildrenMean s cs is) → Row s h p o n a b limit own → Stands s (a + 1) (b + length own) (levels_below cs p o n) → RowMeans s h p cs o n a b limit id is
+    → WhereKeyed p (KnowsValues s cs id) (ChildrenMean s cs is) → Row s h p o n a b limit own → StandsAmong s (a + 1) (b + length own) (levels_below cs p o n) → RowMeans s h p cs o n a b limit id is
 level_means s h nothing no_layouts o n a b limit id is own fit arrays mean r st = nulls_mean s h o n a b limit id is own fit r
 level_means s h (truths ts) no_layouts o n a b limit id is own fit arrays mean r st = truths_mean s h ts o n a b limit id is own fit r
 level_means s h (numbers p ns) no_layouts o n a b limit id is own fit arrays mean r st = numbers_mean s h p ns o n a b limit id is own fit r

@@ -29,7 +29,7 @@ use Rattle.ipc_model.specs.Streams.{whole}
 use Rattle.ipc_model.specs.TypeKinds.{first_ids, other_ids, kind_of, field_kind, kinds_of}
 use Rattle.ipc_model.specs.WrittenBatches.{padded, entry}
 use Rattle.ipc_plan.specs.Bodies.{AllMean}
-use Rattle.ipc_plan.specs.Levels.{joined}
+use Rattle.ipc_plan.specs.Levels.{joined_buffers}
 use Rattle.ipc_plan.specs.Meaning.{KnowsAll}
 use Rattle.ipc_plan.specs.Pieces.{pieces_bytes}
 use Rattle.lower_types.specs.declared.Endianness.{Endianness}
@@ -229,7 +229,7 @@ unfolding entries_of
 columns_batch_law schema p ls k known h arrays like same knows =
     let lists = lists_of_plan p in
     let source = body_of_plan p in
-    let bytes : source ≡ body (joined h.buffers) = ap (λ (o : Endianness). pieces_bytes o p.pieces.items) h.order_is ∙ h.body_is in
+    let bytes : source ≡ body (joined_buffers h.buffers) = ap (λ (o : Endianness). pieces_bytes o p.pieces.items) h.order_is ∙ h.body_is in
     let s = entries_of lists (whole source) schema.order 0 known in
     let behind : map (part_at ([] ++ (source ++ [])) 0) p.buffers.items ≡ map (part_at source 0) p.buffers.items =
     ap (λ (xs : List ℕ). map (part_at xs 0) p.buffers.items) (append-nil source) in
@@ -237,5 +237,5 @@ columns_batch_law schema p ls k known h arrays like same knows =
     subst (λ (ps : List Part). AllMean (record { nodes = p.nodes.items; parts = ps; order = schema.order; extra = 0; dictionaries = known }) ls schema.ids 0 0) behind
     (subst (λ (o : Endianness). AllMean (record { nodes = p.nodes.items; parts = map (part_at ([] ++ (source ++ [])) 0) p.buffers.items; order = o; extra = 0; dictionaries = known }) ls schema.ids 0 0) h.order_is
     (h.means known [] [] schema.ids)) in
-    batch_of s (length source) schema ls k refl (bounded schema.order lists (joined h.buffers) known source h.entries_are bytes) h.node_count
+    batch_of s (length source) schema ls k refl (bounded schema.order lists (joined_buffers h.buffers) known source h.entries_are bytes) h.node_count
     (parts_count source lists.buffers ∙ h.buffer_count) arrays like same knows mean

@@ -15,8 +15,8 @@ use Rattle.ipc_model.specs.Offers.{own_id, inner_ids, whole_levels, body_lengths
 use Rattle.ipc_model.specs.TypeKinds.{first_ids, other_ids, kind_of}
 use Rattle.ipc_model.specs.WrittenBatches.{padded, entry}
 use Rattle.ipc_plan.specs.Bodies.{entries_of_plan, AllMean, PlansColumns}
-use Rattle.ipc_plan.specs.Levels.{node_of, HaveBuffers, joined}
-use Rattle.ipc_plan.specs.Meaning.{IsPart, NodesStand, PartsStand, Stands}
+use Rattle.ipc_plan.specs.Levels.{node_of, HaveBuffers, joined_buffers}
+use Rattle.ipc_plan.specs.Meaning.{IsBufferOf, NodesStand, PartsStand, StandsAmong}
 use Rattle.ipc_plan.specs.Pieces.{pieces_bytes}
 use Rattle.ipc_plan.specs.Plans.{entries_from, end_from, body, Adds}
 use Rattle.ipc_plan.specs.declared.plan.Plan.{Plan}
@@ -51,7 +51,7 @@ length_padded xs =
     omega (arith, length-append xs (replicate n zero_byte), length-replicate n zero_byte)
 
 -- the buffer at place o of a body, whose bytes stand behind `front` in the source
-part_stands : (source front : List ℕ) (base o : ℕ) (x rest : List ℕ) → source ≡ front ++ (padded x ++ rest) → length front ≡ base + o → IsPart (part_at source base (entry (pos o) (length x))) x
+part_stands : (source front : List ℕ) (base o : ℕ) (x rest : List ℕ) → source ≡ front ++ (padded x ++ rest) → length front ≡ base + o → IsBufferOf (part_at source base (entry (pos o) (length x))) x
 part_stands source front base o x rest e h = record {
   offset_is = search rules;
   listed_is = refl;
@@ -73,13 +73,13 @@ parts_listed s source done base o front (x ∷ bs) rest e f h =
     let far : length (done ++ padded x) ≡ base + (o + n) = omega (arith, length-append done (padded x), length_padded x, h) in
     let long : length (front ++ p ∷ []) ≡ length front + 1 = length-append front (p ∷ []) in
     let is : buffer s (length front) ≡ p = ap (λ (ps : List Part). get_or ps (length front) (record { offset = pos 0; length = pos 0; bytes = [] })) e ∙ at_front front p _ _ in (
-      subst (λ (q : Part). IsPart q x) (sym is) (part_stands source done base o x (body bs ++ rest) here h),
+      subst (λ (q : Part). IsBufferOf q x) (sym is) (part_stands source done base o x (body bs ++ rest) here h),
       subst (λ (k : ℕ). PartsStand s k bs) long (parts_listed s source (done ++ padded x) base (o + n) (front ++ p ∷ []) bs rest (e ∙ one_more front p _) then far),
     )
 
 -- ---- columns
 
-columns_mean : (s : Entries) (ls : List Layout) (is : IdTrees) (a b : ℕ) → s.extra ≡ 0 → AreArrays (layouts ls) → Stands s a b (flat_map whole_levels ls) → AllMean s ls is a b
+columns_mean : (s : Entries) (ls : List Layout) (is : IdTrees) (a b : ℕ) → s.extra ≡ 0 → AreArrays (layouts ls) → StandsAmong s a b (flat_map whole_levels ls) → AllMean s ls is a b
 columns_mean s [] is a b extra arrays st = tt
 columns_mean s (l ∷ ls) is a b extra arrays st =
     let id = own_id (first_ids is) in
@@ -110,11 +110,11 @@ plans_columns p q ls no_nodes no_buffers no_pieces begins arrays a =
     let g = a.grows in
     let hs = flat_map whole_levels ls in
     let ns : q.nodes.items ≡ map node_of hs = g.nodes_are ∙ ap (λ (xs : List FieldNode). xs ++ map node_of hs) no_nodes in
-    let es : q.buffers.items ≡ entries_from 0 (joined a.buffers) = g.entries_are ∙ ap (λ (xs : List Buffer). xs ++ entries_from p.end (joined a.buffers)) no_buffers ∙ ap (λ o. entries_from o (joined a.buffers)) begins in
-    let bytes : pieces_bytes q.order q.pieces.items ≡ body (joined a.buffers) =
-    ap (λ (o : Endianness). pieces_bytes o q.pieces.items) g.order_same ∙ g.body_is ∙ ap (λ ps. pieces_bytes p.order ps ++ body (joined a.buffers)) no_pieces in
-    let count : length q.buffers.items ≡ length (joined a.buffers) = ap (λ (xs : List Buffer). length xs) es ∙ entries_count 0 (joined a.buffers) in
-    let long : 0 + length (body (joined a.buffers)) ≡ length (body (joined a.buffers)) = omega arith in
+    let es : q.buffers.items ≡ entries_from 0 (joined_buffers a.buffers) = g.entries_are ∙ ap (λ (xs : List Buffer). xs ++ entries_from p.end (joined_buffers a.buffers)) no_buffers ∙ ap (λ o. entries_from o (joined_buffers a.buffers)) begins in
+    let bytes : pieces_bytes q.order q.pieces.items ≡ body (joined_buffers a.buffers) =
+    ap (λ (o : Endianness). pieces_bytes o q.pieces.items) g.order_same ∙ g.body_is ∙ ap (λ ps. pieces_bytes p.order ps ++ body (joined_buffers a.buffers)) no_pieces in
+    let count : length q.buffers.items ≡ length (joined_buffers a.buffers) = ap (λ (xs : List Buffer). length xs) es ∙ entries_count 0 (joined_buffers a.buffers) in
+    let long : 0 + length (body (joined_buffers a.buffers)) ≡ length (body (joined_buffers a.buffers)) = omega arith in
     let none : length p.pieces.items ≡ 0 = ap (λ ps. length ps) no_pieces in
     record {
       order_is = g.order_same;
@@ -122,8 +122,8 @@ plans_columns p q ls no_nodes no_buffers no_pieces begins arrays a =
       have = a.have;
       nodes_are = ns;
       entries_are = es;
-      end_is = g.end_is ∙ ap (λ o. end_from o (joined a.buffers)) begins ∙ end_long 0 (joined a.buffers) ∙ long;
-      body_is = g.body_is ∙ ap (λ ps. pieces_bytes p.order ps ++ body (joined a.buffers)) no_pieces;
+      end_is = g.end_is ∙ ap (λ o. end_from o (joined_buffers a.buffers)) begins ∙ end_long 0 (joined_buffers a.buffers) ∙ long;
+      body_is = g.body_is ∙ ap (λ ps. pieces_bytes p.order ps ++ body (joined_buffers a.buffers)) no_pieces;
       node_count = ap (λ (xs : List FieldNode). length xs) ns ∙ length-map hs node_of;
       buffer_count = count ∙ joined_count p.order hs a.buffers a.have;
       piece_count = omega (arith, g.few, count, none);
@@ -134,7 +134,7 @@ plans_columns p q ls no_nodes no_buffers no_pieces begins arrays a =
             buffers = a.buffers;
             have = subst (λ (o : Endianness). HaveBuffers o hs a.buffers) (sym g.order_same) a.have;
             nodes_stand = nodes_listed s [] (map node_of hs) ns;
-            parts_stand = parts_listed s source before (length before) 0 [] (joined a.buffers) rest (ap (λ (bs : List Buffer). map (part_at source (length before)) bs) es)
+            parts_stand = parts_listed s source before (length before) 0 [] (joined_buffers a.buffers) rest (ap (λ (bs : List Buffer). map (part_at source (length before)) bs) es)
                 (ap (λ (xs : List ℕ). before ++ (xs ++ rest)) bytes) (omega arith);
           });
     }

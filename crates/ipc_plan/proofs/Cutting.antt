@@ -12,8 +12,8 @@ use Rattle.lower_flat.proofs.Cuts.{get_or-part, length-part}
 use Rattle.ipc_model.specs.Columns.{is_omitted, last_offset, Offsets}
 use Rattle.ipc_model.specs.Entries.{Entries, size, buffer, listed, Need, offset}
 use Rattle.ipc_model.specs.Kinds.{offset_width}
-use Rattle.ipc_plan.specs.Levels.{wide_of, AreOffsets}
-use Rattle.ipc_plan.specs.Meaning.{IsPart}
+use Rattle.ipc_plan.specs.Levels.{wide_of, AreOffsetBytes}
+use Rattle.ipc_plan.specs.Meaning.{IsBufferOf}
 use Rattle.ipc_plan.proofs.Standing.{need_part}
 
 pub rises : (os : List ℕ) (i k : ℕ) → IsRising os → i + k < length os → slice_index os i ≤ slice_index os (i + k)
@@ -36,8 +36,8 @@ pub record CutOffsets (s : Entries) (b w : ℕ) (os : List ℕ) (o n : ℕ) : Ty
   pub first_low : (i : ℕ) → i ≤ n → slice_index os o ≤ slice_index os (o + i)
   pub last_high : (i : ℕ) → i ≤ n → slice_index os (o + i) ≤ slice_index os (o + n)
 
-pub cut_offsets : (s : Entries) (b : ℕ) (p : PrimitiveType) (os : List ℕ) (o n : ℕ) (x : List ℕ) → IsRising os → o + n < length os → IsPart (buffer s b) x
-    → AreOffsets s.order p (part o (n + 1) os) x → CutOffsets s b (offset_width (wide_of p)) os o n
+pub cut_offsets : (s : Entries) (b : ℕ) (p : PrimitiveType) (os : List ℕ) (o n : ℕ) (x : List ℕ) → IsRising os → o + n < length os → IsBufferOf (buffer s b) x
+    → AreOffsetBytes s.order p (part o (n + 1) os) x → CutOffsets s b (offset_width (wide_of p)) os o n
 cut_offsets s b p os o n x rising inside q are =
     let w = offset_width (wide_of p) in
     let here = part o (n + 1) os in

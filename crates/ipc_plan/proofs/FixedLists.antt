@@ -16,7 +16,7 @@ use Rattle.ipc_model.specs.Entries.{Entries, Limit, limited, rows, times}
 use Rattle.ipc_model.specs.Kinds.{Kind, fixed_list_kind}
 use Rattle.ipc_model.specs.Offers.{own_id, inner_ids, written_levels, levels_below}
 use Rattle.ipc_model.specs.TypeKinds.{first_ids, kind_of}
-use Rattle.ipc_plan.specs.Meaning.{Means, Stands}
+use Rattle.ipc_plan.specs.Meaning.{Means, StandsAmong}
 use Rattle.ipc_plan.proofs.KindForms.{means_by, never_childless}
 use Rattle.ipc_plan.proofs.Lists.{shifted_slots, first_kind_is}
 use Rattle.ipc_plan.proofs.ValidityRows.{begins, rows_of, masked_is}
@@ -28,7 +28,7 @@ times_full None n z h = refl
 times_full (Some l) n z h = let le = mul-le n z l z (omega (arith, h)) (omega arith) in omega (arith, le)
 
 pub fixed_lists_mean : (s : Entries) (h : Level) (z : ℕ) (cs : Layouts) (o n a b : ℕ) (limit : Limit) (id : Option ℤ) (is : IdTrees) (own : List (List ℕ)) → PartsFit h (fixed_lists z) cs
-    → ChildrenMean s cs is → Row s h (fixed_lists z) o n a b limit own → Stands s (a + 1) (b + length own) (levels_below cs (fixed_lists z) o n)
+    → ChildrenMean s cs is → Row s h (fixed_lists z) o n a b limit own → StandsAmong s (a + 1) (b + length own) (levels_below cs (fixed_lists z) o n)
     → RowMeans s h (fixed_lists z) cs o n a b limit id is
 fixed_lists_mean s h z (more_layouts c cs) o n a b limit id is (m ∷ []) fit mean r st =
     let mask = masked_row s h o n a b m r.fits r.inside r.node_is r.stand.0 r.are in

@@ -14,7 +14,7 @@ use Rattle.lower.specs.TypeTrees.{TypeTree}
 use Rattle.ipc_model.specs.Offers.{whole_levels, written_levels, levels_below}
 use Rattle.ipc_views.specs.declared.message.FieldNode.{FieldNode}
 use Rattle.ipc_model.specs.WrittenBatches.{padded, entry}
-use Rattle.ipc_plan.specs.Levels.{node_of, number_form, cut_out, AreNumbers, AreOffsets, HaveBuffers, joined}
+use Rattle.ipc_plan.specs.Levels.{node_of, number_form, cut_out, AreNumberBytes, AreOffsetBytes, HaveBuffers, joined_buffers}
 use Rattle.ipc_model.specs.Kinds.{number_kind}
 use Rattle.lower_flat.specs.Validities.{null_count_of}
 use Rattle.lower_types.specs.NumberTypes.{Number, whole}
@@ -92,11 +92,11 @@ have_both order (h ∷ hs) ks (x ∷ xs) ys e k = (e.0, have_both order hs ks xs
 
 pub adds_then : (p q r : Plan) (hs ks : List Level) → Adds p q hs → Adds q r ks → Adds p r (hs ++ ks)
 adds_then p q r hs ks f g =
-    let all = grows_then p q r (map node_of hs) (map node_of ks) (joined f.buffers) (joined g.buffers) f.grows g.grows in
+    let all = grows_then p q r (map node_of hs) (map node_of ks) (joined_buffers f.buffers) (joined_buffers g.buffers) f.grows g.grows in
     record {
       buffers = f.buffers ++ g.buffers;
       have = have_both p.order hs ks f.buffers g.buffers f.have (subst (λ (o : Endianness). HaveBuffers o ks g.buffers) f.grows.order_same g.have);
-      grows = subst (λ (ns : List FieldNode). Grows p r ns (joined (f.buffers ++ g.buffers))) (sym (map-append node_of hs ks))
+      grows = subst (λ (ns : List FieldNode). Grows p r ns (joined_buffers (f.buffers ++ g.buffers))) (sym (map-append node_of hs ks))
           (subst (λ (bs : List (List ℕ)). Grows p r (map node_of hs ++ map node_of ks) bs) (sym (joined-append f.buffers g.buffers)) all);
     }
 
@@ -119,7 +119,7 @@ head_level p q r n t os v a x = record {
   validity_bytes = a.validity_bytes;
   offset_bytes = x.bytes;
   validity = a.validity;
-  offsets = subst (λ (o : Endianness). AreOffsets o t os x.bytes) a.grows.order_same x.are;
+  offsets = subst (λ (o : Endianness). AreOffsetBytes o t os x.bytes) a.grows.order_same x.are;
   grows = grows_then p q r _ _ _ _ a.grows x.grows;
 }
 
@@ -170,7 +170,7 @@ pub numbers_adds : (p q r : Plan) (n : ℕ) (u : TypeTree) (t : PrimitiveType) (
 numbers_adds p q r n u t ns v form a x = adds_one p r (record { type = u; len = n; validity = v; parts = numbers t ns })
     (record {
       own = a.validity_bytes ∷ x.bytes ∷ [];
-      are = (a.validity, subst (λ (o : Endianness). AreNumbers o t ns x.bytes) a.grows.order_same x.are, form);
+      are = (a.validity, subst (λ (o : Endianness). AreNumberBytes o t ns x.bytes) a.grows.order_same x.are, form);
       grows = grows_then p q r _ _ _ _ a.grows x.grows;
     })
 
@@ -218,7 +218,7 @@ pub keys_adds : (p q r : Plan) (n : ℕ) (u : TypeTree) (k : IntegerType) (ks : 
 keys_adds p q r n u k ks v a x = adds_one p r (record { type = u; len = n; validity = v; parts = keys k ks })
     (record {
       own = a.validity_bytes ∷ x.bytes ∷ [];
-      are = (a.validity, subst (λ (o : Endianness). AreNumbers o (key_form k) (map (λ z. whole z) ks) x.bytes) a.grows.order_same x.are);
+      are = (a.validity, subst (λ (o : Endianness). AreNumberBytes o (key_form k) (map (λ z. whole z) ks) x.bytes) a.grows.order_same x.are);
       grows = grows_then p q r _ _ _ _ a.grows x.grows;
     })
 
@@ -258,7 +258,7 @@ pub types_adds : (p q r : Plan) (n : ℕ) (u : TypeTree) (ids : Option (List ℤ
 types_adds p q r n u ids zs g x = adds_one p r (record { type = u; len = n; validity = None; parts = choices ids zs None })
     (record {
       own = x.bytes ∷ [];
-      are = subst (λ (o : Endianness). AreNumbers o Int8Form (map (λ z. whole z) zs) x.bytes) g.order_same x.are;
+      are = subst (λ (o : Endianness). AreNumberBytes o Int8Form (map (λ z. whole z) zs) x.bytes) g.order_same x.are;
       grows = grows_then p q r _ _ _ _ g x.grows;
     })
 
@@ -269,8 +269,8 @@ places_adds p q r s n u ids zs os g x y = adds_one p s (record { type = u; len =
     (record {
       own = x.bytes ∷ y.bytes ∷ [];
       are = (
-        subst (λ (o : Endianness). AreNumbers o Int8Form (map (λ z. whole z) zs) x.bytes) g.order_same x.are,
-        subst (λ (o : Endianness). AreNumbers o Int32Form (map (λ z. whole z) os) y.bytes) (x.grows.order_same ∙ g.order_same) y.are,
+        subst (λ (o : Endianness). AreNumberBytes o Int8Form (map (λ z. whole z) zs) x.bytes) g.order_same x.are,
+        subst (λ (o : Endianness). AreNumberBytes o Int32Form (map (λ z. whole z) os) y.bytes) (x.grows.order_same ∙ g.order_same) y.are,
       );
       grows = grows_then p q s _ _ _ _ g (grows_then q r s _ _ _ _ x.grows y.grows);
     })

@@ -14,13 +14,13 @@ use Rattle.lower_arrays.specs.Layouts.{lists, maps, Level, Layout, Layouts, no_l
 use Rattle.lower_arrays.specs.Slots.{Slot, list_slot, slots_of, slots_from, slot_where, slot_at as array_slot, PartsFit, ItemsFit}
 use Rattle.ipc_base.specs.IdTrees.{IdTrees}
 use Rattle.ipc_views.specs.declared.message.FieldNode.{FieldNode}
-use Rattle.ipc_model.specs.Columns.{Begins, WithRows, IsList, IsPair, IsWell, list_at, slot_at}
+use Rattle.ipc_model.specs.Columns.{Begins, WithRows, IsList, IsPairKind, IsWell, list_at, slot_at}
 use Rattle.ipc_model.specs.Entries.{Entries, Limit, rows, offset}
 use Rattle.ipc_model.specs.Kinds.{offsets_32, offset_width, Kind, list_kind, map_kind}
 use Rattle.ipc_model.specs.Offers.{own_id, inner_ids, written_levels, levels_below}
 use Rattle.ipc_model.specs.TypeKinds.{first_ids, kind_of}
 use Rattle.ipc_plan.specs.Levels.{wide_of}
-use Rattle.ipc_plan.specs.Meaning.{Means, Stands}
+use Rattle.ipc_plan.specs.Meaning.{Means, StandsAmong}
 use Rattle.ipc_plan.proofs.Cutting.{rises, CutOffsets, cut_offsets}
 use Rattle.ipc_plan.proofs.KindForms.{one_child, first_kind, kind_by, means_by, field_kind_is, never_childless}
 use Rattle.ipc_plan.proofs.ValidityRows.{begins, rows_of, masked_is}
@@ -99,7 +99,7 @@ one_full : (k : ℕ) → min k k ≡ k
 one_full k = omega arith
 
 pub lists_mean : (s : Entries) (h : Level) (p : PrimitiveType) (os : List ℕ) (cs : Layouts) (o n a b : ℕ) (limit : Limit) (id : Option ℤ) (is : IdTrees) (own : List (List ℕ)) → PartsFit h (lists p os) cs
-    → ChildrenMean s cs is → Row s h (lists p os) o n a b limit own → Stands s (a + 1) (b + length own) (levels_below cs (lists p os) o n) → RowMeans s h (lists p os) cs o n a b limit id is
+    → ChildrenMean s cs is → Row s h (lists p os) o n a b limit own → StandsAmong s (a + 1) (b + length own) (levels_below cs (lists p os) o n) → RowMeans s h (lists p os) cs o n a b limit id is
 lists_mean s h p os (more_layouts c cs) o n a b limit id is (m ∷ x ∷ []) fit mean r st =
     let w = offset_width (wide_of p) in
     let mask = masked_row s h o n a b m r.fits r.inside r.node_is r.stand.0 r.are.0 in
@@ -125,7 +125,7 @@ lists_mean s h p os no_layouts o n a b limit id is own fit mean r st = absurd (n
 lists_mean s h p os cs o n a b limit id is _ fit mean r st = absurd r.are
 
 -- a map's child is a record of two
-pair_kind : (t : TypeTree) (id : Option ℤ) (is : IdTrees) → IsPairType t → IsPair (kind_of t id is)
+pair_kind : (t : TypeTree) (id : Option ℤ) (is : IdTrees) → IsPairType t → IsPairKind (kind_of t id is)
 pair_kind (plain p) id is h = absurd h
 pair_kind (single k f) id is h = absurd h
 pair_kind (group (choice ids mode) fs) id is h = absurd h
@@ -137,7 +137,7 @@ pair_kind (group structure (more_fields f (more_fields g no_fields))) id is h = 
 pair_kind (group structure (more_fields f (more_fields g (more_fields e fs)))) id is h = absurd (omega (arith, h))
 
 pub maps_mean : (s : Entries) (h : Level) (os : List ℕ) (cs : Layouts) (o n a b : ℕ) (limit : Limit) (id : Option ℤ) (is : IdTrees) (own : List (List ℕ)) → PartsFit h (maps os) cs
-    → ChildrenMean s cs is → Row s h (maps os) o n a b limit own → Stands s (a + 1) (b + length own) (levels_below cs (maps os) o n) → RowMeans s h (maps os) cs o n a b limit id is
+    → ChildrenMean s cs is → Row s h (maps os) o n a b limit own → StandsAmong s (a + 1) (b + length own) (levels_below cs (maps os) o n) → RowMeans s h (maps os) cs o n a b limit id is
 maps_mean s h os (more_layouts c cs) o n a b limit id is (m ∷ x ∷ []) fit mean r st =
     let w = offset_width offsets_32 in
     let mask = masked_row s h o n a b m r.fits r.inside r.node_is r.stand.0 r.are.0 in
@@ -155,7 +155,7 @@ maps_mean s h os (more_layouts c cs) o n a b limit id is (m ∷ x ∷ []) fit me
     means_by s Physicals.Map h.type id is a b limit n f fit.0
     (subst (λ (q : Kind). Means s q a b limit n f) (sym (ap map_kind (first_kind_is (child_fields h.type) is c cs fit.2)))
     (record {
-      well = subst (λ (j : ℕ). IsPair t × IsList s w a b j (λ l. IsWell s t (a + 1) (b + 2) l)) (sym rows_are)
+      well = subst (λ (j : ℕ). IsPairKind t × IsList s w a b j (λ l. IsWell s t (a + 1) (b + 2) l)) (sym rows_are)
           (pair_kind (type_of c) (own_id (first_ids is)) (inner_ids (first_ids is)) fit.1.0, list_well s a b w t os o n g (begins s a b n _ mask) items);
       rows_are = rows_are;
       each = λ i l. masked_is s a b o n h.validity i _ _ mask l (λ _. list_slots s a b w t os o n g items i l);

@@ -1,7 +1,7 @@
 -- Numbers and their bytes.
 use Rattle.std.proofs.Common.{arith, ◌≡◌, ℕ, ℤ, zero, suc, pos, ◌+◌, ◌*◌, ◌<◌, List, [], ◌∷◌, ◌++◌, length, map, take, drop, get_or, refl, sym, ap, ap₂, ◌∙◌, All}
 use Rattle.std.specs.List.{flat_map}
-use Rattle.std.proofs.lemmas.List.{get_or-map, length-map, take_at, drop_at, drop-drop}
+use Rattle.std.proofs.lemmas.List.{length-map, take_at, drop_at, drop-drop}
 use Rattle.std.proofs.lemmas.List.Elements.{All-head, All-tail}
 use Rattle.lower_types.specs.NumberTypes.{Number, whole, wide, day_time, month_day_nano, width_of, number_in}
 use Rattle.lower_types.specs.declared.Endianness.{Endianness}

@@ -14,7 +14,7 @@ use Rattle.lower_types.specs.declared.PrimitiveType.TheVariants.{Int32, Int64}
 use Rattle.lower_types.proofs.NumberPieces.{length-spelt}
 use Rattle.lower_flat.specs.Validities.{part}
 use Rattle.lower_flat.proofs.Cuts.{get_or-part, length-part, map-part}
-use Rattle.ipc_plan.specs.Levels.{AreOffsets}
+use Rattle.ipc_plan.specs.Levels.{AreOffsetBytes}
 use Rattle.ipc_plan.specs.Pieces.{less, offset_bytes}
 use Rattle.ipc_plan.proofs.Cutting.{rises}
 
@@ -71,7 +71,7 @@ rising_part os o n rising h = λ k l.
     let next : slice_index (part o n os) (k + 1) ≡ slice_index os (o + k + 1) = get_or-part o n os (k + 1) 0 (omega (arith, l, count)) ∙ (let e : o + (k + 1) ≡ o + k + 1 = omega arith in ap (slice_index os) e) in
     omega (arith, up, here, next)
 
-pub offsets_32 : (order : Endianness) (ys : List ℤ) (os : List ℕ) → ys ≡ map pos os → IsRising os → 0 < length os → All (FitsSigned w32) ys → AreOffsets order Int32 os (offset_bytes w32 (2 ^ 32) order ys)
+pub offsets_32 : (order : Endianness) (ys : List ℤ) (os : List ℕ) → ys ≡ map pos os → IsRising os → 0 < length os → All (FitsSigned w32) ys → AreOffsetBytes order Int32 os (offset_bytes w32 (2 ^ 32) order ys)
 offsets_32 order ys os same rising some fits =
     let long : length ys ≡ length os = ap (λ (zs : List ℤ). length zs) same ∙ length-map os pos in
     let at : (i : ℕ) → i < length os → get_or ys i (pos 0) ≡ pos (slice_index os i) = λ i l. ap (λ (zs : List ℤ). get_or zs i (pos 0)) same ∙ get_or-map pos os i 0 (pos 0) l in
@@ -89,7 +89,7 @@ offsets_32 order ys os same rising some fits =
       small = let s = low (length os - 1) (omega (arith, some)) in omega (arith, s);
     }
 
-pub offsets_64 : (order : Endianness) (ys : List ℤ) (os : List ℕ) → ys ≡ map pos os → IsRising os → 0 < length os → All (FitsSigned w64) ys → AreOffsets order Int64 os (offset_bytes w64 (2 ^ 64) order ys)
+pub offsets_64 : (order : Endianness) (ys : List ℤ) (os : List ℕ) → ys ≡ map pos os → IsRising os → 0 < length os → All (FitsSigned w64) ys → AreOffsetBytes order Int64 os (offset_bytes w64 (2 ^ 64) order ys)
 offsets_64 order ys os same rising some fits =
     let long : length ys ≡ length os = ap (λ (zs : List ℤ). length zs) same ∙ length-map os pos in
     let at : (i : ℕ) → i < length os → get_or ys i (pos 0) ≡ pos (slice_index os i) = λ i l. ap (λ (zs : List ℤ). get_or zs i (pos 0)) same ∙ get_or-map pos os i 0 (pos 0) l in

@@ -10,7 +10,7 @@ use Rattle.ipc_model.specs.Entries.{Entries, node, buffer, Limit, limited}
 use Rattle.ipc_model.specs.Offers.{own_id, inner_ids, written_levels}
 use Rattle.ipc_model.specs.TypeKinds.{first_ids, other_ids, kind_of}
 use Rattle.ipc_plan.specs.Levels.{AreBuffers, IsValidity}
-use Rattle.ipc_plan.specs.Meaning.{IsPart, PartsStand, Stands, Means}
+use Rattle.ipc_plan.specs.Meaning.{IsBufferOf, PartsStand, StandsAmong, Means}
 use Rattle.ipc_plan.proofs.ValidityRows.{Masked}
 
 -- n slots from place o on of a level with the parts p, whose own node and buffers stand at node a and buffer b
@@ -30,7 +30,7 @@ RowMeans s h p cs o n a b limit id is =
 
 -- a child, wherever some of its slots stand
 abbrev pub ChildMeans : Entries → Layout → Option ℤ → IdTrees → Type 0
-ChildMeans s c id is = (o n a b : ℕ) (limit : Limit) → o + n ≤ len_of c → limited limit n ≡ n → Stands s a b (written_levels c o n)
+ChildMeans s c id is = (o n a b : ℕ) (limit : Limit) → o + n ≤ len_of c → limited limit n ≡ n → StandsAmong s a b (written_levels c o n)
     → Means s (kind_of (type_of c) id is) a b limit n (λ i. array_slot c (o + i))
 
 -- each child of some
@@ -41,5 +41,5 @@ ChildrenMean s (more_layouts c cs) is = ChildMeans s c (own_id (first_ids is)) (
 -- the validity in front of a level's buffers
 pub masked_row : (s : Entries) (h : Level) (o n a b : ℕ) (m : List ℕ) → ValidityFits h.validity h.len → o + n ≤ h.len
     → node s a ≡ record { length = pos n; null_count = pos (null_count_of (cut_validity o n h.validity)) }
-    → IsPart (buffer s b) m → IsValidity (cut_validity o n h.validity) m → Masked s a b n (cut_validity o n h.validity)
+    → IsBufferOf (buffer s b) m → IsValidity (cut_validity o n h.validity) m → Masked s a b n (cut_validity o n h.validity)
 masked_row s h o n a b m fits inside e p k = record { node_is = e; validity_bytes = m; part_is = p; validity = k; fits = fits-cut h.validity o n h.len inside fits }

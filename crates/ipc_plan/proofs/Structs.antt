@@ -15,7 +15,7 @@ use Rattle.ipc_model.specs.Offers.{own_id, inner_ids, written_levels, levels_bel
 use Rattle.ipc_model.specs.TypeKinds.{first_ids, other_ids, kind_of, field_kind, kinds_of}
 use Rattle.ipc_model.proofs.OfferCounts.{entry_count_law}
 use Rattle.ipc_model.proofs.TypeKinds.{node_counts, buffer_counts}
-use Rattle.ipc_plan.specs.Meaning.{Stands}
+use Rattle.ipc_plan.specs.Meaning.{StandsAmong}
 use Rattle.ipc_plan.proofs.KindForms.{means_by, field_kind_is}
 use Rattle.ipc_plan.proofs.ValidityRows.{begins, rows_of, masked_is}
 use Rattle.ipc_plan.proofs.Rows.{Row, RowMeans, ChildrenMean, masked_row}
@@ -45,7 +45,7 @@ pub record Beside (s : Entries) (ts : Kinds) (cs : Layouts) (o n a b : ℕ) (lim
   pub each : (i : ℕ) → i < n → slots_at s ts a b i ≡ slots_of (each_at (children_at cs) (o + i))
 
 pub beside : (s : Entries) (cs : Layouts) (fs : FieldTrees) (is : IdTrees) (m o n a b : ℕ) (limit : Limit) → s.extra ≡ 0 → ChildTypes fs cs → AllHave m cs → o + n ≤ m → AreArrays cs → ChildrenMean s cs is
-    → limited limit n ≡ n → Stands s a b (levels_below cs records o n) → Beside s (kinds_of fs is) cs o n a b limit
+    → limited limit n ≡ n → StandsAmong s a b (levels_below cs records o n) → Beside s (kinds_of fs is) cs o n a b limit
 beside s no_layouts no_fields is m o n a b limit extra types have inside are mean full st = record { well = tt; each = λ i l. refl }
 beside s no_layouts (more_fields f fs) is m o n a b limit extra types have inside are mean full st = absurd types
 beside s (more_layouts c cs) no_fields is m o n a b limit extra types have inside are mean full st = absurd types
@@ -68,7 +68,7 @@ some_kinds no_fields is (more_layouts c cs) h e = absurd e
 some_kinds (more_fields f fs) is cs h e = tt
 
 pub records_mean : (s : Entries) (h : Level) (cs : Layouts) (o n a b : ℕ) (limit : Limit) (id : Option ℤ) (is : IdTrees) (own : List (List ℕ)) → PartsFit h records cs → AreArrays cs
-    → ChildrenMean s cs is → Row s h records o n a b limit own → Stands s (a + 1) (b + length own) (levels_below cs records o n) → RowMeans s h records cs o n a b limit id is
+    → ChildrenMean s cs is → Row s h records o n a b limit own → StandsAmong s (a + 1) (b + length own) (levels_below cs records o n) → RowMeans s h records cs o n a b limit id is
 records_mean s h cs o n a b limit id is (m ∷ []) fit arrays mean r st =
     let mask = masked_row s h o n a b m r.fits r.inside r.node_is r.stand.0 r.are in
     let rows_are = rows_of s a n limit (ap (λ (x : FieldNode). x.length) r.node_is) r.full in

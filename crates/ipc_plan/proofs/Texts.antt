@@ -18,7 +18,7 @@ use Rattle.ipc_model.specs.Columns.{Begins, last_offset, bytes_at, HasBytes, Are
 use Rattle.ipc_model.specs.Entries.{Entries, buffer, Limit, offset}
 use Rattle.ipc_model.specs.Kinds.{Kind, offset_width, binary_kind, utf8_kind}
 use Rattle.ipc_plan.specs.Levels.{wide_of, cut_out}
-use Rattle.ipc_plan.specs.Meaning.{IsPart, Means}
+use Rattle.ipc_plan.specs.Meaning.{IsBufferOf, Means}
 use Rattle.ipc_plan.proofs.Cutting.{rises, CutOffsets, cut_offsets}
 use Rattle.ipc_plan.proofs.Flat.{part_again}
 use Rattle.ipc_plan.proofs.KindForms.{kind_by, means_by}
@@ -47,7 +47,7 @@ record CutBytes (s : Entries) (b w : ℕ) (os xs : List ℕ) (o n : ℕ) : Type 
   pub has : HasBytes s b w n
   pub each : (i : ℕ) → i < n → bytes_at s b w i ≡ span os xs (o + i)
 
-cut_bytes : (s : Entries) (b w : ℕ) (os xs : List ℕ) (o n : ℕ) (x : List ℕ) → CutOffsets s b w os o n → slice_index os (o + n) ≤ length xs → IsPart (buffer s (b + 1)) x
+cut_bytes : (s : Entries) (b w : ℕ) (os xs : List ℕ) (o n : ℕ) (x : List ℕ) → CutOffsets s b w os o n → slice_index os (o + n) ≤ length xs → IsBufferOf (buffer s (b + 1)) x
     → x ≡ slice_range xs (slice_index os o) (slice_index os (o + n)) → CutBytes s b w os xs o n
 cut_bytes s b w os xs o n x c within q e =
     let f = slice_index os o in

@@ -26,14 +26,14 @@ use Rattle.lower_arrays.specs.Layouts.{choices, records, Level, Layout, Layouts,
 use Rattle.lower_arrays.specs.Slots.{Slot, Slots, no_slots, more_slots, null_slot, variant_slot, slots_of, slot_where, slot_at as array_slot, each_at, children_at, variant_at, PartsFit, AreArrays}
 use Rattle.ipc_base.specs.IdTrees.{IdTrees}
 use Rattle.ipc_views.specs.declared.message.FieldNode.{FieldNode}
-use Rattle.ipc_model.specs.Columns.{AreIds, IsUnion, child_named, child_rows, type_at, child_at, HasTypes, place_at, Reaches, AllHaveRows, AllWell, slots_at, child_slot}
+use Rattle.ipc_model.specs.Columns.{AreUnionIds, IsUnionKind, child_named, child_rows, type_at, child_at, HasTypes, place_at, Reaches, AllHaveRows, AllWell, slots_at, child_slot}
 use Rattle.ipc_model.specs.Entries.{Entries, IsSize, IsIndex, size, node, buffer, Need, Limit, integer}
 use Rattle.ipc_model.specs.Kinds.{Kind, Kinds, no_kinds, more_kinds, count, nodes, buffers, union_kind}
 use Rattle.ipc_model.specs.Numbers.{integer_of}
 use Rattle.ipc_model.specs.Offers.{own_id, inner_ids, written_levels, levels_below}
 use Rattle.ipc_model.specs.TypeKinds.{first_ids, other_ids, kind_of, kinds_of}
-use Rattle.ipc_plan.specs.Levels.{AreNumbers}
-use Rattle.ipc_plan.specs.Meaning.{IsPart, Means, Stands}
+use Rattle.ipc_plan.specs.Levels.{AreNumberBytes}
+use Rattle.ipc_plan.specs.Meaning.{IsBufferOf, Means, StandsAmong}
 use Rattle.ipc_plan.proofs.Dictionaries.{key_index, key_place}
 use Rattle.ipc_plan.proofs.KindForms.{means_by}
 use Rattle.ipc_plan.proofs.ValidityRows.{length_pos, rows_of}
@@ -65,7 +65,7 @@ in_range : (xs : List ℤ) → ((i : ℕ) → i < length xs → KeyFits (get_or 
 in_range [] h = λ i d l. absurd (omega (arith, l))
 in_range (x ∷ xs) h = All-cons (λ z. IsIndex z 127) x xs (key_index x 127 (h 0 (omega arith))) (in_range xs (λ i l. h (suc i) (omega (arith, l))))
 
-ids_are : (ids : TypeIds) (n : ℕ) → IdsFit ids n → AreIds ids n
+ids_are : (ids : TypeIds) (n : ℕ) → IdsFit ids n → AreUnionIds ids n
 ids_are None n h = tt
 ids_are (Some xs) n h = (h.count, distinct xs h.distinct, in_range xs h.range)
 
@@ -83,7 +83,7 @@ named (Some xs) n z fit h =
 
 -- ---- numbers of a union
 
-integer_at : (s : Entries) (b : ℕ) (p : PrimitiveType) (zs : List ℤ) (o n : ℕ) (x : List ℕ) (i : ℕ) → IsPart (buffer s b) x → AreNumbers s.order p (map (λ z. whole z) (part o n zs)) x → o + n ≤ length zs → i < n
+integer_at : (s : Entries) (b : ℕ) (p : PrimitiveType) (zs : List ℤ) (o n : ℕ) (x : List ℕ) (i : ℕ) → IsBufferOf (buffer s b) x → AreNumberBytes s.order p (map (λ z. whole z) (part o n zs)) x → o + n ≤ length zs → i < n
     → integer s b p i ≡ get_or zs (o + i) (pos 0)
 integer_at s b p zs o n x i q are h l =
     let count : length (part o n zs) ≡ n = length-part o n zs h in
@@ -93,7 +93,7 @@ integer_at s b p zs o n x i q are h l =
     ∙ ap integer_of (get_or-map (λ z. whole z) (part o n zs) i (pos 0) (whole (pos 0)) (omega (arith, l, count)))
     ∙ get_or-part o n zs i (pos 0) l
 
-integers_need : (s : Entries) (b : ℕ) (p : PrimitiveType) (zs : List ℤ) (o n : ℕ) (x : List ℕ) → IsPart (buffer s b) x → AreNumbers s.order p (map (λ z. whole z) (part o n zs)) x → o + n ≤ length zs → Need s b (width_of p * n)
+integers_need : (s : Entries) (b : ℕ) (p : PrimitiveType) (zs : List ℤ) (o n : ℕ) (x : List ℕ) → IsBufferOf (buffer s b) x → AreNumberBytes s.order p (map (λ z. whole z) (part o n zs)) x → o + n ≤ length zs → Need s b (width_of p * n)
 integers_need s b p zs o n x q are h =
     let many : length (map (λ z. whole z) (part o n zs)) ≡ n = length-map (part o n zs) (λ z. whole z) ∙ length-part o n zs h in
     let e : width_of p * length (map (λ z. whole z) (part o n zs)) ≡ width_of p * n = ap (λ k. width_of p * k) many in
@@ -146,7 +146,7 @@ whole_more : (s : Entries) (t : Kind) (ts : Kinds) (c : Layout) (cs : Layouts) (
 whole_more s t ts c cs a b here rest = record { well = (here.well, rest.well); rows_are = whole_rows s t ts c cs a b here rest; each = whole_slots s t ts c cs a b here rest }
 
 whole_children : (s : Entries) (cs : Layouts) (fs : FieldTrees) (is : IdTrees) (ids : TypeIds) (zs os : List ℤ) (o n a b : ℕ) → s.extra ≡ 0 → ChildTypes fs cs → AreArrays cs → ChildrenMean s cs is
-    → Stands s a b (levels_below cs (choices ids zs (Some os)) o n) → WholeChildren s (kinds_of fs is) cs a b
+    → StandsAmong s a b (levels_below cs (choices ids zs (Some os)) o n) → WholeChildren s (kinds_of fs is) cs a b
 whole_children s no_layouts no_fields is ids zs os o n a b extra types are mean st = record { well = tt; rows_are = λ k. refl; each = λ k i l. refl }
 whole_children s no_layouts (more_fields f fs) is ids zs os o n a b extra types are mean st = absurd types
 whole_children s (more_layouts c cs) no_fields is ids zs os o n a b extra types are mean st = absurd types
@@ -175,13 +175,13 @@ given_count Dense os k h = h
 
 -- the types of n slots, which stand in buffer u
 pub record Types (s : Entries) (h : Level) (ids : TypeIds) (zs : List ℤ) (cs : Layouts) (is : IdTrees) (o n u : ℕ) : Type 0 where
-  pub union : IsUnion (union_ids h.type) (count (kinds_of (child_fields h.type) is))
+  pub union : IsUnionKind (union_ids h.type) (count (kinds_of (child_fields h.type) is))
   pub types : HasTypes s (union_ids h.type) (count (kinds_of (child_fields h.type) is)) u n
   pub type_is : (i : ℕ) → i < n → type_at s u i ≡ get_or zs (o + i) (pos 0)
   pub child_is : (i : ℕ) → i < n → child_at s (union_ids h.type) (count (kinds_of (child_fields h.type) is)) u i ≡ child_number ids (get_or zs (o + i) (pos 0))
 
 types_stand : (s : Entries) (h : Level) (ids : TypeIds) (zs : List ℤ) (os : Option (List ℤ)) (cs : Layouts) (is : IdTrees) (o n u : ℕ) (x : List ℕ) → PartsFit h (choices ids zs os) cs → o + n ≤ h.len
-    → IsPart (buffer s u) x → AreNumbers s.order Int8 (map (λ z. whole z) (part o n zs)) x → Types s h ids zs cs is o n u
+    → IsBufferOf (buffer s u) x → AreNumberBytes s.order Int8 (map (λ z. whole z) (part o n zs)) x → Types s h ids zs cs is o n u
 types_stand s h ids zs os cs is o n u x fit inside q are =
     let c = fit.2 in
     let m = count (kinds_of (child_fields h.type) is) in
@@ -198,7 +198,7 @@ types_stand s h ids zs os cs is o n u x fit inside q are =
       union = record {
         some = omega (arith, same, c.some);
         few = omega (arith, same, c.few);
-        distinct = subst (λ (js : TypeIds). AreIds js m) c.named (ids_are ids m (subst (λ (k : ℕ). IdsFit ids k) (sym same) c.ids));
+        distinct = subst (λ (js : TypeIds). AreUnionIds js m) c.named (ids_are ids m (subst (λ (k : ℕ). IdsFit ids k) (sym same) c.ids));
       };
       types = record {
         types = (let e : 1 * n ≡ n = omega arith in subst (λ (k : ℕ). Need s u k) e need);
@@ -213,7 +213,7 @@ unmasked : (h : Level) (i : ℕ) (x : Slot) → h.validity ≡ None → x ≡ sl
 unmasked h i x e = sym (ap (λ v. slot_where (array_valid v i) x) e)
 
 pub sparse_mean : (s : Entries) (h : Level) (ids : TypeIds) (zs : List ℤ) (cs : Layouts) (o n a b : ℕ) (limit : Limit) (id : Option ℤ) (is : IdTrees) (own : List (List ℕ)) → PartsFit h (choices ids zs None) cs
-    → AreArrays cs → ChildrenMean s cs is → Row s h (choices ids zs None) o n a b limit own → Stands s (a + 1) (b + length own) (levels_below cs (choices ids zs None) o n)
+    → AreArrays cs → ChildrenMean s cs is → Row s h (choices ids zs None) o n a b limit own → StandsAmong s (a + 1) (b + length own) (levels_below cs (choices ids zs None) o n)
     → RowMeans s h (choices ids zs None) cs o n a b limit id is
 sparse_mean s h ids zs cs o n a b limit id is (x ∷ []) fit arrays mean r st =
     let c = fit.2 in
@@ -223,15 +223,15 @@ sparse_mean s h ids zs cs o n a b limit id is (x ∷ []) fit arrays mean r st =
     let ts = kinds_of (child_fields h.type) is in
     let long : (node s a).length ≡ pos n = ap (λ (y : FieldNode). y.length) r.node_is in
     let rows_are = rows_of s a n limit long r.full in
-    let all = types_stand s h ids zs None cs is o n u x fit r.inside (subst (λ (k : ℕ). IsPart (buffer s k) x) here r.stand.0) r.are in
+    let all = types_stand s h ids zs None cs is o n u x fit r.inside (subst (λ (k : ℕ). IsBufferOf (buffer s k) x) here r.stand.0) r.are in
     let places = subst (λ (k : ℕ). AllAre k (lens_of cs)) fit.1 c.places in
     let children = beside s cs (child_fields h.type) is h.len o n (a + 1) (u + 1) limit r.extra_is c.types places r.inside arrays mean r.full
-    (stands_at s (a + 1) (b + 1) (a + 1) (u + 1) _ refl behind (subst (λ hs. Stands s (a + 1) (b + 1) hs) (side_by_side cs ids zs o n) st)) in
+    (stands_at s (a + 1) (b + 1) (a + 1) (u + 1) _ refl behind (subst (λ hs. StandsAmong s (a + 1) (b + 1) hs) (side_by_side cs ids zs o n) st)) in
     let f = λ (i : ℕ). slot_where (array_valid h.validity (o + i)) (variant_at (children_at cs) (get_or zs (o + i) (pos 0)) (child_number ids (get_or zs (o + i) (pos 0))) (o + i)) in
     means_by s Physicals.Union h.type id is a b limit n f c.lies
     (subst (λ (m : UnionMode). Means s (union_kind m (union_ids h.type) ts) a b limit n f) (sym (sparse_mode (union_mode h.type) (length zs) c.given))
     (record {
-      well = subst (λ (k : ℕ). IsSize (node s a).length × IsUnion (union_ids h.type) (count ts) × HasTypes s (union_ids h.type) (count ts) u k × AllHaveRows s ts (a + 1) (u + 1) limit k) (sym rows_are)
+      well = subst (λ (k : ℕ). IsSize (node s a).length × IsUnionKind (union_ids h.type) (count ts) × HasTypes s (union_ids h.type) (count ts) u k × AllHaveRows s ts (a + 1) (u + 1) limit k) (sym rows_are)
           (length_pos s a n long, all.union, all.types, children.well);
       rows_are = rows_are;
       each = λ i l.
@@ -244,7 +244,7 @@ sparse_mean s h ids zs cs o n a b limit id is (x ∷ []) fit arrays mean r st =
 sparse_mean s h ids zs cs o n a b limit id is _ fit arrays mean r st = absurd r.are
 
 pub dense_mean : (s : Entries) (h : Level) (ids : TypeIds) (zs os : List ℤ) (cs : Layouts) (o n a b : ℕ) (limit : Limit) (id : Option ℤ) (is : IdTrees) (own : List (List ℕ)) → PartsFit h (choices ids zs (Some os)) cs
-    → AreArrays cs → ChildrenMean s cs is → Row s h (choices ids zs (Some os)) o n a b limit own → Stands s (a + 1) (b + length own) (levels_below cs (choices ids zs (Some os)) o n)
+    → AreArrays cs → ChildrenMean s cs is → Row s h (choices ids zs (Some os)) o n a b limit own → StandsAmong s (a + 1) (b + length own) (levels_below cs (choices ids zs (Some os)) o n)
     → RowMeans s h (choices ids zs (Some os)) cs o n a b limit id is
 dense_mean s h ids zs os cs o n a b limit id is (x ∷ y ∷ []) fit arrays mean r st =
     let c = fit.2 in
@@ -256,9 +256,9 @@ dense_mean s h ids zs os cs o n a b limit id is (x ∷ y ∷ []) fit arrays mean
     let m = count ts in
     let long : (node s a).length ≡ pos n = ap (λ (w : FieldNode). w.length) r.node_is in
     let rows_are = rows_of s a n limit long r.full in
-    let all = types_stand s h ids zs (Some os) cs is o n u x fit r.inside (subst (λ (k : ℕ). IsPart (buffer s k) x) here r.stand.0) r.are.0 in
+    let all = types_stand s h ids zs (Some os) cs is o n u x fit r.inside (subst (λ (k : ℕ). IsBufferOf (buffer s k) x) here r.stand.0) r.are.0 in
     let room : o + n ≤ length os = let e = given_count (union_mode h.type) os (length zs) c.given in omega (arith, r.inside, fit.1, e) in
-    let q : IsPart (buffer s (u + 1)) y = subst (λ (k : ℕ). IsPart (buffer s k) y) next r.stand.1.0 in
+    let q : IsBufferOf (buffer s (u + 1)) y = subst (λ (k : ℕ). IsBufferOf (buffer s k) y) next r.stand.1.0 in
     let place_is : (i : ℕ) → i < n → place_at s (u + 1) i ≡ get_or os (o + i) (pos 0) = λ i l. integer_at s (u + 1) Int32 os o n y i q r.are.1 room l in
     let children = whole_children s cs (child_fields h.type) is ids zs os o n (a + 1) (u + 2) r.extra_is c.types arrays mean (stands_at s (a + 1) (b + 2) (a + 1) (u + 2) _ refl behind st) in
     let reach : (i : ℕ) → i < n → KeyFits (get_or os (o + i) (pos 0)) (get_or (lens_of cs) (child_number ids (get_or zs (o + i) (pos 0))) 0) = λ i l. c.places.each (o + i) (omega (arith, r.inside, fit.1, l)) in
@@ -273,7 +273,7 @@ dense_mean s h ids zs os cs o n a b limit id is (x ∷ y ∷ []) fit arrays mean
     means_by s Physicals.Union h.type id is a b limit n f c.lies
     (subst (λ (w : UnionMode). Means s (union_kind w (union_ids h.type) ts) a b limit n f) (sym (dense_mode (union_mode h.type) os (length zs) c.given))
     (record {
-      well = subst (λ (k : ℕ). IsSize (node s a).length × IsUnion (union_ids h.type) m × HasTypes s (union_ids h.type) m u k × Reaches s (union_ids h.type) ts (a + 1) u k × AllWell s ts (a + 1) (u + 2)) (sym rows_are)
+      well = subst (λ (k : ℕ). IsSize (node s a).length × IsUnionKind (union_ids h.type) m × HasTypes s (union_ids h.type) m u k × Reaches s (union_ids h.type) ts (a + 1) u k × AllWell s ts (a + 1) (u + 2)) (sym rows_are)
           (length_pos s a n long, all.union, all.types, reaches, children.well);
       rows_are = rows_are;
       each = λ i l.

@@ -12,7 +12,7 @@ use Rattle.ipc_views.specs.declared.message.FieldNode.{FieldNode}
 use Rattle.ipc_model.specs.Columns.{Begins, is_valid, masked}
 use Rattle.ipc_model.specs.Entries.{Entries, IsSize, size, node, buffer, bytes, Limit, limited, rows, bytes_for, bit}
 use Rattle.ipc_plan.specs.Levels.{IsValidity}
-use Rattle.ipc_plan.specs.Meaning.{IsPart}
+use Rattle.ipc_plan.specs.Meaning.{IsBufferOf}
 use Rattle.ipc_plan.proofs.Standing.{need_part}
 
 -- no bit is unset
@@ -28,7 +28,7 @@ none_unset (false ∷ bits) i e h =
 pub record Masked (s : Entries) (a b n : ℕ) (v : Validity) : Type 0 where
   pub node_is : node s a ≡ record { length = pos n; null_count = pos (null_count_of v) }
   pub validity_bytes : List ℕ
-  pub part_is : IsPart (buffer s b) validity_bytes
+  pub part_is : IsBufferOf (buffer s b) validity_bytes
   pub validity : IsValidity v validity_bytes
   pub fits : ValidityFits v n
 
@@ -50,7 +50,7 @@ begins s a b n v m = record {
       need_part s b m.validity_bytes (bytes_for n) m.part_is (validity_room s b n v m.validity_bytes m.validity m.fits (omega (arith, some, nulls)));
 }
 
-validity_at : (s : Entries) (b n i : ℕ) (v : Validity) (m : List ℕ) → IsPart (buffer s b) m → IsValidity v m → ValidityFits v n → i < n
+validity_at : (s : Entries) (b n i : ℕ) (v : Validity) (m : List ℕ) → IsBufferOf (buffer s b) m → IsValidity v m → ValidityFits v n → i < n
     → cond (null_count_of v == 0) true (bit (bytes s b) i) ≡ array_valid v i
 validity_at s b n i None m p k f h = refl
 validity_at s b n i (Some bits) m p k f h =

@@ -10,7 +10,7 @@ use Rattle.ipc_model.specs.Entries.{Entries, Dictionaries, part_at}
 use Rattle.ipc_model.specs.Kinds.{nodes, buffers}
 use Rattle.ipc_model.specs.Offers.{own_id, inner_ids, whole_levels, body_lengths}
 use Rattle.ipc_model.specs.TypeKinds.{first_ids, other_ids, kind_of}
-use Rattle.ipc_plan.specs.Levels.{node_of, HaveBuffers, joined}
+use Rattle.ipc_plan.specs.Levels.{node_of, HaveBuffers, joined_buffers}
 use Rattle.ipc_plan.specs.Meaning.{Knows}
 use Rattle.ipc_plan.specs.Pieces.{pieces_bytes}
 use Rattle.ipc_plan.specs.Plans.{entries_from, body}
@@ -44,9 +44,9 @@ pub record PlansColumns (order : Endianness) (ls : List Layout) (p : Plan) : Typ
   pub buffers : List (List (List ℕ))
   pub have : HaveBuffers order (flat_map whole_levels ls) buffers
   pub nodes_are : p.nodes.items ≡ map node_of (flat_map whole_levels ls)
-  pub entries_are : p.buffers.items ≡ entries_from 0 (joined buffers)
-  pub end_is : p.end ≡ length (body (joined buffers))
-  pub body_is : pieces_bytes order p.pieces.items ≡ body (joined buffers)
+  pub entries_are : p.buffers.items ≡ entries_from 0 (joined_buffers buffers)
+  pub end_is : p.end ≡ length (body (joined_buffers buffers))
+  pub body_is : pieces_bytes order p.pieces.items ≡ body (joined_buffers buffers)
   pub node_count : length p.nodes.items ≡ length (flat_map whole_levels ls)
   pub buffer_count : length p.buffers.items ≡ length (body_lengths (flat_map whole_levels ls))
   pub piece_count : length p.pieces.items ≤ 2 * length p.buffers.items

@@ -45,7 +45,7 @@ bytes_of_number Named.MonthDayNano order (month_day_nano months days nanoseconds
 bytes_of_number _ order n = []
 
 -- numbers of a type: they are read, and nothing else stands there than their bytes
-pub record AreNumbers (order : Endianness) (p : PrimitiveType) (ns : List Number) (xs : List ℕ) : Type 0 where
+pub record AreNumberBytes (order : Endianness) (p : PrimitiveType) (ns : List Number) (xs : List ℕ) : Type 0 where
   pub count : length xs ≡ width_of p * length ns
   pub each : (i : ℕ) → i < length ns → number_in p order (drop (width_of p * i) xs) ≡ get_or ns i (whole (pos 0))
   pub spelt : xs ≡ flat_map (bytes_of_number p order) ns
@@ -56,7 +56,7 @@ wide_of Named.Int64 = offsets_64
 wide_of _ = offsets_32
 
 -- offsets, counted from the first
-pub record AreOffsets (order : Endianness) (p : PrimitiveType) (os : List ℕ) (xs : List ℕ) : Type 0 where
+pub record AreOffsetBytes (order : Endianness) (p : PrimitiveType) (os : List ℕ) (xs : List ℕ) : Type 0 where
   pub width : width_of p ≡ offset_width (wide_of p)
   pub count : length xs ≡ offset_width (wide_of p) * length os
   pub each : (i : ℕ) → i < length os
@@ -88,18 +88,18 @@ node_of h = record { length = pos h.len; null_count = pos (nulls_among h.parts h
 abbrev pub AreBuffers : Endianness → Parts → Validity → List (List ℕ) → Type 0
 AreBuffers order nothing v [] = Unit {0}
 AreBuffers order (truths ts) v (m ∷ x ∷ []) = IsValidity v m × AreBits ts x
-AreBuffers order (numbers p ns) v (m ∷ x ∷ []) = IsValidity v m × AreNumbers order p ns x × (number_form p ≡ number_kind p)
+AreBuffers order (numbers p ns) v (m ∷ x ∷ []) = IsValidity v m × AreNumberBytes order p ns x × (number_form p ≡ number_kind p)
 AreBuffers order (fixed_bytes size xs) v (m ∷ x ∷ []) = IsValidity v m × (x ≡ xs)
-AreBuffers order (bytes p os xs) v (m ∷ o ∷ x ∷ []) = IsValidity v m × AreOffsets order p os o × (x ≡ cut_out os xs)
-AreBuffers order (texts p os xs) v (m ∷ o ∷ x ∷ []) = IsValidity v m × AreOffsets order p os o × (x ≡ cut_out os xs)
-AreBuffers order (lists p os) v (m ∷ o ∷ []) = IsValidity v m × AreOffsets order p os o
+AreBuffers order (bytes p os xs) v (m ∷ o ∷ x ∷ []) = IsValidity v m × AreOffsetBytes order p os o × (x ≡ cut_out os xs)
+AreBuffers order (texts p os xs) v (m ∷ o ∷ x ∷ []) = IsValidity v m × AreOffsetBytes order p os o × (x ≡ cut_out os xs)
+AreBuffers order (lists p os) v (m ∷ o ∷ []) = IsValidity v m × AreOffsetBytes order p os o
 AreBuffers order (fixed_lists size) v (m ∷ []) = IsValidity v m
-AreBuffers order (maps os) v (m ∷ o ∷ []) = IsValidity v m × AreOffsets order Named.Int32 os o
+AreBuffers order (maps os) v (m ∷ o ∷ []) = IsValidity v m × AreOffsetBytes order Named.Int32 os o
 AreBuffers order records v (m ∷ []) = IsValidity v m
-AreBuffers order (choices ids ts None) v (x ∷ []) = AreNumbers order Named.Int8 (map (λ z. whole z) ts) x
+AreBuffers order (choices ids ts None) v (x ∷ []) = AreNumberBytes order Named.Int8 (map (λ z. whole z) ts) x
 AreBuffers order (choices ids ts (Some os)) v (x ∷ y ∷ []) =
-    AreNumbers order Named.Int8 (map (λ z. whole z) ts) x × AreNumbers order Named.Int32 (map (λ z. whole z) os) y
-AreBuffers order (keys k ks) v (m ∷ x ∷ []) = IsValidity v m × AreNumbers order (key_form k) (map (λ z. whole z) ks) x
+    AreNumberBytes order Named.Int8 (map (λ z. whole z) ts) x × AreNumberBytes order Named.Int32 (map (λ z. whole z) os) y
+AreBuffers order (keys k ks) v (m ∷ x ∷ []) = IsValidity v m × AreNumberBytes order (key_form k) (map (λ z. whole z) ks) x
 AreBuffers order p v bs = ⊥
 
 -- ---- the levels of an array, one behind the other
@@ -110,6 +110,6 @@ HaveBuffers order (h ∷ hs) (bs ∷ bss) = AreBuffers order h.parts h.validity 
 HaveBuffers order hs bss = ⊥
 
 -- all their buffers
-abbrev pub joined : List (List (List ℕ)) → List (List ℕ)
-joined [] = []
-joined (bs ∷ bss) = bs ++ joined bss
+abbrev pub joined_buffers : List (List (List ℕ)) → List (List ℕ)
+joined_buffers [] = []
+joined_buffers (bs ∷ bss) = bs ++ joined_buffers bss

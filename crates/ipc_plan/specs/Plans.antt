@@ -10,7 +10,7 @@ use Rattle.lower_flat.specs.Validities.{null_count_of}
 use Rattle.ipc_views.specs.declared.message.FieldNode.{FieldNode}
 use Rattle.ipc_views.specs.declared.schema.Buffer.{Buffer}
 use Rattle.ipc_model.specs.WrittenBatches.{padded, entry}
-use Rattle.ipc_plan.specs.Levels.{node_of, AreBits, AreNumbers, AreOffsets, AreRead, AreBuffers, cut_out, HaveBuffers, IsValidity, joined}
+use Rattle.ipc_plan.specs.Levels.{node_of, AreBits, AreNumberBytes, AreOffsetBytes, AreRead, AreBuffers, cut_out, HaveBuffers, IsValidity, joined_buffers}
 use Rattle.ipc_plan.specs.Pieces.{slice_type, slice_numbers, number_bytes, pieces_bytes, buffer_pieces, EndsClear}
 use Rattle.ipc_plan.specs.declared.pieces.NumberSlice.{NumberSlice}
 use Rattle.ipc_plan.specs.declared.pieces.Piece.{Piece}
@@ -64,7 +64,7 @@ pub record AddsClear (p q : Plan) (n : ℕ) : Type 0 where
 -- one buffer: numbers
 pub record AddsNumbers (p q : Plan) (t : PrimitiveType) (ns : List Number) : Type 0 where
   pub bytes : List ℕ
-  pub are : AreNumbers p.order t ns bytes
+  pub are : AreNumberBytes p.order t ns bytes
   pub grows : Grows p q [] (bytes ∷ [])
 
 -- the node and the buffers of a level of n slots
@@ -77,7 +77,7 @@ pub record AddsLevel (p q : Plan) (n : ℕ) (parts : Parts) (v : Validity) : Typ
 pub record Adds (p q : Plan) (hs : List Level) : Type 0 where
   pub buffers : List (List (List ℕ))
   pub have : HaveBuffers p.order hs buffers
-  pub grows : Grows p q (map node_of hs) (joined buffers)
+  pub grows : Grows p q (map node_of hs) (joined_buffers buffers)
 
 -- numbers of a type, in their bytes
 pub record AreSpelt {T : Type 0} (t : PrimitiveType) (number : T → Number) (spelt : Endianness → T → List ℕ) (xs : List T) : Type 0 where
@@ -90,7 +90,7 @@ pub record IsSpelt (xs : NumberSlice) : Type 0 where
 -- one buffer: offsets of a type, counted from the first
 pub record AddsOffsets (p q : Plan) (t : PrimitiveType) (os : List ℕ) : Type 0 where
   pub bytes : List ℕ
-  pub are : AreOffsets p.order t os bytes
+  pub are : AreOffsetBytes p.order t os bytes
   pub grows : Grows p q [] (bytes ∷ [])
 
 -- a node, a validity and offsets
@@ -98,7 +98,7 @@ pub record AddsHead (p q : Plan) (n : ℕ) (t : PrimitiveType) (os : List ℕ) (
   pub validity_bytes : List ℕ
   pub offset_bytes : List ℕ
   pub validity : IsValidity v validity_bytes
-  pub offsets : AreOffsets p.order t os offset_bytes
+  pub offsets : AreOffsetBytes p.order t os offset_bytes
   pub grows : Grows p q (record { length = pos n; null_count = pos (null_count_of v) } ∷ []) (validity_bytes ∷ offset_bytes ∷ [])
 
 -- the same, and the bytes that the offsets cut out
@@ -106,7 +106,7 @@ pub record AddsSpans (p q : Plan) (n : ℕ) (t : PrimitiveType) (os xs : List �
   pub validity_bytes : List ℕ
   pub offset_bytes : List ℕ
   pub validity : IsValidity v validity_bytes
-  pub offsets : AreOffsets p.order t os offset_bytes
+  pub offsets : AreOffsetBytes p.order t os offset_bytes
   pub grows : Grows p q (record { length = pos n; null_count = pos (null_count_of v) } ∷ []) (validity_bytes ∷ offset_bytes ∷ cut_out os xs ∷ [])
 
 -- a node and a validity

@@ -5,7 +5,7 @@ ghost use Rattle.lower_types.specs.Numbers.{unsigned_bytes};
 ghost use Rattle.std.specs.List.{flat_map, range_with_len};
 ghost use Rattle.ipc_plan.specs.Sending.{Sends, seen_by};
 ghost use Rattle.ipc_model.specs.Entries.{bytes_for};
-ghost use Rattle.ipc_plan.specs.Pieces.{less, number_bytes, offset_bytes, packed, packed_byte, piece_bytes, pieces_bytes};
+ghost use Rattle.ipc_plan.specs.Pieces.{less, packed, packed_byte, piece_bytes, pieces_bytes};
 
 use crate::pieces::{NumberSlice, Piece};
 use ipc_devices::{Fault, Writes};

@@ -15,10 +15,10 @@ use Rattle.ipc_projections.proofs.Preparing.{all_of, each_of, eqb_flips, same_pl
 use Rattle.ipc_projections.proofs.Reordered.{same_places, shuffled_batch}
 use Rattle.ipc_projections.proofs.Reorderings.{some_of}
 use Rattle.ipc_projections.specs.AskedOrder.{Asked, KeepsPlaces, IsInAskedOrder, AreInAskedOrder, AskedBatchLaw, AskedRecordLaw}
-use Rattle.ipc_projections.specs.Projections.{IsIncreasing, IsPrepared, Moved}
+use Rattle.ipc_projections.specs.Projections.{IsIncreasing, IsPrepared, AreReordered}
 
 -- what is brought to the places is in the order that was asked for
-pub in_asked_order : {S X : Type 0} (a : Asked) (m : HashMap ℕ ℕ S) (xs ys : List X) → KeepsPlaces a m → Moved m xs ys → IsInAskedOrder a xs ys
+pub in_asked_order : {S X : Type 0} (a : Asked) (m : HashMap ℕ ℕ S) (xs ys : List X) → KeepsPlaces a m → AreReordered m xs ys → IsInAskedOrder a xs ys
 in_asked_order a m xs ys k h = record {
   count = h.count;
   moved = λ i p j r q.
@@ -30,7 +30,7 @@ in_asked_order a m xs ys k h = record {
       h.moved i p (w.1 ∙ ap Some (same_place a.columns apart w.0 p j here q));
 }
 
-pub ordered : {S X E : Type 0} (a : Asked) (m : HashMap ℕ ℕ S) (xs : List X) (r : Result (List X) E) → KeepsPlaces a m → IfOk r (λ ys. Moved m xs ys) → IfOk r (λ ys. IsInAskedOrder a xs ys)
+pub ordered : {S X E : Type 0} (a : Asked) (m : HashMap ℕ ℕ S) (xs : List X) (r : Result (List X) E) → KeepsPlaces a m → IfOk r (λ ys. AreReordered m xs ys) → IfOk r (λ ys. IsInAskedOrder a xs ys)
 ordered a m xs (Ok ys) k h = in_asked_order a m xs ys k h
 ordered a m xs (Err e) k h = tt
 

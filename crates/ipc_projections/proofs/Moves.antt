@@ -7,7 +7,7 @@ use Rattle.std.proofs.lemmas.List.{get_or-set_same, get_or-set_other}
 use Rattle.std.proofs.lemmas.Option.{slice_get-get_or}
 use Rattle.ipc_base.specs.Chunks.{AreEqualRows, row_count}
 use Rattle.ipc_projections.proofs.Reorderings.{some_same, some_is}
-use Rattle.ipc_projections.specs.Projections.{IsReordering, Moved}
+use Rattle.ipc_projections.specs.Projections.{IsReordering, AreReordered}
 use Rattle.ipc_projections.specs.Placing.{Placing}
 
 length_set : {X : Type 0} (xs : List X) (i : ℕ) (y : X) → length (set xs i y) ≡ length xs
@@ -131,7 +131,7 @@ module _ {S X : Type 0} (m : HashMap ℕ ℕ S) (xs : List X) (r : IsReordering 
         let v = within xs w.0 (column_inside w.0 p w.1) in
         (v.0, at_all w.0 p w.1 ∙ ap (option_map Some) v.1)
 
-    pub all_moved : Moved m xs (filter_map (λ o. o) os)
+    pub all_moved : AreReordered m xs (filter_map (λ o. o) os)
     all_moved =
         let whole = taken os full in
         record {
@@ -139,10 +139,10 @@ module _ {S X : Type 0} (m : HashMap ℕ ℕ S) (xs : List X) (r : IsReordering 
           moved = λ i p e. sym (inner_of (slice_get (filter_map (λ o. o) os) p)) ∙ ap inner (sym (whole.1 p) ∙ at_all i p e) ∙ inner_of (slice_get xs i);
         }
 
-  pub all_moved_to : (os : List (Option X)) (ys : List X) → Placing m xs [] os → ys ≡ filter_map (λ o. o) os → Moved m xs ys
-  all_moved_to os ys h e = subst (λ (zs : List X). Moved m xs zs) (sym e) (all_moved [] os refl h)
+  pub all_moved_to : (os : List (Option X)) (ys : List X) → Placing m xs [] os → ys ≡ filter_map (λ o. o) os → AreReordered m xs ys
+  all_moved_to os ys h e = subst (λ (zs : List X). AreReordered m xs zs) (sym e) (all_moved [] os refl h)
 
-  module _ (rows : X → ℕ) (ys : List X) (moved : Moved m xs ys) (equal : AreEqualRows rows xs) where
+  module _ (rows : X → ℕ) (ys : List X) (moved : AreReordered m xs ys) (equal : AreEqualRows rows xs) where
     all_rows : All (λ y. rows y ≡ row_count rows xs) ys
     all_rows k d l =
         let long = moved.count in

@@ -11,7 +11,7 @@ use Rattle.std.proofs.lemmas.List.Sorted.{All-permutation, Contains-permutation,
 use Rattle.std.proofs.lemmas.Map.Keys.{IsDistinct-IsPermutation, IsStrictlyIncreasing-from_distinct, apart_from_distinct}
 use Rattle.ipc_model.specs.Batches.{IsProjection}
 use Rattle.ipc_projections.proofs.Reorderings.{some_same, some_of, some_is}
-use Rattle.ipc_projections.specs.Projections.{IsIncreasingFrom, IsPrepared, IsReordering, Moved}
+use Rattle.ipc_projections.specs.Projections.{IsIncreasingFrom, IsPrepared, IsReordering, AreReordered}
 use Rattle.ipc_projections.specs.Preparing.{Prepares, selected}
 
 abbrev Pair : Type 0
@@ -146,7 +146,7 @@ module _ {S : Type 0} (asked : List ℕ) (n : ℕ) (ps : List Pair) (sorted : Li
           let w = Contains-permutation (enumerate_from 0 asked) ps q same (p, inside, here) in
           (w.0, goes w.0 q (slice_get_read ps (length ps) w.0 q refl w.1 (sym w.2)))
 
-  moved : Moved m sorted asked
+  moved : AreReordered m sorted asked
   moved = record {
     count = sym (length_permutation asked sorted as_sorted);
     moved = λ i p e. let q = pair_at i p e in asked_at i p q.0 q.1 ∙ sym (column_at i p q.0 q.1);

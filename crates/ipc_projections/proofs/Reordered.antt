@@ -14,7 +14,7 @@ use Rattle.ipc_model.specs.Columns.{WithRows}
 use Rattle.ipc_model.specs.Batches.{Schema, kinds, IsWellAt, rows_at, slots_of_column, type_at, IsProjection, first_rows, AllRead, IsBatch, Column, Chunk, chunk_of, batch}
 use Rattle.ipc_projections.proofs.Preparing.{all_of, each_of, eqb_flips}
 use Rattle.ipc_projections.proofs.Reorderings.{some_same}
-use Rattle.ipc_projections.specs.Projections.{IsReordering, Moved}
+use Rattle.ipc_projections.specs.Projections.{IsReordering, AreReordered}
 use Rattle.ipc_projections.specs.Preparing.{ReorderLaw}
 
 -- what stands at the places of two lists tells them apart
@@ -27,14 +27,14 @@ same_places {X} (x ∷ xs) (y ∷ ys) long same =
     ∙ ap (λ (zs : List X). y ∷ zs) (same_places xs ys (omega (arith, long)) (λ p l. same (suc p) (omega (arith, l))))
 
 -- what is made of each column moves as the columns do
-pub moved_images : {S X Y : Type 0} (m : HashMap ℕ ℕ S) (f : X → Y) (xs ys : List X) → Moved m xs ys → Moved m (map f xs) (map f ys)
+pub moved_images : {S X Y : Type 0} (m : HashMap ℕ ℕ S) (f : X → Y) (xs ys : List X) → AreReordered m xs ys → AreReordered m (map f xs) (map f ys)
 moved_images m f xs ys h = record {
   count = length-map ys f ∙ h.count ∙ sym (length-map xs f);
   moved = λ i p e. slice_get-map f ys p ∙ ap (option_map f) (h.moved i p e) ∙ sym (slice_get-map f xs i);
 }
 
 -- there is one order to which a map brings columns
-pub moved_once : {S X : Type 0} (m : HashMap ℕ ℕ S) (xs ys zs : List X) → IsReordering m (length xs) → Moved m xs ys → Moved m xs zs → ys ≡ zs
+pub moved_once : {S X : Type 0} (m : HashMap ℕ ℕ S) (xs ys zs : List X) → IsReordering m (length xs) → AreReordered m xs ys → AreReordered m xs zs → ys ≡ zs
 moved_once m xs ys zs r h k = same_places ys zs (h.count ∙ sym k.count) same
   where
     same : (p : ℕ) → p < length zs → slice_get ys p ≡ slice_get zs p
@@ -87,7 +87,7 @@ reorder_law places asked sorted s most schema limit read given h e moved =
     let found = shuffled_batch s most schema limit sorted asked read (IsPermutation-sym asked sorted h.same) e in
     let column : ℕ → Column = λ j. record { type = type_at schema.fields j; slots = slots_of_column s (kinds schema) limit j } in
     let long : length asked ≡ length read = h.moved.count ∙ sym (length-map sorted column) ∙ ap length found.0 in
-    let there : Moved places read (map column asked) =
-    subst (λ (c : Chunk). Moved places c (map column asked)) found.0 (moved_images places column sorted asked h.moved) in
+    let there : AreReordered places read (map column asked) =
+    subst (λ (c : Chunk). AreReordered places c (map column asked)) found.0 (moved_images places column sorted asked h.moved) in
     let reordering : IsReordering places (length read) = subst (λ (m : ℕ). IsReordering places m) long h.reordering in
     found.1 ∙ ap Some (moved_once places read (map column asked) given reordering there moved)

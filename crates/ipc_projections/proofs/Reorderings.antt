@@ -8,7 +8,7 @@ use Rattle.std.proofs.lemmas.Bool.{cases_lt, false≢true}
 use Rattle.std.proofs.lemmas.Map.Views.{All-keys_from_lookup, Contains-keys_from_lookup, exact_unsigned_eq}
 use Rattle.std.proofs.lemmas.List.Elements.{All-contains}
 use Rattle.ipc_projections.specs.Projections.{IsReordering}
-use Rattle.ipc_projections.specs.Steps.{HasKeys, HasPlaces, IsPlace, IsApart}
+use Rattle.ipc_projections.specs.Steps.{HasFirstKeys, HasPlaces, IsPlace, IsApart}
 
 pub some_same : {X : Type 0} {x y : X} → Some x ≡ Some y → x ≡ y
 some_same {X} {x} {y} e = ap (λ (o : Option X). unwrap_or o x) e
@@ -30,7 +30,7 @@ module _ {S : Type 0} (m : HashMap ℕ ℕ S) (n : ℕ) where
   abbrev pub EachPlace : Type 0
   EachPlace = (p : ℕ) → p < n → IsPlace m n p
 
-  pub has_keys : All (λ key. key < n) (keys m) → EachKey → HasKeys m n
+  pub has_keys : All (λ key. key < n) (keys m) → EachKey → HasFirstKeys m n
   has_keys below each = record {
     keys = λ i. (
       λ some. All-contains (λ key. key < n) (keys m) i below (Contains-keys_from_lookup exact_unsigned_eq i m.entries some),
@@ -38,10 +38,10 @@ module _ {S : Type 0} (m : HashMap ℕ ℕ S) (n : ℕ) where
     );
   }
 
-  pub keys_under : HasKeys m n → All (λ key. key < n) (keys m)
+  pub keys_under : HasFirstKeys m n → All (λ key. key < n) (keys m)
   keys_under h = All-keys_from_lookup nat_eq_equiv (λ key. key < n) m.entries (λ q some. (h.keys q).0 some)
 
-  pub is_checked : HasKeys m n → EachApart → EachPlace → IsReordering m n
+  pub is_checked : HasFirstKeys m n → EachApart → EachPlace → IsReordering m n
   is_checked h apart place = record {
     keys = h.keys;
     values = λ p. (λ w. below w.0 p w.1, λ l. ((place p l).column, (place p l).goes));
@@ -83,10 +83,10 @@ module _ {S : Type 0} (m : HashMap ℕ ℕ S) (n : ℕ) where
       let w = (r.values p).1 l in
       record { column = w.0; below = (r.keys w.0).0 (some_is (get nat_eq m w.0) p w.1); goes = w.1 }
 
-  pub reordering_of : HasKeys m n → HasPlaces m n → IsReordering m n
+  pub reordering_of : HasFirstKeys m n → HasPlaces m n → IsReordering m n
   reordering_of k p = is_checked k p.apart p.all
 
-  pub keys_of_reordering : IsReordering m n → HasKeys m n
+  pub keys_of_reordering : IsReordering m n → HasFirstKeys m n
   keys_of_reordering r = record { keys = r.keys }
 
   pub places_of_reordering : IsReordering m n → HasPlaces m n

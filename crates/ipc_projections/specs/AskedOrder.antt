@@ -5,7 +5,7 @@ use Rattle.std.specs.HashMap.{HashMap}
 use Rattle.ipc_views.specs.Spot.{Spot}
 use Rattle.ipc_model.specs.Entries.{Entries, Dictionaries, Limit}
 use Rattle.ipc_model.specs.Batches.{Schema, Body, batch, record_meaning}
-use Rattle.ipc_projections.specs.Projections.{IsIncreasing, IsReordering, Moved}
+use Rattle.ipc_projections.specs.Projections.{IsIncreasing, IsReordering, AreReordered}
 
 -- the numbers of some columns: as they were asked for, and in rising order
 pub record Asked : Type 0 where
@@ -17,7 +17,7 @@ pub record KeepsPlaces {S : Type 0} (a : Asked) (places : HashMap ℕ ℕ S) : T
   pub same : IsPermutation a.columns a.rising
   pub increasing : IsIncreasing a.rising
   pub reordering : IsReordering places (length a.columns)
-  pub moved : Moved places a.rising a.columns
+  pub moved : AreReordered places a.rising a.columns
 
 -- What was read of each column in rising order is given at the place at which the column was asked for.
 pub record IsInAskedOrder {X : Type 0} (a : Asked) (read given : List X) : Type 0 where

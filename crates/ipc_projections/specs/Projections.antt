@@ -28,6 +28,6 @@ abbrev pub PreparedLaw : Type 0
 PreparedLaw = (js : List ℕ) (n : ℕ) → IsPrepared js n → IsProjection (Some js) n
 
 -- The columns in a new order: each stands at its place.
-pub record Moved {S X : Type 0} (places : HashMap ℕ ℕ S) (xs ys : List X) : Type 0 where
+pub record AreReordered {S X : Type 0} (places : HashMap ℕ ℕ S) (xs ys : List X) : Type 0 where
   pub count : length ys ≡ length xs
   pub moved : (i p : ℕ) → get nat_eq places i ≡ Some p → slice_get ys p ≡ slice_get xs i

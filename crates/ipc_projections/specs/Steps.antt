@@ -3,7 +3,7 @@ use Rattle.std.specs.Prelude.{◌≡◌, ◌↔◌, ℕ, suc, ◌<◌, nat_eq, L
 use Rattle.std.specs.HashMap.{HashMap, get}
 
 -- the keys are the numbers below n
-pub record HasKeys {S : Type 0} (places : HashMap ℕ ℕ S) (n : ℕ) : Type 0 where
+pub record HasFirstKeys {S : Type 0} (places : HashMap ℕ ℕ S) (n : ℕ) : Type 0 where
   pub keys : (i : ℕ) → IsSome (get nat_eq places i) ↔ (i < n)
 
 -- one of the first n columns has the place p

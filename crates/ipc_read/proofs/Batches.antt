@@ -3,7 +3,7 @@ use Rattle.std.proofs.Common.{◌≡◌, ℕ, map}
 use Rattle.ipc_devices.specs.Device.{Memory}
 use Rattle.lower_types.specs.declared.Endianness.{Endianness}
 use Rattle.ipc_model.specs.Entries.{part_at}
-use Rattle.ipc_model.specs.Batches.{Lists, lists_of, entries_of}
+use Rattle.ipc_model.specs.Batches.{Lists, entries_of}
 use Rattle.ipc_model.specs.Batches as model
 use Rattle.ipc_columns.specs.Bodies.{known_dictionaries, source, entries}
 use Rattle.ipc_columns.specs.declared.read.body.Body.{Body}

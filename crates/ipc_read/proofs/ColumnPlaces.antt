@@ -18,7 +18,7 @@ use Rattle.ipc_devices.specs.declared.fault.Fault.{Fault}
 use Rattle.ipc_columns.specs.Refusals.{IsFaultOf}
 use Rattle.ipc_columns.specs.Bodies.{HasRoom}
 use Rattle.ipc_columns.specs.HeldListed.{HoldsListed}
-use Rattle.ipc_columns.specs.Kinds.{Follows, listed_in}
+use Rattle.ipc_columns.specs.Kinds.{IsBehind, listed_in}
 use Rattle.ipc_columns.specs.ReadColumns.{IsColumn}
 use Rattle.ipc_columns.specs.declared.read.body.Body.{Body}
 use Rattle.ipc_columns.specs.declared.read.body.Place.{Place}
@@ -102,7 +102,7 @@ module _ (extra : ℕ) (ts : Kinds) (is left : IdTrees) (j : ℕ) (p : Place) (t
         buffers_in = omega (arith, room.buffers_in, buffers_inside extra ts j inside, at.buffer, m, k, l);
       }
 
-  pub next_place : (next : IdTrees) (q : Place) → next ≡ other_ids left → Follows extra t p q → IsPlace extra ts is next (j + 1) q
+  pub next_place : (next : IdTrees) (q : Place) → next ≡ other_ids left → IsBehind extra t p q → IsPlace extra ts is next (j + 1) q
   next_place next q e f =
       let one : suc j ≡ j + 1 = omega arith in
       let n = ap nodes same in
@@ -148,7 +148,7 @@ module _ (extra : ℕ) (ts : Kinds) (is left : IdTrees) (j : ℕ) (p : Place) (t
 
 -- the place behind a column that a type tells
 pub skipped : (extra : ℕ) (u : TypeTree) (id : Option ℤ) (is : IdTrees) (p q : Place) → q.node ≡ p.node + types.nodes u → q.buffer ≡ p.buffer + types.buffers extra u
-    → Follows extra (kind_of u id is) p q
+    → IsBehind extra (kind_of u id is) p q
 skipped extra u id is p q n m =
     let a = node_counts u id is in
     let b = buffer_counts extra u id is in

@@ -1,5 +1,5 @@
 -- A batch that was read in rising order, as it is asked for.
-use Rattle.std.proofs.Common.{◌≡◌, ℕ, List, length, Option, None, Some, IsSome, IsTrue, Ok, Err, refl, sym, ◌∙◌, ap, subst}
+use Rattle.std.proofs.Common.{◌≡◌, ℕ, List, length, Option, None, Some, IsSome, Ok, Err, refl, sym, ◌∙◌, subst}
 use Rattle.std.proofs.lemmas.List.{length-map}
 use Rattle.lower_arrays.specs.declared.array.AnyArray.{AnyArray}
 use Rattle.ipc_devices.specs.declared.fault.Fault.{Fault}

@@ -1,7 +1,6 @@
 -- What reads of a message give.
 use Rattle.std.proofs.Common.{◌≡◌, ℕ, ◌≤◌, List, [], ◌++◌, length, Option, Some, None, Result, Ok, Err, refl, sym, ap, ◌∙◌, subst, inl, inr}
 use Rattle.lower_arrays.specs.declared.array.AnyArray.{AnyArray}
-use Rattle.ipc_devices.specs.Faults.{OwnFault}
 use Rattle.ipc_devices.specs.declared.fault.Fault.{Fault}
 use Rattle.ipc_model.specs.Frame.{Frame, message, mark, waiting, broken, frame}
 use Rattle.ipc_model.specs.Streams.{Header, Known, header_of, more, done, faulty}

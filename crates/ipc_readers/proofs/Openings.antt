@@ -7,7 +7,7 @@ use Rattle.ipc_views.specs.Spot.{Spot}
 use Rattle.ipc_views.specs.Tables.{root_at}
 use Rattle.ipc_model.specs.Streams.{Header, header_of, header_at, both_slots}
 use Rattle.ipc_readers.specs.declared.read.message.Message.{Message}
-use Rattle.ipc_readers.specs.Messages.{GivesMessage, header_seen, natural_length, needed_header, opened, opened_table, seen, with_header}
+use Rattle.ipc_readers.specs.Messages.{GivesMessage, header_seen, natural_length, needed_header, opened, opened_table, answered_as, with_header}
 
 found : Result Header Fault → Option Header
 found (Ok h) = Some h
@@ -30,10 +30,10 @@ found_header : (metadata : List ℕ) → header_of metadata ≡ found (opened me
 unfolding header_of opened
 found_header metadata = found_table (root_at metadata)
 
-gives : (result : Result Message Fault) (h : Option Header) (o : Result Header Fault) → seen header_seen result ≡ o → h ≡ found o → GivesMessage h result
+gives : (result : Result Message Fault) (h : Option Header) (o : Result Header Fault) → answered_as header_seen result ≡ o → h ≡ found o → GivesMessage h result
 unfolding found
 gives (Ok m) h o e f = rw (← e) at f
 gives (Err x) h o e f = rw (← e) at f
 
-pub gives_message : (metadata : List ℕ) (result : Result Message Fault) → seen header_seen result ≡ opened metadata → GivesMessage (header_of metadata) result
+pub gives_message : (metadata : List ℕ) (result : Result Message Fault) → answered_as header_seen result ≡ opened metadata → GivesMessage (header_of metadata) result
 gives_message metadata result e = gives result (header_of metadata) (opened metadata) e (found_header metadata)

@@ -16,9 +16,9 @@ abbrev pub header_seen : Message → Header
 header_seen m = record { tag = (header_parts m.header).0; table = (header_parts m.header).1; body = m.body_length }
 
 -- an answer, seen as something else
-abbrev pub seen : {A B : Type 0} → (A → B) → Result A Fault → Result B Fault
-seen view (Ok x) = Ok (view x)
-seen view (Err e) = Err e
+abbrev pub answered_as : {A B : Type 0} → (A → B) → Result A Fault → Result B Fault
+answered_as view (Ok x) = Ok (view x)
+answered_as view (Err e) = Err e
 
 -- the header, which has to be there
 abbrev pub needed_header : Result (Option (ℕ × Spot)) TableFault → Result (ℕ × Spot) Fault

@@ -85,7 +85,7 @@ abbrev pub Knows : {R : Type 0} → StreamReader R → Known → Type 0
 Knows r s = AreAt s (known_of r)
 
 -- A new reader stands before this device, and nothing was read.
-pub record Begins {R : Type 0} (device : R) (metadata : StreamMetadata) (r : StreamReader R) : Type 0 where
+pub record IsUnread {R : Type 0} (device : R) (metadata : StreamMetadata) (r : StreamReader R) : Type 0 where
   pub reader : device_of r ≡ device
   pub described : metadata_of r ≡ metadata
   pub begun : begun_of r ≡ []

@@ -17,7 +17,7 @@ use Rattle.ipc_read.proofs.Refusals.{claims_through}
 use Rattle.ipc_readers.proofs.PrunedStreams.{pruned_law}
 use Rattle.ipc_readers.specs.ChosenStreams.{chosen_meaning}
 use Rattle.ipc_readers.specs.Metadata.{GivesMetadata, RefusesMetadata, metadata_at}
-use Rattle.ipc_readers.specs.Streams.{Begins, head_of, projection_of}
+use Rattle.ipc_readers.specs.Streams.{IsUnread, head_of, projection_of}
 use Rattle.ipc_readers.specs.declared.read.stream.metadata.StreamMetadata.{StreamMetadata}
 use Rattle.ipc_readers.specs.declared.read.stream.reader.StreamReader.{StreamReader}
 use Rattle.ipc_round_trip.proofs.Streams.{chosen_ahead, ends_marked, ends_waiting, head_is, no_head, seen_stream, stream_or}
@@ -66,7 +66,7 @@ none_readable p bytes xs rest e same h =
 
 -- a stream whose chunks are refused can't be read
 pub refused_columns : {R : Type 0} (memory : R → Memory) (device : R) (p : Option (List ℕ)) (bytes xs : List ℕ) (x : StreamMetadata) (r : StreamReader R) (e : Fault) → xs ≡ bytes
-    → GivesMetadata (frame xs) (Ok x) (after (memory device)) → Begins device x r → projection_of r ≡ p → RefusesAhead memory r e → OwnFault e (¬ (IsReadableBy p bytes))
+    → GivesMetadata (frame xs) (Ok x) (after (memory device)) → IsUnread device x r → projection_of r ≡ p → RefusesAhead memory r e → OwnFault e (¬ (IsReadableBy p bytes))
 refused_columns memory device p bytes xs x r e same h begins asked refused =
     claims_through e _ _ (λ ends readable.
     let rest = after (memory device) in

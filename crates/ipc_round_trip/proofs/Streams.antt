@@ -34,11 +34,11 @@ use Rattle.ipc_readers.proofs.OfMemory.{metadata_ahead, metadata_fails, no_failu
 use Rattle.ipc_readers.proofs.ChosenStreams.{whole_law}
 use Rattle.ipc_readers.specs.ChosenStreams.{Request, chosen_meaning}
 use Rattle.ipc_readers.specs.Refusals.{IsStreamFault}
-use Rattle.ipc_readers.specs.Streams.{Begins, ahead, request_of, device_of, head_of, projection_of}
+use Rattle.ipc_readers.specs.Streams.{IsUnread, ahead, request_of, device_of, head_of, projection_of}
 use Rattle.ipc_readers.specs.declared.read.stream.metadata.StreamMetadata.{StreamMetadata}
 use Rattle.ipc_readers.specs.declared.read.stream.reader.StreamReader.{StreamReader}
 use Rattle.ipc_round_trip.specs.Reading.{BlamesStream, EndsAs, IsReadable, MeansAhead, ReadsStream, RefusesAhead, RefusesStream}
-use Rattle.ipc_write.specs.Agreement.{Agrees, IsClosed, Remains, StreamIs}
+use Rattle.ipc_write.specs.Agreement.{Agrees, HasEnded, Remains, StreamIs}
 use Rattle.ipc_model.specs.WriterStates.{IsRun}
 use Rattle.ipc_write.specs.Calls.{AreMade, ended_as, state_seen, writer_in}
 use Rattle.ipc_write.specs.Writers.{WriterSeen}
@@ -176,18 +176,18 @@ head_same a b s v d = λ i. record {
   version = v i;
 }
 
-new_rest : {R : Type 0} (memory : R → Memory) (device : R) (a : StreamMetadata) (r : StreamReader R) → Begins device a r → ahead memory r ≡ after (memory device)
+new_rest : {R : Type 0} (memory : R → Memory) (device : R) (a : StreamMetadata) (r : StreamReader R) → IsUnread device a r → ahead memory r ≡ after (memory device)
 new_rest memory device a r h =
     ap (λ xs. xs ++ after (memory (device_of r))) h.begun
     ∙ ap (λ d. after (memory d)) h.reader
 
 -- what is asked of a new reader
-asked_new : {R : Type 0} (device : R) (a b : StreamMetadata) (r : StreamReader R) (p : Option (List ℕ)) → Begins device a r → head_of a ≡ head_of b → projection_of r ≡ p
+asked_new : {R : Type 0} (device : R) (a b : StreamMetadata) (r : StreamReader R) (p : Option (List ℕ)) → IsUnread device a r → head_of a ≡ head_of b → projection_of r ≡ p
     → request_of r ≡ record { head = head_of b; projection = p }
 asked_new device a b r p h e asked = let heads = ap head_of h.described ∙ e in λ i. record { head = heads i; projection = asked i }
 
 -- the fault of a message behind it
-pub blames_message : {R : Type 0} (device : R) (bytes : List ℕ) (stream : Option Stream) (meant : Meant) (a b : StreamMetadata) (r : StreamReader R) (p : Option (List ℕ)) (e : Fault) → Begins device a r → head_of a ≡ head_of b
+pub blames_message : {R : Type 0} (device : R) (bytes : List ℕ) (stream : Option Stream) (meant : Meant) (a b : StreamMetadata) (r : StreamReader R) (p : Option (List ℕ)) (e : Fault) → IsUnread device a r → head_of a ≡ head_of b
     → projection_of r ≡ p → stream ≡ Some (record { head = head_of b; meant = meant }) → OwnFault e (IsStreamFault (request_of r) e) → OwnFault e (BlamesStream bytes stream p e)
 blames_message device bytes stream meant a b r p e begins heads asked is own =
     claims_through e _ _ (λ kind. inr (record {
@@ -198,7 +198,7 @@ blames_message device bytes stream meant a b r p e begins heads asked is own =
     })) own
 
 -- what is ahead of a new reader is what stands behind the schema, to who knows nothing, by the columns that are asked for
-pub chosen_ahead : {R : Type 0} (memory : R → Memory) (device : R) (a b : StreamMetadata) (r : StreamReader R) (p : Option (List ℕ)) → Begins device a r → head_of a ≡ head_of b
+pub chosen_ahead : {R : Type 0} (memory : R → Memory) (device : R) (a b : StreamMetadata) (r : StreamReader R) (p : Option (List ℕ)) → IsUnread device a r → head_of a ≡ head_of b
     → projection_of r ≡ p → MeansAhead memory r (chosen_meaning (record { head = head_of b; projection = p }) nothing_known (after (memory device)))
 chosen_ahead memory device a b r p h e asked = record {
   known = nothing_known;
@@ -209,7 +209,7 @@ chosen_ahead memory device a b r p h e asked = record {
 }
 
 -- the same of all columns
-pub new_ahead : {R : Type 0} (memory : R → Memory) (device : R) (a b : StreamMetadata) (r : StreamReader R) → Begins device a r → head_of a ≡ head_of b → projection_of r ≡ None
+pub new_ahead : {R : Type 0} (memory : R → Memory) (device : R) (a b : StreamMetadata) (r : StreamReader R) → IsUnread device a r → head_of a ≡ head_of b → projection_of r ≡ None
     → MeansAhead memory r (meaning (head_of b) nothing_known (after (memory device)))
 new_ahead memory device a b r h e asked =
     subst (λ (m : Meant). MeansAhead memory r m) (whole_law (head_of b) nothing_known (after (memory device))) (chosen_ahead memory device a b r None h e asked)
@@ -221,7 +221,7 @@ ends_same x y e f h = subst (λ (b : Bool). EndsAs b e) (sym f) h
 
 -- a stream whose chunks are refused can't be read
 pub refused_chunks : {R : Type 0} (memory : R → Memory) (device : R) (bytes xs : List ℕ) (a b : StreamMetadata) (r : StreamReader R) (e : Fault) → xs ≡ bytes
-    → GivesMetadata (frame xs) (Ok b) (after (memory device)) → Begins device a r → head_of a ≡ head_of b → projection_of r ≡ None → RefusesAhead memory r e → OwnFault e (¬ (IsReadable bytes))
+    → GivesMetadata (frame xs) (Ok b) (after (memory device)) → IsUnread device a r → head_of a ≡ head_of b → projection_of r ≡ None → RefusesAhead memory r e → OwnFault e (¬ (IsReadable bytes))
 refused_chunks memory device bytes xs a b r e same h begins heads asked refused =
     claims_through e _ _ (λ ends readable.
     let rest = after (memory device) in
@@ -283,11 +283,11 @@ ends_stream a b v remains over same = record {
   stream = λ head chunks agrees. held head chunks (remains.kept refl [] head chunks agrees);
 }
   where
-    held : (head : Head) (chunks : List Chunk) → Agrees vector b [] head chunks → IsClosed v.items head chunks
+    held : (head : Head) (chunks : List Chunk) → Agrees vector b [] head chunks → HasEnded v.items head chunks
     held head chunks h =
-        let stream : IsClosed h.bytes head chunks = subst (λ s. StreamIs s b h.bytes head chunks) over h.stream in
+        let stream : HasEnded h.bytes head chunks = subst (λ s. StreamIs s b h.bytes head chunks) over h.stream in
         let all : v.items ≡ h.bytes = sym (vector_before v) ∙ ap (λ w. before (vector w)) same ∙ h.held in
-        subst (λ xs. IsClosed xs head chunks) (sym all) stream
+        subst (λ xs. HasEnded xs head chunks) (sym all) stream
 
 -- ---- what the calls leave
 

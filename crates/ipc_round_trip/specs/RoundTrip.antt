@@ -14,7 +14,7 @@ use Rattle.ipc_model.specs.Streams.{Head, Known}
 use Rattle.ipc_model.specs.WriterStates.{IsRun, new_writer}
 use Rattle.ipc_model.specs.Writers.{IsFinished, IsStarted}
 use Rattle.ipc_readers.specs.Streams.{head_of}
-use Rattle.ipc_write.specs.Agreement.{Agrees, IsClosed}
+use Rattle.ipc_write.specs.Agreement.{Agrees, HasEnded}
 use Rattle.ipc_write.specs.Calls.{AreMade, ended_as, state_seen, writer_in}
 use Rattle.ipc_write.specs.Writers.{WriterSeen}
 use Rattle.ipc_write.specs.declared.calls.StreamCall.{StreamCall}
@@ -39,7 +39,7 @@ FinishedLaw = (bytes : List ℕ) (head : Head) (chunks : List Chunk) (s : WholeS
 
 -- and can be read
 abbrev pub ReadableLaw : Type 0
-ReadableLaw = (bytes : List ℕ) (head : Head) (chunks : List Chunk) → IsClosed bytes head chunks → IsReadable bytes
+ReadableLaw = (bytes : List ℕ) (head : Head) (chunks : List Chunk) → HasEnded bytes head chunks → IsReadable bytes
 
 -- one that was written and not ended reads back, whatever is known at its end, and waits
 abbrev pub OpenLaw : Type 0
@@ -52,7 +52,7 @@ vector v = record { whole = v.items; place = vec_len v }
 
 -- The bytes are an ended stream of what a writer over an empty memory wrote.
 pub record EndsStream (w : WriterSeen (Vec ℕ Global)) (bytes : List ℕ) : Type 0 where
-  pub stream : (head : Head) (chunks : List Chunk) → Agrees vector w [] head chunks → IsClosed bytes head chunks
+  pub stream : (head : Head) (chunks : List Chunk) → Agrees vector w [] head chunks → HasEnded bytes head chunks
 
 -- ---- the calls
 

@@ -1,5 +1,4 @@
 //! Reads some columns of whole streams.
-ghost use Rattle.std.specs.Prelude.{IsTrue};
 ghost use Rattle.ipc_round_trip.specs.Choosing.{ChosenFinishedLaw, ChosenOpenLaw, ChosenReadableLaw, ReadsColumns};
 
 use crate::read::{WholeStream, read_chunks};

@@ -4,7 +4,7 @@
 //! shows one, and `"values"`: bits, numbers, or bytes as hex digits, with `"offsets"` or the `"size"` of each. A list has
 //! `"offsets"` or a `"size"`, and `"child"`, the parts of all its numbers; a record `"children"`; a union `"types"`, `"offsets"`, the
 //! `"places"` of its slots, each a child and a slot of it, and `"children"`; a dictionary whether it is `"ordered"`, `"keys"` and `"values"`.
-ghost use Rattle.std.specs.Prelude.{◌<◌, length};
+ghost use Rattle.std.specs.Prelude.{◌<◌};
 
 use crate::slots::put_slots;
 use crate::text::Text;

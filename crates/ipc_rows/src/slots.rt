@@ -3,8 +3,6 @@
 //! `null`, `true`, a number, in quotes where 64 bits don't hold it; bytes as hex digits in quotes, texts in quotes; `[..]`, the slots of a list, of a record, or the
 //! parts of a number of several parts; `{"5":..}`, a variant of a union by its id. A key of a dictionary is what it stands for.
 ghost use Rattle.std.specs.Prelude.{◌<◌};
-ghost use Rattle.lower_arrays.specs.Layouts.{len_of};
-ghost use Rattle.lower_arrays.specs.AnyLayouts.{layout_of};
 
 use crate::text::Text;
 use lower_arrays::array::AnyArray;

@@ -1,28 +1,26 @@
 -- What a field's table means, by the slots that were read of it.
-use Rattle.std.proofs.Common.{◌≡◌, ℕ, zero, suc, ◌+◌, ◌-◌, ◌<◌, ◌≤◌, Bool, true, false, cond, nat_eq, List, Option, Some, None, Result, Ok, Err, refl, ap, sym, subst, ◌∙◌, arith}
+use Rattle.std.proofs.Common.{◌≡◌, ℕ, suc, ◌+◌, ◌-◌, ◌<◌, ◌≤◌, Bool, true, false, cond, nat_eq, List, Option, Some, None, Result, Ok, refl, ap, sym, ◌∙◌, arith}
 use Rattle.std.specs.Prelude.{IfSome}
 use Rattle.std.specs.Option.{option_map}
-use Rattle.lower.specs.TypeTrees.{Pairs, TypeTree, Single, list, large_list, fixed_list, entries, single, Group, structure, choice, group, FieldTree, field, FieldTrees}
-use Rattle.lower.specs.declared.datatypes.UnionMode.{UnionMode}
-use Rattle.ipc_base.specs.IdTrees.{IdTree, IdTrees}
+use Rattle.lower.specs.TypeTrees.{Pairs, TypeTree, Single, single, Group, group, FieldTree, field}
 use Rattle.ipc_devices.specs.declared.fault.Fault.{Fault}
 use Rattle.ipc_devices.specs.declared.fault.Fault.TheVariants as faults
 use Rattle.ipc_devices.specs.declared.fault.SchemaFault.TheVariants.{NotASchema}
 use Rattle.ipc_devices.specs.declared.fault.TableFault.{TableFault}
 use Rattle.ipc_views.specs.Spot.{Spot, Vector}
-use Rattle.ipc_views.specs.SchemaSlots.{field_name, field_nullable, field_type, field_dictionary, field_children, field_custom_metadata}
+use Rattle.ipc_views.specs.SchemaSlots.{field_name, field_nullable, field_type, field_dictionary, field_custom_metadata}
 use Rattle.ipc_views.specs.Tables.{map_ok, table_in}
-use Rattle.ipc_model.specs.Schemas.{Encoding, Read, ReadAll, ReadType, made, present, given, encoded, extended, value_under, with_extension, optional_encoding, pairs_at, field_at, field_count, field_from, field_with, fields_count, fields_from, first_field, group_with, inner_count, single_with, some_fields, type_of_field}
-use Rattle.ipc_schema.specs.Reading.{Refuses, in_schema}
+use Rattle.ipc_model.specs.Schemas.{Encoding, Read, ReadAll, ReadType, made, present, given, encoded, extended, with_extension, optional_encoding, pairs_at, field_at, field_count, field_from, field_with, fields_count, fields_from, first_field, group_with, inner_count, single_with, type_of_field}
+use Rattle.ipc_schema.specs.Reading.{RefusesWith, in_schema}
 use Rattle.ipc_schema.specs.Views.{Child, below_count, below_number, child_number, with_one_id}
-use Rattle.ipc_model.proofs.FieldLists.{OneField, one-field}
+use Rattle.ipc_model.proofs.FieldLists.{one-field}
 use Rattle.ipc_model.proofs.Given.{given-some, if-some, if-some-at, map-some}
 use Rattle.ipc_schema.proofs.FieldLists.{given-given}
 use Rattle.ipc_schema.proofs.Steps.{in_schema-ok}
 
 -- ---- refusals
 
-pub refuses-weaker : (e : Fault) (P Q : Type 0) → (P → Q) → Refuses e P → Refuses e Q
+pub refuses-weaker : (e : Fault) (P Q : Type 0) → (P → Q) → RefusesWith e P → RefusesWith e Q
 refuses-weaker faults.Memory P Q f h = tt
 refuses-weaker (faults.Schema NotASchema) P Q f h = absurd h
 refuses-weaker (faults.Schema e) P Q f h = f h

@@ -2,16 +2,16 @@
 use Rattle.std.proofs.Common.{◌≡◌, ℕ, zero, suc, ◌+◌, Bool, true, false, cond, List, Option, Some, None, refl, sym, subst, nat_eq, nat_le, length}
 use Rattle.std.specs.Option.{option_map}
 use Rattle.lower.specs.Counts.{is_dictionary}
-use Rattle.lower.specs.TypeTrees.{Pairs, TypeTree, plain, Single, single, Group, group, FieldTree, field, FieldTrees, no_fields}
+use Rattle.lower.specs.TypeTrees.{Pairs, plain, Single, Group, field, no_fields}
 use Rattle.lower_types.specs.declared.Endianness.{Endianness}
 use Rattle.ipc_base.specs.Fitting.{AllFit, ChildrenFit, Fits}
-use Rattle.ipc_base.specs.IdTrees.{IdTrees, ids, no_ids}
+use Rattle.ipc_base.specs.IdTrees.{ids, no_ids}
 use Rattle.ipc_views.specs.MessageSlots.{message_header}
 use Rattle.ipc_views.specs.SchemaSlots.{field_name, field_nullable, field_type, field_dictionary, field_children, field_custom_metadata, schema_custom_metadata, schema_endianness, schema_fields}
 use Rattle.ipc_views.specs.Spot.{Spot, Vector}
 use Rattle.ipc_views.specs.Tables.{root_at, table_in}
 use Rattle.ipc_model.specs.Batches.{Schema}
-use Rattle.ipc_model.specs.Schemas.{Encoding, Read, ReadAll, ReadType, encoded, extended, field_at, field_from, field_with, fields_count, fields_from, first_field, given, group_at, group_with, id_of, is_group_tag, is_single_tag, made, most_levels, optional_encoding, order_of, pairs_at, plain_at, present, schema_at, schema_header, schema_of, schema_with, single_at, single_with, some_fields, type_of_field}
+use Rattle.ipc_model.specs.Schemas.{Encoding, Read, ReadAll, ReadType, encoded, extended, field_at, field_from, field_with, fields_count, fields_from, first_field, given, group_at, group_with, id_of, is_group_tag, is_single_tag, made, most_levels, optional_encoding, order_of, pairs_at, plain_at, present, schema_at, schema_of, schema_with, single_at, single_with, some_fields, type_of_field}
 use Rattle.ipc_model.proofs.Given.{given-some, map-some}
 
 -- what is read has the shape

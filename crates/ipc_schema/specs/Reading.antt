@@ -13,22 +13,22 @@ use Rattle.ipc_model.specs.Batches.{Schema as Meaning}
 use Rattle.ipc_model.specs.Schemas.{given, made, present, schema_at, schema_of}
 
 -- Memory was refused, or a fault of a type, a field or their metadata: then P holds. No other fault comes.
-abbrev pub Refuses : Fault → Type 0 → Type 0
-Refuses Memory P = Unit {0}
-Refuses (BadSchema NotASchema) P = ⊥
-Refuses (BadSchema e) P = P
-Refuses _ P = ⊥
+abbrev pub RefusesWith : Fault → Type 0 → Type 0
+RefusesWith Memory P = Unit {0}
+RefusesWith (BadSchema NotASchema) P = ⊥
+RefusesWith (BadSchema e) P = P
+RefusesWith _ P = ⊥
 
 -- The answer is Ok exactly where the bytes mean something, and is then what they mean. Memory tells nothing.
-abbrev pub Gives : {X Y : Type 0} → (X → Y) → Result X Fault → Option Y → Type 0
-Gives view (Ok x) meaning = meaning ≡ Some (view x)
-Gives view (Err e) meaning = Refuses e (meaning ≡ None)
+abbrev pub AnswersMeaning : {X Y : Type 0} → (X → Y) → Result X Fault → Option Y → Type 0
+AnswersMeaning view (Ok x) meaning = meaning ≡ Some (view x)
+AnswersMeaning view (Err e) meaning = RefusesWith e (meaning ≡ None)
 
 -- The same, where field tables are visited, `most` of them at the end: a value takes so many as `count` says,
 -- and what is refused has no meaning or takes more than there may be.
 abbrev pub GivesWithin : {X Y : Type 0} → (X → Y) → (Y → ℕ) → (most before after : ℕ) → Result X Fault → Option Y → Type 0
 GivesWithin view count most before after (Ok x) meaning = (meaning ≡ Some (view x)) × (after ≡ before + count (view x))
-GivesWithin view count most before after (Err e) meaning = Refuses e (IfSome meaning (λ y. most < before + count y))
+GivesWithin view count most before after (Err e) meaning = RefusesWith e (IfSome meaning (λ y. most < before + count y))
 
 -- a count of visits never falls, and ends at `most`
 abbrev pub IsWithin : (before after most : ℕ) → Type 0
@@ -44,7 +44,7 @@ in_schema (Err e) = Err (BadSchema (Table e))
 -- The same of a schema's table. Only an absent vector of fields is told as missing.
 abbrev pub RefusesTable : Fault → Spot → Type 0
 RefusesTable (OutOfSpec MissingFields) t = (schema_fields t ≡ Ok None) × (schema_at t ≡ None)
-RefusesTable e t = Refuses e (schema_at t ≡ None)
+RefusesTable e t = RefusesWith e (schema_at t ≡ None)
 
 abbrev pub GivesTable : {X : Type 0} → (X → Meaning) → Result X Fault → Spot → Type 0
 GivesTable view (Ok x) t = schema_at t ≡ Some (view x)
@@ -69,7 +69,7 @@ fields_of_message m = given (made (root_at m)) (λ t. given (present (message_he
 abbrev pub RefusesMessage : Fault → List ℕ → Type 0
 RefusesMessage (BadSchema NotASchema) m = (has_schema m ≡ Some false) × (schema_of m ≡ None)
 RefusesMessage (OutOfSpec MissingFields) m = (fields_of_message m ≡ Some None) × (schema_of m ≡ None)
-RefusesMessage e m = Refuses e (schema_of m ≡ None)
+RefusesMessage e m = RefusesWith e (schema_of m ≡ None)
 
 abbrev pub GivesMessage : {X : Type 0} → (X → Meaning) → Result X Fault → List ℕ → Type 0
 GivesMessage view (Ok x) m = schema_of m ≡ Some (view x)

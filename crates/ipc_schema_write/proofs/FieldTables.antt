@@ -16,7 +16,7 @@ use Rattle.ipc_parts.specs.Sizes.{parts_size, size_of, slots_size}
 use Rattle.ipc_parts.specs.Tree.{Part, Slots, no_slots, offset, table, tables}
 use Rattle.ipc_views.specs.SchemaSlots.{dictionary_encoding_id, field_custom_metadata, field_dictionary, field_name, field_nullable, field_type}
 use Rattle.ipc_views.specs.Spot.{Spot}
-use Rattle.ipc_tables.specs.Reads.{IsDictionary, IsField}
+use Rattle.ipc_tables.specs.Reads.{IsDictionaryTable, IsField}
 use Rattle.ipc_tables.specs.Schemas.{dictionary_slots, field_part, pairs_part}
 use Rattle.ipc_tables.specs.Types.{type_tag}
 use Rattle.ipc_tables.specs.Weights.{field_weight as table_weight, pairs_weight as tables_weight, total, type_weight as type_table_weight, weight_step}
@@ -86,7 +86,7 @@ type-whole (extension name t text) (Some id) es w fit = absurd (not-dictionary t
     not-dictionary (dictionary keys t ordered) h e = h
     not-dictionary (extension name t text) h e = h
 
-encoding-read : (t : Spot) (d : Option DictionaryEncoding) (e : Option Encoding) → IsDictionary t d → IsEncodingTable d e → given (made (field_dictionary t)) optional_encoding ≡ Some e
+encoding-read : (t : Spot) (d : Option DictionaryEncoding) (e : Option Encoding) → IsDictionaryTable t d → IsEncodingTable d e → given (made (field_dictionary t)) optional_encoding ≡ Some e
 unfolding encoding_at integer_at
 encoding-read t None None is same = rw is refl
 encoding-read t None (Some e) is same = absurd same

@@ -6,7 +6,7 @@ use Rattle.std.proofs.lemmas.Bool.Decides.{Decides-int_eq}
 use Rattle.lower.specs.Normal.{norm}
 use Rattle.ipc_model.specs.Batches.{Place}
 use Rattle.ipc_model.specs.Writable.{SameUnderId}
-use Rattle.ipc_schema_write.specs.Places.{HaveSameValues, place_view, places_view}
+use Rattle.ipc_schema_write.specs.Places.{HaveOneValueType, place_view, places_view}
 use Rattle.ipc_schema_write.specs.declared.dictionaries.DictionaryPlace.{DictionaryPlace}
 
 get-any : {A : Type 0} (xs : List A) (k : ℕ) (d e : A) → k < length xs → get_or xs k d ≡ get_or xs k e
@@ -20,7 +20,7 @@ some-same A a b e = cc
 -- Where the first place of each id stands, of so many.
 pub record AreFirst (ps : List Place) (firsts : ℤ → Option ℕ) (k : ℕ) : Type 0 where
   pub stand : (q : ℤ) (i : ℕ) (d : Place) → firsts q ≡ Some i → (i < k) × ((get_or ps i d).id ≡ Some q)
-  pub met : (j : ℕ) (d : Place) → j < k → (q : ℤ) × (i : ℕ) × ((get_or ps j d).id ≡ Some q) × (firsts q ≡ Some i) × HaveSameValues (get_or ps i d) (get_or ps j d)
+  pub met : (j : ℕ) (d : Place) → j < k → (q : ℤ) × (i : ℕ) × ((get_or ps j d).id ≡ Some q) × (firsts q ≡ Some i) × HaveOneValueType (get_or ps i d) (get_or ps j d)
 
 pub none-first : (ps : List Place) (firsts : ℤ → Option ℕ) → ((q : ℤ) → firsts q ≡ None) → AreFirst ps firsts 0
 none-first ps firsts none = record {
@@ -43,7 +43,7 @@ all-agree ps firsts k past first = λ i j d before inside.
 
 -- one isn't like the first of its id
 pub one-differs : (ps : List Place) (firsts : ℤ → Option ℕ) (k i : ℕ) (q : ℤ) (d : Place) → AreFirst ps firsts k → k < length ps → (get_or ps k d).id ≡ Some q
-    → firsts q ≡ Some i → (HaveSameValues (get_or ps i d) (get_or ps k d) → ⊥) → AllPairs SameUnderId ps → ⊥
+    → firsts q ≡ Some i → (HaveOneValueType (get_or ps i d) (get_or ps k d) → ⊥) → AllPairs SameUnderId ps → ⊥
 one-differs ps firsts k i q d first inside id there differ all =
     let (before, same) = first.stand q i d there in
     let pair = all i k d before inside in
@@ -51,7 +51,7 @@ one-differs ps firsts k i q d first inside id there differ all =
 
 -- what is known of one place that was met
 abbrev pub IsMet : List Place → (ℤ → Option ℕ) → ℕ → Place → Type 0
-IsMet ps firsts j d = (q : ℤ) × (i : ℕ) × ((get_or ps j d).id ≡ Some q) × (firsts q ≡ Some i) × HaveSameValues (get_or ps i d) (get_or ps j d)
+IsMet ps firsts j d = (q : ℤ) × (i : ℕ) × ((get_or ps j d).id ≡ Some q) × (firsts q ≡ Some i) × HaveOneValueType (get_or ps i d) (get_or ps j d)
 
 split-last : (j k : ℕ) → j < k + 1 → (j < k) ⊎ (j ≡ k)
 split-last zero zero h = inr refl
@@ -68,14 +68,14 @@ met-next ps firsts k j d h before here = at (split-last j k h)
 
 -- one is like it
 pub one-like : (ps : List Place) (firsts : ℤ → Option ℕ) (k i : ℕ) (q : ℤ) (c : Place) → AreFirst ps firsts k → k < length ps → (get_or ps k c).id ≡ Some q
-    → firsts q ≡ Some i → HaveSameValues (get_or ps i c) (get_or ps k c) → AreFirst ps firsts (k + 1)
+    → firsts q ≡ Some i → HaveOneValueType (get_or ps i c) (get_or ps k c) → AreFirst ps firsts (k + 1)
 one-like ps firsts k i q c first inside id there like = record {
   stand = λ r a e h. (let (before, same) = first.stand r a e h in (omega (arith, before), same));
   met = λ j d h. met-next ps firsts k j d h (λ b. first.met j d b)
       (let (before, same) = first.stand q i c there in
       let here = get-any ps k c d inside in
       let there_is = get-any ps i c d (omega (arith, before, inside)) in
-      (q, i, subst (λ (p : Place). p.id ≡ Some q) here id, there, subst (λ (p : Place). HaveSameValues p (get_or ps k d)) there_is (subst (λ (p : Place). HaveSameValues (get_or ps i c) p) here like)));
+      (q, i, subst (λ (p : Place). p.id ≡ Some q) here id, there, subst (λ (p : Place). HaveOneValueType p (get_or ps k d)) there_is (subst (λ (p : Place). HaveOneValueType (get_or ps i c) p) here like)));
 }
 
 -- one is the first of its id
@@ -139,9 +139,9 @@ module _ (ps : List DictionaryPlace) (firsts : ℤ → Option ℕ) (k : ℕ) (p 
       first-is = get-any (places_view ps) i (place_view p) (place_view f) (omega (arith, first-inside, length-map place_view ps)) ∙ get-map place_view ps i f ∙ ap place_view (sym f_is)
 
       -- it isn't like the first of its id
-      pub differs-seen : (HaveSameValues (place_view f) (place_view p) → ⊥) → AllPairs SameUnderId (places_view ps) → ⊥
-      differs-seen differ = one-differs (places_view ps) firsts k i p.id (place_view p) first in-view its-id there (λ (like : HaveSameValues (get_or (places_view ps) i (place_view p)) (get_or (places_view ps) k (place_view p))). differ (subst (λ (q : Place). HaveSameValues (place_view f) q) here (subst (λ (q : Place). HaveSameValues q (get_or (places_view ps) k (place_view p))) first-is like)))
+      pub differs-seen : (HaveOneValueType (place_view f) (place_view p) → ⊥) → AllPairs SameUnderId (places_view ps) → ⊥
+      differs-seen differ = one-differs (places_view ps) firsts k i p.id (place_view p) first in-view its-id there (λ (like : HaveOneValueType (get_or (places_view ps) i (place_view p)) (get_or (places_view ps) k (place_view p))). differ (subst (λ (q : Place). HaveOneValueType (place_view f) q) here (subst (λ (q : Place). HaveOneValueType q (get_or (places_view ps) k (place_view p))) first-is like)))
 
       -- it is
-      pub like-seen : HaveSameValues (place_view f) (place_view p) → AreFirst (places_view ps) firsts (k + 1)
-      like-seen like = one-like (places_view ps) firsts k i p.id (place_view p) first in-view its-id there (subst (λ (q : Place). HaveSameValues q (get_or (places_view ps) k (place_view p))) (sym first-is) (subst (λ (q : Place). HaveSameValues (place_view f) q) (sym here) like))
+      pub like-seen : HaveOneValueType (place_view f) (place_view p) → AreFirst (places_view ps) firsts (k + 1)
+      like-seen like = one-like (places_view ps) firsts k i p.id (place_view p) first in-view its-id there (subst (λ (q : Place). HaveOneValueType q (get_or (places_view ps) k (place_view p))) (sym first-is) (subst (λ (q : Place). HaveOneValueType (place_view f) q) (sym here) like))

@@ -11,7 +11,7 @@ use Rattle.ipc_devices.specs.declared.fault.TableFault.{TableFault}
 use Rattle.ipc_views.specs.SchemaSlots.{field_children}
 use Rattle.ipc_views.specs.Spot.{Spot, Vector}
 use Rattle.ipc_views.specs.Tables.{table_in}
-use Rattle.ipc_tables.specs.Reads.{AreTables, ArePairs, IsField, IsPair, IsType}
+use Rattle.ipc_tables.specs.Reads.{AreTables, ArePairTables, IsField, IsPairTable, IsType}
 use Rattle.ipc_tables.specs.Types.{type_tag}
 use Rattle.ipc_tables.specs.declared.schema.Field.{Field}
 use Rattle.ipc_tables.specs.declared.schema.KeyValue.{KeyValue}
@@ -23,7 +23,7 @@ use Rattle.ipc_schema_write.specs.Meanings.{AreFieldTables, IsTypeTable, pairs_i
 -- ---- pairs
 
 pairs-go : (v : Vector) (k : ℕ) (ps : List KeyValue) (es : Pairs)
-    → ((j : ℕ) (x : KeyValue) → slice_get ps j ≡ Some x → (t : Spot) × (table_in v (k + j) ≡ Ok t) × IsPair t x)
+    → ((j : ℕ) (x : KeyValue) → slice_get ps j ≡ Some x → (t : Spot) × (table_in v (k + j) ≡ Ok t) × IsPairTable t x)
     → pairs_from v k (length ps) es ≡ Some (put_pairs (pairs_in ps) es)
 pairs-go v k [] es each = refl
 pairs-go v k (p ∷ ps) es each =
@@ -37,7 +37,7 @@ pairs-go v k (p ∷ ps) es each =
     rw (at_k, key, value) rest
 
 -- a vector of pairs, none where there is no pair
-pub pairs-read : (r : Result (Option Vector) TableFault) (ps : List KeyValue) → ArePairs r ps → given (made r) pairs_at ≡ Some (put_pairs (pairs_in ps) [])
+pub pairs-read : (r : Result (Option Vector) TableFault) (ps : List KeyValue) → ArePairTables r ps → given (made r) pairs_at ≡ Some (put_pairs (pairs_in ps) [])
 unfolding pairs_at
 pairs-read r [] is = rw is refl
 pairs-read r (p ∷ ps) (v, is, tables) =

@@ -2,7 +2,7 @@
 use Rattle.std.proofs.Common.{◌≡◌, ℕ, ℤ, pos, negsuc, Bool, List, get_or, map, Option, Some, None, String, Vec, Global, refl, ap, sym, subst, ◌∙◌, arith, SFits}
 use Rattle.std.specs.Int.{w32}
 use Rattle.std.specs.Option.{option_map}
-use Rattle.ipc_model.specs.Columns.{IsUnion}
+use Rattle.ipc_model.specs.Columns.{IsUnionKind}
 use Rattle.ipc_model.specs.Entries.{IsIndex}
 use Rattle.std.proofs.lemmas.Int.{fits_signed_from_abs}
 use Rattle.lower.specs.TypeTrees.{Plain, null, boolean, timestamp, time32, time64, duration, interval, binary, fixed_binary, large_binary, utf8, large_utf8, decimal, decimal256, list, large_list, fixed_list, entries, structure, choice}
@@ -173,7 +173,7 @@ index-fits : (z : ℤ) → IsIndex z 127 → SFits w32 z
 index-fits (pos n) h = fits_signed_from_abs w32 (pos n) (omega (arith, h))
 index-fits (negsuc n) h = absurd h
 
-pub union-short : (type_ids : Option (List ℤ)) (n : ℕ) → IsUnion type_ids n → AreShortIds type_ids
+pub union-short : (type_ids : Option (List ℤ)) (n : ℕ) → IsUnionKind type_ids n → AreShortIds type_ids
 union-short None n h = tt
 union-short (Some ids) n h = h.distinct.2
 

@@ -11,7 +11,7 @@ use Rattle.lower.specs.declared.datatypes.DataType.TheVariants.{rolls-Struct, ro
 use Rattle.lower.specs.declared.datatypes.DataType.TheOpen.{DataType-F}
 use Rattle.lower.specs.declared.datatypes.UnionMode.{UnionMode}
 use Rattle.lower.specs.declared.datatypes.Field.{Field}
-use Rattle.ipc_model.specs.Columns.{AreIds, IsUnion}
+use Rattle.ipc_model.specs.Columns.{AreUnionIds, IsUnionKind}
 use Rattle.ipc_model.specs.Entries.{IsIndex}
 use Rattle.ipc_model.specs.Tests.{are_distinct, are_ids, is_index}
 use Rattle.ipc_model.specs.Writable.{IsPairType, field_number}
@@ -51,7 +51,7 @@ index_decides (pos m) n = Decides-ltb m n
 index_decides (negsuc m) n = (λ h. absurd (false≢true h), λ h. absurd h)
 
 -- whether ids belong to n children can be computed
-ids_decide : (ids : Option (List ℤ)) (n : ℕ) → Decides (are_ids ids n) (AreIds ids n)
+ids_decide : (ids : Option (List ℤ)) (n : ℕ) → Decides (are_ids ids n) (AreUnionIds ids n)
 ids_decide None n = (λ _. tt, λ _. refl)
 ids_decide (Some ids) n =
     let counted = Decides-eqb (length ids) n in
@@ -61,8 +61,8 @@ ids_decide (Some ids) n =
       λ h. let a = counted.1 h.0 in let x = apart.1 h.1 in let y = inside.1 h.2 in rw (a, x, y) refl,
     )
 
-pub union_from : (ids : Option (List ℤ)) (n : ℕ) → 1 ≤ n → n ≤ 127 → IsTrue (are_ids ids n) → IsUnion ids n
+pub union_from : (ids : Option (List ℤ)) (n : ℕ) → 1 ≤ n → n ≤ 127 → IsTrue (are_ids ids n) → IsUnionKind ids n
 union_from ids n some few h = record { some = some; few = few; distinct = (ids_decide ids n).0 h }
 
-pub union_ids : (ids : Option (List ℤ)) (n : ℕ) → IsUnion ids n → IsTrue (are_ids ids n)
+pub union_ids : (ids : Option (List ℤ)) (n : ℕ) → IsUnionKind ids n → IsTrue (are_ids ids n)
 union_ids ids n h = (ids_decide ids n).1 h.distinct

@@ -14,5 +14,5 @@ abbrev pub places_view : List DictionaryPlace → List Place
 places_view ps = map place_view ps
 
 -- one value type, in its normal form, with the same ids in it
-abbrev pub HaveSameValues : Place → Place → Type 0
-HaveSameValues p q = (norm p.type ≡ norm q.type) × (p.ids ≡ q.ids)
+abbrev pub HaveOneValueType : Place → Place → Type 0
+HaveOneValueType p q = (norm p.type ≡ norm q.type) × (p.ids ≡ q.ids)

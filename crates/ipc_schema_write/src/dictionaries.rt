@@ -6,7 +6,7 @@ ghost use Rattle.ipc_base.specs.Fitting.{AllFit, ChildrenFit, Fits};
 ghost use Rattle.ipc_base.specs.IdTrees.{IdTrees, all_ids_view, ids_view};
 ghost use Rattle.ipc_model.specs.Batches.{field_places, inner_places, own_place, places};
 ghost use Rattle.ipc_model.specs.Writable.{SameUnderId};
-ghost use Rattle.ipc_schema_write.specs.Places.{HaveSameValues, place_view, places_view};
+ghost use Rattle.ipc_schema_write.specs.Places.{HaveOneValueType, place_view, places_view};
 
 use ipc_base::ipc::IpcField;
 use lower::datatypes::{DataType, Field, is_same_normal_type};
@@ -153,7 +153,7 @@ fn is_same_id(a: &IpcField, b: &IpcField) -> bool
 
 // Whether both have one value type, in its normal form, with the same ids in it.
 fn have_same_values(place: &DictionaryPlace<'_>, other: &DictionaryPlace<'_>) -> bool
-    ensures { IsTrue result ↔ HaveSameValues (place_view place.now) (place_view other.now) }
+    ensures { IsTrue result ↔ HaveOneValueType (place_view place.now) (place_view other.now) }
 {
     is_same_normal_type(place.values, other.values) && are_same_ids(place.ids, other.ids)
 }

@@ -6,7 +6,7 @@ ghost use Rattle.std.specs.List.{list_all};
 ghost use Rattle.std.specs.Ordering.{int_eq};
 ghost use Rattle.lower.specs.TypeTrees.{time32, time64};
 ghost use Rattle.lower.specs.TypeViews.{fields_view, ids_of, type_view};
-ghost use Rattle.ipc_model.specs.Columns.{IsUnion};
+ghost use Rattle.ipc_model.specs.Columns.{IsUnionKind};
 ghost use Rattle.ipc_model.specs.Tests.{are_distinct, are_ids, is_index};
 ghost use Rattle.ipc_model.specs.Writable.{AreWritable, IsPairType, IsPlainStorage, IsPlainValue, IsShort, IsWritablePlain, IsWritableType};
 
@@ -133,7 +133,7 @@ fn has_ids(type_ids: &Option<Vec<i32>>, count: usize) -> bool
 
 // Whether a union may have this number of children with these ids.
 fn is_union(type_ids: &Option<Vec<i32>>, count: usize) -> bool
-    ensures { IsTrue result ↔ IsUnion (ids_of type_ids.now) count }
+    ensures { IsTrue result ↔ IsUnionKind (ids_of type_ids.now) count }
 {
     if count == 0 {
         return false;

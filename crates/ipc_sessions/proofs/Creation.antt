@@ -22,7 +22,7 @@ use Rattle.ipc_write.specs.Writers.{fault_unless_started}
 use Rattle.ipc_write.specs.declared.stream.WriterState.{WriterState}
 use Rattle.ipc_write.specs.declared.stream.WriterState.TheVariants.{New, Started, Finished, Failed}
 use Rattle.ipc_file_write.specs.Calls.{vector}
-use Rattle.ipc_file_write.specs.FileWriters.{Agrees, EndsWith, FileSeen, HasNothing, IsFileOf, IsSameFile, IsWholeFile, MissesFinish, MissesStart, OrFails, RefusesFinish, RefusesPairs, Remains, StartsWith, StateComesFirst, TakesPairs, fault_if_over, head_of_file}
+use Rattle.ipc_file_write.specs.FileWriters.{Agrees, EndsWith, FileSeen, HasNothing, IsFileOf, IsSameFile, IsWholeFile, MissesFinish, MissesStart, OrFails, RefusesFinish, TakesNoPairs, Remains, StartsWith, StateComesFirst, TakesPairs, fault_if_over, head_of_file}
 use Rattle.ipc_file_write.specs.WrittenFiles.{RefusesEnd}
 use Rattle.ipc_file_write.proofs.FileStates.{at_state}
 use Rattle.ipc_file_write.proofs.WrittenFiles.{refuses_end}
@@ -130,7 +130,7 @@ not-new s going e = elim going [
 
 module _ (fs : FieldTrees) (es : Pairs) (is : IdTrees) (order : Endianness) (ps : Pairs) (chunks : List (List AnyArray)) where
   -- the pairs
-  pub pairs_refused : (n : FileSeen (Vec ℕ Global)) (e : Fault) → n.state ≡ New → n.fields ≡ fs → n.metadata ≡ es → RefusesPairs n ps e → RefusesCreation fs es is order ps chunks e
+  pub pairs_refused : (n : FileSeen (Vec ℕ Global)) (e : Fault) → n.state ≡ New → n.fields ≡ fs → n.metadata ≡ es → TakesNoPairs n ps e → RefusesCreation fs es is order ps chunks e
   pairs_refused n (faults.State x) new f m h = let none : fault_if_over n.state ≡ None = ap fault_if_over new in let no : None ≡ Some x = sym none ∙ h in absurd cc
   pairs_refused n (faults.Argument args.TooLarge) new f m h = inl (rw (f, m) at h)
   pairs_refused n (faults.Argument x) new f m h = absurd h

@@ -14,7 +14,7 @@ use Rattle.ipc_model.specs.Files.{FileMetadata, all_of, metadata_of}
 use Rattle.ipc_model.proofs.Given.{some-same}
 use Rattle.ipc_schema_write.specs.WriterAnswers.{written_as}
 use Rattle.ipc_file_laws.specs.Appending.{MeansBefore, goes_on, greatest_end}
-use Rattle.ipc_file_laws.specs.FileBytes.{EndsStream, IsFile, file_so_far}
+use Rattle.ipc_file_laws.specs.FileBytes.{EndsStreamBehind, IsFile, file_so_far}
 use Rattle.ipc_file_laws.proofs.FileSteps.{grow_law, size_law}
 use Rattle.ipc_file_write.specs.Appends.{MayGoOn}
 use Rattle.ipc_file_write.specs.Calls.{IsWrittenFile}
@@ -30,8 +30,8 @@ module _ (bytes : List ℕ) (ds bs : List Block) (cs : List Chunk) where
   file-of s t ps qs e f h =
       subst (λ (x : Pairs). IsFile bytes (file_so_far t x ds bs (length bytes)) cs) f (subst (λ (x : Schema). IsFile bytes (file_so_far x ps ds bs (length bytes)) cs) e h)
 
-stream-of : (bytes : List ℕ) (cs : List Chunk) (s t : Schema) → s ≡ t → EndsStream bytes (record { schema = s; version = V5 }) cs → EndsStream bytes (record { schema = t; version = V5 }) cs
-stream-of bytes cs s t e h = subst (λ (x : Schema). EndsStream bytes (record { schema = x; version = V5 }) cs) e h
+stream-of : (bytes : List ℕ) (cs : List Chunk) (s t : Schema) → s ≡ t → EndsStreamBehind bytes (record { schema = s; version = V5 }) cs → EndsStreamBehind bytes (record { schema = t; version = V5 }) cs
+stream-of bytes cs s t e h = subst (λ (x : Schema). EndsStreamBehind bytes (record { schema = x; version = V5 }) cs) e h
 
 pub ended_law : EndedLaw
 ended_law is_stream bytes schema pairs cs h = record {

@@ -24,7 +24,7 @@ use Rattle.ipc_file_write.specs.Appends.{GoesOn, GoesOnAgain, GoesOnWith, HasNoD
 use Rattle.ipc_file_write.specs.FileWriters.{FileSeen, HoldsBytes, head_of_file}
 use Rattle.ipc_file_write.proofs.Appends.{inside_file, same_head, schema_same}
 use Rattle.ipc_file_write.proofs.FileHeads.{is_headed}
-use Rattle.ipc_sessions.specs.Sessions.{Adds, AddsInTurn, CantGoOn, HasNoMetadata, IsEndedFile, IsForeignFile, IsOldFile, KeepsOld, RefusesNoOld, RefusesSession}
+use Rattle.ipc_sessions.specs.Sessions.{GainsChunks, AddsInTurn, CantGoOn, HasNoMetadata, IsEndedFile, IsForeignFile, IsOldFile, KeepsOld, RefusesNoOld, RefusesSession}
 use Rattle.ipc_sessions.specs.Steps.{AreSessions, IsSessionOn, Leaves}
 
 -- ---- the file that it makes
@@ -76,14 +76,14 @@ module _ {W : Type 0} (known : Bool) (memory : W → Memory) (m : FileMetadata) 
         subst (λ (b : Bool). IsEndedFile b (memory c).whole schema pairs (before ++ cs)) (sym e)
         (from-foreign gives schema pairs before (subst (λ (b : Bool). IsForeignFile b (memory device).whole schema pairs before) e h))
 
-    one-more : GoesOnAgain known memory m device w → GoesOnWith known memory m device w → Adds (memory device).whole (memory c).whole cs
+    one-more : GoesOnAgain known memory m device w → GoesOnWith known memory m device w → GainsChunks (memory device).whole (memory c).whole cs
     one-more again gives is_stream schema pairs before old =
         elim old [
           | inl h ↦ from-ended again is_stream schema pairs before h
           | inr h ↦ foreign-alone is_stream schema pairs before h.no_stream h gives
         ]
 
-  pub adds_ok : (r : Result (Unit {0}) Fault) → Leaves known memory w c r cs → GoesOnAgain known memory m device w → GoesOnWith known memory m device w → OnOk r (Adds (memory device).whole (memory c).whole cs)
+  pub adds_ok : (r : Result (Unit {0}) Fault) → Leaves known memory w c r cs → GoesOnAgain known memory m device w → GoesOnWith known memory m device w → OnOk r (GainsChunks (memory device).whole (memory c).whole cs)
   adds_ok (Ok x) l again gives = one-more (l.ended k) again gives
   adds_ok (Err e) l again gives = tt
 
@@ -212,7 +212,7 @@ in_turn_none bytes = record {
   ended = λ is_stream schema pairs before h. subst (λ (cs : List Chunk). IsEndedFile is_stream bytes schema pairs cs) (sym (append-nil before)) h;
 }
 
-pub in_turn_more : (n n' : ℕ) → n' ≡ n + 1 → (old mid new : List ℕ) (cs ds : List Chunk) → AddsInTurn n old mid cs → Adds mid new ds → AddsInTurn n' old new (cs ++ ds)
+pub in_turn_more : (n n' : ℕ) → n' ≡ n + 1 → (old mid new : List ℕ) (cs ds : List Chunk) → AddsInTurn n old mid cs → GainsChunks mid new ds → AddsInTurn n' old new (cs ++ ds)
 in_turn_more n n' one old mid new cs ds f g =
     let next : (is_stream : Bool) (schema : Schema) (pairs : Pairs) (before : List Chunk) → IsOldFile is_stream mid schema pairs (before ++ cs) → IsEndedFile is_stream new schema pairs (before ++ (cs ++ ds)) =
     λ is_stream schema pairs before h. subst (λ (xs : List Chunk). IsEndedFile is_stream new schema pairs xs) (append_assoc before cs ds) (g is_stream schema pairs (before ++ cs) h) in

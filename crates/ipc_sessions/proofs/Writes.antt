@@ -16,7 +16,7 @@ use Rattle.ipc_file_write.specs.FileWriters.{FileSeen, FileStep, HoldsBytes, IsS
 use Rattle.ipc_file_write.specs.Writes.{Appends, NamesOne, SendsColumns, WritesExactly}
 use Rattle.ipc_file_write.proofs.Onward.{no_more, onward_both, over_onward}
 use Rattle.ipc_sessions.specs.Sessions.{taken_of}
-use Rattle.ipc_sessions.specs.Steps.{AreWritten, TakesChunks, WritesChunk}
+use Rattle.ipc_sessions.specs.Steps.{AreWritten, TakesChunks, WritesNext}
 use Rattle.ipc_sessions.proofs.Taken.{taken_one}
 
 -- ---- a call that sends some bytes
@@ -100,16 +100,16 @@ module _ {W : Type 0} (known grows : Bool) (failures room : W → ℕ) (memory :
   state-then (Err _) sends = ap state_seen sends.step.refused.state
 
   pub writes_chunk : (r : Result (Unit {0}) Fault) → SendsColumns known grows failures room memory a r b columns → WritesExactly a columns None r → IfErr r (NamesOne a columns) → Appends known memory a r b (chunk_written columns)
-      → WritesChunk known memory a columns r b
+      → WritesNext known memory a columns r b
   writes_chunk r sends exact named appends = record { exact = exact; named = named; state = state-then r sends; takes = takes-one r sends appends }
 
 -- ---- lists of writes
 
 module _ {W : Type 0} (known : Bool) (memory : W → Memory) where
   -- one write more
-  pub written_more : (a m b : FileSeen W) (cs : List (List AnyArray)) (rs : List (Result (Unit {0}) Fault)) (c : List AnyArray) (r : Result (Unit {0}) Fault) → AreWritten known memory a cs rs m → WritesChunk known memory m c r b
+  pub written_more : (a m b : FileSeen W) (cs : List (List AnyArray)) (rs : List (Result (Unit {0}) Fault)) (c : List AnyArray) (r : Result (Unit {0}) Fault) → AreWritten known memory a cs rs m → WritesNext known memory m c r b
       → AreWritten known memory a (cs ++ c ∷ []) (rs ++ r ∷ []) b
-  written_more a m b [] [] c r h last = (b, (subst (λ (w : FileSeen W). WritesChunk known memory w c r b) h last, refl))
+  written_more a m b [] [] c r h last = (b, (subst (λ (w : FileSeen W). WritesNext known memory w c r b) h last, refl))
   written_more a m b [] (x ∷ rs) c r h last = absurd h
   written_more a m b (d ∷ cs) [] c r h last = absurd h
   written_more a m b (d ∷ cs) (x ∷ rs) c r h last = (h.0, (h.1.0, written_more h.0 m b cs rs c r h.1.1 last))

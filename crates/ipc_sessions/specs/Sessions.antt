@@ -15,7 +15,7 @@ use Rattle.ipc_model.specs.Files.{FileMetadata, all_of, metadata_of}
 use Rattle.ipc_model.specs.Writers.{Call, taken, write_call}
 use Rattle.ipc_write.specs.Meaning.{chunk_written}
 use Rattle.ipc_file_laws.specs.Appending.{MeansBefore, goes_on, normal_chunk, normal_schema}
-use Rattle.ipc_file_laws.specs.FileBytes.{EndsStream, IsFile, file_so_far}
+use Rattle.ipc_file_laws.specs.FileBytes.{EndsStreamBehind, IsFile, file_so_far}
 use Rattle.ipc_files.specs.Files.{FileFault, FileReason}
 use Rattle.ipc_file_write.specs.Appends.{MayGoOn, RefusesFile}
 use Rattle.ipc_file_write.specs.FileWriters.{FileSeen, IsWholeFile, head_of_file}
@@ -66,13 +66,13 @@ IsOldFile is_stream bytes schema pairs cs = IsEndedFile is_stream bytes schema p
 -- ---- what sessions leave
 
 -- An old file became one that has these chunks more, with its schema and its pairs; it is a stream where it was one.
-abbrev pub Adds : List ℕ → List ℕ → List Chunk → Type 0
-Adds old new cs =
+abbrev pub GainsChunks : List ℕ → List ℕ → List Chunk → Type 0
+GainsChunks old new cs =
     (is_stream : Bool) (schema : Schema) (pairs : Pairs) (before : List Chunk) → IsOldFile is_stream old schema pairs before → IsEndedFile is_stream new schema pairs (before ++ cs)
 
 -- This many sessions did so, one after the other; without one the file is as it was.
 pub record AddsInTurn (count : ℕ) (old new : List ℕ) (cs : List Chunk) : Type 0 where
-  pub some : 0 < count → Adds old new cs
+  pub some : 0 < count → GainsChunks old new cs
   pub any : (is_stream : Bool) (schema : Schema) (pairs : Pairs) (before : List Chunk) → IsOldFile is_stream old schema pairs before → IsOldFile is_stream new schema pairs (before ++ cs)
   pub ended : (is_stream : Bool) (schema : Schema) (pairs : Pairs) (before : List Chunk) → IsEndedFile is_stream old schema pairs before → IsEndedFile is_stream new schema pairs (before ++ cs)
 
@@ -112,7 +112,7 @@ pub record ReadsAs (is_stream : Bool) (bytes : List ℕ) (schema : Schema) (pair
   pub dictionaries : List Block
   pub blocks : List Block
   pub file : IsFile bytes (file_so_far schema pairs dictionaries blocks (length bytes)) cs
-  pub stream : IsTrue is_stream → EndsStream bytes (record { schema = schema; version = V5 }) cs
+  pub stream : IsTrue is_stream → EndsStreamBehind bytes (record { schema = schema; version = V5 }) cs
 
 abbrev pub EndedLaw : Type 0
 EndedLaw = (is_stream : Bool) (bytes : List ℕ) (schema : Schema) (pairs : Pairs) (cs : List Chunk) → IsEndedFile is_stream bytes schema pairs cs → ReadsAs is_stream bytes schema pairs cs

@@ -55,7 +55,7 @@ pub record Leaves {W : Type 0} (known : Bool) (memory : W → Memory) (a : FileS
 
 -- A write of these columns answers this: it is Ok exactly where the writer may take them, memory and devices aside; a dictionary that it names is
 -- one that is refused. The writer fails where its device did, and is started as before where it was refused.
-pub record WritesChunk {W : Type 0} (known : Bool) (memory : W → Memory) (a : FileSeen W) (columns : List AnyArray) (r : Result Unit Fault) (b : FileSeen W) : Type 0 where
+pub record WritesNext {W : Type 0} (known : Bool) (memory : W → Memory) (a : FileSeen W) (columns : List AnyArray) (r : Result Unit Fault) (b : FileSeen W) : Type 0 where
   pub exact : WritesExactly a columns None r
   pub named : IfErr r (NamesOne a columns)
   pub state : state_seen b.state ≡ state_after (write_call (chunk_written columns)) (outcome r) (state_seen a.state)
@@ -64,7 +64,7 @@ pub record WritesChunk {W : Type 0} (known : Bool) (memory : W → Memory) (a : 
 -- writes one after the other, each of the writer that the one before it left
 abbrev pub AreWritten : {W : Type 0} → Bool → (W → Memory) → FileSeen W → List (List AnyArray) → List (Result Unit Fault) → FileSeen W → Type 0
 AreWritten known memory a [] [] b = b ≡ a
-AreWritten {W = W} known memory a (c ∷ cs) (r ∷ rs) b = (m : FileSeen W) × (WritesChunk known memory a c r m × AreWritten known memory m cs rs b)
+AreWritten {W = W} known memory a (c ∷ cs) (r ∷ rs) b = (m : FileSeen W) × (WritesNext known memory a c r m × AreWritten known memory m cs rs b)
 AreWritten known memory a _ _ b = ⊥
 
 -- A session that creates a file in memory: its writer was started over an empty memory, with this schema, these ids and these pairs, and

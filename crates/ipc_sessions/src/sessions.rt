@@ -6,8 +6,8 @@ ghost use Rattle.ipc_files.specs.Footers.{file_seen};
 ghost use Rattle.ipc_model.specs.Files.{FileMetadata as FileMeaning, metadata_of};
 ghost use Rattle.ipc_file_write.specs.Appends.{RefusesFile};
 ghost use Rattle.ipc_file_write.specs.FileWriters.{seen};
-ghost use Rattle.ipc_sessions.specs.Sessions.{Adds, AddsInTurn, KeepsOld, RefusesNoOld, RefusesSession, all_taken_of, taken_of};
-ghost use Rattle.ipc_sessions.specs.Steps.{AreSessions, AreWritten, EndsSession, IsSession, IsSessionOn, RefusesInTurn, RefusesWhole, TakesChunks, WritesChunk};
+ghost use Rattle.ipc_sessions.specs.Sessions.{GainsChunks, AddsInTurn, KeepsOld, RefusesNoOld, RefusesSession, all_taken_of, taken_of};
+ghost use Rattle.ipc_sessions.specs.Steps.{AreSessions, AreWritten, EndsSession, IsSession, IsSessionOn, RefusesInTurn, RefusesWhole, TakesChunks, WritesNext};
 
 use ipc_base::chunk::Chunk;
 use ipc_devices::{Fault, Reads, Seeks, Writes};
@@ -42,7 +42,7 @@ fn write_chunk<W: Writes + Drop>(
     writer: &mut FileWriter<W>,
     chunk: &Chunk<AnyArray>,
 ) -> Result<(), Fault>
-    ensures { WritesChunk W.known W.memory (seen writer.old) chunk.now result (seen writer.new) }
+    ensures { WritesNext W.known W.memory (seen writer.old) chunk.now result (seen writer.new) }
 {
     writer.write(chunk, None)
 }
@@ -105,7 +105,7 @@ pub fn append_to_file<W: Reads + Writes + Seeks + Drop>(
     chunks: &[Chunk<AnyArray>],
 ) -> Result<Session<W>, Fault>
     ensures adds { IsTrue W.known → metadata_of (W.memory device).whole ≡ Some (file_seen metadata)
-        → IfOk result (λ session. OnOk session.end (Adds (W.memory device).whole (W.memory session.device).whole (taken_of chunks.now session.answers.items))) }
+        → IfOk result (λ session. OnOk session.end (GainsChunks (W.memory device).whole (W.memory session.device).whole (taken_of chunks.now session.answers.items))) }
     ensures keeps { IsTrue W.known → metadata_of (W.memory device).whole ≡ Some (file_seen metadata)
         → IfOk result (λ session. KeepsOld (file_seen metadata) (W.memory device).whole (W.memory session.device).whole) }
     ensures made { IfOk result (λ session. IsSession W.known W.grows W.failures W.room W.memory (file_seen metadata) device chunks.now session.answers.items session.end session.device) }
@@ -128,7 +128,7 @@ pub fn append_session<W: Reads + Writes + Seeks + Drop>(
     mut device: W,
     chunks: &[Chunk<AnyArray>],
 ) -> Result<Session<W>, Fault>
-    ensures adds { IsTrue W.known → IfOk result (λ session. OnOk session.end (Adds (W.memory device).whole (W.memory session.device).whole (taken_of chunks.now session.answers.items))) }
+    ensures adds { IsTrue W.known → IfOk result (λ session. OnOk session.end (GainsChunks (W.memory device).whole (W.memory session.device).whole (taken_of chunks.now session.answers.items))) }
     ensures keeps { IsTrue W.known → IfOk result (λ session. (m : FileMeaning) → metadata_of (W.memory device).whole ≡ Some m
         → KeepsOld m (W.memory device).whole (W.memory session.device).whole) }
     ensures made { IfOk result (λ session. IsSessionOn W.known W.grows W.failures W.room W.memory device chunks.now session.answers.items session.end session.device) }
@@ -148,7 +148,7 @@ fn whole_session<W: Reads + Writes + Seeks + Drop>(
     device: W,
     chunks: &[Chunk<AnyArray>],
 ) -> Result<(W, Vec<Result<(), Fault>>), Fault>
-    ensures adds { IsTrue W.known → IfOk result (λ left. Adds (W.memory device).whole (W.memory left.0).whole (taken_of chunks.now left.1.items)) }
+    ensures adds { IsTrue W.known → IfOk result (λ left. GainsChunks (W.memory device).whole (W.memory left.0).whole (taken_of chunks.now left.1.items)) }
     ensures made { IfOk result (λ left. IsSessionOn W.known W.grows W.failures W.room W.memory device chunks.now left.1.items (Ok tt) left.0) }
     ensures only { IfErr result (λ e. OwnFault e (RefusesWhole W.known W.grows W.failures W.room W.memory device chunks.now e)) }
 {

@@ -13,7 +13,7 @@ use Rattle.ipc_tables.specs.declared.schema.Field.{Field}
 use Rattle.ipc_tables.specs.declared.schema.Field.TheViews.{out-Field}
 use Rattle.ipc_tables.specs.declared.schema.KeyValue.{KeyValue}
 use Rattle.ipc_tables.specs.declared.schema.Schema.{Schema}
-use Rattle.ipc_tables.specs.Reads.{AreOptionalPairs, AreTables, ArePairs, IsDictionary, IsEncodedBy, IsField, IsFieldHead, IsPair, IsSchema}
+use Rattle.ipc_tables.specs.Reads.{AreOptionalPairs, AreTables, ArePairTables, IsDictionaryTable, IsEncodedBy, IsField, IsFieldHead, IsPairTable, IsSchema}
 use Rattle.ipc_tables.specs.Schemas.{dictionary_slots, endianness_number, features_part, field_part, field_slots, pair_part, pairs_part, pairs_vector, schema_slots}
 use Rattle.ipc_tables.specs.Types.{int_slots, type_slots, type_tag}
 use Rattle.ipc_tables.proofs.BuiltLists.{field_part-out}
@@ -28,18 +28,18 @@ AreTables-from v part_of IsValue values law h = record {
   each = λ k x e. let r = h.each k x e in (spot v.message r.0, r.1, law r.0 x r.2);
 }
 
-IsPair-holds : (m : List ℕ) (t : ℕ) (p : KeyValue) → HoldsPart m t (pair_part p) → IsPair (spot m t) p
+IsPair-holds : (m : List ℕ) (t : ℕ) (p : KeyValue) → HoldsPart m t (pair_part p) → IsPairTable (spot m t) p
 IsPair-holds m t p (v, size, e, f, ((q0, t0, e0, f0, g0, h0), ((q1, t1, e1, f1, g1, h1), past))) =
     (text-read m t 0 q0 t0 (string_bytes p.key) e0 f0 h0, text-read m t 1 q1 t1 (string_bytes p.value) e1 f1 h1)
 
 -- the vector of some pairs
 pairs-read : (m : List ℕ) (p i q t : ℕ) (ps : List KeyValue) → slot_at m p i ≡ Ok (Some q) → target_at m q ≡ Ok t → HoldsPart m t (pairs_vector ps)
-    → (v : Vector) × (vector_slot 4 m p i ≡ Ok (Some v)) × AreTables v IsPair ps
+    → (v : Vector) × (vector_slot 4 m p i ≡ Ok (Some v)) × AreTables v IsPairTable ps
 pairs-read m p i q t ps e f h =
     let r = tables-read pair_part (λ y. (offset (text (string_bytes y.key)) (offset (text (string_bytes y.value)) no_slots), refl)) m p i q t ps e f h in
-    (r.0, r.1, AreTables-from r.0 pair_part IsPair ps (λ k y. IsPair-holds r.0.message k y) r.3)
+    (r.0, r.1, AreTables-from r.0 pair_part IsPairTable ps (λ k y. IsPair-holds r.0.message k y) r.3)
 
-pub ArePairs-holds : (m : List ℕ) (p i : ℕ) (ps : List KeyValue) → HoldsOptional m p i (pairs_part ps) → ArePairs (vector_slot 4 m p i) ps
+pub ArePairs-holds : (m : List ℕ) (p i : ℕ) (ps : List KeyValue) → HoldsOptional m p i (pairs_part ps) → ArePairTables (vector_slot 4 m p i) ps
 ArePairs-holds m p i [] e = absent-read m p i _ e
 ArePairs-holds m p i (x ∷ ps) (q, t, e, f, h) = pairs-read m p i q t (x ∷ ps) e f h
 
@@ -54,7 +54,7 @@ IsEncodedBy-holds m t d (v, size, e, f, ((q0, e0, f0, g0), ((q1, t1, e1, f1, g1,
   ordered = flag-read m t 2 q2 d.is_ordered e2 f2;
 }
 
-IsDictionary-holds : (m : List ℕ) (p : ℕ) (d : Option DictionaryEncoding) → HoldsOptional m p 4 (option_map (λ d. table (dictionary_slots d)) d) → IsDictionary (spot m p) d
+IsDictionary-holds : (m : List ℕ) (p : ℕ) (d : Option DictionaryEncoding) → HoldsOptional m p 4 (option_map (λ d. table (dictionary_slots d)) d) → IsDictionaryTable (spot m p) d
 IsDictionary-holds m p None e = absent-read m p 4 _ e
 IsDictionary-holds m p (Some d) (q, t, e, f, h) = (spot m t, table-read m p 4 q t (dictionary_slots d) e f h, IsEncodedBy-holds m t d h)
 

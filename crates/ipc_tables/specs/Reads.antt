@@ -67,35 +67,35 @@ IsType t LargeBinary = Unit {0}
 IsType t LargeUtf8 = Unit {0}
 IsType t LargeList = Unit {0}
 
-abbrev pub IsPair : Spot → KeyValue → Type 0
-IsPair t p = (key_value_key t ≡ Ok (Some (string_bytes p.key))) × (key_value_value t ≡ Ok (Some (string_bytes p.value)))
+abbrev pub IsPairTable : Spot → KeyValue → Type 0
+IsPairTable t p = (key_value_key t ≡ Ok (Some (string_bytes p.key))) × (key_value_value t ≡ Ok (Some (string_bytes p.value)))
 
 -- the vector of the pairs, or none where there is no pair
-abbrev pub ArePairs : Result (Option Vector) TableFault → List KeyValue → Type 0
-ArePairs r [] = r ≡ Ok None
-ArePairs r (p ∷ ps) = (v : Vector) × (r ≡ Ok (Some v)) × AreTables v IsPair (p ∷ ps)
+abbrev pub ArePairTables : Result (Option Vector) TableFault → List KeyValue → Type 0
+ArePairTables r [] = r ≡ Ok None
+ArePairTables r (p ∷ ps) = (v : Vector) × (r ≡ Ok (Some v)) × AreTables v IsPairTable (p ∷ ps)
 
 -- the vector of the pairs, where it is there
 abbrev pub AreOptionalPairs : Result (Option Vector) TableFault → Option (Vec KeyValue Global) → Type 0
 AreOptionalPairs r None = r ≡ Ok None
-AreOptionalPairs r (Some ps) = (v : Vector) × (r ≡ Ok (Some v)) × AreTables v IsPair ps.items
+AreOptionalPairs r (Some ps) = (v : Vector) × (r ≡ Ok (Some v)) × AreTables v IsPairTable ps.items
 
 pub record IsEncodedBy (t : Spot) (d : DictionaryEncoding) : Type 0 where
   pub id : dictionary_encoding_id t ≡ Ok (kept64 d.id)
   pub index_type : (i : Spot) × (dictionary_encoding_index_type t ≡ Ok (Some i)) × IsInt i d.index_type
   pub ordered : dictionary_encoding_is_ordered t ≡ Ok d.is_ordered
 
-abbrev pub IsDictionary : Spot → Option DictionaryEncoding → Type 0
-IsDictionary t None = field_dictionary t ≡ Ok None
-IsDictionary t (Some d) = (e : Spot) × (field_dictionary t ≡ Ok (Some e)) × IsEncodedBy e d
+abbrev pub IsDictionaryTable : Spot → Option DictionaryEncoding → Type 0
+IsDictionaryTable t None = field_dictionary t ≡ Ok None
+IsDictionaryTable t (Some d) = (e : Spot) × (field_dictionary t ≡ Ok (Some e)) × IsEncodedBy e d
 
 -- a field apart from its children
 pub record IsFieldHead (t : Spot) (f : Field) : Type 0 where
   pub named : field_name t ≡ Ok (Some (string_bytes (out-Field f).name))
   pub nullable : field_nullable t ≡ Ok (out-Field f).nullable
   pub typed : (s : Spot) × (field_type t ≡ Ok (Some (type_tag (out-Field f).type_, s))) × IsType s (out-Field f).type_
-  pub dictionary : IsDictionary t (out-Field f).dictionary
-  pub pairs : ArePairs (field_custom_metadata t) (out-Field f).custom_metadata.items
+  pub dictionary : IsDictionaryTable t (out-Field f).dictionary
+  pub pairs : ArePairTables (field_custom_metadata t) (out-Field f).custom_metadata.items
 
 -- a field down to some levels of fields
 abbrev pub IsField : ℕ → Spot → Field → Type 0
@@ -107,7 +107,7 @@ IsField (suc levels) t f =
 pub record IsSchema (levels : ℕ) (t : Spot) (s : Schema) : Type 0 where
   pub endianness : schema_endianness t ≡ Ok s.endianness
   pub fields : (v : Vector) × (schema_fields t ≡ Ok (Some v)) × AreTables v (IsField levels) s.fields.items
-  pub pairs : ArePairs (schema_custom_metadata t) s.custom_metadata.items
+  pub pairs : ArePairTables (schema_custom_metadata t) s.custom_metadata.items
 
 abbrev pub kept_node : FieldNode → FieldNode
 kept_node n = record { length = kept_bytes64 n.length; null_count = kept_bytes64 n.null_count }

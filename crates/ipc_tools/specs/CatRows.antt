@@ -4,7 +4,7 @@ use Rattle.std.specs.Borrow.{Bor}
 use Rattle.std.specs.List.{slice_split}
 use Rattle.ipc_tools.specs.declared.cat.forms.Columns.TheVariants.{All, At}
 use Rattle.ipc_tools.specs.declared.cat.forms.Form.TheVariants.{Demo, Stream, File}
-use Rattle.ipc_tools.specs.CatWords.{Asked, demo, stream, file, asked, asked_by, columns_by, columns_named, is_decimal, limit_named, opened_for, pieces}
+use Rattle.ipc_tools.specs.CatWords.{Wanted, demo, stream, file, asked, wanted_by, columns_by, columns_named, is_decimal, limit_named, opened_for, pieces}
 
 -- The first and the last digit, and the bytes next to them. No sign and no blank belongs to a number, and no digit of another script.
 pub record DecimalRows : Type 0 where
@@ -53,7 +53,7 @@ pub record LimitRows : Type 0 where
   pub two_numbers : limit_named (codes "1,2") ≡ None
 
 -- what the words of a line ask for, one blank apart
-abbrev pub asked_in : List ℕ → Option Asked
+abbrev pub asked_in : List ℕ → Option Wanted
 asked_in line = asked (slice_split (λ byte. eqb byte 32) line)
 
 -- No word, and words next to those that name a form.
@@ -106,11 +106,11 @@ pub record FormRows : Type 0 where
 pub record HeldRows : Type 0 where
   pub columns_all : columns_by All ≡ None
   pub columns_at : (word : Bor (List ℕ)) → columns_by (At word) ≡ Some word.now
-  pub of_demo : asked_by Demo ≡ demo
-  pub of_stream : asked_by (Stream All) ≡ stream None
-  pub of_columns : (word : Bor (List ℕ)) → asked_by (Stream (At word)) ≡ stream (Some word.now)
-  pub of_path : (path : Bor (List ℕ)) → asked_by (File (record { path = path; columns = All; limit = None })) ≡ file path.now None None
-  pub of_file : (path word : Bor (List ℕ)) → asked_by (File (record { path = path; columns = At word; limit = Some 5 })) ≡ file path.now (Some word.now) (Some 5)
+  pub of_demo : wanted_by Demo ≡ demo
+  pub of_stream : wanted_by (Stream All) ≡ stream None
+  pub of_columns : (word : Bor (List ℕ)) → wanted_by (Stream (At word)) ≡ stream (Some word.now)
+  pub of_path : (path : Bor (List ℕ)) → wanted_by (File (record { path = path; columns = All; limit = None })) ≡ file path.now None None
+  pub of_file : (path word : Bor (List ℕ)) → wanted_by (File (record { path = path; columns = At word; limit = Some 5 })) ≡ file path.now (Some word.now) (Some 5)
 
 -- Only a file has to be opened, also one that is called as what stands for the input elsewhere.
 pub record OpenedRows : Type 0 where

@@ -9,10 +9,10 @@ use Rattle.ipc_tools.specs.declared.cat.forms.Columns.{Columns}
 use Rattle.ipc_tools.specs.declared.cat.forms.Columns.TheVariants.{All, At}
 
 -- what is asked for: the example; columns of the stream at the input; columns of the file at a path, and how many rows at most
-pub data Asked : Type 0 where
-  demo : Asked
-  stream : Option (List ℕ) → Asked
-  file : List ℕ → Option (List ℕ) → Option ℕ → Asked
+pub data Wanted : Type 0 where
+  demo : Wanted
+  stream : Option (List ℕ) → Wanted
+  file : List ℕ → Option (List ℕ) → Option ℕ → Wanted
 
 -- decimal digits alone, at least one
 abbrev pub is_decimal : List ℕ → Bool
@@ -31,12 +31,12 @@ columns_named word =
 abbrev pub limit_named : List ℕ → Option ℕ
 limit_named word = if is_decimal word && ltb (digits_value 10 word) (2 ^ 64) then Some (digits_value 10 word) else None
 
-abbrev pub stream_asked : List (List ℕ) → Option Asked
+abbrev pub stream_asked : List (List ℕ) → Option Wanted
 stream_asked [] = Some (stream None)
 stream_asked (columns ∷ []) = option_map stream (columns_named columns)
 stream_asked (columns ∷ second ∷ others) = None
 
-abbrev pub file_asked : List (List ℕ) → Option Asked
+abbrev pub file_asked : List (List ℕ) → Option Wanted
 file_asked [] = None
 file_asked (path ∷ []) = Some (file path None None)
 file_asked (path ∷ columns ∷ []) = option_map (λ chosen. file path chosen None) (columns_named columns)
@@ -44,12 +44,12 @@ file_asked (path ∷ columns ∷ limit ∷ []) =
     option_and_then (λ chosen. option_map (λ rows. file path chosen (Some rows)) (limit_named limit)) (columns_named columns)
 file_asked (path ∷ columns ∷ limit ∷ fourth ∷ others) = None
 
-abbrev pub demo_asked : List (List ℕ) → Option Asked
+abbrev pub demo_asked : List (List ℕ) → Option Wanted
 demo_asked [] = Some demo
 demo_asked (second ∷ others) = None
 
 -- what the words ask for, or none where no form has them
-abbrev pub asked : List (List ℕ) → Option Asked
+abbrev pub asked : List (List ℕ) → Option Wanted
 asked [] = None
 asked (name ∷ others) =
     if bytes_eq name (codes "demo") then demo_asked others
@@ -61,26 +61,26 @@ columns_by All = None
 columns_by (At word) = Some word.now
 
 -- what a form asks for
-abbrev pub asked_by : Form → Asked
-asked_by Demo = demo
-asked_by (Stream columns) = stream (columns_by columns)
-asked_by (File words) = file words.path.now (columns_by words.columns) words.limit
+abbrev pub wanted_by : Form → Wanted
+wanted_by Demo = demo
+wanted_by (Stream columns) = stream (columns_by columns)
+wanted_by (File words) = file words.path.now (columns_by words.columns) words.limit
 
 -- whether the input is read
-abbrev pub reads_input : Asked → Bool
+abbrev pub reads_input : Wanted → Bool
 reads_input demo = false
 reads_input (stream columns) = true
 reads_input (file path columns limit) = false
 
 -- whether the schema judges the columns: of a file also all of them
-abbrev pub judges_columns : Asked → Bool
+abbrev pub judges_columns : Wanted → Bool
 judges_columns demo = false
 judges_columns (stream None) = false
 judges_columns (stream (Some columns)) = true
 judges_columns (file path columns limit) = true
 
 -- the path of the file that has to be opened
-abbrev pub opened_for : Asked → Option (List ℕ)
+abbrev pub opened_for : Wanted → Option (List ℕ)
 opened_for demo = None
 opened_for (stream columns) = None
 opened_for (file path columns limit) = Some path

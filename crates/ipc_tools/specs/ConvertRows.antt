@@ -6,7 +6,7 @@ use Rattle.ipc_encode.specs.declared.common.WriteOptions.{WriteOptions}
 use Rattle.ipc_tools.specs.declared.convert.forms.Form.TheVariants.{Convert, Append}
 use Rattle.ipc_tools.specs.declared.convert.forms.Source.TheVariants.{Input, File}
 use Rattle.ipc_tools.specs.declared.convert.forms.Target.TheVariants.{Stream, File as FileTarget}
-use Rattle.ipc_tools.specs.ConvertWords.{Asked, copy, append, asked, asked_by, copy_named, options_named, place_for, source_named, target_named}
+use Rattle.ipc_tools.specs.ConvertWords.{Wanted, copy, append, asked, wanted_by, copy_named, options_named, place_for, source_named, target_named}
 
 abbrev pub little : WriteOptions
 little = record { big_endian = false }
@@ -49,7 +49,7 @@ pub record CopyRows : Type 0 where
   pub no_target : copy_named (codes "-") (codes "-") little ≡ None
 
 -- what the words of a line ask for, one blank apart
-abbrev pub asked_in : List ℕ → Option Asked
+abbrev pub asked_in : List ℕ → Option Wanted
 asked_in line = asked (slice_split (λ byte. eqb byte 32) line)
 
 -- A copy takes a source, a target and at most an order, in this order. It is little where none is named.
@@ -94,9 +94,9 @@ pub record AppendFormRows : Type 0 where
 
 -- Whatever the words are that a form holds.
 pub record HeldRows : Type 0 where
-  pub of_input : asked_by (Convert Input Stream big) ≡ copy None Stream big
-  pub of_file : (path : Bor (List ℕ)) → asked_by (Convert (File path) FileTarget little) ≡ copy (Some path.now) FileTarget little
-  pub of_append : (path : Bor (List ℕ)) → asked_by (Append path) ≡ append path.now
+  pub of_input : wanted_by (Convert Input Stream big) ≡ copy None Stream big
+  pub of_file : (path : Bor (List ℕ)) → wanted_by (Convert (File path) FileTarget little) ≡ copy (Some path.now) FileTarget little
+  pub of_append : (path : Bor (List ℕ)) → wanted_by (Append path) ≡ append path.now
 
 -- What is copied is only read, and what is gone on with is written to. No other file is opened.
 pub record PlaceRows : Type 0 where

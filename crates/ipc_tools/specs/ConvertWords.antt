@@ -8,9 +8,9 @@ use Rattle.ipc_tools.specs.declared.convert.forms.Target.{Target}
 use Rattle.ipc_tools.specs.declared.convert.forms.Target.TheVariants.{Stream, File as FileTarget}
 
 -- what is asked for: a copy of the stream at the input, or of the file at a path; or to go on with the file at a path
-pub data Asked : Type 0 where
-  copy : Option (List ℕ) → Target → WriteOptions → Asked
-  append : List ℕ → Asked
+pub data Wanted : Type 0 where
+  copy : Option (List ℕ) → Target → WriteOptions → Wanted
+  append : List ℕ → Wanted
 
 abbrev pub source_named : List ℕ → Option (List ℕ)
 source_named from = if bytes_eq from (codes "-") then None else Some from
@@ -23,11 +23,11 @@ options_named order =
     if bytes_eq order (codes "little") then Some (record { big_endian = false })
     else (if bytes_eq order (codes "big") then Some (record { big_endian = true }) else None)
 
-abbrev pub copy_named : List ℕ → List ℕ → WriteOptions → Option Asked
+abbrev pub copy_named : List ℕ → List ℕ → WriteOptions → Option Wanted
 copy_named from to options = option_and_then (λ target. Some (copy (source_named from) target options)) (target_named to)
 
 -- what the words ask for, or none where no form has them; where no order is named it is `little`
-abbrev pub asked : List (List ℕ) → Option Asked
+abbrev pub asked : List (List ℕ) → Option Wanted
 asked [] = None
 asked (first ∷ []) = None
 asked (first ∷ second ∷ []) =
@@ -39,24 +39,24 @@ asked (first ∷ second ∷ third ∷ []) =
 asked (first ∷ second ∷ third ∷ fourth ∷ others) = None
 
 -- what a form asks for
-abbrev pub asked_by : Form → Asked
-asked_by (Convert Input target options) = copy None target options
-asked_by (Convert (File path) target options) = copy (Some path.now) target options
-asked_by (Append path) = append path.now
+abbrev pub wanted_by : Form → Wanted
+wanted_by (Convert Input target options) = copy None target options
+wanted_by (Convert (File path) target options) = copy (Some path.now) target options
+wanted_by (Append path) = append path.now
 
 -- whether the input is read: not where a file is copied
-abbrev pub reads_input : Asked → Bool
+abbrev pub reads_input : Wanted → Bool
 reads_input (copy None target options) = true
 reads_input (copy (Some path) target options) = false
 reads_input (append path) = true
 
 -- whether the output is written to: not where a file is gone on with
-abbrev pub writes_output : Asked → Bool
+abbrev pub writes_output : Wanted → Bool
 writes_output (copy from target options) = true
 writes_output (append path) = false
 
 -- the path of the file that has to be opened, and whether it is written to
-abbrev pub place_for : Asked → Option (List ℕ × Bool)
+abbrev pub place_for : Wanted → Option (List ℕ × Bool)
 place_for (copy None target options) = None
 place_for (copy (Some path) target options) = Some (path, false)
 place_for (append path) = Some (path, true)

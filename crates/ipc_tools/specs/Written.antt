@@ -6,7 +6,7 @@ use Rattle.ipc_encode.specs.declared.common.WriteOptions.{WriteOptions}
 use Rattle.ipc_model.specs.Streams.{marked}
 use Rattle.ipc_write.specs.Writers.{order_of}
 use Rattle.ipc_convert.specs.Copies.{AppendsTo, CopiesFileOf, CopiesStream, WritesFile, WritesStream}
-use Rattle.ipc_tools.specs.ConvertWords.{Asked, copy, append}
+use Rattle.ipc_tools.specs.ConvertWords.{Wanted, copy, append}
 use Rattle.ipc_tools.specs.declared.convert.forms.Target.{Target}
 use Rattle.ipc_tools.specs.declared.convert.forms.Target.TheVariants.{Stream, File as FileTarget}
 
@@ -23,14 +23,14 @@ CopiesOpened known memory file FileTarget options old new = CopiesFileOf known m
 -- To who knows which bytes an input gives, and which a device of a file holds where it is memory (`known`):
 module _ {R F : Type 0} (gives : Gives R) (known : Bool) (memory : F → Memory) where
   -- where a copy was asked for, it was written behind what stood at the output, of the input or of the file that was opened
-  abbrev pub Copied : Asked → (a b : R) → Option F → (old new : Memory) → Type 0
-  Copied (copy None target options) a b file old new = CopiesInput gives a b target options old new
-  Copied (copy (Some path) target options) a b (Some device) old new = CopiesOpened known memory device target options old new
-  Copied (copy (Some path) target options) a b None old new = ⊥
-  Copied (append path) a b file old new = Unit {0}
+  abbrev pub CopiesAsAsked : Wanted → (a b : R) → Option F → (old new : Memory) → Type 0
+  CopiesAsAsked (copy None target options) a b file old new = CopiesInput gives a b target options old new
+  CopiesAsAsked (copy (Some path) target options) a b (Some device) old new = CopiesOpened known memory device target options old new
+  CopiesAsAsked (copy (Some path) target options) a b None old new = ⊥
+  CopiesAsAsked (append path) a b file old new = Unit {0}
 
   -- where it was asked to go on with a file, one was opened, and to it, in a state of its device, the stream was appended that the input gave
-  abbrev pub Appended : Asked → (a b : R) → Option F → Type 0
+  abbrev pub Appended : Wanted → (a b : R) → Option F → Type 0
   Appended (copy from target options) a b file = Unit {0}
   Appended (append path) a b None = ⊥
   Appended (append path) a b (Some device) = IsTrue known → (memory device).place ≡ 0

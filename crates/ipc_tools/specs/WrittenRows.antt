@@ -8,16 +8,16 @@ use Rattle.ipc_convert.specs.Copies.{CopiesFileOf, CopiesStream, WritesFile, Wri
 use Rattle.ipc_tools.specs.declared.convert.forms.Target.TheVariants.{Stream, File as FileTarget}
 use Rattle.ipc_tools.specs.ConvertRows.{big, little}
 use Rattle.ipc_tools.specs.ConvertWords.{append, copy}
-use Rattle.ipc_tools.specs.Written.{Appended, Copied}
+use Rattle.ipc_tools.specs.Written.{Appended, CopiesAsAsked}
 
 -- Of the input where no path is named, and else of the file; by the target; in the order that was named. Without its file neither a copy nor an append ends well.
 pub record WrittenRows {R F : Type 0} (gives : Gives R) (known : Bool) (memory : F → Memory) (a b : R) (file : F) (old new : Memory) (path : List ℕ) : Type 0 where
-  pub input_to_stream : Copied gives known memory (copy None Stream little) a b (Some file) old new → CopiesStream gives a b (WritesStream (order_of little) old new)
-  pub input_to_file : Copied gives known memory (copy None FileTarget big) a b None old new
+  pub input_to_stream : CopiesAsAsked gives known memory (copy None Stream little) a b (Some file) old new → CopiesStream gives a b (WritesStream (order_of little) old new)
+  pub input_to_file : CopiesAsAsked gives known memory (copy None FileTarget big) a b None old new
       → CopiesStream gives a b (λ schema cs end. WritesFile (order_of big) old new schema [] cs)
-  pub path_to_stream : Copied gives known memory (copy (Some path) Stream big) a b (Some file) old new
+  pub path_to_stream : CopiesAsAsked gives known memory (copy (Some path) Stream big) a b (Some file) old new
       → CopiesFileOf known memory file (λ schema pairs cs. WritesStream (order_of big) old new schema cs marked)
-  pub path_to_file : Copied gives known memory (copy (Some path) FileTarget little) a b (Some file) old new
+  pub path_to_file : CopiesAsAsked gives known memory (copy (Some path) FileTarget little) a b (Some file) old new
       → CopiesFileOf known memory file (WritesFile (order_of little) old new)
-  pub no_file_to_copy : ¬ Copied gives known memory (copy (Some path) Stream little) a b None old new
+  pub no_file_to_copy : ¬ CopiesAsAsked gives known memory (copy (Some path) Stream little) a b None old new
   pub no_file_to_append : ¬ Appended gives known memory (append path) a b None

@@ -3,7 +3,7 @@ ghost use Rattle.std.specs.Prelude.{◌≡◌, ◌≤◌, codes, map, option_and
 ghost use Rattle.ipc_devices.specs.Faults.{IsIo};
 ghost use Rattle.ipc_plan.specs.Sending.{seen_by};
 ghost use Rattle.ipc_tools.specs.Lines.{Tells, Told};
-ghost use Rattle.ipc_tools.specs.CatWords.{asked, asked_by, judges_columns, opened_for, reads_input};
+ghost use Rattle.ipc_tools.specs.CatWords.{asked, wanted_by, judges_columns, opened_for, reads_input};
 ghost use Rattle.ipc_tools.specs.declared.cat.show.Outcome.TheVariants.{Done};
 
 mod demo;
@@ -90,10 +90,10 @@ fn run_form<R: Reads, F: Reads + Seeks + Drop, O: Writes>(
     file: Option<F>,
     out: &mut O,
 ) -> Result<Outcome, Fault>
-    ensures unopened { IfSome (opened_for (asked_by form.entry)) (λ path. IfOk result (λ _. IsSome file)) }
-    ensures missing { IfSome (opened_for (asked_by form.entry)) (λ path. file ≡ None → IfErr result IsIo) }
-    ensures judged { judges_columns (asked_by form.entry) ≡ false → IfOk result (λ outcome. outcome ≡ Done) }
-    ensures unread { reads_input (asked_by form.entry) ≡ false → input.new ≡ input.old }
+    ensures unopened { IfSome (opened_for (wanted_by form.entry)) (λ path. IfOk result (λ _. IsSome file)) }
+    ensures missing { IfSome (opened_for (wanted_by form.entry)) (λ path. file ≡ None → IfErr result IsIo) }
+    ensures judged { judges_columns (wanted_by form.entry) ≡ false → IfOk result (λ outcome. outcome ≡ Done) }
+    ensures unread { reads_input (wanted_by form.entry) ≡ false → input.new ≡ input.old }
 {
     match form {
         Form::Demo => {

@@ -3,8 +3,8 @@ ghost use Rattle.std.specs.Prelude.{◌≡◌, ◌≤◌, codes, ◌↔◌, map,
 ghost use Rattle.ipc_devices.specs.Faults.{IsIo};
 ghost use Rattle.ipc_plan.specs.Sending.{seen_by};
 ghost use Rattle.ipc_tools.specs.Lines.{Tells, Told};
-ghost use Rattle.ipc_tools.specs.ConvertWords.{asked, asked_by, place_for, reads_input, writes_output};
-ghost use Rattle.ipc_tools.specs.Written.{Appended, Copied};
+ghost use Rattle.ipc_tools.specs.ConvertWords.{asked, wanted_by, place_for, reads_input, writes_output};
+ghost use Rattle.ipc_tools.specs.Written.{Appended, CopiesAsAsked};
 
 mod copies;
 mod forms;
@@ -63,7 +63,7 @@ pub fn run<R: Reads, F: Reads + Writes + Seeks + Drop, O: Writes, E: Writes>(
         (λ place. file ≡ None → Told E.known E.grows
         (seen_by E.failures E.room E.memory err.old) (seen_by E.failures E.room E.memory err.new) (codes "ipconvert: input or output failed\n")) }
     ensures copied { result ≡ 0 → IsTrue O.known → IfSome (asked (map string_bytes words.now))
-        (λ form. Copied R.gives F.known F.memory form input.old input.new file (O.memory out.old) (O.memory out.new)) }
+        (λ form. CopiesAsAsked R.gives F.known F.memory form input.old input.new file (O.memory out.old) (O.memory out.new)) }
     ensures appended { result ≡ 0 → IfSome (asked (map string_bytes words.now))
         (λ form. Appended R.gives F.known F.memory form input.old input.new file) }
     ensures told { asked (map string_bytes words.now) ≡ None → Told E.known E.grows
@@ -90,14 +90,14 @@ fn run_form<R: Reads, F: Reads + Writes + Seeks + Drop, O: Writes>(
     file: Option<F>,
     out: &mut O,
 ) -> Result<(), Fault>
-    ensures unopened { IfSome (place_for (asked_by form.entry)) (λ place. IfOk result (λ _. IsSome file)) }
-    ensures missing { IfSome (place_for (asked_by form.entry)) (λ place. file ≡ None → IfErr result IsIo) }
-    ensures spared { IfSome (place_for (asked_by form.entry)) (λ place. file ≡ None → (input.new ≡ input.old) × (out.new ≡ out.old)) }
-    ensures unread { reads_input (asked_by form.entry) ≡ false → input.new ≡ input.old }
-    ensures unwritten { writes_output (asked_by form.entry) ≡ false → out.new ≡ out.old }
+    ensures unopened { IfSome (place_for (wanted_by form.entry)) (λ place. IfOk result (λ _. IsSome file)) }
+    ensures missing { IfSome (place_for (wanted_by form.entry)) (λ place. file ≡ None → IfErr result IsIo) }
+    ensures spared { IfSome (place_for (wanted_by form.entry)) (λ place. file ≡ None → (input.new ≡ input.old) × (out.new ≡ out.old)) }
+    ensures unread { reads_input (wanted_by form.entry) ≡ false → input.new ≡ input.old }
+    ensures unwritten { writes_output (wanted_by form.entry) ≡ false → out.new ≡ out.old }
     ensures copied { IsTrue O.known → OnOk result
-        (Copied R.gives F.known F.memory (asked_by form.entry) input.old input.new file (O.memory out.old) (O.memory out.new)) }
-    ensures appended { OnOk result (Appended R.gives F.known F.memory (asked_by form.entry) input.old input.new file) }
+        (CopiesAsAsked R.gives F.known F.memory (wanted_by form.entry) input.old input.new file (O.memory out.old) (O.memory out.new)) }
+    ensures appended { OnOk result (Appended R.gives F.known F.memory (wanted_by form.entry) input.old input.new file) }
 {
     match form {
         Form::Convert(Source::Input, target, write_options) => {

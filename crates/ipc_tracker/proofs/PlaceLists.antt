@@ -10,7 +10,7 @@ use Rattle.ipc_model.specs.Entries.{Dictionary}
 use Rattle.ipc_model.specs.Offers.{FilledPlace}
 use Rattle.ipc_tracker.specs.Trackers.{Remembered, remembering, dictionary_of, IsSameMemory, Asks}
 use Rattle.ipc_tracker.specs.Places.{Finds}
-use Rattle.ipc_tracker.specs.Listings.{Seen, Lists, remembering_all, ahead, Fits, IsOpen, Added, Goes, Meets}
+use Rattle.ipc_tracker.specs.Listings.{Seen, ListsUnwritten, remembering_all, ahead, Fits, IsFree, Added, Goes, Meets}
 
 -- ---- lists
 
@@ -72,20 +72,20 @@ pub remembering_both : (ws vs : List FilledPlace) (m : Remembered) → rememberi
 remembering_both [] vs m = refl
 remembering_both (w ∷ ws) vs m = remembering_both ws vs (remembering w.id (dictionary_of w.values) m)
 
-lists_then : (m : Remembered) (ps qs ws vs : List FilledPlace) → Lists m ps ws → Lists (remembering_all ws m) qs vs → Lists m (ps ++ qs) (ws ++ vs)
+lists_then : (m : Remembered) (ps qs ws vs : List FilledPlace) → ListsUnwritten m ps ws → ListsUnwritten (remembering_all ws m) qs vs → ListsUnwritten m (ps ++ qs) (ws ++ vs)
 lists_then m [] qs ws vs s t =
-    subst (λ (xs : List FilledPlace). Lists m qs (xs ++ vs)) (sym s) (subst (λ (xs : List FilledPlace). Lists (remembering_all xs m) qs vs) s t)
+    subst (λ (xs : List FilledPlace). ListsUnwritten m qs (xs ++ vs)) (sym s) (subst (λ (xs : List FilledPlace). ListsUnwritten (remembering_all xs m) qs vs) s t)
 lists_then m (p ∷ ps) qs ws vs (inl s) t = inl (s.0, lists_then m ps qs ws vs s.1 t)
 lists_then m (p ∷ ps) qs ws vs (inr s) t =
     inr (
       s.0,
       s.1 ++ vs,
       ap (λ (xs : List FilledPlace). xs ++ vs) s.2,
-      lists_then (remembering p.id (dictionary_of p.values) m) ps qs s.1 vs s.3 (subst (λ (xs : List FilledPlace). Lists (remembering_all xs m) qs vs) s.2 t),
+      lists_then (remembering p.id (dictionary_of p.values) m) ps qs s.1 vs s.3 (subst (λ (xs : List FilledPlace). ListsUnwritten (remembering_all xs m) qs vs) s.2 t),
     )
 
 -- no more are listed than there are places
-pub lists_short : (m : Remembered) (ps ws : List FilledPlace) → Lists m ps ws → length ws ≤ length ps
+pub lists_short : (m : Remembered) (ps ws : List FilledPlace) → ListsUnwritten m ps ws → length ws ≤ length ps
 lists_short m [] ws s = let e = ap (λ (xs : List FilledPlace). length xs) s in omega (arith, e)
 lists_short m (p ∷ ps) ws (inl s) = let n = lists_short m ps ws s.1 in omega (arith, n)
 lists_short m (p ∷ ps) ws (inr s) =
@@ -112,7 +112,7 @@ added_then : (m : Remembered) (a b c : Seen) (ps qs : List FilledPlace) → Adde
 added_then m a b c ps qs x y = record {
   list = x.list ++ y.list;
   list_is = y.list_is ∙ ap (λ (ws : List FilledPlace). ws ++ y.list) x.list_is ∙ append_assoc a.list x.list y.list;
-  lists = lists_then (ahead m a) ps qs x.list y.list x.lists (subst (λ (n : Remembered). Lists n qs y.list) reached y.lists);
+  lists = lists_then (ahead m a) ps qs x.list y.list x.lists (subst (λ (n : Remembered). ListsUnwritten n qs y.list) reached y.lists);
   end = λ id. y.end id ∙ ap (λ (n : Remembered). remembering_all y.list n id) reached ∙ ap (λ (n : Remembered). n id) (sym (remembering_both x.list y.list (ahead m a)));
 }
   where
@@ -128,7 +128,7 @@ goes_then m fixed a b c ps qs x y = record {
   added = added_then m a b c ps qs x.added y.added;
 }
   where
-    older : (id : ℤ) (d : Dictionary) → (b.met id ≡ Some d) ⊎ (IsTrue fixed → IsOpen m id d) → (a.met id ≡ Some d) ⊎ (IsTrue fixed → IsOpen m id d)
+    older : (id : ℤ) (d : Dictionary) → (b.met id ≡ Some d) ⊎ (IsTrue fixed → IsFree m id d) → (a.met id ≡ Some d) ⊎ (IsTrue fixed → IsFree m id d)
     older id d (inl e) = x.fresh id d e
     older id d (inr h) = inr h
 
@@ -145,7 +145,7 @@ goes_met m fixed a p e = record {
 }
 
 -- what may be written under an id
-open_where : (m : Remembered) (fixed changed : Bool) (id : ℤ) (d : Dictionary) → Asks m fixed id d (Ok changed) → IsTrue fixed → IsOpen m id d
+open_where : (m : Remembered) (fixed changed : Bool) (id : ℤ) (d : Dictionary) → Asks m fixed id d (Ok changed) → IsTrue fixed → IsFree m id d
 open_where m fixed true id d h f = inl (h.1 f)
 open_where m fixed false id d h f = inr h
 
@@ -174,7 +174,7 @@ goes_new m fixed changed a b p none h x = record {
     | inr other ↦ x.met id ∙ remembered_there p.id id own a.met other ∙ e
   ];
   fresh = λ id d e. elim (cases_Bool (int_eq p.id id)) [
-    | inl same ↦ inr (subst (λ (f : Dictionary). IsTrue fixed → IsOpen m id f) (own_is id d same e) (subst (λ (i : ℤ). IsTrue fixed → IsOpen m i own) ((Decides-int_eq p.id id).0 same) (open_where m fixed changed p.id own h)))
+    | inl same ↦ inr (subst (λ (f : Dictionary). IsTrue fixed → IsFree m id f) (own_is id d same e) (subst (λ (i : ℤ). IsTrue fixed → IsFree m i own) ((Decides-int_eq p.id id).0 same) (open_where m fixed changed p.id own h)))
     | inr other ↦ inl (sym (x.met id ∙ remembered_there p.id id own a.met other) ∙ e)
   ];
   agree = λ id d all f. elim (cases_Bool (int_eq p.id id)) [

@@ -14,7 +14,7 @@ use Rattle.ipc_model.specs.Offers.{FilledPlace, is_keyed, own_id, inner_ids, own
 use Rattle.ipc_model.specs.TypeKinds.{first_ids, other_ids}
 use Rattle.ipc_tracker.specs.Trackers.{Remembered, dictionary_of}
 use Rattle.ipc_tracker.specs.Places.{Keyed, own_keyed, keyed_below, keyed_inside, keyed_of, places_of, Finds, AllHave}
-use Rattle.ipc_tracker.specs.Listings.{Seen, ahead, IsOpen, remembering_all, Lists, ListsAll, RefusesAll, Goes, Listed, Refuses}
+use Rattle.ipc_tracker.specs.Listings.{Seen, ahead, IsFree, remembering_all, ListsUnwritten, ListsAll, RefusesAll, Goes, Listed, Refuses}
 use Rattle.ipc_tracker.proofs.PlaceLists.{one_value, memory_is, ahead_met, ahead_unmet, lists_short}
 use Rattle.ipc_tracker.proofs.KeyedLists.{places_both}
 
@@ -78,7 +78,7 @@ kept_one (Some d) l (inr e) =
     let same = one_value d (dictionary_of l) e in
     (ap (λ (x : Dictionary). x.slots) same, ap (λ (x : Dictionary). x.type) same)
 
-kept_are : (m met : Remembered) (ps : List FilledPlace) → ((id : ℤ) (d : Dictionary) → met id ≡ Some d → IsOpen m id d) → Finds met ps
+kept_are : (m met : Remembered) (ps : List FilledPlace) → ((id : ℤ) (d : Dictionary) → met id ≡ Some d → IsFree m id d) → Finds met ps
     → AllByRecursion (λ (p : Brought). AreKept (m p.id) p.values) (map brought ps)
 kept_are m met [] may f = tt
 kept_are m met (p ∷ ps) may f = (kept_one (m p.id) p.values (may p.id (dictionary_of p.values) f.0), kept_are m met ps may f.1)
@@ -112,13 +112,13 @@ lists_all m fixed a b columns is ws none empty same x = record {
     begun : ahead m a ≡ m
     begun = memory_is m (ahead m a) (λ id. ahead_unmet m a id (none id))
 
-    lists : Lists m (values_of (layouts columns) is) ws
-    lists = subst (λ (n : Remembered). Lists n ps ws) begun (subst (λ (qs : List FilledPlace). Lists (ahead m a) ps qs) added goes.added.lists)
+    lists : ListsUnwritten m (values_of (layouts columns) is) ws
+    lists = subst (λ (n : Remembered). ListsUnwritten n ps ws) begun (subst (λ (qs : List FilledPlace). ListsUnwritten (ahead m a) ps qs) added goes.added.lists)
 
     reached : ahead m b ≡ remembering_all ws m
     reached = memory_is (remembering_all goes.added.list (ahead m a)) (ahead m b) goes.added.end ∙ ap₂ (λ (qs : List FilledPlace) (n : Remembered). remembering_all qs n) added begun
 
-    may : IsTrue fixed → (id : ℤ) (d : Dictionary) → (a.met id ≡ Some d) ⊎ (IsTrue fixed → IsOpen m id d) → IsOpen m id d
+    may : IsTrue fixed → (id : ℤ) (d : Dictionary) → (a.met id ≡ Some d) ⊎ (IsTrue fixed → IsFree m id d) → IsFree m id d
     may f id d (inl e) = absurd (none-some d (sym (none id) ∙ e))
     may f id d (inr h) = h f
 

@@ -31,12 +31,12 @@ remembering_all [] m = m
 remembering_all (p ∷ ps) m = remembering_all ps (remembering p.id (dictionary_of p.values) m)
 
 -- Of each place the values are remembered, or else they are to be written, and then they are: the list of those that are, in order.
-abbrev pub Lists : Remembered → List FilledPlace → List FilledPlace → Type 0
-Lists m [] ws = ws ≡ []
-Lists m (p ∷ ps) ws =
-    ((m p.id ≡ Some (dictionary_of p.values)) × Lists m ps ws)
+abbrev pub ListsUnwritten : Remembered → List FilledPlace → List FilledPlace → Type 0
+ListsUnwritten m [] ws = ws ≡ []
+ListsUnwritten m (p ∷ ps) ws =
+    ((m p.id ≡ Some (dictionary_of p.values)) × ListsUnwritten m ps ws)
     ⊎ ((m p.id ≢ Some (dictionary_of p.values)) × (rest : List FilledPlace) × (ws ≡ p ∷ rest)
-    × Lists (remembering p.id (dictionary_of p.values) m) ps rest)
+    × ListsUnwritten (remembering p.id (dictionary_of p.values) m) ps rest)
 
 -- ---- a chunk
 
@@ -46,7 +46,7 @@ pub record ListsAll (m : Remembered) (fixed : Bool) (columns : List Layout) (is 
   pub have_ids : HaveIds (keyed_of (layouts columns) is)
   pub shared : AreShared (offer_of columns is).dictionaries
   pub kept : IsTrue fixed → AllByRecursion (λ p. AreKept (m p.id) p.values) (offer_of columns is).dictionaries
-  pub lists : Lists m (values_of (layouts columns) is) ws
+  pub lists : ListsUnwritten m (values_of (layouts columns) is) ws
   pub found : Finds (remembering_all ws m) (values_of (layouts columns) is)
   pub short : length ws ≤ length (values_of (layouts columns) is)
 
@@ -82,21 +82,21 @@ abbrev pub Fits : Seen → ℤ → Dictionary → Type 0
 Fits a id d = (a.met id ≡ None) ⊎ (a.met id ≡ Some d)
 
 -- nothing is remembered under an id, or just these values
-abbrev pub IsOpen : Remembered → ℤ → Dictionary → Type 0
-IsOpen m id d = (m id ≡ None) ⊎ (m id ≡ Some d)
+abbrev pub IsFree : Remembered → ℤ → Dictionary → Type 0
+IsFree m id d = (m id ≡ None) ⊎ (m id ≡ Some d)
 
 -- what is added to a list, and what will be remembered by it
 pub record Added (m : Remembered) (a b : Seen) (ps : List FilledPlace) : Type 0 where
   pub list : List FilledPlace
   pub list_is : b.list ≡ a.list ++ list
-  pub lists : Lists (ahead m a) ps list
+  pub lists : ListsUnwritten (ahead m a) ps list
   pub end : IsSameMemory (remembering_all list (ahead m a)) (ahead m b)
 
 -- Some places were gone through. What was met before stays, and what is met now was met before, or may be written; values that are those of
 -- each place stay so.
 pub record Goes (m : Remembered) (fixed : Bool) (a b : Seen) (ps : List FilledPlace) : Type 0 where
   pub stays : (id : ℤ) (d : Dictionary) → a.met id ≡ Some d → b.met id ≡ Some d
-  pub fresh : (id : ℤ) (d : Dictionary) → b.met id ≡ Some d → (a.met id ≡ Some d) ⊎ (IsTrue fixed → IsOpen m id d)
+  pub fresh : (id : ℤ) (d : Dictionary) → b.met id ≡ Some d → (a.met id ≡ Some d) ⊎ (IsTrue fixed → IsFree m id d)
   pub agree : (id : ℤ) (d : Dictionary) → AllHave id d ps → Fits a id d → Fits b id d
   pub found : Finds b.met ps
   pub added : Added m a b ps

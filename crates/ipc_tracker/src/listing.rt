@@ -1,5 +1,5 @@
 //! Which dictionaries of a chunk are to be written, each behind those inside its values.
-ghost use Rattle.std.specs.Prelude.{◌≡◌, ◌≢◌, ◌≤◌, ℤ, false, None, [], ◌++◌, ◌∷◌, Some, IfErr, IfOk, OnOk, drop, map};
+ghost use Rattle.std.specs.Prelude.{◌≡◌, ◌≢◌, ◌≤◌, ℤ, None, [], ◌++◌, ◌∷◌, Some, IfErr, IfOk, OnOk, drop, map};
 ghost use Rattle.ipc_devices.specs.declared.fault.Fault.TheVariants.{Argument, Memory};
 ghost use Rattle.ipc_devices.specs.declared.fault.ArgFault.TheVariants.{SharedDictionary};
 ghost use Rattle.ipc_base.specs.IdTrees.{IdTrees, all_ids_view};

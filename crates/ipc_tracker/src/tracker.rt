@@ -6,7 +6,6 @@ ghost use Rattle.ipc_devices.specs.declared.fault.Fault.TheVariants.{Argument, M
 ghost use Rattle.lower_arrays.specs.AnyLayouts.{layout_of};
 ghost use Rattle.lower_arrays.specs.Dictionaries.{HasKeys};
 ghost use Rattle.lower_arrays.specs.Layouts.{level};
-ghost use Rattle.lower_arrays.specs.Slots.{slots};
 ghost use Rattle.ipc_tracker.specs.Trackers.{dictionary_of, nothing_remembered, remembered, remembering, values_in, Asks, Inserts, IsSameMemory, TellsReplaced};
 ghost use Rattle.ipc_tracker.specs.Listings.{listed, remembering_all};
 

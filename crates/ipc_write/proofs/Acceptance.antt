@@ -1,22 +1,19 @@
 -- Columns are accepted just where their types fit, one id has one list of values, and all lengths can be said.
 use Rattle.std.proofs.Common.{◌≡◌, ℕ, ◌<◌, arith, List, [], ◌∷◌, ◌+◌, length, map, All, drop, get_or, zero, suc, refl, sym, ap, ◌∙◌, subst}
 use Rattle.std.proofs.lemmas.List.{drop_more}
-use Rattle.std.specs.List.{AllByRecursion, flat_map}
 use Rattle.lower.specs.Normal.{norm}
 use Rattle.lower.specs.TypeTrees.{TypeTree, field, FieldTrees, no_fields, more_fields}
 use Rattle.lower_arrays.specs.AnyLayouts.{layout_of}
-use Rattle.lower_arrays.specs.Layouts.{Layout, Level, layouts, type_of}
+use Rattle.lower_arrays.specs.Layouts.{layouts, type_of}
 use Rattle.lower_arrays.specs.Slots.{AreArrays, IsArray}
 use Rattle.lower_arrays.specs.declared.array.AnyArray.{AnyArray}
 use Rattle.ipc_base.specs.IdTrees.{IdTrees}
 use Rattle.ipc_chunks.proofs.MessageLengths.{bodies_said, nodes_said}
 use Rattle.ipc_encode.specs.Encoding.{IsEncodable, levels_of}
 use Rattle.ipc_encode.specs.declared.batches.BatchKind.TheVariants.{Record}
-use Rattle.ipc_model.specs.Accepted.{IsSayable, body_length, types_of}
-use Rattle.ipc_model.specs.Offers.{FilledPlace, IsAcceptedChunk, body_lengths, messages, offer_of, values_of, whole_levels}
+use Rattle.ipc_model.specs.Accepted.{types_of}
+use Rattle.ipc_model.specs.Offers.{FilledPlace, IsAcceptedChunk, offer_of, values_of}
 use Rattle.ipc_plan.specs.Batches.{AreLike}
-use Rattle.ipc_plan.specs.Taking.{AreShort}
-use Rattle.ipc_tracker.proofs.PlaceLists.{all_both, all_front}
 use Rattle.ipc_tracker.specs.Listings.{ListsAll}
 use Rattle.ipc_tracker.specs.Trackers.{Remembered}
 use Rattle.ipc_chunks.specs.Lengths.{HaveLengths}

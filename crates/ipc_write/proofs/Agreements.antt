@@ -20,12 +20,12 @@ use Rattle.ipc_model.specs.WrittenLaws.{prefix}
 use Rattle.ipc_tracker.proofs.PlaceLists.{memory_is}
 use Rattle.ipc_tracker.specs.Trackers.{IsSameMemory, Remembered}
 use Rattle.ipc_views.specs.Tables.{number_at}
-use Rattle.ipc_write.specs.Agreement.{Agrees, Appends, Begins, BreaksOff, IsClosed, IsFresh, IsOpen, IsUnwritten, Remains, StreamIs}
+use Rattle.ipc_write.specs.Agreement.{Agrees, Appends, BeginsStream, BreaksOff, HasEnded, IsFresh, IsOpen, IsUnwritten, Remains, StreamIs}
 use Rattle.ipc_write.specs.Framing.{message_bytes, prefix_bytes}
 use Rattle.ipc_write.specs.Meaning.{HeadHas, chunk_written, normal_types}
 use Rattle.ipc_write.specs.Messages.{messages_bytes}
 use Rattle.ipc_plan.specs.Sending.{WritesSome}
-use Rattle.ipc_write.specs.Writers.{Kept, MayBeWritten, SendStep, SendsChunk, WriterSeen}
+use Rattle.ipc_write.specs.Writers.{Kept, MayBeWritten, SendStep, SendsStep, WriterSeen}
 use Rattle.ipc_write.specs.declared.stream.WriterState.{WriterState}
 use Rattle.ipc_write.specs.declared.stream.WriterState.TheVariants.{New, Started, Finished, Failed}
 use Rattle.ipc_write.proofs.MessageLists.{chunk_means}
@@ -97,7 +97,7 @@ same_agrees memory a b base head chunks kept order h = record {
 
 -- The messages of a chunk that the writer takes were sent, and are remembered.
 appended : {W : Type 0} (known grows : Bool) (failures room : W → ℕ) (memory : W → Memory) (a b : WriterSeen W) (u : Unit {0}) (columns : List AnyArray) (ids : Option IdTrees) → a.state ≡ Started → b.state ≡ Started → b.types ≡ a.types → b.ids ≡ a.ids
-    → ((fs : FieldTrees) → normal_types fs ≡ a.types → MayBeWritten a fs columns ids) → (s : SendsChunk known grows failures room memory a (Ok u) b columns)
+    → ((fs : FieldTrees) → normal_types fs ≡ a.types → MayBeWritten a fs columns ids) → (s : SendsStep known grows failures room memory a (Ok u) b columns)
     → WritesOver (memory a.device) (memory b.device) (messages_bytes (s.dictionaries ++ s.own ∷ []))
     → (base : List ℕ) (head : Head) (chunks : List Chunk) → Agrees memory a base head chunks → Agrees memory b base head (chunks ++ chunk_written columns ∷ [])
 appended known grows failures room memory a b u columns ids was is types same_ids taken s over base head chunks h =
@@ -120,7 +120,7 @@ appended known grows failures room memory a b u columns ids was is types same_id
     }
 
 pub chunk_appended : {W : Type 0} (known grows : Bool) (failures room : W → ℕ) (memory : W → Memory) (a b : WriterSeen W) (u : Unit {0}) (columns : List AnyArray) (ids : Option IdTrees) → a.state ≡ Started → b.state ≡ Started → b.types ≡ a.types
-    → b.ids ≡ a.ids → ((fs : FieldTrees) → normal_types fs ≡ a.types → MayBeWritten a fs columns ids) → SendsChunk known grows failures room memory a (Ok u) b columns
+    → b.ids ≡ a.ids → ((fs : FieldTrees) → normal_types fs ≡ a.types → MayBeWritten a fs columns ids) → SendsStep known grows failures room memory a (Ok u) b columns
     → Appends known memory a (Ok u) b (chunk_written columns)
 chunk_appended known grows failures room memory a b u columns ids was is types same_ids taken s = record {
   appended = λ k base head chunks h. appended known grows failures room memory a b u columns ids was is types same_ids taken s (s.step.all_sent k) base head chunks h;
@@ -129,7 +129,7 @@ chunk_appended known grows failures room memory a b u columns ids was is types s
 
 -- a chunk that wasn't sent whole
 pub chunk_not_appended : {W : Type 0} (known grows : Bool) (failures room : W → ℕ) (memory : W → Memory) (a b : WriterSeen W) (e : Fault) (columns : List AnyArray) → a.state ≡ Started
-    → SendsChunk known grows failures room memory a (Err e) b columns → Appends known memory a (Err e) b (chunk_written columns)
+    → SendsStep known grows failures room memory a (Err e) b columns → Appends known memory a (Err e) b (chunk_written columns)
 chunk_not_appended known grows failures room memory a b (Io x) columns was s = record {
   appended = λ k base head chunks h. tt;
   kept = λ k base head chunks h. broken memory a b (messages_bytes (s.dictionaries ++ s.own ∷ [])) base head chunks (inr was) s.step.io.0 (s.step.some_sent k) h;
@@ -179,7 +179,7 @@ begun memory a b metadata head was is whole short headed has same over base chun
 -- a schema was sent
 pub sent_schema : {W : Type 0} (known : Bool) (memory : W → Memory) (a b : WriterSeen W) (metadata : List ℕ) (head : Head) → a.state ≡ New → b.state ≡ Started → length metadata % 8 ≡ 0 → length metadata < 2 ^ 31
     → head_of metadata ≡ Some head → HeadHas b.order head b.types b.ids → IsSameMemory a.dictionaries b.dictionaries → (IsTrue known → WritesOver (memory a.device) (memory b.device) (message_bytes metadata [])) → (x : Unit {0})
-    → Begins known memory a (Ok x) b head
+    → BeginsStream known memory a (Ok x) b head
 sent_schema known memory a b metadata head was is whole short headed has same over x = record {
   begun = λ k base chunks h. begun memory a b metadata head was is whole short headed has same (over k) base chunks h;
   kept = λ k base other chunks h. tt;
@@ -187,7 +187,7 @@ sent_schema known memory a b metadata head was is whole short headed has same ov
 
 -- a schema wasn't sent whole
 pub unsent_schema : {W : Type 0} (known grows : Bool) (failures room : W → ℕ) (memory : W → Memory) (a b : WriterSeen W) (e : Fault) (bytes : List ℕ) (count : ℕ) (head : Head) → a.state ≡ New
-    → SendStep known grows failures room memory a (Err e) b bytes count → Begins known memory a (Err e) b head
+    → SendStep known grows failures room memory a (Err e) b bytes count → BeginsStream known memory a (Err e) b head
 unsent_schema known grows failures room memory a b (Io x) bytes count head was step = record {
   begun = λ k base chunks h. tt;
   kept = λ k base other chunks h. broken memory a b bytes base other chunks (inl was) step.io.0 (step.some_sent k) h;
@@ -206,7 +206,7 @@ sent_mark known memory a b was is over = record {
   kept = λ k base head chunks h.
       let open_ : IsOpen a h.bytes head chunks = subst (λ s. StreamIs s a h.bytes head chunks) was h.stream in
       let bytes = h.bytes ++ prefix 0 in
-      let done : IsClosed bytes head chunks = record { stream = open_finish h.bytes head a.dictionaries chunks open_.stream } in
+      let done : HasEnded bytes head chunks = record { stream = open_finish h.bytes head a.dictionaries chunks open_.stream } in
       record {
         bytes = bytes;
         held = held_more (memory a.device) (memory b.device) base h.bytes (prefix_bytes (pos 0)) h.held (over k).added ∙ ap (λ bs. base ++ (h.bytes ++ bs)) mark_is;

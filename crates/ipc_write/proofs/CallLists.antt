@@ -14,7 +14,7 @@ use Rattle.ipc_model.specs.Writers.{Call, added_by, taken}
 use Rattle.ipc_base.specs.IdTrees.{IdTrees}
 use Rattle.ipc_base.specs.declared.ipc.IpcField.{IpcField}
 use Rattle.ipc_schema_write.specs.WriterAnswers.{written_head_as}
-use Rattle.ipc_write.specs.Agreement.{Agrees, Follows}
+use Rattle.ipc_write.specs.Agreement.{Agrees, GrowsBy}
 use Rattle.ipc_write.specs.Calls.{AreMade, HandsIds, IsMade, call_seen, ended_as, outcome, state_seen, writer_in}
 use Rattle.ipc_write.specs.Writers.{StateComesFirst, WriterSeen, chosen_ids, fault_unless_new, fault_unless_started}
 use Rattle.ipc_write.specs.declared.calls.StreamCall.{StreamCall}
@@ -92,7 +92,7 @@ module _ {W : Type 0} (known grows : Bool) (failures room : W → ℕ) (memory :
   adds_none : (b : WriterSeen W) (base : List ℕ) (o : Endianness) (chunks : List Chunk) → Agrees memory b base (head o) chunks → Agrees memory b base (head o) (chunks ++ [])
   adds_none b base o chunks h = subst (λ (cs : List Chunk). Agrees memory b base (head o) cs) (sym (append-nil chunks)) h
 
-  follows_one : (a b : WriterSeen W) (call : StreamCall) (r : Result (Unit {0}) Fault) → Made a call r b → Follows known memory a b (head a.order) (taken (answered ((call_seen call, outcome r) ∷ [])))
+  follows_one : (a b : WriterSeen W) (call : StreamCall) (r : Result (Unit {0}) Fault) → Made a call r b → GrowsBy known memory a b (head a.order) (taken (answered ((call_seen call, outcome r) ∷ [])))
   follows_one a b Start (Ok x) h = record { followed = λ k base chunks at. adds_none b base a.order chunks (h.means.begun k base chunks at) }
   follows_one a b Start (Err (Io e)) h = record { followed = λ k base chunks at. adds_none b base a.order chunks (h.means.kept k base (head a.order) chunks at) }
   follows_one a b Start (Err _) h = record { followed = λ k base chunks at. adds_none b base a.order chunks (h.means.kept k base (head a.order) chunks at) }
@@ -107,14 +107,14 @@ module _ {W : Type 0} (known grows : Bool) (failures room : W → ℕ) (memory :
   taken_first call true ps = ap (λ cs. cs ++ taken ps) (append-nil (added_by call))
   taken_first call false ps = refl
 
-  pub made_follow : (a b : WriterSeen W) (calls : List StreamCall) (rs : List (Result (Unit {0}) Fault)) → AllMade a calls rs b → Follows known memory a b (head a.order) (taken (answered (ended_as calls rs)))
+  pub made_follow : (a b : WriterSeen W) (calls : List StreamCall) (rs : List (Result (Unit {0}) Fault)) → AllMade a calls rs b → GrowsBy known memory a b (head a.order) (taken (answered (ended_as calls rs)))
   made_follow a b [] [] h = record { followed = λ k base chunks at. subst (λ (w : WriterSeen W). Agrees memory w base (head a.order) (chunks ++ [])) (sym h) (adds_none a base a.order chunks at) }
   made_follow a b [] (r ∷ rs) h = absurd h
   made_follow a b (call ∷ calls) [] h = absurd h
   made_follow a b (call ∷ calls) (r ∷ rs) h =
       let one = follows_one a h.0 call r h.1.0 in
-      let rest_follows : Follows known memory h.0 b (head a.order) (taken (answered (ended_as calls rs))) =
-      subst (λ (o : Endianness). Follows known memory h.0 b (head o) (taken (answered (ended_as calls rs)))) (order_stays a h.0 call r h.1.0) (made_follow h.0 b calls rs h.1.1) in
+      let rest_follows : GrowsBy known memory h.0 b (head a.order) (taken (answered (ended_as calls rs))) =
+      subst (λ (o : Endianness). GrowsBy known memory h.0 b (head o) (taken (answered (ended_as calls rs)))) (order_stays a h.0 call r h.1.0) (made_follow h.0 b calls rs h.1.1) in
       let first = taken (answered ((call_seen call, outcome r) ∷ [])) in
       let rest = taken (answered (ended_as calls rs)) in
       let all : first ++ rest ≡ taken (answered (ended_as (call ∷ calls) (r ∷ rs))) = taken_first (call_seen call) _ (answered (ended_as calls rs)) in

@@ -12,14 +12,14 @@ use Rattle.ipc_encode.specs.declared.batches.BatchKind.{BatchKind}
 use Rattle.ipc_encode.specs.declared.batches.BatchKind.TheVariants.{Record, Dictionary}
 use Rattle.ipc_laws.proofs.Chunks.{listed_law, written_chunk_law}
 use Rattle.ipc_laws.proofs.Fitting.{filled_law}
-use Rattle.ipc_laws.specs.Chunks.{Encodes}
+use Rattle.ipc_laws.specs.Chunks.{HasMessages}
 use Rattle.ipc_laws.specs.Messages.{chunk_written as layouts_written, message_bytes as stream_bytes}
 use Rattle.ipc_laws.specs.Moves.{MeansChunk}
 use Rattle.ipc_laws.specs.Places.{head_written}
 use Rattle.ipc_laws.specs.Remembered.{filled_of, filled_place}
 use Rattle.ipc_model.specs.Offers.{FilledPlace, IsAcceptedChunk}
 use Rattle.ipc_model.specs.Writable.{IsWritable}
-use Rattle.ipc_tracker.specs.Listings.{Lists, ListsAll, remembering_all}
+use Rattle.ipc_tracker.specs.Listings.{ListsUnwritten, ListsAll, remembering_all}
 use Rattle.ipc_tracker.specs.Trackers.{IsSameMemory, Remembered}
 use Rattle.ipc_write.proofs.Messages.{message_whole}
 use Rattle.ipc_write.specs.Framing.{message_bytes}
@@ -44,7 +44,7 @@ bytes_last xs m = bytes_both xs (m ∷ []) ∙ ap (λ (zs : List ℕ). messages_
 
 -- ---- what they mean
 
-encodes_all : (order : Endianness) (ps : List FilledPlace) (ms : List Message) → AreAllValues order ps ms → Encodes order ps (messages_bytes ms)
+encodes_all : (order : Endianness) (ps : List FilledPlace) (ms : List Message) → AreAllValues order ps ms → HasMessages order ps (messages_bytes ms)
 unfolding values_message
 encodes_all order [] [] h = refl
 encodes_all order [] (m ∷ ms) h = absurd h
@@ -68,7 +68,7 @@ pub chunk_means : (order : Endianness) (fs : FieldTrees) (metadata : Pairs) (is 
 unfolding columns_message
 chunk_means order fs metadata is columns m after fixed list ds own w accepted lists same all =
     let ps = filled_of (layouts columns) is in
-    let found : Lists m (map filled_place ps) list = subst (λ (qs : List FilledPlace). Lists m qs list) (sym (filled_law (layouts columns) is)) lists.lists in
+    let found : ListsUnwritten m (map filled_place ps) list = subst (λ (qs : List FilledPlace). ListsUnwritten m qs list) (sym (filled_law (layouts columns) is)) lists.lists in
     written_chunk_law order fs metadata is columns m after (messages_bytes (ds ++ own ∷ [])) w all.record_is.arrays accepted (record {
       dictionaries = messages_bytes ds;
       sent = listed_law order m ps list after (messages_bytes ds) (sent_of m ps list after found same) (encodes_all order list ds all.values);

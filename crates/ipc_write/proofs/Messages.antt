@@ -5,7 +5,6 @@ use Rattle.std.specs.Int.{next_multiple_of}
 use Rattle.ipc_model.specs.WrittenBatches as written
 use Rattle.ipc_model.specs.WrittenLaws.{prefix}
 use Rattle.ipc_devices.specs.declared.fault.Fault.{Fault}
-use Rattle.ipc_plan.specs.Plans.{body}
 use Rattle.ipc_plan.specs.Sending.{DeviceSeen, Sends}
 use Rattle.ipc_plan.proofs.Sends.{sends_stop}
 use Rattle.ipc_write.specs.Framing.{head_bytes, head_len, message_bytes, message_len, padded, prefix_bytes}

@@ -22,7 +22,7 @@ use Rattle.ipc_tracker.specs.Listings.{remembering_all}
 use Rattle.ipc_tracker.specs.Trackers.{IsSameMemory}
 use Rattle.ipc_write.specs.Messages.{messages_bytes}
 use Rattle.ipc_write.specs.Sending.{FailsOrIsFull, HandsMessages, OnSent, SendsOrRefuses}
-use Rattle.ipc_write.specs.Writers.{Kept, LeavesState, MayList, RefusesStart, RefusesState, SendStep, SendsChunk, SendsSchema, StateComesFirst, WriterSeen, chosen_ids}
+use Rattle.ipc_write.specs.Writers.{Kept, LeavesState, MayList, RefusesStart, RefusesState, SendStep, SendsStep, SendsSchema, StateComesFirst, WriterSeen, chosen_ids}
 use Rattle.ipc_write.specs.declared.stream.WriterState.{WriterState}
 use Rattle.ipc_write.specs.declared.stream.WriterState.TheVariants.{Failed}
 use Rattle.ipc_write.proofs.Sends.{some_none}
@@ -80,7 +80,7 @@ refused_step known grows failures room memory a b bytes count e kept order not_i
 
 -- a chunk was refused before anything was sent
 pub refused_chunk : {W : Type 0} (known grows : Bool) (failures room : W → ℕ) (memory : W → Memory) (a b : WriterSeen W) (e : Fault) (columns : List AnyArray)
-    → Kept a b → b.order ≡ a.order → ((P : Type 0) → OnIo {X = Unit {0}} (Err e) P) → SendsChunk known grows failures room memory a (Err e) b columns
+    → Kept a b → b.order ≡ a.order → ((P : Type 0) → OnIo {X = Unit {0}} (Err e) P) → SendsStep known grows failures room memory a (Err e) b columns
 refused_chunk known grows failures room memory a b e columns kept order not_io = record {
   list = [];
   dictionaries = [];
@@ -141,7 +141,7 @@ unsent_step X known grows failures room memory a b _ bytes count reason most h s
 -- it was sent whole, and is remembered
 pub chunk_sent : {W : Type 0} (known grows : Bool) (failures room : W → ℕ) (memory : W → Memory) (a b : WriterSeen W) (u : Unit {0}) (columns : List AnyArray) (ids : Option IdTrees) (list : List FilledPlace)
     → MayList a columns ids list → (h : HandsMessages known grows failures room memory a.order (map layout_of columns) list a.device (Ok u) b.device)
-    → IsSameMemory (remembering_all list a.dictionaries) b.dictionaries → b.order ≡ a.order → SendsChunk known grows failures room memory a (Ok u) b columns
+    → IsSameMemory (remembering_all list a.dictionaries) b.dictionaries → b.order ≡ a.order → SendsStep known grows failures room memory a (Ok u) b columns
 chunk_sent known grows failures room memory a b u columns ids list may h same order = record {
   list = list;
   dictionaries = h.dictionaries;
@@ -155,7 +155,7 @@ chunk_sent known grows failures room memory a b u columns ids list may h same or
 -- the device failed on the way, or it was refused before anything was sent
 pub chunk_unsent : {W : Type 0} (known grows : Bool) (failures room : W → ℕ) (memory : W → Memory) (a b : WriterSeen W) (e : Fault) (columns : List AnyArray) (ids : Option IdTrees) (list : List FilledPlace)
     → MayList a columns ids list → (h : HandsMessages known grows failures room memory a.order (map layout_of columns) list a.device (Err e) b.device) → LeavesState (Err e) a.state b.state
-    → b.types ≡ a.types → b.ids ≡ a.ids → IsSameMemory a.dictionaries b.dictionaries → b.order ≡ a.order → SendsChunk known grows failures room memory a (Err e) b columns
+    → b.types ≡ a.types → b.ids ≡ a.ids → IsSameMemory a.dictionaries b.dictionaries → b.order ≡ a.order → SendsStep known grows failures room memory a (Err e) b columns
 chunk_unsent known grows failures room memory a b (Io x) columns ids list may h state types same_ids same order = record {
   list = list;
   dictionaries = h.dictionaries;

@@ -27,7 +27,7 @@ pub record IsOpen {W : Type 0} (w : WriterSeen W) (bytes : List ℕ) (head : Hea
   pub has : HeadHas w.order head w.types w.ids
 
 -- one that was ended
-pub record IsClosed (bytes : List ℕ) (head : Head) (chunks : List Chunk) : Type 0 where
+pub record HasEnded (bytes : List ℕ) (head : Head) (chunks : List Chunk) : Type 0 where
   pub stream : IsFinished bytes head chunks
 
 -- one that was started, whatever its reader knows
@@ -46,7 +46,7 @@ pub record BreaksOff (bytes : List ℕ) (head : Head) (chunks : List Chunk) : Ty
 abbrev pub StreamIs : {W : Type 0} → WriterState → WriterSeen W → List ℕ → Head → List Chunk → Type 0
 StreamIs New w bytes head chunks = IsUnwritten w bytes chunks
 StreamIs Started w bytes head chunks = IsOpen w bytes head chunks
-StreamIs Finished w bytes head chunks = IsClosed bytes head chunks
+StreamIs Finished w bytes head chunks = HasEnded bytes head chunks
 StreamIs Failed w bytes head chunks = BreaksOff bytes head chunks
 
 -- what stands in a memory before its place: the bytes that were there before, and those of the stream
@@ -62,7 +62,7 @@ Agrees memory w base head chunks = HoldsStream (memory w.device) w base head chu
 -- ---- calls
 
 -- `start`: where it is Ok, the stream has this head. Else it is as it was.
-pub record Begins {W : Type 0} (known : Bool) (memory : W → Memory) (a : WriterSeen W) (r : Result Unit Fault) (b : WriterSeen W) (head : Head) : Type 0 where
+pub record BeginsStream {W : Type 0} (known : Bool) (memory : W → Memory) (a : WriterSeen W) (r : Result Unit Fault) (b : WriterSeen W) (head : Head) : Type 0 where
   pub begun : IsTrue known → (base : List ℕ) (chunks : List Chunk) → Agrees memory a base head chunks → OnOk r (Agrees memory b base head chunks)
   pub kept : IsTrue known → (base : List ℕ) (other : Head) (chunks : List Chunk) → Agrees memory a base other chunks → OnErr r (Agrees memory b base other chunks)
 
@@ -76,7 +76,7 @@ pub record Remains {W : Type 0} (known : Bool) (memory : W → Memory) (a b : Wr
   pub kept : IsTrue known → (base : List ℕ) (head : Head) (chunks : List Chunk) → Agrees memory a base head chunks → Agrees memory b base head chunks
 
 -- calls from a to b, where each `start` is of the schema of this head: the stream has these chunks more
-pub record Follows {W : Type 0} (known : Bool) (memory : W → Memory) (a b : WriterSeen W) (head : Head) (added : List Chunk) : Type 0 where
+pub record GrowsBy {W : Type 0} (known : Bool) (memory : W → Memory) (a b : WriterSeen W) (head : Head) (added : List Chunk) : Type 0 where
   pub followed : IsTrue known → (base : List ℕ) (chunks : List Chunk) → Agrees memory a base head chunks → Agrees memory b base head (chunks ++ added)
 
 -- a writer that wrote nothing: its stream is empty, whatever stands before it

@@ -13,10 +13,10 @@ use Rattle.lower_types.specs.declared.Endianness.{Endianness}
 use Rattle.ipc_model.specs.WriterStates.{State, Writer, new_writer, started_writer, finished_writer, failed_writer, Outcome, is_taken, is_refused, is_broken}
 use Rattle.ipc_model.specs.Writers.{Call, start_call, write_call, finish_call}
 use Rattle.ipc_schema_write.specs.WriterAnswers.{written_head_as}
-use Rattle.ipc_write.specs.Agreement.{Appends, Begins, Remains}
+use Rattle.ipc_write.specs.Agreement.{Appends, BeginsStream, Remains}
 use Rattle.ipc_write.specs.Framing.{prefix_bytes}
 use Rattle.ipc_write.specs.Meaning.{chunk_written}
-use Rattle.ipc_write.specs.Writers.{RefusesFinish, RefusesStart, RefusesWrite, SendStep, SendsChunk, SendsSchema, StartsWith, StateComesFirst, TakesChunk, WriterSeen, WritesExactly, chosen_ids, fault_unless_new, fault_unless_started}
+use Rattle.ipc_write.specs.Writers.{RefusesFinish, RefusesStart, RefusesWrite, SendStep, SendsStep, SendsSchema, StartsWith, StateComesFirst, TakesChunk, WriterSeen, WritesExactly, chosen_ids, fault_unless_new, fault_unless_started}
 use Rattle.ipc_write.specs.declared.calls.StreamCall.{StreamCall}
 use Rattle.ipc_write.specs.declared.calls.StreamCall.TheVariants.{Start, Write, Finish}
 use Rattle.ipc_write.specs.declared.stream.WriterState.{WriterState}
@@ -58,12 +58,12 @@ pub record DoesStart {W : Type 0} (known grows : Bool) (failures room : W → �
   pub step : SendsSchema known grows failures room memory a r b (written_head_as a.order fields metadata ids)
   pub ok : OnOk r (StartsWith a b fields metadata ids)
   pub only : IfErr r (RefusesStart a.state fields metadata ids)
-  pub means : Begins known memory a r b (written_head_as a.order fields metadata ids)
+  pub means : BeginsStream known memory a r b (written_head_as a.order fields metadata ids)
 
 -- what `write` says of itself
 pub record DoesWrite {W : Type 0} (known grows : Bool) (failures room : W → ℕ) (memory : W → Memory) (a : WriterSeen W) (columns : List AnyArray) (ids : Option IdTrees) (r : Result Unit Fault) (b : WriterSeen W) : Type 0 where
   pub first : StateComesFirst (fault_unless_started a.state) a r b
-  pub step : SendsChunk known grows failures room memory a r b columns
+  pub step : SendsStep known grows failures room memory a r b columns
   pub ok : OnOk r (TakesChunk a b columns ids)
   pub only : IfErr r (RefusesWrite a columns ids)
   pub exact : WritesExactly a columns ids r

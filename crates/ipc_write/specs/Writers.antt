@@ -143,7 +143,7 @@ LeavesState (Err _) s s' = s' ≡ s
 
 -- A call that sends the messages of these columns where anything was sent: those of the dictionaries that are new or others than the writer
 -- remembers, each behind those inside its values, and that of the columns. What was sent is remembered then.
-pub record SendsChunk {W : Type 0} (known grows : Bool) (failures room : W → ℕ) (memory : W → Memory) (a : WriterSeen W) (r : Result Unit Fault) (b : WriterSeen W) (columns : List AnyArray) : Type 0 where
+pub record SendsStep {W : Type 0} (known grows : Bool) (failures room : W → ℕ) (memory : W → Memory) (a : WriterSeen W) (r : Result Unit Fault) (b : WriterSeen W) (columns : List AnyArray) : Type 0 where
   pub list : List FilledPlace
   pub dictionaries : List Message
   pub own : Message

@@ -4,7 +4,7 @@ ghost use Rattle.lower.specs.TypeViews.{fields_view, pairs_of};
 ghost use Rattle.ipc_schema_write.specs.WriterAnswers.{written_head_as};
 ghost use Rattle.ipc_model.specs.WriterStates.{IsRun, answered};
 ghost use Rattle.ipc_model.specs.Writers.{taken};
-ghost use Rattle.ipc_write.specs.Agreement.{Follows};
+ghost use Rattle.ipc_write.specs.Agreement.{GrowsBy};
 ghost use Rattle.ipc_write.specs.Calls.{AreMade, FirstAreMade, HandsIds, IsMade, ended_as, state_seen, writer_in};
 ghost use Rattle.ipc_write.specs.Writers.{chosen_ids, seen};
 
@@ -66,7 +66,7 @@ pub fn run_calls<W: Writes + Drop>(
     ensures run { IfOk result (λ answers. IsRun (writer_in (seen writer.old).order (state_seen (seen writer.old).state)) (ended_as calls.now answers.items)
         (writer_in (seen writer.new).order (state_seen (seen writer.new).state))) }
     ensures follows { let fields = fields_view schema.now.fields.items in
-        IfOk result (λ answers. Follows W.known W.memory (seen writer.old) (seen writer.new)
+        IfOk result (λ answers. GrowsBy W.known W.memory (seen writer.old) (seen writer.new)
         (written_head_as (seen writer.old).order fields (pairs_of schema.now.metadata.entries) (chosen_ids ipc_fields fields))
         (taken (answered (ended_as calls.now answers.items)))) }
     ensures refused { let fields = fields_view schema.now.fields.items in

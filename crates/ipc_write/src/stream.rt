@@ -12,12 +12,12 @@ ghost use Rattle.ipc_encode.specs.declared.batches.BatchKind.TheVariants.{Record
 ghost use Rattle.ipc_schema_write.specs.WriterAnswers.{byte_order, written_head_as};
 ghost use Rattle.ipc_tracker.specs.Listings.{listed};
 ghost use Rattle.ipc_write.specs.declared.stream.WriterState.TheVariants.{Failed, Finished, New, Started};
-ghost use Rattle.ipc_write.specs.Agreement.{Appends, Begins, IsFresh, Remains};
+ghost use Rattle.ipc_write.specs.Agreement.{Appends, BeginsStream, IsFresh, Remains};
 ghost use Rattle.ipc_write.specs.Framing.{message_bytes, prefix_bytes};
 ghost use Rattle.ipc_write.specs.Meaning.{chunk_written, normal_types};
 ghost use Rattle.ipc_write.specs.Messages.{RefusesHanding};
 ghost use Rattle.ipc_write.specs.Sending.{HandsMessages, SendsOrRefuses};
-ghost use Rattle.ipc_write.specs.Writers.{HaveTypes, LeavesState, MayList, RefusesChunk, RefusesFinish, RefusesStart, RefusesTypes, RefusesWrite, SendStep, SendsChunk, SendsSchema, StartsWith, StateComesFirst, TakesChunk, WritesExactly, chosen_ids, fault_unless_new, fault_unless_started, normal_view, order_of, seen, seen_ids};
+ghost use Rattle.ipc_write.specs.Writers.{HaveTypes, LeavesState, MayList, RefusesChunk, RefusesFinish, RefusesStart, RefusesTypes, RefusesWrite, SendStep, SendsStep, SendsSchema, StartsWith, StateComesFirst, TakesChunk, WritesExactly, chosen_ids, fault_unless_new, fault_unless_started, normal_view, order_of, seen, seen_ids};
 
 mod writer;
 
@@ -182,7 +182,7 @@ impl<W: Writes + Drop> StreamWriter<W> {
             IfErr result (RefusesStart (seen self.old).state fields (pairs_of schema.now.metadata.entries)
             (chosen_ids ipc_fields fields)) }
         ensures means { let fields = fields_view schema.now.fields.items in
-            Begins W.known W.memory (seen self.old) result (seen self.new)
+            BeginsStream W.known W.memory (seen self.old) result (seen self.new)
             (written_head_as (seen self.old).order fields (pairs_of schema.now.metadata.entries) (chosen_ids ipc_fields fields)) }
     {
         check_new(self.state)?;
@@ -240,7 +240,7 @@ impl<W: Writes + Drop> StreamWriter<W> {
         ipc_fields: Option<&[IpcField]>,
     ) -> Result<(), Fault>
         ensures first { StateComesFirst (fault_unless_started (seen self.old).state) (seen self.old) result (seen self.new) }
-        ensures step { SendsChunk W.known W.grows W.failures W.room W.memory (seen self.old) result (seen self.new) columns.now }
+        ensures step { SendsStep W.known W.grows W.failures W.room W.memory (seen self.old) result (seen self.new) columns.now }
         ensures ok { OnOk result (TakesChunk (seen self.old) (seen self.new) columns.now (seen_ids ipc_fields.entry)) }
         ensures only { IfErr result (RefusesWrite (seen self.old) columns.now (seen_ids ipc_fields.entry)) }
         ensures exact { WritesExactly (seen self.old) columns.now (seen_ids ipc_fields.entry) result }

@@ -16,10 +16,10 @@ ghost use Rattle.ipc_model.specs.Kinds.{list_kind, map_kind, fixed_list_kind, st
 ghost use Rattle.ipc_model.specs.TypeKinds.{first_ids, field_kind, kinds_of, kind_of};
 ghost use Rattle.ipc_model.specs.Columns.{IsWell, AllHaveRows, AllWell};
 ghost use Rattle.ipc_model.specs.ReadArrays.{array_at, arrays_at, offset_type};
-ghost use Rattle.ipc_columns.specs.Bodies.{Stands, HasRoom, entries, known};
+ghost use Rattle.ipc_columns.specs.Bodies.{KeepsBytes, HasRoom, entries, known};
 ghost use Rattle.ipc_columns.specs.FlatKinds.{IsPlain, IsFlat, flat_kind};
 ghost use Rattle.ipc_columns.specs.HeldListed.{HoldsListed, HoldAllListed};
-ghost use Rattle.ipc_columns.specs.Kinds.{IsStored, Follows, AllFollow, form_of, listed_in, all_listed};
+ghost use Rattle.ipc_columns.specs.Kinds.{IsStored, IsBehind, AllFollow, form_of, listed_in, all_listed};
 ghost use Rattle.ipc_columns.specs.ReadColumns.{IsColumn};
 ghost use Rattle.ipc_columns.specs.Refusals.{IsColumnFault, IsFaultOf};
 ghost use Rattle.ipc_columns.specs.Steps.{Step};
@@ -60,7 +60,7 @@ fn read_flat<R: Reads + Seeks>(
     requires lies { physical (type_view data_type.now) ≡ physical_type }
     requires flat { IsFlat physical_type }
     requires room { let t = flat_kind physical_type (byte_size (type_view data_type.now)) in HasRoom body.now place (nodes t) (buffers body.now.extra t) }
-    requires stands { Stands R.still R.memory reader.old body.now }
+    requires stands { KeepsBytes R.still R.memory reader.old body.now }
     ensures only { let t = flat_kind physical_type (byte_size (type_view data_type.now)) in IfErr result (λ e. OwnFault e (IsFaultOf t e)) }
     ensures step { let t = flat_kind physical_type (byte_size (type_view data_type.now)) in
         Step R.still R.memory R.failures R.given body.now (listed_in (entries R.memory body.now) body.now.extra t place.buffer) reader.old result reader.new }
@@ -123,7 +123,7 @@ fn flat_after<R>(
 ) -> Place
     requires flat { IsFlat physical_type }
     requires room { let t = flat_kind physical_type (byte_size (type_view data_type.now)) in HasRoom body.now place (nodes t) (buffers body.now.extra t) }
-    ensures next { Follows body.now.extra (flat_kind physical_type (byte_size (type_view data_type.now))) place result }
+    ensures next { IsBehind body.now.extra (flat_kind physical_type (byte_size (type_view data_type.now))) place result }
 {
     let buffers = match physical_type {
         PhysicalType::Null => 0,
@@ -155,11 +155,11 @@ fn read_plain<R: Reads + Seeks>(
     requires plain { IsPlain (type_view data_type.now) }
     requires stored { IsStored (type_view own.now) (type_view data_type.now) }
     requires room { let t = kind_of (type_view data_type.now) id (all_ids_view ids.now) in HasRoom body.now place (nodes t) (buffers body.now.extra t) }
-    requires stands { Stands R.still R.memory reader.old body.now }
+    requires stands { KeepsBytes R.still R.memory reader.old body.now }
     ensures only { let t = kind_of (type_view data_type.now) id (all_ids_view ids.now) in IfErr result (λ e. OwnFault e (IsFaultOf t e)) }
     ensures step { let t = kind_of (type_view data_type.now) id (all_ids_view ids.now) in
         Step R.still R.memory R.failures R.given body.now (listed_in (entries R.memory body.now) body.now.extra t place.buffer) reader.old result reader.new }
-    ensures next { IfOk result (λ r. Follows body.now.extra (kind_of (type_view data_type.now) id (all_ids_view ids.now)) place r.1) }
+    ensures next { IfOk result (λ r. IsBehind body.now.extra (kind_of (type_view data_type.now) id (all_ids_view ids.now)) place r.1) }
     ensures held { let t = kind_of (type_view data_type.now) id (all_ids_view ids.now) in
         IfOk result (λ r. HoldsListed (entries R.memory body.now) body.now.extra t place.buffer (layout_of r.0)) }
     ensures memory { IsTrue R.known → let s = entries R.memory body.now in let t = kind_of (type_view data_type.now) id (all_ids_view ids.now) in
@@ -189,11 +189,11 @@ fn read_as<R: Reads + Seeks>(
 ) -> Result<(AnyArray, Place), Fault>
     requires stored { IsStored (type_view own.now) (type_view data_type.now) }
     requires room { let t = kind_of (type_view data_type.now) id (all_ids_view ids.now) in HasRoom body.now place (nodes t) (buffers body.now.extra t) }
-    requires stands { Stands R.still R.memory reader.old body.now }
+    requires stands { KeepsBytes R.still R.memory reader.old body.now }
     ensures only { let t = kind_of (type_view data_type.now) id (all_ids_view ids.now) in IfErr result (λ e. OwnFault e (IsFaultOf t e)) }
     ensures step { let t = kind_of (type_view data_type.now) id (all_ids_view ids.now) in
         Step R.still R.memory R.failures R.given body.now (listed_in (entries R.memory body.now) body.now.extra t place.buffer) reader.old result reader.new }
-    ensures next { IfOk result (λ r. Follows body.now.extra (kind_of (type_view data_type.now) id (all_ids_view ids.now)) place r.1) }
+    ensures next { IfOk result (λ r. IsBehind body.now.extra (kind_of (type_view data_type.now) id (all_ids_view ids.now)) place r.1) }
     ensures held { let t = kind_of (type_view data_type.now) id (all_ids_view ids.now) in
         IfOk result (λ r. HoldsListed (entries R.memory body.now) body.now.extra t place.buffer (layout_of r.0)) }
     ensures memory { IsTrue R.known → let s = entries R.memory body.now in let t = kind_of (type_view data_type.now) id (all_ids_view ids.now) in
@@ -248,11 +248,11 @@ fn read_list<R: Reads + Seeks>(
     requires fields { child_fields (type_view own.now) ≡ more_fields (field_view field.now) no_fields }
     requires room { let t = list_kind (form_of is_large) (field_kind (field_view field.now) (first_ids (all_ids_view ids.now))) in
         HasRoom body.now place (nodes t) (buffers body.now.extra t) }
-    requires stands { Stands R.still R.memory reader.old body.now }
+    requires stands { KeepsBytes R.still R.memory reader.old body.now }
     ensures only { IfErr result (λ e. OwnFault e (IsColumnFault e)) }
     ensures step { let t = list_kind (form_of is_large) (field_kind (field_view field.now) (first_ids (all_ids_view ids.now))) in
         Step R.still R.memory R.failures R.given body.now (listed_in (entries R.memory body.now) body.now.extra t place.buffer) reader.old result reader.new }
-    ensures next { IfOk result (λ r. Follows body.now.extra (list_kind (form_of is_large) (field_kind (field_view field.now) (first_ids (all_ids_view ids.now)))) place r.1) }
+    ensures next { IfOk result (λ r. IsBehind body.now.extra (list_kind (form_of is_large) (field_kind (field_view field.now) (first_ids (all_ids_view ids.now)))) place r.1) }
     ensures held { let t = list_kind (form_of is_large) (field_kind (field_view field.now) (first_ids (all_ids_view ids.now))) in
         IfOk result (λ r. HoldsListed (entries R.memory body.now) body.now.extra t place.buffer (layout_of r.0)) }
     ensures memory { IsTrue R.known → let s = entries R.memory body.now in
@@ -299,11 +299,11 @@ fn read_fixed_size_list<R: Reads + Seeks>(
     requires named { list_size (type_view own.now) ≡ size }
     requires fields { child_fields (type_view own.now) ≡ more_fields (field_view field.now) no_fields }
     requires room { let t = fixed_list_kind size (field_kind (field_view field.now) (first_ids (all_ids_view ids.now))) in HasRoom body.now start (nodes t) (buffers body.now.extra t) }
-    requires stands { Stands R.still R.memory reader.old body.now }
+    requires stands { KeepsBytes R.still R.memory reader.old body.now }
     ensures only { IfErr result (λ e. OwnFault e (IsColumnFault e)) }
     ensures step { let t = fixed_list_kind size (field_kind (field_view field.now) (first_ids (all_ids_view ids.now))) in
         Step R.still R.memory R.failures R.given body.now (listed_in (entries R.memory body.now) body.now.extra t start.buffer) reader.old result reader.new }
-    ensures next { IfOk result (λ r. Follows body.now.extra (fixed_list_kind size (field_kind (field_view field.now) (first_ids (all_ids_view ids.now)))) start r.1) }
+    ensures next { IfOk result (λ r. IsBehind body.now.extra (fixed_list_kind size (field_kind (field_view field.now) (first_ids (all_ids_view ids.now)))) start r.1) }
     ensures held { let t = fixed_list_kind size (field_kind (field_view field.now) (first_ids (all_ids_view ids.now))) in
         IfOk result (λ r. HoldsListed (entries R.memory body.now) body.now.extra t start.buffer (layout_of r.0)) }
     ensures memory { IsTrue R.known → let s = entries R.memory body.now in let t = fixed_list_kind size (field_kind (field_view field.now) (first_ids (all_ids_view ids.now))) in
@@ -351,11 +351,11 @@ fn read_map<R: Reads + Seeks>(
     requires lies { physical (type_view own.now) ≡ Map }
     requires fields { child_fields (type_view own.now) ≡ more_fields (field_view field.now) no_fields }
     requires room { let t = map_kind (field_kind (field_view field.now) (first_ids (all_ids_view ids.now))) in HasRoom body.now start (nodes t) (buffers body.now.extra t) }
-    requires stands { Stands R.still R.memory reader.old body.now }
+    requires stands { KeepsBytes R.still R.memory reader.old body.now }
     ensures only { IfErr result (λ e. OwnFault e (IsColumnFault e)) }
     ensures step { let t = map_kind (field_kind (field_view field.now) (first_ids (all_ids_view ids.now))) in
         Step R.still R.memory R.failures R.given body.now (listed_in (entries R.memory body.now) body.now.extra t start.buffer) reader.old result reader.new }
-    ensures next { IfOk result (λ r. Follows body.now.extra (map_kind (field_kind (field_view field.now) (first_ids (all_ids_view ids.now)))) start r.1) }
+    ensures next { IfOk result (λ r. IsBehind body.now.extra (map_kind (field_kind (field_view field.now) (first_ids (all_ids_view ids.now)))) start r.1) }
     ensures held { let t = map_kind (field_kind (field_view field.now) (first_ids (all_ids_view ids.now))) in
         IfOk result (λ r. HoldsListed (entries R.memory body.now) body.now.extra t start.buffer (layout_of r.0)) }
     ensures memory { IsTrue R.known → let s = entries R.memory body.now in let t = map_kind (field_kind (field_view field.now) (first_ids (all_ids_view ids.now))) in
@@ -400,11 +400,11 @@ fn read_struct<R: Reads + Seeks>(
     requires lies { physical (type_view own.now) ≡ Struct }
     requires fields { child_fields (type_view own.now) ≡ fields_view fields.now }
     requires room { let t = struct_kind (kinds_of (fields_view fields.now) (all_ids_view ids.now)) in HasRoom body.now place (nodes t) (buffers body.now.extra t) }
-    requires stands { Stands R.still R.memory reader.old body.now }
+    requires stands { KeepsBytes R.still R.memory reader.old body.now }
     ensures only { IfErr result (λ e. OwnFault e (IsColumnFault e)) }
     ensures step { let t = struct_kind (kinds_of (fields_view fields.now) (all_ids_view ids.now)) in
         Step R.still R.memory R.failures R.given body.now (listed_in (entries R.memory body.now) body.now.extra t place.buffer) reader.old result reader.new }
-    ensures next { IfOk result (λ r. Follows body.now.extra (struct_kind (kinds_of (fields_view fields.now) (all_ids_view ids.now))) place r.1) }
+    ensures next { IfOk result (λ r. IsBehind body.now.extra (struct_kind (kinds_of (fields_view fields.now) (all_ids_view ids.now))) place r.1) }
     ensures held { let t = struct_kind (kinds_of (fields_view fields.now) (all_ids_view ids.now)) in
         IfOk result (λ r. HoldsListed (entries R.memory body.now) body.now.extra t place.buffer (layout_of r.0)) }
     ensures memory { IsTrue R.known → let s = entries R.memory body.now in let t = struct_kind (kinds_of (fields_view fields.now) (all_ids_view ids.now)) in
@@ -435,7 +435,7 @@ fn read_fields<R: Reads + Seeks>(
     rows: usize,
 ) -> Result<(Vec<AnyArray>, Place), Fault>
     requires room { let ts = kinds_of (fields_view fields.now) (all_ids_view ids.now) in HasRoom body.now start (all_nodes ts) (all_buffers body.now.extra ts) }
-    requires stands { Stands R.still R.memory reader.old body.now }
+    requires stands { KeepsBytes R.still R.memory reader.old body.now }
     ensures only { IfErr result (λ e. OwnFault e (IsColumnFault e)) }
     ensures step { let ts = kinds_of (fields_view fields.now) (all_ids_view ids.now) in
         Step R.still R.memory R.failures R.given body.now (all_listed (entries R.memory body.now) body.now.extra ts start.buffer) reader.old result reader.new }
@@ -493,11 +493,11 @@ fn read_union<R: Reads + Seeks>(
     requires ids_named { union_ids (type_view own.now) ≡ ids_of type_ids.now }
     requires mode_named { union_mode (type_view own.now) ≡ mode }
     requires room { let t = union_kind mode (ids_of type_ids.now) (kinds_of (fields_view fields.now) (all_ids_view ids.now)) in HasRoom body.now place (nodes t) (buffers body.now.extra t) }
-    requires stands { Stands R.still R.memory reader.old body.now }
+    requires stands { KeepsBytes R.still R.memory reader.old body.now }
     ensures only { IfErr result (λ e. OwnFault e (IsColumnFault e)) }
     ensures step { let t = union_kind mode (ids_of type_ids.now) (kinds_of (fields_view fields.now) (all_ids_view ids.now)) in
         Step R.still R.memory R.failures R.given body.now (listed_in (entries R.memory body.now) body.now.extra t place.buffer) reader.old result reader.new }
-    ensures next { IfOk result (λ r. Follows body.now.extra (union_kind mode (ids_of type_ids.now) (kinds_of (fields_view fields.now) (all_ids_view ids.now))) place r.1) }
+    ensures next { IfOk result (λ r. IsBehind body.now.extra (union_kind mode (ids_of type_ids.now) (kinds_of (fields_view fields.now) (all_ids_view ids.now))) place r.1) }
     ensures held { let t = union_kind mode (ids_of type_ids.now) (kinds_of (fields_view fields.now) (all_ids_view ids.now)) in
         IfOk result (λ r. HoldsListed (entries R.memory body.now) body.now.extra t place.buffer (layout_of r.0)) }
     ensures memory { IsTrue R.known → let s = entries R.memory body.now in
@@ -545,7 +545,7 @@ fn read_whole_fields<R: Reads + Seeks>(
     start: Place,
 ) -> Result<(Vec<AnyArray>, Place), Fault>
     requires room { let ts = kinds_of (fields_view fields.now) (all_ids_view ids.now) in HasRoom body.now start (all_nodes ts) (all_buffers body.now.extra ts) }
-    requires stands { Stands R.still R.memory reader.old body.now }
+    requires stands { KeepsBytes R.still R.memory reader.old body.now }
     ensures only { IfErr result (λ e. OwnFault e (IsColumnFault e)) }
     ensures step { let ts = kinds_of (fields_view fields.now) (all_ids_view ids.now) in
         Step R.still R.memory R.failures R.given body.now (all_listed (entries R.memory body.now) body.now.extra ts start.buffer) reader.old result reader.new }
@@ -603,11 +603,11 @@ pub fn read<R: Reads + Seeks>(
     limit: Option<usize>,
 ) -> Result<(AnyArray, Place), Fault>
     requires room { let t = kind_of (type_view data_type.now) id (all_ids_view ids.now) in HasRoom body.now place (nodes t) (buffers body.now.extra t) }
-    requires stands { Stands R.still R.memory reader.old body.now }
+    requires stands { KeepsBytes R.still R.memory reader.old body.now }
     ensures only { let t = kind_of (type_view data_type.now) id (all_ids_view ids.now) in IfErr result (λ e. OwnFault e (IsFaultOf t e)) }
     ensures step { let t = kind_of (type_view data_type.now) id (all_ids_view ids.now) in
         Step R.still R.memory R.failures R.given body.now (listed_in (entries R.memory body.now) body.now.extra t place.buffer) reader.old result reader.new }
-    ensures next { IfOk result (λ r. Follows body.now.extra (kind_of (type_view data_type.now) id (all_ids_view ids.now)) place r.1) }
+    ensures next { IfOk result (λ r. IsBehind body.now.extra (kind_of (type_view data_type.now) id (all_ids_view ids.now)) place r.1) }
     ensures held { let t = kind_of (type_view data_type.now) id (all_ids_view ids.now) in
         IfOk result (λ r. HoldsListed (entries R.memory body.now) body.now.extra t place.buffer (layout_of r.0)) }
     ensures memory { IsTrue R.known → let s = entries R.memory body.now in let t = kind_of (type_view data_type.now) id (all_ids_view ids.now) in

@@ -7,7 +7,7 @@ ghost use Rattle.ipc_devices.specs.declared.fault.Fault.TheVariants.{Ended, OutO
 ghost use Rattle.ipc_devices.specs.declared.fault.OutOfSpecKind.TheVariants.{NegativeFooterLength};
 ghost use Rattle.lower_types.specs.Numbers.{values_of, unsigned_in};
 ghost use Rattle.ipc_model.specs.Entries.{IsSize, size, listed, bytes, Need, limited, rows, node, bytes_for};
-ghost use Rattle.ipc_columns.specs.Bodies.{Stands, entries, HasRoom};
+ghost use Rattle.ipc_columns.specs.Bodies.{KeepsBytes, entries, HasRoom};
 ghost use Rattle.ipc_columns.specs.Refusals.{IsBufferFault, IsBitsFault, IsColumnFault, TellsShort};
 ghost use Rattle.ipc_columns.specs.Steps.{Step};
 ghost use Rattle.lower_flat.specs.Validities.{ValidityFits};
@@ -307,7 +307,7 @@ pub fn fetch_numbers<T: NativeType, R: Reads + Seeks>(
     count: usize,
 ) -> Result<Vec<T>, Fault>
     requires inside { index < length body.now.buffers }
-    requires stands { Stands R.still R.memory reader.old body.now }
+    requires stands { KeepsBytes R.still R.memory reader.old body.now }
     ensures only { IfErr result (λ e. OwnFault e (IsBufferFault e)) }
     ensures step { Step R.still R.memory R.failures R.given body.now (listed (entries R.memory body.now) index) reader.old result reader.new }
     ensures needed { R.given reader.new ≤ R.given reader.old + T.width * count }
@@ -341,7 +341,7 @@ pub fn fetch_bytes<R: Reads + Seeks>(
     count: usize,
 ) -> Result<Vec<u8>, Fault>
     requires inside { index < length body.now.buffers }
-    requires stands { Stands R.still R.memory reader.old body.now }
+    requires stands { KeepsBytes R.still R.memory reader.old body.now }
     ensures only { IfErr result (λ e. OwnFault e (IsBufferFault e)) }
     ensures step { Step R.still R.memory R.failures R.given body.now (listed (entries R.memory body.now) index) reader.old result reader.new }
     ensures needed { R.given reader.new ≤ R.given reader.old + count }
@@ -375,7 +375,7 @@ pub fn fetch_pieces<R: Reads + Seeks>(
 ) -> Result<Vec<u8>, Fault>
     requires some { 0 < width }
     requires inside { index < length body.now.buffers }
-    requires stands { Stands R.still R.memory reader.old body.now }
+    requires stands { KeepsBytes R.still R.memory reader.old body.now }
     ensures only { IfErr result (λ e. OwnFault e (IsBufferFault e)) }
     ensures step { Step R.still R.memory R.failures R.given body.now (listed (entries R.memory body.now) index) reader.old result reader.new }
     ensures needed { R.given reader.new ≤ R.given reader.old + width * count }
@@ -494,7 +494,7 @@ pub fn read_bits<R: Reads + Seeks>(
 ) -> Result<Bitmap, Fault>
     requires inside { index < length body.now.buffers }
     requires small { count < 2 ^ 63 }
-    requires stands { Stands R.still R.memory reader.old body.now }
+    requires stands { KeepsBytes R.still R.memory reader.old body.now }
     ensures only { IfErr result (λ e. OwnFault e (IsBufferFault e)) }
     ensures step { Step R.still R.memory R.failures R.given body.now (listed (entries R.memory body.now) index) reader.old result reader.new }
     ensures count { IfOk result (λ bits. length bits ≡ count) }
@@ -522,7 +522,7 @@ pub fn read_head<R: Reads + Seeks>(
     limit: Option<usize>,
 ) -> Result<Head, Fault>
     requires room { HasRoom body.now place 1 1 }
-    requires stands { Stands R.still R.memory reader.old body.now }
+    requires stands { KeepsBytes R.still R.memory reader.old body.now }
     ensures only { IfErr result (λ e. OwnFault e (IsBufferFault e)) }
     ensures step { Step R.still R.memory R.failures R.given body.now (listed (entries R.memory body.now) place.buffer) reader.old result reader.new }
     ensures untouched { size (node (entries R.memory body.now) place.node).null_count ≡ 0 → reader.new ≡ reader.old }
@@ -642,7 +642,7 @@ pub fn read_offsets<O: StoredOffset, R: Reads + Seeks>(
 ) -> Result<OffsetsBuffer<O>, Fault>
     requires inside { index < length body.now.buffers }
     requires small { count < 2 ^ 63 }
-    requires stands { Stands R.still R.memory reader.old body.now }
+    requires stands { KeepsBytes R.still R.memory reader.old body.now }
     ensures only { IfErr result (λ e. OwnFault e (IsColumnFault e)) }
     ensures step { Step R.still R.memory R.failures R.given body.now (listed (entries R.memory body.now) index) reader.old result reader.new }
     ensures count { IfOk result (λ o. length o ≡ count + 1) }

@@ -6,9 +6,9 @@ ghost use Rattle.std.specs.List.{All, filter_map};
 ghost use Rattle.std.specs.HashMap.{get, keys};
 ghost use Rattle.ipc_devices.specs.declared.fault.Fault.TheVariants.{Memory};
 ghost use Rattle.ipc_model.specs.Batches.{IsProjection};
-ghost use Rattle.ipc_projections.specs.Projections.{IsIncreasing, IsPrepared, IsReordering, Moved, PreparedLaw};
+ghost use Rattle.ipc_projections.specs.Projections.{IsIncreasing, IsPrepared, IsReordering, AreReordered, PreparedLaw};
 ghost use Rattle.ipc_projections.specs.Placing.{Placing};
-ghost use Rattle.ipc_projections.specs.Steps.{HasKeys, HasPlaces, IsApart, IsPlace};
+ghost use Rattle.ipc_projections.specs.Steps.{HasFirstKeys, HasPlaces, IsApart, IsPlace};
 
 use crate::fault::Fault;
 use ipc_base::chunk::{Chunk, Rows};
@@ -66,7 +66,7 @@ pub fn is_reordering(map: &HashMap<usize, usize>, columns: usize) -> bool
 
 // Whether the keys are the numbers below this one.
 fn has_keys(map: &HashMap<usize, usize>, columns: usize) -> bool
-    ensures { IsTrue result ↔ HasKeys map.now columns }
+    ensures { IsTrue result ↔ HasFirstKeys map.now columns }
 {
     has_keys_below(map, columns) && has_each_key(map, columns)
 }
@@ -162,7 +162,7 @@ pub fn apply_projection(
     map: &HashMap<usize, usize>,
 ) -> Result<Chunk<AnyArray>, Fault>
     requires { IsReordering map.now (length chunk) }
-    ensures columns { IfOk result (λ ordered. Moved map.now chunk ordered) }
+    ensures columns { IfOk result (λ ordered. AreReordered map.now chunk ordered) }
     ensures only { IfErr result (λ fault. fault ≡ Memory) }
 {
     let ordered = reordered(alloc, chunk, map)?;
@@ -177,7 +177,7 @@ fn reordered<A: Rows>(
     map: &HashMap<usize, usize>,
 ) -> Result<Chunk<A>, AllocError>
     requires { IsReordering map.now (length chunk) }
-    ensures { IfOk result (λ ordered. Moved map.now chunk ordered) }
+    ensures { IfOk result (λ ordered. AreReordered map.now chunk ordered) }
 {
     let columns = in_order(alloc, chunk.into_arrays(), map)?;
     Ok(Chunk::new(columns))
@@ -191,7 +191,7 @@ fn in_order<T: Drop>(
     map: &HashMap<usize, usize>,
 ) -> Result<Vec<T>, AllocError>
     requires { IsReordering map.now (length columns.items) }
-    ensures { IfOk result (λ ordered. Moved map.now columns.items ordered.items) }
+    ensures { IfOk result (λ ordered. AreReordered map.now columns.items ordered.items) }
 {
     let places = placed(alloc, columns, map)?;
     let ordered = filled(alloc, places)?;

@@ -12,7 +12,7 @@ ghost use Rattle.ipc_model.specs.Kinds.{all_nodes, all_buffers};
 ghost use Rattle.ipc_model.specs.ReadChunks.{HaveMeaning};
 ghost use Rattle.ipc_model.specs.TypeKinds.{kinds_of};
 ghost use Rattle.ipc_columns.specs.Limits.{AreSmall};
-ghost use Rattle.ipc_columns.specs.Bodies.{Stands, HasRoom, entries, known, known_dictionaries};
+ghost use Rattle.ipc_columns.specs.Bodies.{KeepsBytes, HasRoom, entries, known, known_dictionaries};
 ghost use Rattle.ipc_columns.specs.Steps.{Step};
 ghost use Rattle.ipc_read.specs.Chunks.{GivesBatch, batch_schema, chunk_seen, order_of};
 ghost use Rattle.ipc_read.specs.Columns.{ArePrepared, AreColumns, HasColumns, IsChosen, columns_listed};
@@ -179,7 +179,7 @@ pub fn read_columns<R: Reads + Seeks>(
     requires prepared { ArePrepared (option_copied projection) (length fields.now) }
     requires room { let ts = kinds_of (fields_view fields.now) (all_ids_view ids.now) in
         HasRoom body.now (record { node = 0; buffer = 0 }) (all_nodes ts) (all_buffers body.now.extra ts) }
-    requires stands { Stands R.still R.memory reader.old body.now }
+    requires stands { KeepsBytes R.still R.memory reader.old body.now }
     ensures many { IfOk result (λ v. length v.items ≡ length (chosen (option_copied projection.entry) (length fields.now))) }
     ensures only { let js = chosen (option_copied projection.entry) (length fields.now) in
         IfErr result (λ e. OwnFault e (IsFaultOfSome (kinds_of (fields_view fields.now) (all_ids_view ids.now)) js e)) }

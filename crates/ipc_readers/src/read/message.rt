@@ -4,7 +4,7 @@ ghost use Rattle.ipc_devices.specs.Faults.{OnIo, OwnFault};
 ghost use Rattle.ipc_views.specs.MessageSlots.{message_header, message_body_length};
 ghost use Rattle.ipc_views.specs.Unions.{header_parts};
 ghost use Rattle.ipc_model.specs.Streams.{header_of};
-ghost use Rattle.ipc_readers.specs.Messages.{GivesMessage, header_seen, natural_length, needed_header, opened, seen};
+ghost use Rattle.ipc_readers.specs.Messages.{GivesMessage, header_seen, natural_length, needed_header, opened, answered_as};
 ghost use Rattle.ipc_readers.specs.Refusals.{IsMessageFault};
 
 use ipc_devices::fault::{Fault, OutOfSpecKind};
@@ -21,7 +21,7 @@ pub struct Message<'a> {
 
 // The header, which has to be there.
 fn header_of<'a>(message: &MessageRef<'a>) -> Result<MessageHeaderRef<'a>, Fault>
-    ensures value { seen header_parts result ≡ needed_header (message_header message.now) }
+    ensures value { answered_as header_parts result ≡ needed_header (message_header message.now) }
     ensures device { OnIo result ⊥ }
     ensures only { IfErr result (λ e. OwnFault e (IsMessageFault e)) }
 {
@@ -55,7 +55,7 @@ fn body_length_of(message: &MessageRef<'_>) -> Result<usize, Fault>
 pub fn open_message(metadata: &[u8]) -> Result<Message<'_>, Fault>
     ensures small { IfOk result (λ m. m.body_length < 2 ^ 63) }
     ensures message { GivesMessage (header_of metadata.now) result }
-    ensures exact { seen header_seen result ≡ opened metadata.now }
+    ensures exact { answered_as header_seen result ≡ opened metadata.now }
     ensures device { OnIo result ⊥ }
     ensures only { IfErr result (λ e. OwnFault e (IsMessageFault e)) }
 {

@@ -5,7 +5,7 @@ ghost use Rattle.std.specs.Prelude.{◌≡◌, [], IfOk, option_map, string_byte
 ghost use Rattle.lower.specs.TypeViews.{type_view, pairs_of};
 ghost use Rattle.ipc_model.specs.Schemas.{made, given, pairs_from, pairs_at, value_under, with_extension};
 ghost use Rattle.ipc_views.specs.SchemaSlots.{field_custom_metadata, schema_custom_metadata};
-ghost use Rattle.ipc_schema.specs.Reading.{Gives};
+ghost use Rattle.ipc_schema.specs.Reading.{AnswersMeaning};
 
 use crate::read::pairs::{PairsFault, read_pairs};
 use crate::read::types::in_schema;
@@ -23,7 +23,7 @@ const DATA_KEY: &str = "ARROW:extension:metadata";
 
 // The pairs of a vector of tables. An ill-made one is a fault of the schema.
 fn pairs_in_schema(alloc: Global, tables: &Tables<'_, KeyValueTable>) -> Result<Metadata, Fault>
-    ensures { Gives (λ pairs. pairs_of pairs.entries) result
+    ensures { AnswersMeaning (λ pairs. pairs_of pairs.entries) result
         (pairs_from tables.now 0 tables.now.count []) }
 {
     match read_pairs(alloc, tables) {
@@ -36,7 +36,7 @@ fn pairs_in_schema(alloc: Global, tables: &Tables<'_, KeyValueTable>) -> Result<
 /// The pairs of a field, none where there is no vector of them.
 #[tactic(auto, unfolding(ipc_model::specs::Schemas::pairs_at))]
 pub(crate) fn read_metadata(alloc: Global, field: &FieldRef<'_>) -> Result<Metadata, Fault>
-    ensures { Gives (λ pairs. pairs_of pairs.entries) result
+    ensures { AnswersMeaning (λ pairs. pairs_of pairs.entries) result
         (given (made (field_custom_metadata field.now)) pairs_at) }
 {
     match in_schema(field.custom_metadata())? {
@@ -48,7 +48,7 @@ pub(crate) fn read_metadata(alloc: Global, field: &FieldRef<'_>) -> Result<Metad
 /// The pairs of a schema, none where there is no vector of them.
 #[tactic(auto, unfolding(ipc_model::specs::Schemas::pairs_at))]
 pub(crate) fn read_schema_metadata(alloc: Global, schema: &SchemaRef<'_>) -> Result<Metadata, Fault>
-    ensures { Gives (λ pairs. pairs_of pairs.entries) result
+    ensures { AnswersMeaning (λ pairs. pairs_of pairs.entries) result
         (given (made (schema_custom_metadata schema.now)) pairs_at) }
 {
     match in_schema(schema.custom_metadata())? {

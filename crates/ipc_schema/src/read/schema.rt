@@ -10,7 +10,7 @@ ghost use Rattle.ipc_views.specs.SchemaSlots.{field_children, field_dictionary, 
 ghost use Rattle.ipc_views.specs.Tables.{table_in};
 ghost use Rattle.ipc_views.specs.Unions.{type_parts};
 ghost use Rattle.ipc_model.specs.Schemas.{order_of, made, present, given, encoding_at, optional_encoding, encoded, id_of, field_with, field_at, fields_count, fields_from, first_field, some_fields, type_of_field};
-ghost use Rattle.ipc_schema.specs.Reading.{Gives, GivesMessage, GivesTable, GivesWithin, IsWithin};
+ghost use Rattle.ipc_schema.specs.Reading.{AnswersMeaning, GivesMessage, GivesTable, GivesWithin, IsWithin};
 ghost use Rattle.ipc_schema.specs.Views.{below_number, byte_order, child_number, child_seen, encoding_seen, field_seen, fields_number, fields_seen, inner_number, schema_seen, type_seen, with_one_id};
 
 use crate::read::metadata::{read_metadata, read_schema_metadata, with_extension};
@@ -40,7 +40,7 @@ struct Encoding {
 
 #[tactic(auto, unfolding(ipc_model::specs::Schemas::encoding_at))]
 fn deserialize_encoding(table: &DictionaryEncodingRef<'_>) -> Result<Encoding, Fault>
-    ensures { Gives encoding_seen result (encoding_at table.now) }
+    ensures { AnswersMeaning encoding_seen result (encoding_at table.now) }
 {
     let id = in_schema(table.id())?;
     let Some(index_type) = in_schema(table.index_type())? else {
@@ -57,7 +57,7 @@ fn deserialize_encoding(table: &DictionaryEncodingRef<'_>) -> Result<Encoding, F
 
 // The encoding of a field, None where it has no dictionary.
 fn read_encoding(field: &FieldRef<'_>) -> Result<Option<Encoding>, Fault>
-    ensures { Gives (λ e. option_map encoding_seen e) result
+    ensures { AnswersMeaning (λ e. option_map encoding_seen e) result
         (given (made (field_dictionary field.now)) optional_encoding) }
 {
     match in_schema(field.dictionary())? {
@@ -123,7 +123,7 @@ fn field_with(
 }
 
 fn read_name(alloc: Global, field: &FieldRef<'_>) -> Result<String, Fault>
-    ensures { Gives string_bytes result (present (field_name field.now)) }
+    ensures { AnswersMeaning string_bytes result (present (field_name field.now)) }
 {
     match in_schema(field.name())? {
         Some(name) => Ok(String::from_str(alloc, name)?),

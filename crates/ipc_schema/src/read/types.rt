@@ -7,7 +7,7 @@ ghost use Rattle.lower.specs.TypeViews.{type_view, ids_of, text_of};
 ghost use Rattle.ipc_views.specs.TypeSlots.{timestamp_timezone, union_type_ids};
 ghost use Rattle.ipc_views.specs.Unions.{type_parts};
 ghost use Rattle.ipc_model.specs.Schemas.{made, size_of, unit_of, interval_of, mode_of, integer_of, integer_at, integers, float_of, date_of, time_of, decimal_of, decimal_at, plain_at};
-ghost use Rattle.ipc_schema.specs.Reading.{Gives, in_schema};
+ghost use Rattle.ipc_schema.specs.Reading.{AnswersMeaning, in_schema};
 
 use ipc_base::fault::{Fault, SchemaFault, TableFault};
 use ipc_views::{
@@ -28,7 +28,7 @@ pub(crate) fn in_schema<T>(slot: Result<T, TableFault>) -> Result<T, Fault>
 }
 
 fn integer_type(width: i32, is_signed: bool) -> Result<IntegerType, Fault>
-    ensures { Gives (λ i. i) result (integer_of width is_signed) }
+    ensures { AnswersMeaning (λ i. i) result (integer_of width is_signed) }
 {
     match width {
         8 => Ok(if is_signed {
@@ -57,7 +57,7 @@ fn integer_type(width: i32, is_signed: bool) -> Result<IntegerType, Fault>
 
 #[tactic(auto, unfolding(ipc_model::specs::Schemas::integer_at))]
 pub(crate) fn deserialize_integer(int: &IntRef<'_>) -> Result<IntegerType, Fault>
-    ensures { Gives (λ i. i) result (integer_at int.now) }
+    ensures { AnswersMeaning (λ i. i) result (integer_at int.now) }
 {
     let width = in_schema(int.bit_width())?;
     let is_signed = in_schema(int.is_signed())?;
@@ -129,7 +129,7 @@ pub(crate) fn union_mode(mode: UnionModeTag) -> UnionMode
 }
 
 pub(crate) fn deserialize_size(size: i32) -> Result<usize, Fault>
-    ensures { Gives (λ n. n) result (size_of size) }
+    ensures { AnswersMeaning (λ n. n) result (size_of size) }
 {
     if size < 0 {
         return Err(Fault::Schema(SchemaFault::BadSize));
@@ -139,7 +139,7 @@ pub(crate) fn deserialize_size(size: i32) -> Result<usize, Fault>
 
 // The precision or the scale of a decimal.
 fn deserialize_digits(digits: i32) -> Result<usize, Fault>
-    ensures { Gives (λ n. n) result (size_of digits) }
+    ensures { AnswersMeaning (λ n. n) result (size_of digits) }
 {
     if digits < 0 {
         return Err(Fault::Schema(SchemaFault::BadDecimal));
@@ -148,7 +148,7 @@ fn deserialize_digits(digits: i32) -> Result<usize, Fault>
 }
 
 fn decimals(precision: usize, scale: usize, bit_width: i32) -> Result<DataType, Fault>
-    ensures { Gives type_view result (option_map plain (decimal_of precision scale bit_width)) }
+    ensures { AnswersMeaning type_view result (option_map plain (decimal_of precision scale bit_width)) }
 {
     match bit_width {
         128 => Ok(DataType::Decimal(precision, scale)),
@@ -159,7 +159,7 @@ fn decimals(precision: usize, scale: usize, bit_width: i32) -> Result<DataType, 
 
 #[tactic(auto, unfolding(ipc_model::specs::Schemas::decimal_at))]
 fn deserialize_decimal(decimal: &DecimalRef<'_>) -> Result<DataType, Fault>
-    ensures { Gives type_view result (option_map plain (decimal_at decimal.now)) }
+    ensures { AnswersMeaning type_view result (option_map plain (decimal_at decimal.now)) }
 {
     let precision = in_schema(decimal.precision())?;
     let precision = deserialize_digits(precision)?;
@@ -171,7 +171,7 @@ fn deserialize_decimal(decimal: &DecimalRef<'_>) -> Result<DataType, Fault>
 
 // 32 bits count seconds or milliseconds, 64 bits microseconds or nanoseconds.
 fn times(unit: TimeUnitTag, bit_width: i32) -> Result<DataType, Fault>
-    ensures { Gives type_view result (option_map plain (time_of unit bit_width)) }
+    ensures { AnswersMeaning type_view result (option_map plain (time_of unit bit_width)) }
 {
     match (bit_width, unit) {
         (32, TimeUnitTag::Second) => Ok(DataType::Time32(TimeUnit::Second)),
@@ -184,7 +184,7 @@ fn times(unit: TimeUnitTag, bit_width: i32) -> Result<DataType, Fault>
 
 #[tactic(auto, unfolding(ipc_model::specs::Schemas::plain_at))]
 fn deserialize_time(time: &TimeRef<'_>) -> Result<DataType, Fault>
-    ensures { Gives type_view result (option_map plain (plain_at 9 time.now)) }
+    ensures { AnswersMeaning type_view result (option_map plain (plain_at 9 time.now)) }
 {
     let unit = in_schema(time.unit())?;
     let bit_width = in_schema(time.bit_width())?;
@@ -196,7 +196,7 @@ fn deserialize_timezone(
     alloc: Global,
     timestamp: &TimestampRef<'_>,
 ) -> Result<Option<String>, Fault>
-    ensures { Gives text_of result (made (timestamp_timezone timestamp.now)) }
+    ensures { AnswersMeaning text_of result (made (timestamp_timezone timestamp.now)) }
 {
     match in_schema(timestamp.timezone())? {
         Some(timezone) => Ok(Some(String::from_str(alloc, timezone)?)),
@@ -206,7 +206,7 @@ fn deserialize_timezone(
 
 #[tactic(auto, unfolding(ipc_model::specs::Schemas::plain_at))]
 fn deserialize_timestamp(alloc: Global, timestamp: &TimestampRef<'_>) -> Result<DataType, Fault>
-    ensures { Gives type_view result (option_map plain (plain_at 10 timestamp.now)) }
+    ensures { AnswersMeaning type_view result (option_map plain (plain_at 10 timestamp.now)) }
 {
     let unit = in_schema(timestamp.unit())?;
     let timezone = deserialize_timezone(alloc, timestamp)?;
@@ -218,7 +218,7 @@ pub(crate) fn deserialize_ids(
     alloc: Global,
     union: &UnionRef<'_>,
 ) -> Result<Option<Vec<i32>>, Fault>
-    ensures { Gives ids_of result (made (union_type_ids union.now)) }
+    ensures { AnswersMeaning ids_of result (made (union_type_ids union.now)) }
 {
     match in_schema(union.type_ids())? {
         Some(ids) => Ok(Some(copied_ids(alloc, &ids)?)),
@@ -240,7 +240,7 @@ fn copied_ids(alloc: Global, ids: &TypeIds<'_>) -> Result<Vec<i32>, AllocError>
 /// it, so that one is refused.
 #[tactic(auto, unfolding(ipc_model::specs::Schemas::plain_at))]
 pub(crate) fn deserialize_plain(alloc: Global, type_: &TypeRef<'_>) -> Result<DataType, Fault>
-    ensures { Gives type_view result
+    ensures { AnswersMeaning type_view result
         (option_map plain (plain_at (type_parts type_.now).0 (type_parts type_.now).1)) }
 {
     match type_ {

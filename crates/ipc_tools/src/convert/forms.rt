@@ -1,6 +1,6 @@
 //! What the words of a call ask for.
 ghost use Rattle.std.specs.Prelude.{◌≡◌, false, map, option_map, string_bytes};
-ghost use Rattle.ipc_tools.specs.ConvertWords.{asked, asked_by, copy_named, options_named, place_for};
+ghost use Rattle.ipc_tools.specs.ConvertWords.{asked, wanted_by, copy_named, options_named, place_for};
 
 use arrow2_ipc::io::ipc::write::WriteOptions;
 
@@ -43,7 +43,7 @@ pub struct Place<'a> {
 
 /// The form that these words ask for, or None where no form has them. A first word `append` always asks for appending.
 pub fn form_of(words: &[String]) -> Option<Form<'_>>
-    ensures { option_map asked_by result ≡ asked (map string_bytes words.now) }
+    ensures { option_map wanted_by result ≡ asked (map string_bytes words.now) }
 {
     let (first, others) = words.split_first()?;
     match (first.as_str(), others) {
@@ -57,7 +57,7 @@ pub fn form_of(words: &[String]) -> Option<Form<'_>>
 
 /// What the words of a form have opened.
 pub fn place_in(form: Form<'_>) -> Option<Place<'_>>
-    ensures { option_map (λ place. (place.path.now, place.is_written)) result ≡ place_for (asked_by form.entry) }
+    ensures { option_map (λ place. (place.path.now, place.is_written)) result ≡ place_for (wanted_by form.entry) }
 {
     match form {
         Form::Convert(Source::Input, _, _) => None,
@@ -73,7 +73,7 @@ pub fn place_in(form: Form<'_>) -> Option<Place<'_>>
 }
 
 fn form_from_to<'a>(from: &'a str, to: &str, write_options: WriteOptions) -> Option<Form<'a>>
-    ensures { option_map asked_by result ≡ copy_named from.now to.now write_options }
+    ensures { option_map wanted_by result ≡ copy_named from.now to.now write_options }
 {
     let source = if from == "-" {
         Source::Input

@@ -1,4 +1,3 @@
-use Rattle.std.proofs.Common.{map}
 use Rattle.ipc_chunks.proofs.MessageLists.{joined_next}
 use Rattle.ipc_chunks.proofs.common.join_all.Goals as goal
 

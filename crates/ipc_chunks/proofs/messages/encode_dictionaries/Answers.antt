@@ -1,7 +1,7 @@
 use Rattle.std.proofs.Common.{rules, ◌≡◌, Err, inl}
 use Rattle.std.proofs.lemmas.List.Elements.{All-push}
 use Rattle.ipc_encode.specs.Appending.{order_of}
-use Rattle.ipc_chunks.specs.Messages.{IsWhole}
+use Rattle.ipc_chunks.specs.Messages.{HasWholeBody}
 use Rattle.ipc_chunks.proofs.MessageLists.{refused_at, values_next}
 use Rattle.ipc_chunks.proofs.messages.encode_dictionaries.Goals as goal
 
@@ -13,7 +13,7 @@ loop-dictionary-preserved c = record {
       c.in_ok-encode_dictionary.field-0 c.loop-dictionary-test.true c.dictionary-item.is c.loop-dictionary.invariant.values c.in_ok-encode_dictionary.ensures.encodes);
   whole =
       rw c.in_ok-push.ensures.items
-      (All-push IsWhole c.loop-dictionary.encoded.items c.in_ok-encode_dictionary.field-0 c.loop-dictionary.invariant.whole c.in_ok-encode_dictionary.ensures.whole);
+      (All-push HasWholeBody c.loop-dictionary.encoded.items c.in_ok-encode_dictionary.field-0 c.loop-dictionary.invariant.whole c.in_ok-encode_dictionary.ensures.whole);
 }
 
 pub returns-in_err-encode_dictionary-clause-refused : goal.returns-in_err-encode_dictionary-clause-refused

@@ -9,7 +9,7 @@ ghost use Rattle.ipc_model.specs.Kinds.{boolean_kind};
 ghost use Rattle.ipc_model.specs.Entries.{listed};
 ghost use Rattle.ipc_model.specs.Columns.{IsWell};
 ghost use Rattle.ipc_model.specs.ReadArrays.{array_at};
-ghost use Rattle.ipc_columns.specs.Bodies.{Stands, HasRoom, entries, known};
+ghost use Rattle.ipc_columns.specs.Bodies.{KeepsBytes, HasRoom, entries, known};
 ghost use Rattle.ipc_columns.specs.HeldListed.{HoldsListed};
 ghost use Rattle.ipc_columns.specs.Refusals.{IsColumnFault};
 ghost use Rattle.ipc_columns.specs.Steps.{Step};
@@ -39,7 +39,7 @@ pub fn read_boolean<R: Reads + Seeks>(
 ) -> Result<BooleanArray, Fault>
     requires lies { physical (type_view data_type.now) ≡ Boolean }
     requires room { HasRoom body.now place 1 2 }
-    requires stands { Stands R.still R.memory reader.old body.now }
+    requires stands { KeepsBytes R.still R.memory reader.old body.now }
     ensures only { IfErr result (λ e. OwnFault e (IsColumnFault e)) }
     ensures step { let s = entries R.memory body.now in
         Step R.still R.memory R.failures R.given body.now (listed s place.buffer + listed s (place.buffer + 1)) reader.old result reader.new }

@@ -17,10 +17,10 @@ ghost use Rattle.ipc_model.specs.Entries.{listed, rows};
 ghost use Rattle.ipc_model.specs.Kinds.{number_kind, dictionary_kind};
 ghost use Rattle.ipc_model.specs.ReadArrays.{array_at};
 ghost use Rattle.ipc_model.specs.TypeKinds.{key_form};
-ghost use Rattle.ipc_columns.specs.Bodies.{Stands, HasRoom, entries, known};
+ghost use Rattle.ipc_columns.specs.Bodies.{KeepsBytes, HasRoom, entries, known};
 ghost use Rattle.ipc_columns.specs.HeldListed.{HoldsListed, keys_held};
 ghost use Rattle.ipc_columns.specs.KeyLevels.{keys_at};
-ghost use Rattle.ipc_columns.specs.Kinds.{Follows, listed_in};
+ghost use Rattle.ipc_columns.specs.Kinds.{IsBehind, listed_in};
 ghost use Rattle.ipc_columns.specs.Refusals.{IsBufferFault, IsColumnFault, RefusesValues};
 ghost use Rattle.ipc_columns.specs.Steps.{Step};
 
@@ -79,7 +79,7 @@ pub fn read_keys<R: Reads + Seeks>(
 ) -> Result<DictionaryKeys, Fault>
     requires typed { type_view data_type.now ≡ plain (integer keys) }
     requires room { HasRoom body.now place 1 2 }
-    requires stands { Stands R.still R.memory reader.old body.now }
+    requires stands { KeepsBytes R.still R.memory reader.old body.now }
     ensures only { IfErr result (λ e. OwnFault e (IsBufferFault e)) }
     ensures step { let s = entries R.memory body.now in
         Step R.still R.memory R.failures R.given body.now (listed s place.buffer + listed s (place.buffer + 1)) reader.old result reader.new }
@@ -166,11 +166,11 @@ pub fn read_dictionary<R: Reads + Seeks>(
     requires lies { physical (type_view own.now) ≡ Dictionary keys }
     requires named { named_type (type_view own.now) ≡ type_view value_type.now }
     requires room { HasRoom body.now place 1 2 }
-    requires stands { Stands R.still R.memory reader.old body.now }
+    requires stands { KeepsBytes R.still R.memory reader.old body.now }
     ensures only { IfErr result (λ e. OwnFault e (IsColumnFault e)) }
     ensures step { let t = dictionary_kind (key_form keys) id (norm (type_view value_type.now)) in
         Step R.still R.memory R.failures R.given body.now (listed_in (entries R.memory body.now) body.now.extra t place.buffer) reader.old result reader.new }
-    ensures next { IfOk result (λ r. Follows body.now.extra (dictionary_kind (key_form keys) id (norm (type_view value_type.now))) place r.1) }
+    ensures next { IfOk result (λ r. IsBehind body.now.extra (dictionary_kind (key_form keys) id (norm (type_view value_type.now))) place r.1) }
     ensures held { let t = dictionary_kind (key_form keys) id (norm (type_view value_type.now)) in
         IfOk result (λ r. HoldsListed (entries R.memory body.now) body.now.extra t place.buffer (layout_of r.0)) }
     ensures memory { IsTrue R.known → let s = entries R.memory body.now in

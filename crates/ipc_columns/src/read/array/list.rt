@@ -13,7 +13,7 @@ ghost use Rattle.ipc_model.specs.Kinds.{offset_width};
 ghost use Rattle.ipc_model.specs.Entries.{listed, rows};
 ghost use Rattle.ipc_model.specs.Columns.{Begins, Offsets};
 ghost use Rattle.ipc_model.specs.ReadArrays.{offset_type};
-ghost use Rattle.ipc_columns.specs.Bodies.{Stands, HasRoom, entries};
+ghost use Rattle.ipc_columns.specs.Bodies.{KeepsBytes, HasRoom, entries};
 ghost use Rattle.lower_arrays.specs.Held.{validity_held};
 ghost use Rattle.ipc_columns.specs.HeldListed.{HoldsOffsets};
 ghost use Rattle.ipc_columns.specs.Kinds.{form_of};
@@ -59,7 +59,7 @@ pub fn read_list_head<R: Reads + Seeks>(
     is_large: bool,
 ) -> Result<ListHead, Fault>
     requires room { HasRoom body.now place 1 2 }
-    requires stands { Stands R.still R.memory reader.old body.now }
+    requires stands { KeepsBytes R.still R.memory reader.old body.now }
     ensures only { IfErr result (λ e. OwnFault e (IsColumnFault e)) }
     ensures step { let s = entries R.memory body.now in
         Step R.still R.memory R.failures R.given body.now (listed s place.buffer + listed s (place.buffer + 1)) reader.old result reader.new }

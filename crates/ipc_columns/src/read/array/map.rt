@@ -11,7 +11,7 @@ ghost use Rattle.lower_arrays.specs.AnyLayouts.{layout_of};
 ghost use Rattle.ipc_model.specs.Kinds.{offsets_32, offset_width};
 ghost use Rattle.ipc_model.specs.Entries.{listed, rows};
 ghost use Rattle.ipc_model.specs.Columns.{Begins, Offsets};
-ghost use Rattle.ipc_columns.specs.Bodies.{Stands, HasRoom, entries};
+ghost use Rattle.ipc_columns.specs.Bodies.{KeepsBytes, HasRoom, entries};
 ghost use Rattle.lower_arrays.specs.Held.{validity_held};
 ghost use Rattle.lower_types.specs.declared.PrimitiveType.TheVariants.{Int32};
 ghost use Rattle.ipc_columns.specs.HeldListed.{HoldsOffsets};
@@ -57,7 +57,7 @@ pub fn read_map_head<R: Reads + Seeks>(
     limit: Option<usize>,
 ) -> Result<MapHead, Fault>
     requires room { HasRoom body.now place 1 2 }
-    requires stands { Stands R.still R.memory reader.old body.now }
+    requires stands { KeepsBytes R.still R.memory reader.old body.now }
     ensures only { IfErr result (λ e. OwnFault e (IsColumnFault e)) }
     ensures step { let s = entries R.memory body.now in
         Step R.still R.memory R.failures R.given body.now (listed s place.buffer + listed s (place.buffer + 1)) reader.old result reader.new }

@@ -10,7 +10,7 @@ ghost use Rattle.ipc_model.specs.Kinds.{number_kind};
 ghost use Rattle.ipc_model.specs.Entries.{listed};
 ghost use Rattle.ipc_model.specs.Columns.{IsWell};
 ghost use Rattle.ipc_model.specs.ReadArrays.{array_at};
-ghost use Rattle.ipc_columns.specs.Bodies.{Stands, HasRoom, entries, known};
+ghost use Rattle.ipc_columns.specs.Bodies.{KeepsBytes, HasRoom, entries, known};
 ghost use Rattle.ipc_columns.specs.HeldListed.{HoldsListed};
 ghost use Rattle.ipc_columns.specs.FlatKinds.{IsExact};
 ghost use Rattle.ipc_columns.specs.Refusals.{IsBufferFault};
@@ -43,7 +43,7 @@ pub fn read_primitive<T: NativeType, R: Reads + Seeks>(
 ) -> Result<PrimitiveArray<T>, Fault>
     requires lies { physical (type_view data_type.now) ≡ Primitive T.primitive }
     requires room { HasRoom body.now place 1 2 }
-    requires stands { Stands R.still R.memory reader.old body.now }
+    requires stands { KeepsBytes R.still R.memory reader.old body.now }
     ensures only { IfErr result (λ e. OwnFault e (IsBufferFault e)) }
     ensures step { let s = entries R.memory body.now in
         Step R.still R.memory R.failures R.given body.now (listed s place.buffer + listed s (place.buffer + 1)) reader.old result reader.new }
@@ -75,7 +75,7 @@ pub fn read_any_primitive<R: Reads + Seeks>(
     requires exact { IsExact primitive }
     requires lies { physical (type_view data_type.now) ≡ Primitive primitive }
     requires room { HasRoom body.now place 1 2 }
-    requires stands { Stands R.still R.memory reader.old body.now }
+    requires stands { KeepsBytes R.still R.memory reader.old body.now }
     ensures only { IfErr result (λ e. OwnFault e (IsBufferFault e)) }
     ensures step { let s = entries R.memory body.now in
         Step R.still R.memory R.failures R.given body.now (listed s place.buffer + listed s (place.buffer + 1)) reader.old result reader.new }

@@ -10,7 +10,7 @@ ghost use Rattle.lower_arrays.specs.Unions.{union_seen, union_layout};
 ghost use Rattle.lower_arrays.specs.AnyLayouts.{layout_of};
 ghost use Rattle.ipc_model.specs.Entries.{IsSize, node, listed, Need, rows};
 ghost use Rattle.ipc_model.specs.ReadArrays.{integers_of};
-ghost use Rattle.ipc_columns.specs.Bodies.{Stands, HasRoom, entries};
+ghost use Rattle.ipc_columns.specs.Bodies.{KeepsBytes, HasRoom, entries};
 ghost use Rattle.ipc_columns.specs.Refusals.{IsBufferFault, IsColumnFault};
 ghost use Rattle.ipc_columns.specs.Steps.{Step};
 
@@ -32,7 +32,7 @@ fn fetch_types<R: Reads + Seeks>(
     count: usize,
 ) -> Result<Buffer<i8>, Fault>
     requires inside { index < length body.now.buffers }
-    requires stands { Stands R.still R.memory reader.old body.now }
+    requires stands { KeepsBytes R.still R.memory reader.old body.now }
     ensures only { IfErr result (λ e. OwnFault e (IsBufferFault e)) }
     ensures step { Step R.still R.memory R.failures R.given body.now (listed (entries R.memory body.now) index) reader.old result reader.new }
     ensures count { IfOk result (λ types. length types ≡ count) }
@@ -54,7 +54,7 @@ pub fn read_places<R: Reads + Seeks>(
     count: usize,
 ) -> Result<Buffer<i32>, Fault>
     requires inside { index < length body.now.buffers }
-    requires stands { Stands R.still R.memory reader.old body.now }
+    requires stands { KeepsBytes R.still R.memory reader.old body.now }
     ensures only { IfErr result (λ e. OwnFault e (IsBufferFault e)) }
     ensures step { Step R.still R.memory R.failures R.given body.now (listed (entries R.memory body.now) index) reader.old result reader.new }
     ensures count { IfOk result (λ places. length places ≡ count) }
@@ -80,7 +80,7 @@ pub fn read_types<R: Reads + Seeks>(
     limit: Option<usize>,
 ) -> Result<Buffer<i8>, Fault>
     requires room { HasRoom body.now place 1 (1 + body.now.extra) }
-    requires stands { Stands R.still R.memory reader.old body.now }
+    requires stands { KeepsBytes R.still R.memory reader.old body.now }
     ensures only { IfErr result (λ e. OwnFault e (IsBufferFault e)) }
     ensures step { Step R.still R.memory R.failures R.given body.now (listed (entries R.memory body.now) (place.buffer + body.now.extra)) reader.old result reader.new }
     ensures held { IfOk result (λ types. length types ≤ listed (entries R.memory body.now) (place.buffer + body.now.extra)) }

@@ -1,4 +1,4 @@
-use Rattle.std.proofs.Common.{rules, arith, ◌≡◌, ◌<◌, take, length}
+use Rattle.std.proofs.Common.{arith, ◌≡◌, ◌<◌, take, length}
 use Rattle.std.proofs.lemmas.List.{length-take-le}
 use Rattle.std.proofs.lemmas.Grind.{common_steps}
 use Rattle.ipc_devices.proofs.reading.add_piece.Goals as goal

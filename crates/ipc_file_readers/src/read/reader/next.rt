@@ -4,7 +4,7 @@ ghost use Rattle.std.specs.Iterator.{at_most};
 ghost use Rattle.ipc_devices.specs.declared.fault.Fault.TheVariants.{Memory};
 ghost use Rattle.ipc_model.specs.Batches.{IsProjection};
 ghost use Rattle.ipc_projections.specs.ChosenColumns.{items_of};
-ghost use Rattle.ipc_file_readers.specs.Readers.{Begins, DiffersInScratches, NextStep, blocks_left, device_of, is_over, known_of, less, metadata_of, schema_of, scratches_of};
+ghost use Rattle.ipc_file_readers.specs.Readers.{IsUnread, DiffersInScratches, NextStep, blocks_left, device_of, is_over, known_of, less, metadata_of, schema_of, scratches_of};
 ghost use Rattle.ipc_file_readers.specs.Steps.{BlockGave, DictionariesGave, NextGave};
 
 use crate::read::reader::state::FileReader;
@@ -40,7 +40,7 @@ impl<R: Reads + Seeks + Drop> FileReader<R> {
         limit: Option<usize>,
     ) -> Result<FileReader<R>, Fault>
         requires { IsProjection (items_of projection) (length metadata.schema.fields.items) }
-        ensures ok { IfOk result (λ made. Begins reader metadata (items_of projection) limit made) }
+        ensures ok { IfOk result (λ made. IsUnread reader metadata (items_of projection) limit made) }
         ensures only { IfErr result (λ e. (e ≡ Memory) × IsSome projection) }
     {
         let projection = choose(alloc, &metadata.schema, projection)?;

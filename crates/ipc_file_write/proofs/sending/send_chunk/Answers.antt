@@ -6,7 +6,7 @@ use Rattle.ipc_schema_write.specs.WriterAnswers.{byte_order}
 use Rattle.ipc_tracker.specs.Listings.{listed}
 use Rattle.ipc_file_laws.specs.FileBytes.{Sent}
 use Rattle.ipc_write.proofs.MessageSends.{same_order}
-use Rattle.ipc_file_write.specs.Blocks.{IsPlaced, RefusesPlaces, sent, sent_seen}
+use Rattle.ipc_file_write.specs.Blocks.{HasBlocksFrom, RefusesBlockRoom, sent, sent_seen}
 use Rattle.ipc_file_write.proofs.EncodedMessages.{bytes_sent, seen_sent}
 use Rattle.ipc_file_write.proofs.Writes.{hands_all, hands_failed, hands_refused, messages_not_io, places_not_io}
 use Rattle.ipc_file_write.proofs.sending.send_chunk.Goals as goal
@@ -31,8 +31,8 @@ returns-in_err-placed g c =
     let order = byte_order c.args.is_little_endian in
     let are : AreMessages order columns list (dictionaries_seen messages) (message_seen messages.record_batch) =
     subst (λ (o : Endianness). AreMessages o columns list (dictionaries_seen messages) (message_seen messages.record_batch)) (same_order c.args.is_little_endian) c.in_ok-messages.ensures.encodes in
-    let refused : RefusesPlaces c.args.place (map sent (dictionaries_seen messages) ++ sent (message_seen messages.record_batch) ∷ []) fault =
-    subst (λ (ws : List Sent). RefusesPlaces c.args.place (ws ++ sent_seen messages.record_batch ∷ []) fault) (sym (seen_sent messages.dictionaries.items)) c.in_err-placed.ensures.only in
+    let refused : RefusesBlockRoom c.args.place (map sent (dictionaries_seen messages) ++ sent (message_seen messages.record_batch) ∷ []) fault =
+    subst (λ (ws : List Sent). RefusesBlockRoom c.args.place (ws ++ sent_seen messages.record_batch ∷ []) fault) (sym (seen_sent messages.dictionaries.items)) c.in_err-placed.ensures.only in
     rw e
     (hands_refused g.W.Failures.known g.W.Writes.grows g.W.Failures.failures g.W.Writes.room g.W.Failures.memory order columns list c.args.place c.args.writer.now c.args.writer.now c.args.state.now c.args.state.now fault
     (inr (record { dictionaries = dictionaries_seen messages; own = message_seen messages.record_batch; are = are; refused = refused }))
@@ -61,8 +61,8 @@ returns g c =
     let order = byte_order c.args.is_little_endian in
     let are : AreMessages order columns list (dictionaries_seen messages) (message_seen messages.record_batch) =
     subst (λ (o : Endianness). AreMessages o columns list (dictionaries_seen messages) (message_seen messages.record_batch)) (same_order c.args.is_little_endian) c.in_ok-messages.ensures.encodes in
-    let placed : IsPlaced c.args.place (map sent (dictionaries_seen messages)) (sent (message_seen messages.record_batch)) c.in_ok-placed.placed =
-    subst (λ (ws : List Sent). IsPlaced c.args.place ws (sent_seen messages.record_batch) c.in_ok-placed.placed) (sym (seen_sent messages.dictionaries.items)) c.in_ok-placed.ensures.ok in
+    let placed : HasBlocksFrom c.args.place (map sent (dictionaries_seen messages)) (sent (message_seen messages.record_batch)) c.in_ok-placed.placed =
+    subst (λ (ws : List Sent). HasBlocksFrom c.args.place ws (sent_seen messages.record_batch) c.in_ok-placed.placed) (sym (seen_sent messages.dictionaries.items)) c.in_ok-placed.ensures.ok in
     hands_all g.W.Failures.known g.W.Writes.grows g.W.Failures.failures g.W.Writes.room g.W.Failures.memory order columns list c.args.place c.args.writer.now c.send_messages.new.writer c.args.state.now c.send_messages.new.state c.in_ok-placed.placed
     (dictionaries_seen messages) (message_seen messages.record_batch) are (bytes_sent order columns list (dictionaries_seen messages) (message_seen messages.record_batch) are) c.in_ok-messages.ensures.takes placed
     c.in_ok-send_messages.ensures.sends c.in_ok-send_messages.ensures.stays

@@ -7,7 +7,7 @@ ghost use Rattle.ipc_views.specs.MessageSlots.{message_header, message_version};
 ghost use Rattle.ipc_views.specs.Unions.{header_parts};
 ghost use Rattle.ipc_model.specs.Files.{block_header, placed};
 ghost use Rattle.ipc_model.specs.Frame.{frame, word};
-ghost use Rattle.ipc_files.specs.Blocks.{GivesPrefix, IsFrameFault, IsHeaderFault, frame_fault, message_seen, needed_header, opened_message, place_seen, prefix_of, seen, stated_metadata, stated_version};
+ghost use Rattle.ipc_files.specs.Blocks.{GivesPrefix, IsFrameFault, IsHeaderFault, frame_fault, message_seen, needed_header, opened_message, place_seen, prefix_of, answered_as, stated_metadata, stated_version};
 ghost use Rattle.ipc_files.specs.Footers.{GivesPart};
 
 use crate::read::file::exact::read_exact;
@@ -111,7 +111,7 @@ pub(super) fn read_metadata<R: Reads + Seeks>(
 
 // The header, which has to be there.
 fn header_of<'a>(message: &MessageRef<'a>) -> Result<MessageHeaderRef<'a>, Fault>
-    ensures value { seen header_parts result ≡ needed_header (message_header message.now) }
+    ensures value { answered_as header_parts result ≡ needed_header (message_header message.now) }
     ensures only { IfErr result (λ e. OwnFault e (IsHeaderFault e)) }
 {
     match message.header() {
@@ -135,7 +135,7 @@ fn version_of(message: &MessageRef<'_>) -> Result<MetadataVersion, Fault>
 // Opens the metadata of a message. It takes no memory.
 #[tactic(auto, unfolding(crate::specs::Blocks::opened_message))]
 pub(super) fn open_message(metadata: &[u8]) -> Result<BlockMessage<'_>, Fault>
-    ensures exact { seen message_seen result ≡ opened_message metadata.now }
+    ensures exact { answered_as message_seen result ≡ opened_message metadata.now }
     ensures meaning { GivesPart message_seen result (block_header metadata.now) }
     ensures only { IfErr result (λ e. OwnFault e (IsHeaderFault e)) }
     ensures own { OnIo result ⊥ }

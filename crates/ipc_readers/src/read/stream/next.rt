@@ -13,7 +13,7 @@ ghost use Rattle.lower.specs.TypeViews.{fields_view};
 ghost use Rattle.ipc_projections.specs.ChosenColumns.{ShowsColumns, items_of};
 ghost use Rattle.ipc_readers.specs.Messages.{header_seen};
 ghost use Rattle.ipc_readers.specs.Refusals.{IsStreamFault};
-ghost use Rattle.ipc_readers.specs.Streams.{NextStep, IsWaiting, HasChunk, Begins, BodyGave, BodyHasValues, Counted, CountsOn, FrontHasValues, GivesHeld, HasKnownValues, IsAdmitted, ItemGave, NextGave, RefusesBody, StateHasValues, request_of, request_in, begun_of, chosen_of, device_of, is_over, known_in, known_of, metadata_of, of_dictionary, of_record, projection_of, schema_of};
+ghost use Rattle.ipc_readers.specs.Streams.{NextStep, IsWaiting, HasChunk, IsUnread, BodyGave, BodyHasValues, Counted, CountsOn, FrontHasValues, GivesHeld, HasKnownValues, IsAdmitted, ItemGave, NextGave, RefusesBody, StateHasValues, request_of, request_in, begun_of, chosen_of, device_of, is_over, known_in, known_of, metadata_of, of_dictionary, of_record, projection_of, schema_of};
 
 use crate::read::begun::{Begun, Frame};
 use crate::read::frame::read_frame;
@@ -221,7 +221,7 @@ impl<R: Reads + Drop> StreamReader<R> {
         requires fits { AllFit (fields_view metadata.schema.fields.items)
             (all_ids_view metadata.ipc_schema.fields.items) }
         requires columns { IsProjection (items_of projection) (length metadata.schema.fields.items) }
-        ensures ok { IfOk result (λ made. Begins reader metadata made) }
+        ensures ok { IfOk result (λ made. IsUnread reader metadata made) }
         ensures asked { IfOk result (λ made. projection_of made ≡ items_of projection) }
         ensures shown { IfOk result (λ made. ShowsColumns (items_of projection) metadata.schema (schema_of made)) }
         ensures only { IfErr result (λ e. (e ≡ Memory) × IsSome projection) }

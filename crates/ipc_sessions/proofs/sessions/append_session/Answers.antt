@@ -2,7 +2,7 @@ use Rattle.std.proofs.Common.{ℕ, List, OnOk, inr, sym, ap, ◌∙◌}
 use Rattle.std.proofs.lemmas.Result.{err_from_is_err_and}
 use Rattle.ipc_files.specs.Footers.{file_seen}
 use Rattle.ipc_model.specs.Files.{FileMetadata, metadata_of}
-use Rattle.ipc_sessions.specs.Sessions.{Adds, KeepsOld, RefusesNoOld, taken_of}
+use Rattle.ipc_sessions.specs.Sessions.{GainsChunks, KeepsOld, RefusesNoOld, taken_of}
 use Rattle.ipc_sessions.proofs.Going.{as_read, none_read, own_one, refused_as_read, refused_unread}
 use Rattle.ipc_sessions.proofs.sessions.append_session.Goals as goal
 
@@ -28,7 +28,7 @@ pub returns-clause-adds : goal.returns-clause-adds
 returns-clause-adds g c = λ k.
     let at = c.in_ok-seek_to.ensures.memory k in
     let is = c.in_ok-metadata.ensures.memory k at.place in
-    as_read (λ (m : FileMetadata) (xs : List ℕ). OnOk c.in_ok-session.session.end (Adds xs (g.W.Failures.memory c.in_ok-session.session.device).whole (taken_of c.args.chunks.now c.in_ok-session.session.answers.items)))
+    as_read (λ (m : FileMetadata) (xs : List ℕ). OnOk c.in_ok-session.session.end (GainsChunks xs (g.W.Failures.memory c.in_ok-session.session.device).whole (taken_of c.args.chunks.now c.in_ok-session.session.answers.items)))
     (g.W.Failures.memory c.args.device).whole (g.W.Failures.memory c.seek_to.new.self).whole (g.W.Failures.memory c.read_file_metadata.new.reader).whole (file_seen c.in_ok-metadata.metadata) at.whole
     (c.in_ok-metadata.ensures.whole (g.met.W.Seeks.known_still k)) is (c.in_ok-session.ensures.adds k) (file_seen c.in_ok-metadata.metadata) (ap metadata_of (sym at.whole) ∙ is)
 

@@ -1,7 +1,7 @@
 use Rattle.std.proofs.Common.{◌≡◌, codes, sym, subst, ◌∙◌, None, Err, IfErr, IfSome, Result}
 use Rattle.ipc_devices.specs.Faults.{IsIo}
 use Rattle.ipc_devices.specs.declared.fault.Fault.{Fault}
-use Rattle.ipc_tools.specs.CatWords.{asked_by, opened_for}
+use Rattle.ipc_tools.specs.CatWords.{wanted_by, opened_for}
 use Rattle.ipc_tools.specs.declared.cat.show.Outcome.{Outcome}
 use Rattle.ipc_tools.proofs.IoLines.{unopened_line}
 use Rattle.ipc_tools.proofs.cat.run.Goals as goal
@@ -12,7 +12,7 @@ returns-clause-unopened_told g c =
     elim c.match-form_of.branch [
       | in-Some w ↦
           let came : w.run_form-outcome.result ≡ Err c.in-Err.fault = sym w.outcome-is ∙ c.in-Err.is in
-          let missing = subst (λ (r : Result Outcome Fault). IfSome (opened_for (asked_by w.in-Some.form)) (λ path. c.args.file ≡ None → IfErr r IsIo)) came w.run_form-outcome.ensures.missing in
-          unopened_line opened_for _ (asked_by w.in-Some.form) c.args.file c.in-Err.fault _ _ _ _ _ (codes "ipcat") w.in-Some.ensures missing c.tell.ensures.sends
+          let missing = subst (λ (r : Result Outcome Fault). IfSome (opened_for (wanted_by w.in-Some.form)) (λ path. c.args.file ≡ None → IfErr r IsIo)) came w.run_form-outcome.ensures.missing in
+          unopened_line opened_for _ (wanted_by w.in-Some.form) c.args.file c.in-Err.fault _ _ _ _ _ (codes "ipcat") w.in-Some.ensures missing c.tell.ensures.sends
       | in-None w ↦ rw (sym w.in-None.ensures) tt
     ]

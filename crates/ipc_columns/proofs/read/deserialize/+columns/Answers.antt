@@ -29,7 +29,7 @@ use Rattle.ipc_model.specs.Kinds.{Kinds, no_kinds, more_kinds, struct_kind}
 use Rattle.ipc_model.specs.TypeKinds.{other_ids, kinds_of}
 use Rattle.ipc_model.specs.Columns.{AllHaveRows}
 use Rattle.ipc_model.specs.ReadArrays.{arrays_at}
-use Rattle.ipc_columns.specs.Kinds.{Follows, listed_in, all_listed}
+use Rattle.ipc_columns.specs.Kinds.{IsBehind, listed_in, all_listed}
 use Rattle.ipc_columns.specs.StructLevels.{HaveRows, SoFar}
 use Rattle.ipc_columns.proofs.ColumnLevels.{array_len}
 use Rattle.ipc_columns.proofs.StructReads.{extra_is, fields_left, kinds_left, left_more, so_more, one_of, so_end, arrays_typed, arrays_have, arrays_some}
@@ -184,7 +184,7 @@ read_fields-loop-field-preserved g t c =
     let more : rest ≡ more_kinds kind rest' =
     kinds_left fs is i f inside c.field-item.is ∙ ap (λ (j : IdTrees). more_kinds kind (kinds_of (fields_view (drop (i + 1) fs)) j)) (sym c.others_of-left.ensures)
     in
-    let next : Follows x kind p q = subst (λ (z : Kind). Follows x z p q) (sym same_kind) c.in_ok-column.ensures.next in
+    let next : IsBehind x kind p q = subst (λ (z : Kind). IsBehind x z p q) (sym same_kind) c.in_ok-column.ensures.next in
     let e1 = ap (λ (z : Kinds). all_listed s x z p.buffer) more in
     let e2 = ap (λ (n : ℕ). all_listed s x rest' n) next.buffer in
     let e3 = ap (λ (z : Kind). listed_in s x z p.buffer) same_kind in
@@ -519,7 +519,7 @@ read_whole_fields-loop-field-preserved g t c =
     let more : rest ≡ more_kinds kind rest' =
     kinds_left fs is i f inside c.field-item.is ∙ ap (λ (j : IdTrees). more_kinds kind (kinds_of (fields_view (drop (i + 1) fs)) j)) (sym c.others_of-others.ensures)
     in
-    let next : Follows x kind p q = subst (λ (z : Kind). Follows x z p q) (sym same_kind) c.in_ok-column.ensures.next in
+    let next : IsBehind x kind p q = subst (λ (z : Kind). IsBehind x z p q) (sym same_kind) c.in_ok-column.ensures.next in
     let e1 = ap (λ (z : Kinds). all_listed s x z p.buffer) more in
     let e2 = ap (λ (n : ℕ). all_listed s x rest' n) next.buffer in
     let e3 = ap (λ (z : Kind). listed_in s x z p.buffer) same_kind in

@@ -5,7 +5,7 @@ use Rattle.lower_arrays.specs.Held.{all_held}
 use Rattle.lower_arrays.specs.Layouts.{layouts}
 use Rattle.ipc_base.specs.IdTrees.{all_ids_view}
 use Rattle.ipc_model.specs.TypeKinds.{kinds_of}
-use Rattle.ipc_columns.specs.Bodies.{Stands, entries, known}
+use Rattle.ipc_columns.specs.Bodies.{KeepsBytes, entries, known}
 use Rattle.ipc_columns.specs.HeldListed.{all_most_held}
 use Rattle.ipc_columns.specs.Kinds.{all_listed}
 use Rattle.ipc_columns.specs.StructLevels.{Left, SoFar}
@@ -15,7 +15,7 @@ use Rattle.ipc_columns.proofs.read.deserialize.+columns.Given as goal
 abbrev pub invariant-read_fields-loop-field : goal.invariant-read_fields-loop-field
 invariant-read_fields-loop-field g l = record {
   places : Left l.body.extra (kinds_of (fields_view l.fields) (all_ids_view l.ids)) (kinds_of (fields_view (drop l.field-index l.fields)) (all_ids_view l.left)) l.fn.start l.place;
-  stands : Stands g.R.Failures.still g.R.Failures.memory l.reader l.body;
+  stands : KeepsBytes g.R.Failures.still g.R.Failures.memory l.reader l.body;
   monotone : g.R.Failures.failures l.fn.reader ≤ g.R.Failures.failures l.reader;
   done : g.R.Failures.failures l.reader ≡ g.R.Failures.failures l.fn.reader;
   given : g.R.Failures.given l.reader
@@ -32,7 +32,7 @@ invariant-read_fields-loop-field g l = record {
 abbrev pub invariant-read_whole_fields-loop-field : goal.invariant-read_whole_fields-loop-field
 invariant-read_whole_fields-loop-field g l = record {
   places : Left l.body.extra (kinds_of (fields_view l.fields) (all_ids_view l.ids)) (kinds_of (fields_view (drop l.field-index l.fields)) (all_ids_view l.others)) l.fn.start l.place;
-  stands : Stands g.R.Failures.still g.R.Failures.memory l.reader l.body;
+  stands : KeepsBytes g.R.Failures.still g.R.Failures.memory l.reader l.body;
   monotone : g.R.Failures.failures l.fn.reader ≤ g.R.Failures.failures l.reader;
   done : g.R.Failures.failures l.reader ≡ g.R.Failures.failures l.fn.reader;
   given : g.R.Failures.given l.reader

@@ -11,7 +11,7 @@ use Rattle.ipc_model.specs.Columns.{IsWell}
 use Rattle.ipc_model.specs.ReadArrays.{array_at}
 use Rattle.ipc_columns.specs.Bodies.{entries, known}
 use Rattle.ipc_columns.specs.FlatKinds.{flat_kind}
-use Rattle.ipc_columns.specs.Kinds.{Follows}
+use Rattle.ipc_columns.specs.Kinds.{IsBehind}
 use Rattle.ipc_columns.proofs.Fetches.{denies_through, refused, failing}
 use Rattle.ipc_columns.specs.Refusals.{IsFaultOf}
 use Rattle.ipc_columns.proofs.Plain.{stored_kind}
@@ -62,7 +62,7 @@ returns-clause-next g c =
     stored_kind own t c.args.id (all_ids_view c.args.ids.now) c.requires.plain c.requires.stored
     ∙ ap (λ (p : PhysicalType). flat_kind p (byte_size own)) (sym c.to_physical_type-physical_type.ensures)
     in
-    subst (λ (z : Kind). Follows c.args.body.now.extra z c.args.place c.flat_after-after.result) (sym same) c.flat_after-after.ensures.next
+    subst (λ (z : Kind). IsBehind c.args.body.now.extra z c.args.place c.flat_after-after.result) (sym same) c.flat_after-after.ensures.next
 
 pub returns-clause-memory : goal.returns-clause-memory
 returns-clause-memory g c = λ k.

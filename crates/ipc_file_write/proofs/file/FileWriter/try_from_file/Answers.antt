@@ -1,7 +1,6 @@
-use Rattle.std.proofs.Common.{rules, ◌≡◌, refl, sym, ◌∙◌}
+use Rattle.std.proofs.Common.{rules, ◌≡◌, refl, ◌∙◌}
 use Rattle.std.proofs.lemmas.Result.{err_from_is_err_and}
 use Rattle.ipc_files.specs.Footers.{file_seen}
-use Rattle.ipc_file_write.specs.FileWriters.{seen}
 use Rattle.ipc_file_write.proofs.AppendOpens.{opened}
 use Rattle.ipc_file_write.proofs.AppendEnds.{dictionaries_refused, never_for_dictionaries, never_for_itself}
 use Rattle.ipc_file_write.proofs.Appends.{goes_on_any, goes_on_with}

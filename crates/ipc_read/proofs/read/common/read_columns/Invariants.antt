@@ -4,7 +4,7 @@ use Rattle.lower.specs.TypeViews.{fields_view}
 use Rattle.ipc_base.specs.IdTrees.{all_ids_view}
 use Rattle.ipc_model.specs.Batches.{chosen}
 use Rattle.ipc_model.specs.TypeKinds.{kinds_of}
-use Rattle.ipc_columns.specs.Bodies.{Stands, entries, known}
+use Rattle.ipc_columns.specs.Bodies.{KeepsBytes, entries, known}
 use Rattle.ipc_read.specs.Columns.{columns_listed}
 use Rattle.ipc_read.specs.HeldChunks.{arrays_held, columns_most}
 use Rattle.ipc_read.proofs.Chosen.{AreLeft, left_of}
@@ -22,7 +22,7 @@ invariant-loop-index g l = record {
       ≡ length (chosen (option_copied l.projection) (length l.fields));
   monotone : g.R.Failures.failures l.fn.reader ≤ g.R.Failures.failures l.reader;
   done : g.R.Failures.failures l.reader ≡ g.R.Failures.failures l.fn.reader;
-  stands : Stands g.R.Failures.still g.R.Failures.memory l.reader l.body;
+  stands : KeepsBytes g.R.Failures.still g.R.Failures.memory l.reader l.body;
   given : g.R.Failures.given l.reader
       + columns_listed (entries g.R.Failures.memory l.body) l.body.extra (kinds_of (fields_view l.fields) (all_ids_view l.ids))
       (left_of (option_copied l.projection) (length l.fields) (length l.columns.items) l.index)

@@ -1,6 +1,6 @@
 use Rattle.std.proofs.Common.{rules, ◌≡◌, false, map, ℕ, ◌<◌, ◌≤◌, length, List, [], ◌∷◌, slice_index_or, arith, ap, sym, codes, bytes_eq, Option, Some, string_bytes}
 use Rattle.ipc_encode.specs.declared.common.WriteOptions.{WriteOptions}
-use Rattle.ipc_tools.specs.ConvertWords.{Asked, asked, copy_named, options_named}
+use Rattle.ipc_tools.specs.ConvertWords.{Wanted, asked, copy_named, options_named}
 use Rattle.ipc_tools.proofs.convert.forms.form_of.Goals as goal
 
 one : {X : Type 0} (xs : List X) (x : X) → x ≡ slice_index_or xs 0 x → 1 ≤ length xs → length xs < 2 → xs ≡ x ∷ []
@@ -14,12 +14,12 @@ two (z ∷ []) x y e d l u = absurd (omega (arith, l))
 two (z ∷ w ∷ []) x y e d l u = cc
 two (z ∷ w ∷ v ∷ vs) x y e d l u = absurd (omega (arith, u))
 
-asked_two : {S : Type 0} (f : S → List ℕ) (words others : List S) (first second : S) (a b : List ℕ) (options : WriteOptions) (r : Option Asked)
+asked_two : {S : Type 0} (f : S → List ℕ) (words others : List S) (first second : S) (a b : List ℕ) (options : WriteOptions) (r : Option Wanted)
     → words ≡ first ∷ others → others ≡ second ∷ [] → a ≡ f first → b ≡ f second → bytes_eq a (codes "append") ≡ false
     → options ≡ record { big_endian = false } → r ≡ copy_named a b options → r ≡ asked (map f words)
 asked_two f words others first second a b options r e d p q other o i = rw e (rw d (rw (sym p) (rw (sym q) (rw other (rw (sym o) i)))))
 
-asked_three : {S : Type 0} (f : S → List ℕ) (words others : List S) (first second third : S) (a b c : List ℕ) (options : WriteOptions) (r : Option Asked)
+asked_three : {S : Type 0} (f : S → List ℕ) (words others : List S) (first second third : S) (a b c : List ℕ) (options : WriteOptions) (r : Option Wanted)
     → words ≡ first ∷ others → others ≡ second ∷ third ∷ [] → a ≡ f first → b ≡ f second → c ≡ f third → bytes_eq a (codes "append") ≡ false
     → Some options ≡ options_named c → r ≡ copy_named a b options → r ≡ asked (map f words)
 asked_three f words others first second third a b c options r e d p q s other o i = rw e (rw d (rw (sym p) (rw (sym q) (rw (sym s) (rw other (rw (sym o) i))))))

@@ -1,4 +1,4 @@
-use Rattle.std.proofs.Common.{rules, ◌≡◌, ◌+◌, ◌*◌, length, Some, ap, ◌∙◌}
+use Rattle.std.proofs.Common.{◌≡◌, ◌+◌, ◌*◌, length, Some, ap, ◌∙◌}
 use Rattle.lower.specs.Normal.{norm}
 use Rattle.lower.specs.TypeViews.{type_view}
 use Rattle.lower_types.specs.NumberTypes.{width_of}
