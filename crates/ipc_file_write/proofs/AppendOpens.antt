@@ -34,12 +34,12 @@ pub record IsMadeOf {W : Type 0} (m : FileMetadata) (w : FileSeen W) : Type 0 wh
   pub blocks : w.blocks ≡ m.blocks
   pub size : w.size ≡ m.size
 
-pub opened : {W Z S : Type 0} (known still : Bool) (memory : W → Memory) (m : FileMetadata) (device read : W) (w : FileSeen W) (place : ℕ) (entries : HashMap ℤ (Rc AnyArray Z) S) → MayGoOn m → place ≡ goes_on m
-    → (IsTrue known → IsTrue still) → (IsTrue still → (memory read).whole ≡ (memory device).whole) → (IsTrue known → GoesTo (memory read) (memory w.device) place)
+pub opened : {W Z S : Type 0} (known : Bool) (memory : W → Memory) (m : FileMetadata) (device : W) (w : FileSeen W) (place : ℕ) (entries : HashMap ℤ (Rc AnyArray Z) S) → MayGoOn m → place ≡ goes_on m
+    → (IsTrue known → GoesTo (memory device) (memory w.device) place)
     → (IsTrue known → AreAlike (file_dictionaries m (memory device).whole) (Some (known_dictionaries entries)))
     → ((id : ℤ) → w.remembers id ≡ option_map (λ (values : Rc AnyArray Z). dictionary_of (layout_of values.value)) (get int_eq entries id)) → w.place ≡ place → IsMadeOf m w
     → GoesOn known memory m device w
-opened known still memory m device read w place entries may at keeps same sought alike remembers is_at made = record {
+opened known memory m device w place entries may at sought alike remembers is_at made = record {
   may = may;
   state = made.state;
   order = made.order;
@@ -51,6 +51,6 @@ opened known still memory m device read w place entries may at keeps same sought
   blocks = made.blocks;
   size = made.size;
   place = is_at ∙ at;
-  stands = λ k. let s = sought k in record { whole = s.whole ∙ same (keeps k); place = s.place ∙ at };
+  stands = λ k. let s = sought k in record { whole = s.whole; place = s.place ∙ at };
   remembers = λ k. record { found = known_dictionaries entries; alike = alike k; each = λ id. remembers id ∙ found-same (get int_eq entries id) ∙ sym (known_at entries id) };
 }

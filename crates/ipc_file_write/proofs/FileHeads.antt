@@ -1,5 +1,5 @@
 -- What is known of a file whose metadata have a meaning.
-use Rattle.std.proofs.Common.{◌≡◌, ℕ, ◌+◌, ◌^◌, ◌≤◌, Bool, true, false, List, length, take, Option, None, Some, refl, sym, ap, ◌∙◌, arith, nat_lt, bytes_eq, if◌then◌else◌, ◌&&◌}
+use Rattle.std.proofs.Common.{◌≡◌, ℕ, ◌+◌, ◌^◌, ◌≤◌, Bool, true, false, List, length, take, Option, None, Some, refl, sym, ap, arith, nat_lt, bytes_eq, if◌then◌else◌, ◌&&◌}
 use Rattle.std.specs.Int.{w32, from_le_bytes}
 use Rattle.std.proofs.lemmas.Slice.Eq.{bytes_eq-Decides}
 use Rattle.ipc_views.specs.FileSlots.{footer_schema, footer_dictionaries, footer_record_batches, footer_custom_metadata}

@@ -1,7 +1,12 @@
 //! Goes on with files that are there: the Arrow columnar format, "IPC File Format".
-ghost use Rattle.std.specs.Prelude.{◌≡◌, [], ◌-◌, ◌^◌, min, max, IfErr, IfOk, OnOk};
+ghost use Rattle.std.specs.Prelude.{◌≡◌, [], ◌-◌, ◌^◌, ◌≤◌, min, max, IsTrue, IfErr, IfOk, OnOk};
+ghost use Rattle.ipc_devices.specs.Device.{GoesTo, Rises};
+ghost use Rattle.ipc_devices.specs.Faults.{OnIo, OwnFault, UnlessIo};
 ghost use Rattle.ipc_devices.specs.declared.fault.Fault.TheVariants.{OutOfSpec};
 ghost use Rattle.ipc_devices.specs.declared.fault.OutOfSpecKind.TheVariants.{UnexpectedNegativeInteger};
+ghost use Rattle.ipc_model.specs.Files.{file_dictionaries};
+ghost use Rattle.ipc_columns.specs.Bodies.{known_dictionaries};
+ghost use Rattle.ipc_files.specs.Dictionaries.{DictionariesReason, GivesKnown, IsDictionaryBlockFault};
 ghost use Rattle.ipc_files.specs.Footers.{file_seen};
 ghost use Rattle.ipc_file_laws.specs.Appending.{HasNegative, HaveNegative, end_of, goes_on, greatest_end};
 ghost use Rattle.ipc_file_write.specs.FileWriters.{scratches_of, seen};
@@ -13,6 +18,7 @@ use ipc_devices::{Reads, Seeks, Writes};
 use ipc_encode::common::{EncodedData, WriteOptions};
 use ipc_files::read::file::{FileMetadata, read_file_dictionaries};
 use ipc_footers::weights::is_light;
+use ipc_read::read::Dictionaries;
 use ipc_schema_write::schema::serialize_schema;
 use ipc_tracker::DictionaryTracker;
 use ipc_views::Block;
@@ -90,6 +96,31 @@ fn place_to_go_on(alloc: Global, metadata: &FileMetadata) -> Result<u64, Fault>
     Ok(place_in(metadata.size, end))
 }
 
+// The dictionaries of a file. Its device is only read, and then it stands at this place: whatever is answered, its bytes stay, and `Io` comes
+// just where a call of it failed.
+fn dictionaries_of<W: Reads + Seeks>(
+    alloc: Global,
+    device: &mut W,
+    metadata: &FileMetadata,
+    place: u64,
+) -> Result<Dictionaries, Fault>
+    ensures only { IfErr result (λ e. OwnFault e (IsDictionaryBlockFault e)) }
+    ensures reason { IsTrue W.known → let m = file_seen metadata.now in
+        IfErr result (λ e. OwnFault e (DictionariesReason m (W.memory device.old).whole [] m.dictionaries e)) }
+    ensures memory { IsTrue W.known → GivesKnown (λ known. known_dictionaries known) result
+        (file_dictionaries (file_seen metadata.now) (W.memory device.old).whole) }
+    ensures place { IsTrue W.known → OnOk result (GoesTo (W.memory device.old) (W.memory device.new) place) }
+    ensures whole { IsTrue W.still → (W.memory device.new).whole ≡ (W.memory device.old).whole }
+    ensures monotone { W.failures device.old ≤ W.failures device.new }
+    ensures failed { OnIo result (Rises (W.failures device.old) (W.failures device.new)) }
+    ensures told { UnlessIo result (W.failures device.new ≡ W.failures device.old) }
+{
+    let mut scratch = Vec::new(alloc);
+    let dictionaries = read_file_dictionaries(alloc, device, metadata, &mut scratch)?;
+    device.seek_to(place)?;
+    Ok(dictionaries)
+}
+
 impl<W: Reads + Writes + Seeks + Drop> FileWriter<W> {
     /// A writer that goes on with a file, whose metadata were read from this device: it is started, and each chunk comes behind those that
     /// the file has. [`finish`](FileWriter::finish) writes a footer with all blocks, old and new. The file's byte order stays, whatever
@@ -102,7 +133,7 @@ impl<W: Reads + Writes + Seeks + Drop> FileWriter<W> {
     /// Faults: `Argument(NoRecordBlocks)` where the file has no record block; `OutOfSpec(UnexpectedNegativeInteger)` where one of the three
     /// numbers of a block is below 0; `Argument(TooLarge)` where the file has more than `2^63 - 1` bytes, or where its schema and its pairs
     /// weigh more than `2^30`; `Argument(NotWritable)` where the schema can't be written, and `Argument(FieldsShape)` where its ids don't
-    /// fit; those of [`read_file_dictionaries`]; `Io` and `Memory`. No fault changes the file; the device is dropped.
+    /// fit; those of [`read_file_dictionaries`]; `Io` and `Memory`. No fault changes the file, whose device is only read, and is dropped.
     pub fn try_from_file(
         alloc: Global,
         mut writer: W,
@@ -118,11 +149,9 @@ impl<W: Reads + Writes + Seeks + Drop> FileWriter<W> {
         ensures data { IfOk result (λ w. (scratches_of w).arrow_data.items ≡ []) }
     {
         let place = place_to_go_on(alloc, &metadata)?;
-        let mut scratch = Vec::new(alloc);
-        let dictionaries = read_file_dictionaries(alloc, &mut writer, &metadata, &mut scratch)?;
         let mut dictionary_blocks = Vec::new(alloc);
         dictionary_blocks.extend_from_slice(metadata.dictionary_blocks())?;
-        writer.seek_to(place)?;
+        let dictionaries = dictionaries_of(alloc, &mut writer, &metadata, place)?;
         Ok(FileWriter {
             alloc,
             writer,

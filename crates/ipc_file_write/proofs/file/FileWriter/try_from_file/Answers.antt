@@ -1,4 +1,4 @@
-use Rattle.std.proofs.Common.{rules, ◌≡◌, refl, ◌∙◌}
+use Rattle.std.proofs.Common.{rules, refl}
 use Rattle.std.proofs.lemmas.Result.{err_from_is_err_and}
 use Rattle.ipc_files.specs.Footers.{file_seen}
 use Rattle.ipc_file_write.proofs.AppendOpens.{opened}
@@ -25,8 +25,8 @@ returns-in_err-dictionaries-clause-only g c =
 
 pub returns-clause-ok : goal.returns-clause-ok
 returns-clause-ok g c =
-    opened g.W.Failures.known g.W.Failures.still g.W.Failures.memory (file_seen c.args.metadata) c.args.writer _ _ c.in_ok-place.place c.in_ok-dictionaries.dictionaries c.in_ok-place.ensures.ok c.in_ok-place.ensures.place
-    g.met.W.Seeks.known_still c.in_ok-dictionaries.ensures.whole c.in_ok-seek_to.ensures.memory c.in_ok-dictionaries.ensures.memory (λ id. refl) refl
+    opened g.W.Failures.known g.W.Failures.memory (file_seen c.args.metadata) c.args.writer _ c.in_ok-place.place c.in_ok-dictionaries.dictionaries c.in_ok-place.ensures.ok c.in_ok-place.ensures.place
+    c.in_ok-dictionaries.ensures.place c.in_ok-dictionaries.ensures.memory (λ id. refl) refl
     (record { state = refl; order = refl; fields = refl; metadata = refl; ids = refl; pairs = refl; dictionaries = search rules; blocks = refl; size = refl })
 
 pub returns-clause-means : goal.returns-clause-means
