@@ -101,6 +101,7 @@ fn take_shown<T: NativeType, R: Reads>(
         return Ok(None);
     };
     let mut numbers = Vec::new(alloc);
+    // How much was given is known of the reader once it is asked, behind what it shows.
     let Some(bytes) = reader.pass(length) else {
         let _given = reader.given();
         return Ok(None);
@@ -163,6 +164,7 @@ fn take_shown_bytes<R: Reads>(
         (count ≤ length (after (R.memory reader.old))) × (v.items ≡ take count (after (R.memory reader.old))))) }
     ensures whole { IsTrue R.still → (R.memory reader.new).whole ≡ (R.memory reader.old).whole }
 {
+    // How much was given is known of the reader once it is asked, behind what it shows.
     let Some(bytes) = reader.pass(count) else {
         let _given = reader.given();
         return Ok(None);
