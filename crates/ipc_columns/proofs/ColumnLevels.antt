@@ -17,7 +17,7 @@ use Rattle.ipc_model.specs.TypeKinds.{field_kind, kind_of}
 use Rattle.ipc_model.specs.Entries.{Entries, Limit, rows}
 use Rattle.ipc_model.specs.Columns.{Begins, Offsets, last_offset, IsWell}
 use Rattle.ipc_model.specs.ReadArrays.{offset_type, first_type, array_at}
-use Rattle.ipc_columns.specs.Kinds.{IsStored}
+use Rattle.ipc_flat_columns.specs.Kinds.{IsStored}
 use Rattle.ipc_columns.specs.ListHeads.{AreListsAt}
 
 -- ---- types and ids

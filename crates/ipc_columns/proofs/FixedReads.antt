@@ -17,7 +17,7 @@ use Rattle.ipc_model.specs.Entries.{Entries, Limit, rows, times}
 use Rattle.ipc_model.specs.Columns.{Begins, IsWell}
 use Rattle.ipc_model.specs.ReadArrays.{validity_of, first_type, array_at}
 use Rattle.ipc_columns.specs.FixedLevels.{sized_layout}
-use Rattle.ipc_columns.specs.Limits.{SameRows}
+use Rattle.ipc_flat_columns.specs.Limits.{SameRows}
 use Rattle.ipc_columns.proofs.ColumnLevels.{array_len, array_type}
 use Rattle.ipc_columns.proofs.LimitLevels.{row_same, well_same, array_same, same_back}
 

@@ -1,14 +1,5 @@
-pub mod Pieces
-pub mod Fetches
-pub mod Refusals
-pub mod Heads
-pub mod FlatLevels
-pub mod OffsetLists
-pub mod SpanLevels
 pub mod ListLevels
 pub mod ColumnLevels
-pub mod KnownValues
-pub mod KeyReads
 pub mod Tops
 pub mod Records
 pub mod StructReads
@@ -22,5 +13,4 @@ pub mod FixedReads
 pub mod MapReads
 pub mod VariantKinds
 pub mod HeldLevels
-pub mod HeldOffsets
 pub mod HeldListedRows

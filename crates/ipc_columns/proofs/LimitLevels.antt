@@ -12,9 +12,9 @@ use Rattle.ipc_model.specs.Kinds.{offsets_32, offset_width, Kind, null_kind, boo
 use Rattle.ipc_model.specs.Entries.{Entries, Limit, rows, times, bytes_for, Need}
 use Rattle.ipc_model.specs.Columns.{Begins, last_offset, HasBytes, AreTexts, HasTypes, Reaches, HasValues, IsPairKind, IsList, IsWell, AllHaveRows}
 use Rattle.ipc_model.specs.ReadArrays.{bits_of, numbers_of, integers_of, offsets_of, bytes_of, offset_type, key_type, first_type, other_fields, only, masked_level, whole_level, cut_by, array_at, arrays_at}
-use Rattle.ipc_columns.specs.Bodies.{entries}
-use Rattle.ipc_columns.specs.Limits.{IsTimes, SameRows}
-use Rattle.ipc_columns.specs.declared.read.body.Body.{Body}
+use Rattle.ipc_flat_columns.specs.Bodies.{entries}
+use Rattle.ipc_flat_columns.specs.Limits.{IsTimes, SameRows}
+use Rattle.ipc_flat_columns.specs.declared.read.body.Body.{Body}
 
 -- ---- limits
 

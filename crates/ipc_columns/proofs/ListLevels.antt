@@ -15,7 +15,7 @@ use Rattle.ipc_model.specs.Kinds.{OffsetWidth, offset_width}
 use Rattle.ipc_model.specs.Entries.{Entries}
 use Rattle.ipc_model.specs.Columns.{last_offset as column_last}
 use Rattle.ipc_model.specs.ReadArrays.{validity_of, offsets_of}
-use Rattle.ipc_columns.proofs.SpanLevels.{last_read}
+use Rattle.ipc_flat_columns.proofs.SpanLevels.{last_read}
 use Rattle.ipc_columns.specs.ListHeads.{AreLists, AreListsAt}
 
 pub list_keeps :

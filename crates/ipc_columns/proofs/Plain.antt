@@ -6,8 +6,8 @@ use Rattle.lower.specs.declared.datatypes.IntervalUnit.TheVariants.{YearMonth, D
 use Rattle.lower_flat.specs.FixedBinaries.{byte_size}
 use Rattle.ipc_base.specs.IdTrees.{IdTrees}
 use Rattle.ipc_model.specs.TypeKinds.{kind_of}
-use Rattle.ipc_columns.specs.FlatKinds.{IsPlain, IsFlat, flat_kind}
-use Rattle.ipc_columns.specs.Kinds.{IsStored}
+use Rattle.ipc_flat_columns.specs.FlatKinds.{IsPlain, IsFlat, flat_kind}
+use Rattle.ipc_flat_columns.specs.Kinds.{IsStored}
 
 plain_kind_is : (t : TypeTree) (id : Option ℤ) (is : IdTrees) → IsPlain t → kind_of t id is ≡ flat_kind (physical t) (byte_size t)
 plain_kind_is (plain null) id is h = refl

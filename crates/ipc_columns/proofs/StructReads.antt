@@ -14,11 +14,11 @@ use Rattle.ipc_model.specs.TypeKinds.{first_ids, other_ids, field_kind, kinds_of
 use Rattle.ipc_model.specs.Entries.{Entries, Limit, rows}
 use Rattle.ipc_model.specs.Columns.{IsSome, AllHaveRows, IsWell}
 use Rattle.ipc_model.specs.ReadArrays.{array_at, arrays_at}
-use Rattle.ipc_columns.specs.Bodies.{entries}
-use Rattle.ipc_columns.specs.Kinds.{IsBehind}
+use Rattle.ipc_flat_columns.specs.Bodies.{entries}
+use Rattle.ipc_flat_columns.specs.Kinds.{IsBehind}
 use Rattle.ipc_columns.specs.StructLevels.{over, Left, HaveRows, SoFar}
-use Rattle.ipc_columns.specs.declared.read.body.Body.{Body}
-use Rattle.ipc_columns.specs.declared.read.body.Place.{Place}
+use Rattle.ipc_flat_columns.specs.declared.read.body.Body.{Body}
+use Rattle.ipc_flat_columns.specs.declared.read.body.Place.{Place}
 use Rattle.ipc_columns.proofs.ColumnLevels.{array_len, array_type}
 
 pub extra_is : {R : Type 0} (memory : R → Memory) (b : Body R) → b.extra ≡ (entries memory b).extra

@@ -12,16 +12,6 @@ use Rattle.lower_rules.specs.Keys.{KeyFits}
 use Rattle.ipc_model.specs.Columns.{AreUnionIds, child_named}
 use Rattle.ipc_model.specs.Entries.{IsIndex}
 
--- ---- places below a number
-
-pub key_index : (z : ℤ) (n : ℕ) → KeyFits z n → IsIndex z n
-key_index (pos m) n h = h
-key_index (negsuc m) n h = absurd h
-
-pub index_key : (z : ℤ) (n : ℕ) → IsIndex z n → KeyFits z n
-index_key (pos m) n h = h
-index_key (negsuc m) n h = absurd h
-
 -- ---- ids
 
 apart : (x y : ℤ) → x ≢ y → int_eq x y ≡ false

@@ -32,11 +32,11 @@ use Rattle.ipc_model.specs.Columns.{IsWell, AllHaveRows, AllWell}
 use Rattle.ipc_model.specs.Numbers.{integer_of}
 use Rattle.ipc_model.specs.ReadArrays.{integers_of, array_at, arrays_at}
 use Rattle.ipc_model.specs.TypeKinds.{kinds_of, kind_of}
-use Rattle.ipc_columns.specs.Bodies.{HasRoom, entries}
-use Rattle.ipc_columns.specs.Kinds.{IsStored, listed_in}
-use Rattle.ipc_columns.specs.declared.read.body.Body.{Body}
-use Rattle.ipc_columns.specs.declared.read.body.Place.{Place}
-use Rattle.ipc_columns.proofs.FlatLevels.{order_is, pieces_are}
+use Rattle.ipc_flat_columns.specs.Bodies.{HasRoom, entries}
+use Rattle.ipc_flat_columns.specs.Kinds.{IsStored, listed_in}
+use Rattle.ipc_flat_columns.specs.declared.read.body.Body.{Body}
+use Rattle.ipc_flat_columns.specs.declared.read.body.Place.{Place}
+use Rattle.ipc_flat_columns.proofs.FlatLevels.{order_is, pieces_are}
 use Rattle.ipc_columns.proofs.StructReads.{arrays_typed, arrays_have}
 use Rattle.ipc_columns.proofs.UnionRules.{columns_count, sparse_fits, sparse_well, sparse_array, dense_fits, dense_well, dense_array}
 

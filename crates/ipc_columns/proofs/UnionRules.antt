@@ -24,7 +24,8 @@ use Rattle.ipc_model.specs.Columns.{child_rows, IsUnionKind, type_at, child_at, 
 use Rattle.ipc_model.specs.ReadArrays.{integers_of, other_fields, first_type, array_at, arrays_at}
 use Rattle.ipc_columns.proofs.ColumnLevels.{array_len}
 use Rattle.ipc_columns.proofs.Records.{so_many}
-use Rattle.ipc_columns.proofs.UnionIds.{key_index, index_key, ids_are, ids_were, names_one, one_named}
+use Rattle.ipc_flat_columns.proofs.Indices.{index_key, key_index}
+use Rattle.ipc_columns.proofs.UnionIds.{ids_are, ids_were, names_one, one_named}
 
 -- ---- the rules of the array
 

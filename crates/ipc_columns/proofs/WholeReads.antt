@@ -7,10 +7,10 @@ use Rattle.ipc_model.specs.Kinds.{Kind, Kinds, no_kinds, more_kinds, buffers}
 use Rattle.ipc_model.specs.Entries.{Entries}
 use Rattle.ipc_model.specs.Columns.{IsWell, AllWell}
 use Rattle.ipc_model.specs.ReadArrays.{array_at, arrays_at}
-use Rattle.ipc_columns.specs.Kinds.{IsBehind}
+use Rattle.ipc_flat_columns.specs.Kinds.{IsBehind}
 use Rattle.ipc_columns.specs.StructLevels.{over}
 use Rattle.ipc_columns.specs.UnionLevels.{AreWhole, WholeSoFar}
-use Rattle.ipc_columns.specs.declared.read.body.Place.{Place}
+use Rattle.ipc_flat_columns.specs.declared.read.body.Place.{Place}
 use Rattle.ipc_columns.proofs.StructReads.{over_more, over_none}
 
 pub whole_start : (s : Entries) (vs : Option ℤ → Layout) (all : Kinds) (fs : FieldTrees) (p : Place) → WholeSoFar s vs all all fs fs p p []

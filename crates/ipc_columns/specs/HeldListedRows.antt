@@ -6,8 +6,8 @@ use Rattle.lower_arrays.specs.Held.{held}
 use Rattle.ipc_model.specs.ColumnRows.{two, int32}
 use Rattle.ipc_model.specs.HeldRows.{read_array, no_texts}
 use Rattle.ipc_model.specs.Kinds.{offsets_32, offsets_64, Kind, binary_kind, utf8_kind, list_kind, map_kind, fixed_list_kind, struct_kind, union_kind}
-use Rattle.ipc_columns.specs.HeldListed.{empty_offsets, most_held}
-use Rattle.ipc_columns.specs.Kinds.{listed_in}
+use Rattle.ipc_flat_columns.specs.HeldListed.{empty_offsets, most_held}
+use Rattle.ipc_flat_columns.specs.Kinds.{listed_in}
 
 -- the bytes of such offsets in the column at the beginning, whose buffers list so many bytes
 abbrev pub empty_of : ℕ → Kind → List ℕ → ℕ

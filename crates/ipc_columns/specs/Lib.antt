@@ -1,15 +1,6 @@
-pub mod Bodies
-pub mod Steps
-pub mod Refusals
-pub mod OffsetForms
-pub mod Kinds
-pub mod FlatKinds
 pub mod ListHeads
 pub mod StructLevels
 pub mod UnionLevels
-pub mod Limits
 pub mod FixedLevels
-pub mod KeyLevels
 pub mod ReadColumns
-pub mod HeldListed
 pub mod HeldListedRows

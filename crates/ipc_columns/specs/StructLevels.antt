@@ -7,7 +7,7 @@ use Rattle.ipc_model.specs.Kinds.{Kinds, all_nodes, all_buffers}
 use Rattle.ipc_model.specs.Entries.{Entries, Limit}
 use Rattle.ipc_model.specs.Columns.{AllHaveRows}
 use Rattle.ipc_model.specs.ReadArrays.{arrays_at}
-use Rattle.ipc_columns.specs.declared.read.body.Place.{Place}
+use Rattle.ipc_flat_columns.specs.declared.read.body.Place.{Place}
 
 -- n records of the columns cs
 abbrev pub records_layout : TypeTree → ℕ → Validity → List Layout → Layout

@@ -7,7 +7,7 @@ use Rattle.ipc_model.specs.Entries.{Entries}
 use Rattle.ipc_model.specs.Columns.{AllWell}
 use Rattle.ipc_model.specs.ReadArrays.{arrays_at}
 use Rattle.ipc_columns.specs.StructLevels.{over}
-use Rattle.ipc_columns.specs.declared.read.body.Place.{Place}
+use Rattle.ipc_flat_columns.specs.declared.read.body.Place.{Place}
 
 -- the columns of some kinds from a place on are well formed as wholes
 abbrev pub AreWhole : Entries → Kinds → Place → Type 0

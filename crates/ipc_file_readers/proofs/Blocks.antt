@@ -14,7 +14,7 @@ use Rattle.ipc_model.specs.Files.{FileMetadata as Meaning, file_chunk}
 use Rattle.ipc_model.specs.Kinds.{Kinds}
 use Rattle.ipc_model.specs.ReadChunks.{HaveMeaning}
 use Rattle.ipc_base.specs.IdTrees.{IdTrees, all_ids_view}
-use Rattle.ipc_columns.specs.Bodies.{known_dictionaries}
+use Rattle.ipc_flat_columns.specs.Bodies.{known_dictionaries}
 use Rattle.lower_arrays.specs.AnyLayouts.{layout_of}
 use Rattle.ipc_projections.specs.ChosenColumns.{AreAsMany, AreOrdered, AreShuffled, asked_by, rising_by}
 use Rattle.ipc_projections.specs.declared.read.chosen.ChosenColumns.{ChosenColumns}

@@ -18,7 +18,7 @@ use Rattle.ipc_model.specs.Files.{FileMetadata as Meaning, file_dictionaries, fi
 use Rattle.ipc_model.specs.ReadChunks.{HaveMeaning}
 use Rattle.ipc_base.specs.IdTrees.{all_ids_view}
 use Rattle.ipc_laws.specs.Agreement.{AreAlike, KnowAlike}
-use Rattle.ipc_columns.specs.Bodies.{array_under, known_dictionaries, no_values}
+use Rattle.ipc_flat_columns.specs.Bodies.{array_under, known_dictionaries, no_values}
 use Rattle.ipc_projections.specs.ChosenColumns.{ShowsColumns, asked_by, shown_by}
 use Rattle.ipc_read.specs.Chunks.{chunk_seen}
 use Rattle.ipc_files.specs.Batches.{HoldBatch, IsRecordFault, RecordReason, block_metadata, needed_bytes}

@@ -7,8 +7,8 @@ use Rattle.std.specs.declared.rc.Rc.{Rc}
 use Rattle.ipc_devices.specs.Device.{GoesTo, Memory}
 use Rattle.lower_arrays.specs.AnyLayouts.{layout_of}
 use Rattle.lower_arrays.specs.declared.array.AnyArray.{AnyArray}
-use Rattle.ipc_columns.proofs.KnownValues.{dictionary_found}
-use Rattle.ipc_columns.specs.Bodies.{known_dictionaries}
+use Rattle.ipc_flat_columns.proofs.KnownValues.{dictionary_found}
+use Rattle.ipc_flat_columns.specs.Bodies.{known_dictionaries}
 use Rattle.ipc_read.proofs.KnownDictionaries.{known_at}
 use Rattle.ipc_model.specs.Files.{FileMetadata, file_dictionaries}
 use Rattle.ipc_laws.specs.Agreement.{AreAlike}

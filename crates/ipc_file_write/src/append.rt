@@ -5,7 +5,7 @@ ghost use Rattle.ipc_devices.specs.Faults.{OnIo, OwnFault, UnlessIo};
 ghost use Rattle.ipc_devices.specs.declared.fault.Fault.TheVariants.{OutOfSpec};
 ghost use Rattle.ipc_devices.specs.declared.fault.OutOfSpecKind.TheVariants.{UnexpectedNegativeInteger};
 ghost use Rattle.ipc_model.specs.Files.{file_dictionaries};
-ghost use Rattle.ipc_columns.specs.Bodies.{known_dictionaries};
+ghost use Rattle.ipc_flat_columns.specs.Bodies.{known_dictionaries};
 ghost use Rattle.ipc_files.specs.Dictionaries.{DictionariesReason, GivesKnown, IsDictionaryBlockFault};
 ghost use Rattle.ipc_files.specs.Footers.{file_seen};
 ghost use Rattle.ipc_file_laws.specs.Appending.{HasNegative, HaveNegative, end_of, goes_on, greatest_end};

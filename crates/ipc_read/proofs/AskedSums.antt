@@ -14,7 +14,7 @@ use Rattle.ipc_views.specs.declared.schema.Buffer.{Buffer}
 use Rattle.ipc_model.specs.Batches.{Lists, buffers_before, chosen, kind_at}
 use Rattle.ipc_model.specs.BatchLaws.{own_buffers}
 use Rattle.ipc_model.specs.Kinds.{Kinds}
-use Rattle.ipc_columns.specs.HeldListed.{empty_offsets}
+use Rattle.ipc_flat_columns.specs.HeldListed.{empty_offsets}
 use Rattle.ipc_read.specs.HeldChunks.{HoldChosen, arrays_held, chosen_empty, columns_empty, length_listed}
 use Rattle.ipc_read.specs.Sizes.{chosen_total, chosen_listed, total_of}
 use Rattle.ipc_projections.proofs.AskedOrder.{asked_images, asked_once}

@@ -13,9 +13,9 @@ use Rattle.ipc_views.specs.Spot.{Spot}
 use Rattle.ipc_model.specs.Batches.{Schema, kinds, Body, lists_of, record_meaning, Place, places, place_of, values_schema, with_values, values_meaning, batch_meaning, dictionary_meaning}
 use Rattle.ipc_model.specs.Entries.{Dictionaries}
 use Rattle.ipc_model.specs.Kinds.{Kind}
-use Rattle.ipc_columns.proofs.Refusals.{kind_column}
-use Rattle.ipc_columns.specs.Bodies.{dictionary_of}
-use Rattle.ipc_columns.specs.Refusals.{IsFaultOf, IsColumnFault}
+use Rattle.ipc_flat_columns.proofs.Refusals.{kind_column}
+use Rattle.ipc_flat_columns.specs.Bodies.{dictionary_of}
+use Rattle.ipc_flat_columns.specs.Refusals.{IsFaultOf, IsColumnFault}
 use Rattle.ipc_laws.specs.Agreement.{KnowAlike}
 use Rattle.ipc_read.proofs.Meanings.{some_is, some_listed}
 use Rattle.ipc_read.proofs.Refusals.{claims_through, claims_own, own_any}

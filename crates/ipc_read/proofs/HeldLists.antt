@@ -20,9 +20,9 @@ use Rattle.ipc_model.specs.Batches.{Schema, kinds, Body, Lists, entries_of, Plac
 use Rattle.ipc_model.specs.Entries.{Entries, size, listed, Dictionaries}
 use Rattle.ipc_model.specs.Kinds.{Kinds}
 use Rattle.ipc_model.specs.TypeKinds.{kind_of}
-use Rattle.ipc_columns.specs.Bodies.{entries, array_found, array_under}
-use Rattle.ipc_columns.specs.HeldListed.{HoldsListed}
-use Rattle.ipc_columns.specs.declared.read.body.Body.{Body as Read}
+use Rattle.ipc_flat_columns.specs.Bodies.{entries, array_found, array_under}
+use Rattle.ipc_flat_columns.specs.HeldListed.{HoldsListed}
+use Rattle.ipc_flat_columns.specs.declared.read.body.Body.{Body as Read}
 use Rattle.ipc_read.specs.DictionaryBatches.{dictionary_head, head_listed, place_listed}
 use Rattle.ipc_read.specs.HeldChunks.{columns_empty, columns_most, length_listed, chosen_empty, arrays_held, HoldChosen, head_empty, place_empty, HoldsValues}
 use Rattle.ipc_read.specs.Sizes.{chosen_listed}

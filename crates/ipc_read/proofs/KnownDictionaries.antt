@@ -12,8 +12,8 @@ use Rattle.lower_arrays.specs.declared.array.AnyArray.{AnyArray}
 use Rattle.ipc_views.specs.Spot.{Spot}
 use Rattle.ipc_model.specs.Batches.{Schema, Place, places, place_of}
 use Rattle.ipc_model.specs.Entries.{Dictionary, dictionary_at}
-use Rattle.ipc_columns.specs.Bodies.{dictionary_of, known_entry, known_dictionaries}
-use Rattle.ipc_columns.proofs.KnownValues.{dictionary_found, found_first, found_under}
+use Rattle.ipc_flat_columns.specs.Bodies.{dictionary_of, known_entry, known_dictionaries}
+use Rattle.ipc_flat_columns.proofs.KnownValues.{dictionary_found, found_first, found_under}
 use Rattle.ipc_laws.specs.Agreement.{KnowAlike}
 use Rattle.ipc_read.proofs.Meanings.{some_is}
 use Rattle.ipc_read.specs.DictionaryBatches.{dictionary_head, PutsValues}

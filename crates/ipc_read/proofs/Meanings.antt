@@ -21,7 +21,7 @@ use Rattle.ipc_model.proofs.Pruned.{batch_some, projected_is, projection_decides
 use Rattle.ipc_model.specs.Batches.{Schema, kinds, Body, Lists, lists_of, entries_of, kind_at, type_at, nodes_before, buffers_before, rows_at, slots_of_column, chosen, IsProjection, AllRead, first_rows, IsBatch, Chunk, chunk_of, batch, record_meaning}
 use Rattle.ipc_model.specs.Entries.{Entries, Part, IsSize, size, part_at, node, Dictionaries, Limit, limited, rows}
 use Rattle.ipc_model.specs.Kinds.{Kind, Kinds, count, all_nodes, all_buffers}
-use Rattle.ipc_columns.proofs.Fetches.{denies_through}
+use Rattle.ipc_flat_columns.proofs.Fetches.{denies_through}
 use Rattle.ipc_columns.specs.ReadColumns.{IsColumn}
 use Rattle.ipc_projections.proofs.Prepared.{prepared_projection}
 use Rattle.ipc_read.proofs.Refusals.{own_any}

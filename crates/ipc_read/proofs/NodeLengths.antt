@@ -12,7 +12,7 @@ use Rattle.ipc_views.specs.Structs.{structs_from, structs_at, signed64, node_of}
 use Rattle.ipc_views.specs.Tables.{and_then, map_ok, of_slot, slot_at, target_at, vector_at}
 use Rattle.ipc_views.specs.declared.message.FieldNode.{FieldNode}
 use Rattle.ipc_model.specs.Entries.{size}
-use Rattle.ipc_columns.specs.Limits.{AreSmall}
+use Rattle.ipc_flat_columns.specs.Limits.{AreSmall}
 
 -- a signed number of 64 bits, as a size
 signed_size : (n : ℕ) (z : ℤ) → z ≡ cast_signed w64 n → size z < 2 ^ 63

@@ -14,12 +14,12 @@ use Rattle.ipc_model.specs.Columns.{IsWell}
 use Rattle.ipc_model.specs.Entries.{Dictionaries}
 use Rattle.ipc_model.specs.Kinds.{Kind}
 use Rattle.ipc_model.specs.TypeKinds.{kind_of}
-use Rattle.ipc_columns.proofs.Fetches.{denies_through}
-use Rattle.ipc_columns.specs.Bodies.{entries}
-use Rattle.ipc_columns.specs.Kinds.{listed_in}
+use Rattle.ipc_flat_columns.proofs.Fetches.{denies_through}
+use Rattle.ipc_flat_columns.specs.Bodies.{entries}
+use Rattle.ipc_flat_columns.specs.Kinds.{listed_in}
 use Rattle.ipc_columns.specs.ReadColumns.{IsColumn}
-use Rattle.ipc_columns.specs.Refusals.{IsFaultOf}
-use Rattle.ipc_columns.specs.declared.read.body.Body.{Body as Read}
+use Rattle.ipc_flat_columns.specs.Refusals.{IsFaultOf}
+use Rattle.ipc_flat_columns.specs.declared.read.body.Body.{Body as Read}
 use Rattle.ipc_devices.specs.Device.{Memory}
 use Rattle.ipc_read.proofs.Listed.{given_total}
 use Rattle.ipc_read.proofs.Meanings.{IsListed, any_rows, some_is, equal_rows, fetched_meaning, judged}

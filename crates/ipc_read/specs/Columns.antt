@@ -9,7 +9,7 @@ use Rattle.ipc_model.specs.AddressLaws.{IsWellInBatch}
 use Rattle.ipc_model.specs.Batches.{kind_at, type_at, nodes_before, buffers_before}
 use Rattle.ipc_model.specs.Entries.{Entries, Limit}
 use Rattle.ipc_model.specs.Kinds.{Kinds}
-use Rattle.ipc_columns.specs.Kinds.{listed_in}
+use Rattle.ipc_flat_columns.specs.Kinds.{listed_in}
 use Rattle.ipc_columns.specs.ReadColumns.{IsColumn}
 use Rattle.ipc_projections.specs.Projections.{IsPrepared}
 

@@ -20,7 +20,7 @@ use Rattle.ipc_views.specs.Spot.{Spot}
 use Rattle.ipc_model.specs.Batches.{Schema, kinds, Body, lists_of, record_meaning, Place, places, place_of, values_schema, dictionary_meaning}
 use Rattle.ipc_model.specs.Entries.{Dictionary, Dictionaries, dictionary_at}
 use Rattle.ipc_model.specs.Kinds.{Kind}
-use Rattle.ipc_columns.specs.Refusals.{IsFaultOf, IsColumnFault}
+use Rattle.ipc_flat_columns.specs.Refusals.{IsFaultOf, IsColumnFault}
 use Rattle.ipc_laws.specs.Agreement.{KnowAlike}
 use Rattle.ipc_read.specs.Chunks.{column_seen, HasMeaning}
 use Rattle.ipc_read.specs.Refusals.{IsListFault}

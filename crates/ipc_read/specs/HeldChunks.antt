@@ -13,7 +13,7 @@ use Rattle.ipc_views.specs.declared.schema.Buffer.{Buffer}
 use Rattle.ipc_model.specs.Batches.{Schema, kinds, Lists, lists_of, kind_at, buffers_before, Place, places, place_of, values_schema}
 use Rattle.ipc_model.specs.Entries.{Entries, size, listed}
 use Rattle.ipc_model.specs.Kinds.{Kinds}
-use Rattle.ipc_columns.specs.HeldListed.{empty_offsets}
+use Rattle.ipc_flat_columns.specs.HeldListed.{empty_offsets}
 use Rattle.ipc_read.specs.Columns.{columns_listed}
 use Rattle.ipc_read.specs.DictionaryBatches.{dictionary_head, values_listed}
 use Rattle.ipc_read.specs.Sizes.{chosen_listed}

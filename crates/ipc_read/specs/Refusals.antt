@@ -7,7 +7,7 @@ use Rattle.ipc_devices.specs.declared.fault.Nyi.TheVariants.{Compressed}
 use Rattle.ipc_devices.specs.declared.fault.OutOfSpecKind.TheVariants.{NegativeFooterLength, InvalidBuffersLength, MissingMessageBuffers, MissingMessageNodes, ExpectedBuffer, InvalidFlatbufferBuffers, InvalidFlatbufferNodes, InvalidFlatbufferCompression}
 use Rattle.ipc_model.specs.Batches.{kind_at}
 use Rattle.ipc_model.specs.Kinds.{Kinds}
-use Rattle.ipc_columns.specs.Refusals.{IsFaultOf}
+use Rattle.ipc_flat_columns.specs.Refusals.{IsFaultOf}
 
 -- of what a batch lists
 abbrev pub IsListFault : Fault → Type 0

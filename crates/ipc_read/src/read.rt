@@ -2,4 +2,4 @@
 pub mod common;
 pub mod dictionaries;
 
-pub use ipc_columns::read::Dictionaries;
+pub use ipc_flat_columns::read::Dictionaries;

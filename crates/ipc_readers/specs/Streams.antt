@@ -6,7 +6,7 @@ use Rattle.lower.specs.declared.datatypes.schema.Schema as schemas
 use Rattle.lower_arrays.specs.AnyLayouts.{layout_of}
 use Rattle.lower_arrays.specs.declared.array.AnyArray.{AnyArray}
 use Rattle.ipc_base.specs.IdTrees.{all_ids_view}
-use Rattle.ipc_columns.specs.Bodies.{known_dictionaries}
+use Rattle.ipc_flat_columns.specs.Bodies.{known_dictionaries}
 use Rattle.ipc_devices.specs.Device.{Memory, after}
 use Rattle.ipc_devices.specs.Faults.{OwnFault}
 use Rattle.ipc_devices.specs.Gives.{Stop, going, ended, FaultStop, AnswerStop, Gives, GaveTo}

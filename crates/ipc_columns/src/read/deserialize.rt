@@ -16,128 +16,31 @@ ghost use Rattle.ipc_model.specs.Kinds.{list_kind, map_kind, fixed_list_kind, st
 ghost use Rattle.ipc_model.specs.TypeKinds.{first_ids, field_kind, kinds_of, kind_of};
 ghost use Rattle.ipc_model.specs.Columns.{IsWell, AllHaveRows, AllWell};
 ghost use Rattle.ipc_model.specs.ReadArrays.{array_at, arrays_at, offset_type};
-ghost use Rattle.ipc_columns.specs.Bodies.{KeepsBytes, HasRoom, entries, known};
-ghost use Rattle.ipc_columns.specs.FlatKinds.{IsPlain, IsFlat, flat_kind};
-ghost use Rattle.ipc_columns.specs.HeldListed.{HoldsListed, HoldAllListed};
-ghost use Rattle.ipc_columns.specs.Kinds.{IsStored, IsBehind, AllFollow, form_of, listed_in, all_listed};
+ghost use Rattle.ipc_flat_columns.specs.Bodies.{KeepsBytes, HasRoom, entries, known};
+ghost use Rattle.ipc_flat_columns.specs.FlatKinds.{IsPlain, IsFlat, flat_kind};
+ghost use Rattle.ipc_flat_columns.specs.HeldListed.{HoldsListed, HoldAllListed};
+ghost use Rattle.ipc_flat_columns.specs.Kinds.{IsStored, IsBehind, AllFollow, form_of, listed_in, all_listed};
 ghost use Rattle.ipc_columns.specs.ReadColumns.{IsColumn};
-ghost use Rattle.ipc_columns.specs.Refusals.{IsColumnFault, IsFaultOf};
-ghost use Rattle.ipc_columns.specs.Steps.{Step};
+ghost use Rattle.ipc_flat_columns.specs.Refusals.{IsColumnFault, IsFaultOf};
+ghost use Rattle.ipc_flat_columns.specs.Steps.{Step};
 
-use crate::read::array::binary::read_binary;
-use crate::read::array::boolean::read_boolean;
-use crate::read::array::dictionary::read_dictionary;
-use crate::read::array::fixed_size_binary::{get_size, read_fixed_size_binary};
 use crate::read::array::fixed_size_list::{make_fixed_size_list, times_limit};
 use crate::read::array::list::{make_list, read_list_head};
 use crate::read::array::map::{make_map, read_map_head};
-use crate::read::array::null::read_null;
-use crate::read::array::primitive::read_any_primitive;
 use crate::read::array::struct_::make_struct;
 use crate::read::array::union::{make_union, read_places, read_types};
-use crate::read::array::utf8::read_utf8;
-use crate::read::body::{Body, Place};
 use crate::read::ids::{child_of, others_of};
-use crate::read::read_basic::read_head;
 use ipc_base::ipc::IpcField;
 use ipc_devices::fault::{Fault, Nyi, OutOfSpecKind};
 use ipc_devices::{Reads, Seeks};
+use ipc_flat_columns::read::array::dictionary::read_dictionary;
+use ipc_flat_columns::read::body::{Body, Place};
+use ipc_flat_columns::read::flat::{flat_after, read_flat};
+use ipc_flat_columns::read::read_basic::read_head;
 use lower::datatypes::{DataType, Field, PhysicalType, UnionMode};
 use lower::error::{Error, Rule};
 use lower_arrays::array::AnyArray;
 use std::alloc::Global;
-
-// The column of a type without children at a place, by how it lies in memory.
-fn read_flat<R: Reads + Seeks>(
-    alloc: Global,
-    physical_type: PhysicalType,
-    data_type: &DataType,
-    reader: &mut R,
-    body: &Body<R>,
-    place: Place,
-    limit: Option<usize>,
-) -> Result<AnyArray, Fault>
-    requires lies { physical (type_view data_type.now) ≡ physical_type }
-    requires flat { IsFlat physical_type }
-    requires room { let t = flat_kind physical_type (byte_size (type_view data_type.now)) in HasRoom body.now place (nodes t) (buffers body.now.extra t) }
-    requires stands { KeepsBytes R.still R.memory reader.old body.now }
-    ensures only { let t = flat_kind physical_type (byte_size (type_view data_type.now)) in IfErr result (λ e. OwnFault e (IsFaultOf t e)) }
-    ensures step { let t = flat_kind physical_type (byte_size (type_view data_type.now)) in
-        Step R.still R.memory R.failures R.given body.now (listed_in (entries R.memory body.now) body.now.extra t place.buffer) reader.old result reader.new }
-    ensures held { let t = flat_kind physical_type (byte_size (type_view data_type.now)) in
-        IfOk result (λ array. HoldsListed (entries R.memory body.now) body.now.extra t place.buffer (layout_of array)) }
-    ensures memory { IsTrue R.known → let s = entries R.memory body.now in
-        let t = flat_kind physical_type (byte_size (type_view data_type.now)) in
-        Answers result (IsWell s t place.node place.buffer limit)
-        (λ array. layout_of array ≡ array_at s (known body.now) t (type_view data_type.now) place.node place.buffer limit) }
-{
-    match physical_type {
-        PhysicalType::Null => Ok(AnyArray::Null(read_null(data_type, body, place, limit)?)),
-        PhysicalType::Boolean => {
-            let array = read_boolean(alloc, data_type, reader, body, place, limit)?;
-            Ok(AnyArray::Boolean(array))
-        }
-        PhysicalType::Primitive(primitive) => {
-            let array = read_any_primitive(
-                alloc, primitive, data_type, reader, body, place, limit,
-            )?;
-            Ok(AnyArray::Primitive(array))
-        }
-        PhysicalType::FixedSizeBinary => {
-            let size = get_size(data_type);
-            let array = read_fixed_size_binary(alloc, data_type, size, reader, body, place, limit)?;
-            Ok(AnyArray::FixedSizeBinary(array))
-        }
-        PhysicalType::Binary => {
-            let array = read_binary(alloc, data_type, reader, body, place, limit)?;
-            Ok(AnyArray::Binary(array))
-        }
-        PhysicalType::LargeBinary => {
-            let array = read_binary(alloc, data_type, reader, body, place, limit)?;
-            Ok(AnyArray::LargeBinary(array))
-        }
-        PhysicalType::Utf8 => {
-            let array = read_utf8(alloc, data_type, reader, body, place, limit)?;
-            Ok(AnyArray::Utf8(array))
-        }
-        PhysicalType::LargeUtf8 => {
-            let array = read_utf8(alloc, data_type, reader, body, place, limit)?;
-            Ok(AnyArray::LargeUtf8(array))
-        }
-        PhysicalType::List
-        | PhysicalType::LargeList
-        | PhysicalType::FixedSizeList
-        | PhysicalType::Struct
-        | PhysicalType::Union
-        | PhysicalType::Map
-        | PhysicalType::Dictionary(_) => unreachable!(),
-    }
-}
-
-// The place behind a column without children.
-fn flat_after<R>(
-    physical_type: PhysicalType,
-    data_type: &DataType,
-    body: &Body<R>,
-    place: Place,
-) -> Place
-    requires flat { IsFlat physical_type }
-    requires room { let t = flat_kind physical_type (byte_size (type_view data_type.now)) in HasRoom body.now place (nodes t) (buffers body.now.extra t) }
-    ensures next { IsBehind body.now.extra (flat_kind physical_type (byte_size (type_view data_type.now))) place result }
-{
-    let buffers = match physical_type {
-        PhysicalType::Null => 0,
-        PhysicalType::Binary
-        | PhysicalType::LargeBinary
-        | PhysicalType::Utf8
-        | PhysicalType::LargeUtf8 => 3,
-        _ => 2,
-    };
-    Place {
-        node: place.node + 1,
-        buffer: place.buffer + buffers,
-    }
-}
 
 // The column of a type without children at a place as an array of the type `own`, which is stored as this
 // one, and the place behind it.
@@ -232,7 +135,7 @@ fn read_as<R: Reads + Seeks>(
 
 // The column of lists at a place, and the place behind it.
 #[cycle(columns)]
-#[tactic(auto, using(crate::proofs::ColumnLevels::columns, crate::proofs::Refusals::child_faults))]
+#[tactic(auto, using(crate::proofs::ColumnLevels::columns, ipc_flat_columns::proofs::Refusals::child_faults))]
 fn read_list<R: Reads + Seeks>(
     alloc: Global,
     field: &Field,
@@ -283,7 +186,7 @@ fn read_list<R: Reads + Seeks>(
 
 // The column of lists of a fixed size from a place on, and the place behind it.
 #[cycle(columns)]
-#[tactic(auto, using(crate::proofs::ColumnLevels::columns, crate::proofs::Refusals::child_faults))]
+#[tactic(auto, using(crate::proofs::ColumnLevels::columns, ipc_flat_columns::proofs::Refusals::child_faults))]
 fn read_fixed_size_list<R: Reads + Seeks>(
     alloc: Global,
     field: &Field,
@@ -337,7 +240,7 @@ fn read_fixed_size_list<R: Reads + Seeks>(
 
 // The column of maps from a place on, and the place behind it.
 #[cycle(columns)]
-#[tactic(auto, using(crate::proofs::ColumnLevels::columns, crate::proofs::Refusals::child_faults))]
+#[tactic(auto, using(crate::proofs::ColumnLevels::columns, ipc_flat_columns::proofs::Refusals::child_faults))]
 fn read_map<R: Reads + Seeks>(
     alloc: Global,
     field: &Field,
@@ -386,7 +289,7 @@ fn read_map<R: Reads + Seeks>(
 
 // The column of records at a place, and the place behind it.
 #[cycle(columns)]
-#[tactic(auto, using(crate::proofs::ColumnLevels::columns, crate::proofs::Refusals::child_faults))]
+#[tactic(auto, using(crate::proofs::ColumnLevels::columns, ipc_flat_columns::proofs::Refusals::child_faults))]
 fn read_struct<R: Reads + Seeks>(
     alloc: Global,
     fields: &[Field],
@@ -423,7 +326,7 @@ fn read_struct<R: Reads + Seeks>(
 
 // The columns of some fields, one behind the other from a place on, each of so many slots, and the place behind them.
 #[cycle(columns)]
-#[tactic(auto, using(crate::proofs::ColumnLevels::columns, crate::proofs::Refusals::child_faults))]
+#[tactic(auto, using(crate::proofs::ColumnLevels::columns, ipc_flat_columns::proofs::Refusals::child_faults))]
 fn read_fields<R: Reads + Seeks>(
     alloc: Global,
     fields: &[Field],
@@ -475,7 +378,7 @@ fn read_fields<R: Reads + Seeks>(
 // The column of a union at a place, and the place behind it: before the children stand the types, and of a dense
 // union the offsets.
 #[cycle(columns)]
-#[tactic(auto, using(crate::proofs::ColumnLevels::columns, crate::proofs::Refusals::child_faults, crate::proofs::UnionReads::union_types_first))]
+#[tactic(auto, using(crate::proofs::ColumnLevels::columns, ipc_flat_columns::proofs::Refusals::child_faults, crate::proofs::UnionReads::union_types_first))]
 fn read_union<R: Reads + Seeks>(
     alloc: Global,
     fields: &[Field],
@@ -535,7 +438,7 @@ fn read_union<R: Reads + Seeks>(
 
 // The columns of some fields, one behind the other from a place on, each as a whole, and the place behind them.
 #[cycle(columns)]
-#[tactic(auto, using(crate::proofs::ColumnLevels::columns, crate::proofs::Refusals::child_faults))]
+#[tactic(auto, using(crate::proofs::ColumnLevels::columns, ipc_flat_columns::proofs::Refusals::child_faults))]
 fn read_whole_fields<R: Reads + Seeks>(
     alloc: Global,
     fields: &[Field],

@@ -10,11 +10,11 @@ ghost use Rattle.lower_rules.specs.ListTypes.{list_size};
 ghost use Rattle.lower_arrays.specs.Layouts.{len_of, type_of};
 ghost use Rattle.lower_arrays.specs.AnyLayouts.{layout_of};
 ghost use Rattle.ipc_columns.specs.FixedLevels.{sized_layout};
-ghost use Rattle.ipc_columns.specs.Limits.{IsTimes};
-ghost use Rattle.ipc_columns.specs.Refusals.{IsColumnFault};
+ghost use Rattle.ipc_flat_columns.specs.Limits.{IsTimes};
+ghost use Rattle.ipc_flat_columns.specs.Refusals.{IsColumnFault};
 
-use crate::read::read_basic::Head;
 use ipc_devices::fault::Fault;
+use ipc_flat_columns::read::read_basic::Head;
 use lower::datatypes::DataType;
 use lower::error::{Error, Rule};
 use lower_arrays::array::{AnyArray, FixedSizeListArray};

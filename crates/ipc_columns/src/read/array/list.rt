@@ -13,18 +13,18 @@ ghost use Rattle.ipc_model.specs.Kinds.{offset_width};
 ghost use Rattle.ipc_model.specs.Entries.{listed, rows};
 ghost use Rattle.ipc_model.specs.Columns.{Begins, Offsets};
 ghost use Rattle.ipc_model.specs.ReadArrays.{offset_type};
-ghost use Rattle.ipc_columns.specs.Bodies.{KeepsBytes, HasRoom, entries};
+ghost use Rattle.ipc_flat_columns.specs.Bodies.{KeepsBytes, HasRoom, entries};
 ghost use Rattle.lower_arrays.specs.Held.{validity_held};
-ghost use Rattle.ipc_columns.specs.HeldListed.{HoldsOffsets};
-ghost use Rattle.ipc_columns.specs.Kinds.{form_of};
+ghost use Rattle.ipc_flat_columns.specs.HeldListed.{HoldsOffsets};
+ghost use Rattle.ipc_flat_columns.specs.Kinds.{form_of};
 ghost use Rattle.ipc_columns.specs.ListHeads.{AreLists, AreListsAt};
-ghost use Rattle.ipc_columns.specs.Refusals.{IsColumnFault};
-ghost use Rattle.ipc_columns.specs.Steps.{Step};
+ghost use Rattle.ipc_flat_columns.specs.Refusals.{IsColumnFault};
+ghost use Rattle.ipc_flat_columns.specs.Steps.{Step};
 
-use crate::read::body::{Body, Place};
-use crate::read::read_basic::{read_head, read_offsets};
 use ipc_devices::fault::Fault;
 use ipc_devices::{Reads, Seeks};
+use ipc_flat_columns::read::body::{Body, Place};
+use ipc_flat_columns::read::read_basic::{read_head, read_offsets};
 use lower::bitmap::Bitmap;
 use lower::datatypes::DataType;
 use lower::error::{Error, Rule};
@@ -49,7 +49,7 @@ pub struct ListHead {
 /// `InvalidBuffer` where such a buffer is too short, `InvalidBitmap` where the validity is, `Ended` where the
 /// device is, `FallingOffset` where an offset is below 0 or less than the one before it. `Io` and `Memory` come
 /// too, and no other.
-#[tactic(auto, using(crate::proofs::Refusals::buffer_column))]
+#[tactic(auto, using(ipc_flat_columns::proofs::Refusals::buffer_column))]
 pub fn read_list_head<R: Reads + Seeks>(
     alloc: Global,
     reader: &mut R,

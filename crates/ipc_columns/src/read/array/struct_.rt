@@ -9,10 +9,10 @@ ghost use Rattle.lower_arrays.specs.Layouts.{layouts};
 ghost use Rattle.lower_arrays.specs.Children.{child_fields, ChildTypes, HasChild, AllHave};
 ghost use Rattle.lower_arrays.specs.AnyLayouts.{layout_of};
 ghost use Rattle.ipc_columns.specs.StructLevels.{records_layout};
-ghost use Rattle.ipc_columns.specs.Refusals.{IsColumnFault};
+ghost use Rattle.ipc_flat_columns.specs.Refusals.{IsColumnFault};
 
-use crate::read::read_basic::Head;
 use ipc_devices::fault::Fault;
+use ipc_flat_columns::read::read_basic::Head;
 use lower::datatypes::DataType;
 use lower::error::{Error, Rule};
 use lower_arrays::array::{AnyArray, StructArray};

@@ -12,7 +12,7 @@ ghost use Rattle.ipc_base.specs.IdTrees.{all_ids_view};
 ghost use Rattle.lower_arrays.specs.AnyLayouts.{layout_of};
 ghost use Rattle.ipc_files.specs.Batches.{HoldBatch, IsRecordFault, RecordReason, block_metadata, needed_bytes, needed_record};
 ghost use Rattle.ipc_files.specs.Footers.{GivesPart, file_seen};
-ghost use Rattle.ipc_columns.specs.Bodies.{known_dictionaries};
+ghost use Rattle.ipc_flat_columns.specs.Bodies.{known_dictionaries};
 ghost use Rattle.ipc_read.specs.Chunks.{chunk_seen};
 ghost use Rattle.ipc_read.specs.Columns.{ArePrepared};
 ghost use Rattle.ipc_read.specs.HeldChunks.{HoldChosen};

@@ -9,7 +9,7 @@ ghost use Rattle.ipc_model.specs.Files.{block_header, dictionaries_at, file_dict
 ghost use Rattle.ipc_files.specs.Batches.{block_metadata};
 ghost use Rattle.ipc_files.specs.Dictionaries.{DictionariesReason, DictionaryReason, GivesKnown, HoldListed, HoldsHeader, IsDictionaryBlockFault, ValuesGiven, needed_dictionary, needed_values};
 ghost use Rattle.ipc_files.specs.Footers.{file_seen};
-ghost use Rattle.ipc_columns.specs.Bodies.{array_under, known_dictionaries};
+ghost use Rattle.ipc_flat_columns.specs.Bodies.{array_under, known_dictionaries};
 ghost use Rattle.ipc_read.specs.HeldChunks.{HoldsValues};
 ghost use Rattle.ipc_read.specs.DictionaryBatches.{IsDictionaryFault, values_listed};
 

@@ -10,9 +10,9 @@ use Rattle.ipc_model.specs.Kinds.{Kind, list_kind}
 use Rattle.ipc_model.specs.TypeKinds.{first_ids, field_kind, kind_of}
 use Rattle.ipc_model.specs.Columns.{IsWell}
 use Rattle.ipc_model.specs.ReadArrays.{array_at}
-use Rattle.ipc_columns.specs.Bodies.{HasRoom, entries, known}
-use Rattle.ipc_columns.specs.Kinds.{form_of}
-use Rattle.ipc_columns.proofs.Fetches.{denies_through, refused}
+use Rattle.ipc_flat_columns.specs.Bodies.{HasRoom, entries, known}
+use Rattle.ipc_flat_columns.specs.Kinds.{form_of}
+use Rattle.ipc_flat_columns.proofs.Fetches.{denies_through, refused}
 use Rattle.ipc_columns.proofs.ColumnLevels.{child_typed, list_len, list_well, list_array}
 use Rattle.std.proofs.Common.{List, None, map, drop, ◌<◌}
 use Rattle.std.proofs.lemmas.List.{map-append}
@@ -29,7 +29,7 @@ use Rattle.ipc_model.specs.Kinds.{Kinds, no_kinds, more_kinds, struct_kind}
 use Rattle.ipc_model.specs.TypeKinds.{other_ids, kinds_of}
 use Rattle.ipc_model.specs.Columns.{AllHaveRows}
 use Rattle.ipc_model.specs.ReadArrays.{arrays_at}
-use Rattle.ipc_columns.specs.Kinds.{IsBehind, listed_in, all_listed}
+use Rattle.ipc_flat_columns.specs.Kinds.{IsBehind, listed_in, all_listed}
 use Rattle.ipc_columns.specs.StructLevels.{HaveRows, SoFar}
 use Rattle.ipc_columns.proofs.ColumnLevels.{array_len}
 use Rattle.ipc_columns.proofs.StructReads.{extra_is, fields_left, kinds_left, left_more, so_more, one_of, so_end, arrays_typed, arrays_have, arrays_some}
@@ -57,7 +57,7 @@ use Rattle.ipc_model.specs.ReadArrays.{integers_of}
 use Rattle.ipc_columns.proofs.UnionReads.{union_kind_is, union_stored, union_types, sparse_children, dense_places, dense_children, sparse_rules, sparse_union, dense_rules, dense_union}
 use Rattle.std.proofs.Common.{IfOk}
 use Rattle.lower_arrays.specs.Held.{all_held}
-use Rattle.ipc_columns.specs.HeldListed.{HoldsListed, all_most_held}
+use Rattle.ipc_flat_columns.specs.HeldListed.{HoldsListed, all_most_held}
 use Rattle.ipc_columns.proofs.HeldLevels.{list_held, map_held, sized_held, records_held, sparse_held, dense_held, one_more_held}
 use Rattle.ipc_columns.proofs.read.deserialize.+columns.Goals as goal
 

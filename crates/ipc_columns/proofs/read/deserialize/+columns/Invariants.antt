@@ -5,9 +5,9 @@ use Rattle.lower_arrays.specs.Held.{all_held}
 use Rattle.lower_arrays.specs.Layouts.{layouts}
 use Rattle.ipc_base.specs.IdTrees.{all_ids_view}
 use Rattle.ipc_model.specs.TypeKinds.{kinds_of}
-use Rattle.ipc_columns.specs.Bodies.{KeepsBytes, entries, known}
-use Rattle.ipc_columns.specs.HeldListed.{all_most_held}
-use Rattle.ipc_columns.specs.Kinds.{all_listed}
+use Rattle.ipc_flat_columns.specs.Bodies.{KeepsBytes, entries, known}
+use Rattle.ipc_flat_columns.specs.HeldListed.{all_most_held}
+use Rattle.ipc_flat_columns.specs.Kinds.{all_listed}
 use Rattle.ipc_columns.specs.StructLevels.{Left, SoFar}
 use Rattle.ipc_columns.specs.UnionLevels.{WholeSoFar}
 use Rattle.ipc_columns.proofs.read.deserialize.+columns.Given as goal

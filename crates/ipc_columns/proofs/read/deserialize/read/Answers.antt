@@ -2,8 +2,8 @@ use Rattle.lower.specs.TypeViews.{type_view}
 use Rattle.lower_arrays.specs.AnyLayouts.{layout_of}
 use Rattle.ipc_base.specs.IdTrees.{all_ids_view}
 use Rattle.ipc_model.specs.TypeKinds.{kind_of}
-use Rattle.ipc_columns.specs.Bodies.{entries, known}
-use Rattle.ipc_columns.proofs.KnownValues.{values_are}
+use Rattle.ipc_flat_columns.specs.Bodies.{entries, known}
+use Rattle.ipc_flat_columns.proofs.KnownValues.{values_are}
 use Rattle.ipc_columns.proofs.Tops.{slots_answered}
 use Rattle.ipc_columns.proofs.read.deserialize.read.Goals as goal
 

@@ -9,14 +9,14 @@ use Rattle.ipc_model.specs.Kinds.{Kind}
 use Rattle.ipc_model.specs.TypeKinds.{kind_of}
 use Rattle.ipc_model.specs.Columns.{IsWell}
 use Rattle.ipc_model.specs.ReadArrays.{array_at}
-use Rattle.ipc_columns.specs.Bodies.{entries, known}
-use Rattle.ipc_columns.specs.FlatKinds.{flat_kind}
-use Rattle.ipc_columns.specs.Kinds.{IsBehind}
-use Rattle.ipc_columns.proofs.Fetches.{denies_through, refused, failing}
-use Rattle.ipc_columns.specs.Refusals.{IsFaultOf}
+use Rattle.ipc_flat_columns.specs.Bodies.{entries, known}
+use Rattle.ipc_flat_columns.specs.FlatKinds.{flat_kind}
+use Rattle.ipc_flat_columns.specs.Kinds.{IsBehind}
+use Rattle.ipc_flat_columns.proofs.Fetches.{denies_through, refused, failing}
+use Rattle.ipc_flat_columns.specs.Refusals.{IsFaultOf}
 use Rattle.ipc_columns.proofs.Plain.{stored_kind}
-use Rattle.ipc_columns.proofs.Refusals.{same_kind}
-use Rattle.ipc_columns.specs.HeldListed.{HoldsListed}
+use Rattle.ipc_flat_columns.proofs.Refusals.{same_kind}
+use Rattle.ipc_flat_columns.specs.HeldListed.{HoldsListed}
 use Rattle.ipc_columns.proofs.read.deserialize.read_plain.Goals as goal
 
 pub returns-in_err-array-clause-only : goal.returns-in_err-array-clause-only

@@ -12,9 +12,9 @@ use Rattle.ipc_model.specs.Columns.{IsWell}
 use Rattle.ipc_model.specs.Kinds.{count}
 use Rattle.ipc_model.specs.TypeKinds.{kind_of, kinds_of}
 use Rattle.ipc_model.proofs.TypeKinds.{node_counts, buffer_counts}
-use Rattle.ipc_columns.specs.Bodies.{entries, known}
-use Rattle.ipc_columns.specs.Refusals.{IsFaultOf}
-use Rattle.ipc_columns.proofs.Fetches.{denies_through, refused, failing}
+use Rattle.ipc_flat_columns.specs.Bodies.{entries, known}
+use Rattle.ipc_flat_columns.specs.Refusals.{IsFaultOf}
+use Rattle.ipc_flat_columns.proofs.Fetches.{denies_through, refused, failing}
 use Rattle.ipc_columns.proofs.StructReads.{extra_is}
 use Rattle.ipc_read.specs.Columns.{IsChosen, HasColumns, columns_listed}
 use Rattle.ipc_read.specs.HeldChunks.{arrays_held, columns_most}

@@ -10,9 +10,9 @@ use Rattle.ipc_model.specs.Batches as model
 use Rattle.ipc_model.specs.Entries.{Entries}
 use Rattle.ipc_model.specs.ReadArrays.{AreValues}
 use Rattle.ipc_model.specs.TypeKinds.{kinds_of}
-use Rattle.ipc_columns.proofs.KnownValues.{values_are}
+use Rattle.ipc_flat_columns.proofs.KnownValues.{values_are}
 use Rattle.ipc_model.proofs.TypeKinds.{node_count_law, buffer_count_law}
-use Rattle.ipc_columns.specs.Bodies.{entries, known_dictionaries, array_under}
+use Rattle.ipc_flat_columns.specs.Bodies.{entries, known_dictionaries, array_under}
 use Rattle.ipc_read.specs.Chunks.{batch_schema, order_of}
 use Rattle.ipc_read.specs.Columns.{ArePrepared, HasColumns, AreColumns}
 use Rattle.ipc_read.specs.HeldChunks.{arrays_held, HoldChosen}

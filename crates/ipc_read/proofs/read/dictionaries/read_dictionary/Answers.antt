@@ -13,8 +13,8 @@ use Rattle.ipc_base.specs.declared.ipc.IpcField.{IpcField}
 use Rattle.ipc_devices.specs.Faults.{OwnFault}
 use Rattle.ipc_model.specs.Batches.{Schema, Place, extra_of, places, place_of, values_schema, dictionary_meaning}
 use Rattle.ipc_model.specs.Batches as model
-use Rattle.ipc_columns.proofs.Fetches.{denies_through}
-use Rattle.ipc_columns.specs.Bodies.{dictionary_of, known_dictionaries}
+use Rattle.ipc_flat_columns.proofs.Fetches.{denies_through}
+use Rattle.ipc_flat_columns.specs.Bodies.{dictionary_of, known_dictionaries}
 use Rattle.ipc_laws.specs.Agreement.{KnowAlike}
 use Rattle.ipc_read.specs.Chunks.{batch_schema, HasMeaning}
 use Rattle.ipc_read.specs.DictionaryBatches.{dictionary_head}

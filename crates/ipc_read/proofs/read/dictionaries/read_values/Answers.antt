@@ -10,7 +10,7 @@ use Rattle.ipc_model.specs.Columns.{IsWell}
 use Rattle.ipc_model.specs.Entries.{Entries}
 use Rattle.ipc_model.specs.TypeKinds.{kind_of}
 use Rattle.ipc_model.proofs.TypeKinds.{node_counts, buffer_counts}
-use Rattle.ipc_columns.specs.Bodies.{entries, known_dictionaries, array_under}
+use Rattle.ipc_flat_columns.specs.Bodies.{entries, known_dictionaries, array_under}
 use Rattle.ipc_columns.specs.ReadColumns.{IsColumn}
 use Rattle.ipc_read.specs.Chunks.{order_of}
 use Rattle.ipc_read.specs.Sizes.{AreSizes, total_of}

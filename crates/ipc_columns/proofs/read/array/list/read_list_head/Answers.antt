@@ -2,7 +2,7 @@ use Rattle.std.proofs.Common.{rules, ◌≡◌, ◌+◌, true, false, subst}
 use Rattle.ipc_model.specs.Kinds.{offsets_32, offsets_64}
 use Rattle.ipc_model.specs.Entries.{rows}
 use Rattle.ipc_model.specs.Columns.{Offsets}
-use Rattle.ipc_columns.specs.Bodies.{entries}
+use Rattle.ipc_flat_columns.specs.Bodies.{entries}
 use Rattle.ipc_columns.proofs.ListLevels.{lists_at}
 use Rattle.ipc_columns.proofs.read.array.list.read_list_head.Goals as goal
 

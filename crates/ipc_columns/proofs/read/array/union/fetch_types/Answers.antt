@@ -4,7 +4,7 @@ use Rattle.lower_types.specs.NumberLaws.{signed_byte_in-first}
 use Rattle.lower_types.specs.declared.PrimitiveType.TheVariants.{Int8}
 use Rattle.ipc_model.specs.Entries.{Need}
 use Rattle.ipc_model.specs.ReadArrays.{integers_of}
-use Rattle.ipc_columns.specs.Bodies.{entries}
+use Rattle.ipc_flat_columns.specs.Bodies.{entries}
 use Rattle.ipc_columns.proofs.UnionReads.{integers_are}
 use Rattle.ipc_columns.proofs.read.array.union.fetch_types.Goals as goal
 

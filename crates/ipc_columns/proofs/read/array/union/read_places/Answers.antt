@@ -4,7 +4,7 @@ use Rattle.lower_types.specs.Numbers.{signed_in}
 use Rattle.lower_types.specs.NumberLaws.{signed_in-first}
 use Rattle.lower_types.specs.declared.PrimitiveType.TheVariants.{Int32}
 use Rattle.ipc_model.specs.ReadArrays.{integers_of}
-use Rattle.ipc_columns.specs.Bodies.{entries}
+use Rattle.ipc_flat_columns.specs.Bodies.{entries}
 use Rattle.ipc_columns.proofs.UnionReads.{integers_are}
 use Rattle.ipc_columns.proofs.read.array.union.read_places.Goals as goal
 

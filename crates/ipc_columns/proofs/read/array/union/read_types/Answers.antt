@@ -3,8 +3,8 @@ use Rattle.std.proofs.lemmas.List.FromFn.{length-map-range_with_len}
 use Rattle.lower_types.specs.declared.PrimitiveType.TheVariants.{Int8}
 use Rattle.ipc_model.specs.Entries.{IsSize, node, Need, rows, integer}
 use Rattle.ipc_model.specs.ReadArrays.{integers_of}
-use Rattle.ipc_columns.specs.Bodies.{entries}
-use Rattle.ipc_columns.proofs.Fetches.{answers_through}
+use Rattle.ipc_flat_columns.specs.Bodies.{entries}
+use Rattle.ipc_flat_columns.proofs.Fetches.{answers_through}
 use Rattle.ipc_columns.proofs.read.array.union.read_types.Goals as goal
 
 pub returns-clause-memory : goal.returns-clause-memory

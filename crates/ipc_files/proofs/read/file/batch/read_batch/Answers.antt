@@ -5,7 +5,7 @@ use Rattle.std.specs.Option.{option_copied}
 use Rattle.ipc_devices.specs.declared.fault.OutOfSpecKind.TheVariants.{NegativeFooterLength, UnexpectedNegativeInteger}
 use Rattle.ipc_model.specs.Batches.{chosen, kinds}
 use Rattle.ipc_model.specs.Files.{block_header}
-use Rattle.ipc_columns.specs.Bodies.{known_dictionaries}
+use Rattle.ipc_flat_columns.specs.Bodies.{known_dictionaries}
 use Rattle.ipc_files.specs.Blocks.{message_seen, place_seen}
 use Rattle.ipc_files.specs.Footers.{file_seen}
 use Rattle.ipc_read.specs.Refusals.{IsFaultOfBatch}

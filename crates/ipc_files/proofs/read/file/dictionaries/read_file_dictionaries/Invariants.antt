@@ -4,7 +4,7 @@ use Rattle.ipc_laws.specs.Agreement.{AreAlike}
 use Rattle.ipc_model.specs.Files.{all_of, dictionaries_after}
 use Rattle.ipc_files.specs.Dictionaries.{DictionariesReason}
 use Rattle.ipc_files.specs.Footers.{file_seen}
-use Rattle.ipc_columns.specs.Bodies.{array_under, known_dictionaries}
+use Rattle.ipc_flat_columns.specs.Bodies.{array_under, known_dictionaries}
 use Rattle.ipc_files.proofs.HeldValues.{EachListed}
 use Rattle.ipc_files.proofs.NeededValues.{GivenFor}
 use Rattle.ipc_files.proofs.read.file.dictionaries.read_file_dictionaries.Given as goal

@@ -1,6 +1,6 @@
 use Rattle.std.proofs.Common.{rules, ◌≡◌, Ok, Err}
 use Rattle.ipc_model.specs.Batches.{extra_of}
-use Rattle.ipc_columns.specs.Bodies.{known_dictionaries}
+use Rattle.ipc_flat_columns.specs.Bodies.{known_dictionaries}
 use Rattle.ipc_files.proofs.BlockDictionaries.{dictionary-given}
 use Rattle.ipc_files.proofs.read.file.dictionaries.read_values.Goals as goal
 

@@ -1,0 +1,12 @@
+pub mod Pieces
+pub mod Fetches
+pub mod Refusals
+pub mod Heads
+pub mod FlatLevels
+pub mod OffsetLists
+pub mod SpanLevels
+pub mod KnownValues
+pub mod KeyReads
+pub mod HeldLevels
+pub mod HeldOffsets
+pub mod Indices

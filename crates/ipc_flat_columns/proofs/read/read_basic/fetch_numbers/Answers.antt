@@ -1,0 +1,27 @@
+use Rattle.std.proofs.Common.{◌≡◌, ◌+◌, ◌*◌, ◌<◌, ◌≤◌, Vec, Global, rules, arith, ap, sym, subst, ◌∙◌}
+use Rattle.std.proofs.Math.Nat.{mul-pos}
+use Rattle.std.proofs.lemmas.Option.{get_or_from_slice_get}
+use Rattle.lower_types.specs.Numbers.{values_of}
+use Rattle.ipc_views.specs.declared.schema.Buffer.{Buffer}
+use Rattle.ipc_model.specs.Entries.{IsSize, size}
+use Rattle.ipc_flat_columns.proofs.Fetches.{fetched, entry}
+use Rattle.ipc_flat_columns.proofs.read.read_basic.fetch_numbers.Goals as goal
+
+pub returns-clause-memory : goal.returns-clause-memory
+returns-clause-memory g c = λ k.
+    let w = g.T.NativeType.width in
+    let value = g.T.NativeType.value c.args.body.now.order in
+    let is : c.width-width.result ≡ w = c.width-width.ensures.value in
+    let some : 0 < w = omega (arith, is, c.width-width.ensures.bounds.0) in
+    let got : entry c.args.body.now.buffers c.args.index ≡ c.get-entry.result = get_or_from_slice_get c.args.body.now.buffers c.args.index c.get-entry.result _ c.get-entry.ensures in
+    let listed : c.size_of-listed.result ≡ size c.get-entry.result.length = search rules in
+    let fits : c.width-width.result * c.args.count ≤ c.size_of-listed.result = search rules in
+    let long : w * c.args.count ≤ size (entry c.args.body.now.buffers c.args.index).length =
+    omega (arith, fits, listed ∙ ap (λ (e : Buffer). size e.length) (sym got), ap (λ n. n * c.args.count) is)
+    in
+    let natural : IsSize c.get-entry.result.offset = search rules in
+    let offset : c.in_ok-offset.offset ≡ size c.get-entry.result.offset = search rules in
+    fetched (λ xs (v : Vec g.row.T.Denot Global). v.items ≡ values_of value w xs) g.R.Failures.memory c.args.body.now c.args.index (w * c.args.count)
+    _ _ c.read_numbers_at.result c.requires.inside (subst (λ (e : Buffer). IsSize e.offset) (sym got) natural)
+    (ap (λ n. c.args.body.now.base + n) (offset ∙ ap (λ (e : Buffer). size e.offset) (sym got))) long (mul-pos some (omega arith))
+    (c.requires.stands (g.met.R.Seeks.known_still k)) (c.read_numbers_at.ensures.memory k)

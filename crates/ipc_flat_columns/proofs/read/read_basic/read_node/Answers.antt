@@ -1,0 +1,14 @@
+use Rattle.std.proofs.Common.{rules, ◌≡◌, ◌<◌, sym, subst, MatchBool}
+use Rattle.ipc_views.specs.declared.message.FieldNode.{FieldNode}
+use Rattle.ipc_model.specs.Entries.{IsSize, size, limited, node}
+use Rattle.ipc_flat_columns.proofs.Heads.{node_is}
+use Rattle.ipc_flat_columns.specs.Bodies.{entries}
+use Rattle.ipc_flat_columns.proofs.read.read_basic.read_node.Goals as goal
+
+pub returns-clause-exact : goal.returns-clause-exact
+returns-clause-exact g c =
+    let e : node (entries g.R.Failures.memory c.args.body.now) c.args.index ≡ c.get-node.result =
+    node_is g.R.Failures.memory c.args.body.now c.args.index c.get-node.result c.get-node.ensures
+    in
+    subst (λ (x : FieldNode). IsSize x.length × ((c.limit_rows.result ≡ limited c.args.limit (size x.length))
+    × MatchBool c.has_nulls.result (0 < size x.null_count) (size x.null_count ≡ 0))) (sym e) (search rules)

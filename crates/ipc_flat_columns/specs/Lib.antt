@@ -1,0 +1,9 @@
+pub mod Bodies
+pub mod Steps
+pub mod Refusals
+pub mod OffsetForms
+pub mod Kinds
+pub mod FlatKinds
+pub mod Limits
+pub mod KeyLevels
+pub mod HeldListed

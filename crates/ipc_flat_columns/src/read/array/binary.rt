@@ -1,0 +1,62 @@
+//! Reads columns of bytes of any length.
+ghost use Rattle.std.specs.Prelude.{◌≡◌, ◌+◌, ◌<◌, IsTrue, IfOk, IfErr};
+ghost use Rattle.ipc_devices.specs.Faults.{OwnFault, Answers};
+ghost use Rattle.lower.specs.TypeViews.{type_view};
+ghost use Rattle.lower.specs.Physical.{physical};
+ghost use Rattle.lower_flat.specs.Binaries.{bytes_with};
+ghost use Rattle.lower_arrays.specs.Flat.{bytes_layout};
+ghost use Rattle.ipc_model.specs.Kinds.{binary_kind};
+ghost use Rattle.ipc_model.specs.Entries.{listed};
+ghost use Rattle.ipc_model.specs.Columns.{IsWell};
+ghost use Rattle.ipc_model.specs.ReadArrays.{array_at};
+ghost use Rattle.ipc_flat_columns.specs.Bodies.{KeepsBytes, HasRoom, entries, known};
+ghost use Rattle.ipc_flat_columns.specs.HeldListed.{HoldsListed};
+ghost use Rattle.ipc_flat_columns.specs.Refusals.{IsColumnFault};
+ghost use Rattle.ipc_flat_columns.specs.Steps.{Step};
+
+use crate::read::body::{Body, Place};
+use crate::read::read_basic::{StoredOffset, fetch_bytes, read_head, read_offsets};
+use ipc_devices::fault::Fault;
+use ipc_devices::{Reads, Seeks};
+use lower::buffer::Buffer;
+use lower::datatypes::DataType;
+use lower_arrays::array::BinaryArray;
+use std::alloc::Global;
+
+/// The column of bytes at a place (Arrow columnar format, "Variable-size Binary Layout"): a node, and a
+/// validity, offsets of 32 or 64 bits, and bytes, of which those up to the last offset that is used are read.
+/// Its data type is one that lies in memory as such bytes do.
+///
+/// `NegativeFooterLength` where its length, or the offset of a buffer that is used, is below 0,
+/// `InvalidBuffer` where such a buffer is too short, `InvalidBitmap` where the validity is, `Ended` where the
+/// device is, `FallingOffset` where an offset is below 0 or less than the one before it. `Io` and `Memory` come
+/// too, and no other.
+#[tactic(auto, using(crate::proofs::Refusals::buffer_column))]
+pub fn read_binary<O: StoredOffset, R: Reads + Seeks>(
+    alloc: Global,
+    data_type: &DataType,
+    reader: &mut R,
+    body: &Body<R>,
+    place: Place,
+    limit: Option<usize>,
+) -> Result<BinaryArray<O>, Fault>
+    requires lies { physical (type_view data_type.now) ≡ bytes_with O.primitive }
+    requires room { HasRoom body.now place 1 3 }
+    requires stands { KeepsBytes R.still R.memory reader.old body.now }
+    ensures only { IfErr result (λ e. OwnFault e (IsColumnFault e)) }
+    ensures step { let s = entries R.memory body.now in
+        Step R.still R.memory R.failures R.given body.now
+        (listed s place.buffer + listed s (place.buffer + 1) + listed s (place.buffer + 1 + 1)) reader.old result reader.new }
+    ensures held { IfOk result (λ array. HoldsListed (entries R.memory body.now) body.now.extra (binary_kind O.form) place.buffer (bytes_layout O.primitive array)) }
+    ensures memory { IsTrue R.known → let s = entries R.memory body.now in
+        Answers result (IsWell s (binary_kind O.form) place.node place.buffer limit)
+        (λ array. bytes_layout O.primitive array ≡ array_at s (known body.now) (binary_kind O.form) (type_view data_type.now) place.node place.buffer limit) }
+{
+    let head = read_head(alloc, reader, body, place, limit)?;
+    let index = place.buffer + 1;
+    let offsets = read_offsets(alloc, reader, body, index, head.rows)?;
+    let values = fetch_bytes(alloc, reader, body, index + 1, offsets.last())?;
+    let values = Buffer::new(values)?;
+    let data_type = data_type.clone()?;
+    Ok(BinaryArray::try_new(data_type, offsets, values, head.validity)?)
+}
