@@ -1,34 +1,21 @@
 -- What an array over others holds that is made of what was read, by what its buffers list.
-use Rattle.std.proofs.Common.{arith, ◌≡◌, refl, ℕ, ℤ, ◌+◌, ◌*◌, ◌≤◌, ◌==◌, ◌&&◌, Bool, true, false, cond, List, [], ◌∷◌, ◌++◌, map, length, Option, None, Some, sym, ap, ◌∙◌}
-use Rattle.std.proofs.lemmas.List.{length-map}
-use Rattle.lower.specs.Physical.{physical, integer}
-use Rattle.lower.specs.TypeTrees.{TypeTree, plain}
+use Rattle.std.proofs.Common.{arith, ◌≡◌, ℕ, ℤ, ◌+◌, ◌*◌, ◌≤◌, ◌==◌, ◌&&◌, List, [], ◌∷◌, ◌++◌, length, Option, None, Some, ap, ◌∙◌}
+use Rattle.lower.specs.TypeTrees.{TypeTree}
 use Rattle.lower.specs.declared.datatypes.IntegerType.{IntegerType}
 use Rattle.lower.specs.declared.datatypes.IntegerType.TheVariants as Integers
 use Rattle.lower.specs.declared.datatypes.UnionMode.TheVariants.{Sparse, Dense}
-use Rattle.lower_types.specs.NumberTypes.{Number, width_of}
 use Rattle.lower_types.specs.declared.PrimitiveType.{PrimitiveType}
 use Rattle.lower_types.specs.declared.PrimitiveType.TheVariants as Named
 use Rattle.lower_flat.specs.Validities.{Validity}
-use Rattle.lower_flat.specs.Primitives.{PrimitiveSeen, primitive_seen}
-use Rattle.lower_flat.specs.Booleans.{BooleanSeen, boolean_seen}
-use Rattle.lower_flat.specs.FixedBinaries.{FixedBinarySeen, fixed_seen}
-use Rattle.lower_flat.specs.Spans.{SpansSeen, spans_seen}
-use Rattle.lower_rules.specs.Keys.{KeysSeen, keys_in}
-use Rattle.lower_arrays.specs.Dictionaries.{dictionary_seen, dictionary_layout}
-use Rattle.lower_arrays.specs.Flat.{boolean_layout, fixed_layout, bytes_layout, texts_layout}
-use Rattle.lower_arrays.specs.Held.{bytes_of_bits, validity_held, width_in, held, all_held}
+use Rattle.lower_arrays.specs.Held.{validity_held, held, all_held}
 use Rattle.lower_arrays.specs.Layouts.{Layout, layouts}
 use Rattle.lower_arrays.specs.Lists.{list_seen, list_layout}
 use Rattle.lower_arrays.specs.Maps.{map_seen, map_layout}
-use Rattle.lower_arrays.specs.Primitives.{primitive_layout}
 use Rattle.lower_arrays.specs.Unions.{union_seen, union_layout}
-use Rattle.ipc_model.specs.Columns.{is_omitted}
-use Rattle.ipc_model.specs.Entries.{Entries, listed, bytes_for}
-use Rattle.ipc_model.specs.Kinds.{offsets_32, OffsetWidth, offset_width, Kind, boolean_kind, number_kind, fixed_binary_kind, binary_kind, utf8_kind, list_kind, map_kind, fixed_list_kind, struct_kind, union_kind, dictionary_kind, Kinds}
-use Rattle.ipc_model.specs.TypeKinds.{key_form}
+use Rattle.ipc_model.specs.Entries.{Entries, listed}
+use Rattle.ipc_model.specs.Kinds.{offsets_32, OffsetWidth, Kind, list_kind, map_kind, fixed_list_kind, struct_kind, union_kind, Kinds}
 use Rattle.ipc_columns.specs.FixedLevels.{sized_layout}
-use Rattle.ipc_flat_columns.specs.HeldListed.{empty_offset, HoldsListed, HoldAllListed, HoldsOffsets, keys_held}
+use Rattle.ipc_flat_columns.specs.HeldListed.{HoldsListed, HoldAllListed, HoldsOffsets}
 use Rattle.ipc_columns.specs.StructLevels.{records_layout}
 
 -- ---- columns over others

@@ -8,9 +8,9 @@ use Rattle.std.proofs.lemmas.Bool.Decides.{nat_tests, Decides-int_eq}
 use Rattle.std.proofs.lemmas.List.Recursion.{is_position_or_len}
 use Rattle.std.proofs.lemmas.Map.Keys.{apart_from_distinct, IsDistinct-from_apart}
 use Rattle.lower_rules.specs.Ids.{TypeIds, IdsFit, NamesChild, place_among, child_number}
-use Rattle.lower_rules.specs.Keys.{KeyFits}
 use Rattle.ipc_model.specs.Columns.{AreUnionIds, child_named}
 use Rattle.ipc_model.specs.Entries.{IsIndex}
+use Rattle.ipc_flat_columns.proofs.Indices.{index_key, key_index}
 
 -- ---- ids
 
