@@ -21,15 +21,16 @@ use ipc_schema_write::dictionaries::are_same_ids;
 use lower::datatypes::{Schema, is_same_schema};
 use std::alloc::Global;
 
-/// Writes the chunks of the stream at `input` behind those of the file at `file`, at whose beginning the device has to stand, each as soon as
-/// it is read, and a footer with all of them. The file's byte order and its pairs stay. Both devices are given back.
+/// Writes the chunks of the stream at `input` behind those of the file at `file`, each as soon as it is read, and a footer with all of them.
+/// The file begins where its device does, and the device has to stand there. The file's byte order and its pairs stay. Both devices are
+/// given back.
 ///
-/// Faults, those of memory and of devices aside each, of a file in memory, only where it is so: those of [`read_file_metadata`],
-/// `try_from_file` and [`read_stream_metadata`]; `Argument(FieldsDiffer)` where the stream's schema isn't the file's, both in their normal
-/// form, or its ids aren't: the file is as it was then. Behind the schema those of the calls of [`StreamReader`] and [`FileWriter`], and
-/// `Argument(TooLarge)` where `2^64 - 1` chunks came and no end: the file is finished then with the chunks that were taken, unless its device
-/// failed, no memory was left for its footer, or it has more than `2^25` blocks; and then its old chunks still stand, where they need no byte
-/// behind the place where writing went on.
+/// Faults before anything is written, so that the file is as it was: those of [`read_file_metadata`], `try_from_file` and
+/// [`read_stream_metadata`]; `Argument(FieldsDiffer)` where the stream's schema isn't the file's, both in their normal form, or its ids
+/// aren't. Faults after that: those of the calls of [`StreamReader`] and [`FileWriter`], and `Argument(TooLarge)` where `2^64 - 1` chunks
+/// came and no end. Then the file is finished with the chunks that were taken, unless its device failed, no memory was left for its footer,
+/// or it has more than `2^25` blocks; its old chunks still stand even so, where they need no byte behind the place where writing went on.
+/// Where the file is in memory, each fault but `Memory` and `Io` names a condition that holds.
 pub fn append_stream<F: Reads + Writes + Seeks + Drop, R: Reads + Drop>(
     alloc: Global,
     file: F,

@@ -78,8 +78,8 @@ pub trait Sink {
 /// Reads all chunks that come, and writes each as soon as it is read: just these were taken then.
 ///
 /// Faults: that of the source where one came in place of a chunk, that of the sink where it refused the chunk that came, and
-/// `Argument(TooLarge)` where `2^64 - 1` chunks came and no end. What was taken by then are the first chunks that came; `Io` alone leaves
-/// that open.
+/// `Argument(TooLarge)` where `2^64 - 1` chunks came and no end. The chunks that were taken by then are the first that came; after `Io`
+/// alone that isn't said.
 pub fn copy_chunks<S: Source, T: Sink>(source: &mut S, sink: &mut T) -> Result<Ending, Fault>
     ensures copied { IfOk result (λ ending. Copied S.came S.stopped T.took source.old sink.old ending source.new sink.new) }
     ensures refused { OnRefused result (TookWhatCame S.came T.took source.old sink.old sink.new) }

@@ -22,13 +22,14 @@ use lower::datatypes::clones::clone_metadata;
 use lower::datatypes::{Metadata, Schema};
 use std::alloc::Global;
 
-/// Writes the stream at `input` as a file to `out`: its schema, in the normal form and with the ids of its dictionaries, then each chunk
+/// Copies the stream at `input` as a file to `out`: its schema, in the normal form and with the ids of its dictionaries, then each chunk
 /// as soon as it is read, and the footer, without pairs, where the stream ends by its mark or waits for more. Both devices are given back.
 ///
-/// Faults, those of memory and of devices aside each only where it is so: those of [`read_stream_metadata`], and the `Argument` faults of a
-/// schema that can't be written: nothing is written then. Behind the schema those of the calls of [`StreamReader`] and [`FileWriter`], and
-/// `Argument(TooLarge)` where `2^64 - 1` chunks came and no end: the file is finished then with the chunks that were taken, unless its device
-/// failed or no memory was left for its footer. Both devices are dropped with a fault: who wants what was written lends them.
+/// Faults before anything is written: those of [`read_stream_metadata`], and the `Argument` faults of a schema that can't be written.
+/// Faults after that: those of the calls of [`StreamReader`] and [`FileWriter`], and `Argument(TooLarge)` where `2^64 - 1` chunks came and
+/// no end. Then the file is finished with the chunks that were taken, unless its device failed or no memory was left for its footer. Each
+/// fault but `Memory` and `Io` names a condition that holds. A fault drops both devices: to keep what was written, hand in lent ones
+/// (`&mut`).
 pub fn stream_to_file<R: Reads + Drop, W: Writes + Drop>(
     alloc: Global,
     input: R,
@@ -52,14 +53,15 @@ pub fn stream_to_file<R: Reads + Drop, W: Writes + Drop>(
     Ok((reader.into_inner(), writer.into_inner()))
 }
 
-/// Writes the file at `file`, at whose beginning the device has to stand, again as a file to `out`, which it gives back: its schema, in the
-/// normal form and with the ids of its dictionaries, then the chunk at each block, in their order and each as soon as it is read, and the
-/// footer with the file's own pairs. The dictionaries are read with the first block.
+/// Copies the file at `file` as a file to `out`, which it gives back: its schema, in the normal form and with the ids of its dictionaries,
+/// then the chunk at each block, in their order and each as soon as it is read, and the footer with the file's own pairs. The file begins
+/// where its device does, and the device has to stand there. The dictionaries are read with the first block.
 ///
-/// Faults, those of memory and of devices aside each, of a file in memory, only where it is so: those of [`read_file_metadata`], and the
-/// `Argument` faults of a schema that can't be written, or that is too heavy with the pairs (`TooLarge`): nothing is written then. Behind the
-/// schema those of the calls of [`FileReader`] and [`FileWriter`]: the file is finished then with the chunks that were taken, unless its device
-/// failed or no memory was left for its footer. Both devices are dropped with a fault: who wants what was written lends them.
+/// Faults before anything is written: those of [`read_file_metadata`], and the `Argument` faults of a schema that can't be written, or that
+/// is too heavy with the pairs (`TooLarge`). Faults after that: those of the calls of [`FileReader`] and [`FileWriter`]. Then the file is
+/// finished with the chunks that were taken, unless its device failed or no memory was left for its footer. Where the file that is read is
+/// in memory, each fault but `Memory` and `Io` names a condition that holds. A fault drops both devices: to keep what was written, hand in
+/// lent ones (`&mut`).
 pub fn file_to_file<F: Reads + Seeks + Drop, W: Writes + Drop>(
     alloc: Global,
     file: F,

@@ -1,4 +1,4 @@
-//! Writes streams and files again, as streams, as files, or behind the chunks of a file: chunk by chunk, over any devices.
+//! Copies streams and files as streams, as files, or behind the chunks of a file: chunk by chunk, over any devices.
 #![tactic(auto)]
 
 pub mod append;

@@ -17,14 +17,14 @@ use ipc_readers::read::stream::{StreamReader, read_stream_metadata};
 use ipc_write::stream::StreamWriter;
 use std::alloc::Global;
 
-/// Writes the stream at `input` to `out`: its schema, in the normal form and with the ids of its dictionaries, then each
-/// chunk as soon as it is read, and the mark where the stream ends by one. Where the stream waits for more, so does what is written.
-/// Both devices are given back.
+/// Copies the stream at `input` to `out`: its schema, in the normal form and with the ids of its dictionaries, then each chunk as soon as
+/// it is read, and the mark where the stream ends by one. Where the stream waits for more, so does what is written. Both devices are given
+/// back.
 ///
-/// Faults, those of memory and of devices aside each only where it is so: those of [`read_stream_metadata`] and of the calls of
-/// [`StreamReader`] and [`StreamWriter`]; the `Argument` faults among them tell that a schema or a chunk can't be written, or, as `TooLarge`,
-/// that `2^64 - 1` chunks came and no end. The chunks that were taken by then have been written, without the mark. Both devices are dropped
-/// with a fault: who wants what was written lends them.
+/// Faults: those of [`read_stream_metadata`] and of the calls of [`StreamReader`] and [`StreamWriter`]; the `Argument` faults among them
+/// tell that a schema or a chunk can't be written, or, as `TooLarge`, that `2^64 - 1` chunks came and no end. Each but `Memory` and `Io`
+/// names a condition that holds. The chunks that were taken by then have been written, without the mark. A fault drops both devices: to
+/// keep what was written, hand in lent ones (`&mut`).
 pub fn stream_to_stream<R: Reads + Drop, W: Writes + Drop>(
     alloc: Global,
     input: R,
@@ -47,14 +47,15 @@ pub fn stream_to_stream<R: Reads + Drop, W: Writes + Drop>(
     Ok((reader.into_inner(), writer.into_inner()))
 }
 
-/// Writes the file at `file`, at whose beginning the device has to stand, as a stream to `out`, which it gives back: its schema, in the normal
-/// form and with the ids of its dictionaries, then the chunk at each block, in their order and each as soon as it is read, and the mark. The
-/// pairs of the file itself are left out: a stream has none.
+/// Copies the file at `file` as a stream to `out`, which it gives back: its schema, in the normal form and with the ids of its
+/// dictionaries, then the chunk at each block, in their order and each as soon as it is read, and the mark. The file begins where its
+/// device does, and the device has to stand there. The pairs of the file itself are left out: a stream has none. The dictionaries are read
+/// with the first block.
 ///
-/// Faults, those of memory and of devices aside each, of a file in memory, only where it is so: those of [`read_file_metadata`] and of the
-/// calls of [`FileReader`] and [`StreamWriter`]; the `Argument` faults among them tell that the schema or a chunk can't be written. The chunks
-/// that were taken by then have been written, without the mark. Both devices are dropped with a fault: who wants what was written lends them.
-/// The dictionaries are read with the first block.
+/// Faults: those of [`read_file_metadata`] and of the calls of [`FileReader`] and [`StreamWriter`]; the `Argument` faults among them tell
+/// that the schema or a chunk can't be written. Where the file is in memory, each but `Memory` and `Io` names a condition that holds. The
+/// chunks that were taken by then have been written, without the mark. A fault drops both devices: to keep what was written, hand in lent
+/// ones (`&mut`).
 pub fn file_to_stream<F: Reads + Seeks + Drop, W: Writes + Drop>(
     alloc: Global,
     file: F,

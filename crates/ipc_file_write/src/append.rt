@@ -122,9 +122,10 @@ fn dictionaries_of<W: Reads + Seeks>(
 }
 
 impl<W: Reads + Writes + Seeks + Drop> FileWriter<W> {
-    /// A writer that goes on with a file, whose metadata were read from this device: it is started, and each chunk comes behind those that
-    /// the file has. [`finish`](FileWriter::finish) writes a footer with all blocks, old and new. The file's byte order stays, whatever
-    /// the options say, and so do its pairs, unless others are set. A dictionary whose values the file has isn't written again.
+    /// A writer that goes on with a file, whose metadata were read from this device, and which has to begin where the device does: it is
+    /// started, and each chunk comes behind those that the file has. [`finish`](FileWriter::finish) writes a footer with all blocks, old
+    /// and new. The file's byte order stays, whatever the options say, and so do its pairs, unless others are set. A dictionary whose
+    /// values the file has isn't written again.
     ///
     /// Writing goes on behind all blocks of the file, or at its end where a block ends behind that. What stands before that place is never
     /// changed, and the file never gets shorter: so whatever a later call answers, these metadata still give the chunks that they gave, where

@@ -108,7 +108,7 @@ impl<W: Writes + Drop> FileWriter<W> {
         })
     }
 
-    /// A writer of a file that is started: by [`new`](FileWriter::new) and [`start`](FileWriter::start).
+    /// A writer of a file, already started: [`new`](FileWriter::new), and then [`start`](FileWriter::start).
     ///
     /// Faults: those of `start`, after which all that was handed in is dropped.
     pub fn try_new(
@@ -133,7 +133,8 @@ impl<W: Writes + Drop> FileWriter<W> {
         Ok(file)
     }
 
-    /// The memory that was handed in by [`set_scratches`](FileWriter::set_scratches), for another writer. Empty vectors stay.
+    /// The memory that was handed in by [`set_scratches`](FileWriter::set_scratches), for another writer. Empty vectors are left in its
+    /// place.
     pub fn get_scratches(&mut self) -> EncodedData
         ensures handed { result ≡ scratches_of self.old }
         ensures message { (scratches_of self.new).ipc_message.items ≡ [] }
@@ -166,14 +167,14 @@ impl<W: Writes + Drop> FileWriter<W> {
         &self.schema
     }
 
-    /// What was written to.
+    /// The device that was written to.
     pub fn into_inner(self) -> W
         ensures { result ≡ (seen self).device }
     {
         self.writer
     }
 
-    /// Has the footer say these pairs, in place of those that were set before. It takes no memory.
+    /// Sets the pairs that the footer will say, in place of those that were set before. It takes no memory.
     ///
     /// Faults: `State(Finished)`, `State(Failed)` by the writer's state; `Argument(TooLarge)` where the weight of the schema and the pairs
     /// is above `2^30`. After these the writer is as it was.
@@ -337,8 +338,8 @@ impl<W: Writes + Drop> FileWriter<W> {
         behind.saturating_sub(count + 8)
     }
 
-    /// Writes the mark that ends the stream, and the footer, and has the device send all on its way. A file that is gone on with ends no
-    /// earlier than it did: where it would, bytes 0 stand between the mark and the footer.
+    /// Writes the mark that ends the stream, and the footer, and flushes the device. A file that is gone on with ends no earlier than it
+    /// did: where it would, bytes 0 stand between the mark and the footer.
     ///
     /// Faults: `State(NotStarted)`, `State(Finished)`, `State(Failed)` by the writer's state; `Argument(TooLarge)` where the file has
     /// more than `2^25` blocks; `Memory`: after these nothing was sent and the writer is as it was. `Io` where the device failed, or

@@ -88,13 +88,13 @@ fn end_session<W: Writes + Drop>(
     Ok(session)
 }
 
-/// A session by metadata that were read from this device: the chunks are written behind those that the file has, one after the other, also
-/// those behind a refused one, and the file is ended.
+/// A session by metadata that were read from this device, of a file that begins where the device does: the chunks are written behind
+/// those that the file has, one after the other, also those behind a refused one, and the file is ended.
 ///
 /// In memory, where the end is Ok, the file has the schema and the pairs that it had, and behind its chunks exactly those of the writes
-/// that were Ok; it is a stream without its first eight bytes where it was one. Whatever the calls answer, the file is no shorter than it
-/// was, and these metadata give the dictionaries and the chunks that they gave, where these need no byte behind the place where writing
-/// goes on. So they do where the end is refused: the device is handed back then too.
+/// that were Ok; it is a stream without its first eight bytes where it was one. And whatever the calls answer, the file is no shorter than
+/// it was, and these metadata give the dictionaries and the chunks that they gave, where these need no byte behind the place where writing
+/// goes on; also where the end is refused, and then too the device is handed back.
 ///
 /// Faults: those of [`FileWriter::try_from_file`], which change nothing; `Memory` where there is none to keep the answers, and then nothing
 /// was written. After these the device is dropped; one that was lent may stand at any place.
@@ -167,8 +167,8 @@ fn whole_session<W: Reads + Writes + Seeks + Drop>(
 /// where it was one.
 ///
 /// Faults: those of [`append_session`], and of a `finish` that was refused. After them the device is dropped, with all that was written on
-/// it. On one that was lent the chunks of the sessions before still stand, where the metadata say that the last of these left; the file
-/// itself may be without a footer then.
+/// it. On one that was lent, the chunks of the sessions before still stand where the metadata name them that the last of these sessions
+/// left; the file itself may be without a footer then.
 pub fn run_sessions<W: Reads + Writes + Seeks + Drop>(
     alloc: Global,
     mut device: W,

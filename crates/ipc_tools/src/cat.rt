@@ -40,7 +40,7 @@ pub fn path_of(words: &[String]) -> Option<&str>
 /// Does what the words ask for, and answers the exit status: 0, 1 after a fault, whose class stands on
 /// `err` then, and 2 for wrong words, or positions of columns that repeat or aren't in the schema, where `err` has the
 /// usage. `file` is what stands at the path that the words name (see [`path_of`]), and None where that can't be opened, which
-/// is a fault where the words ask for it. A failed write to `err` is passed over.
+/// is a fault where the words ask for it. A failed write to `err` is ignored.
 pub fn run<R: Reads, F: Reads + Seeks + Drop, O: Writes, E: Writes>(
     alloc: Global,
     words: &[String],

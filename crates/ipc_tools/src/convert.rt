@@ -1,4 +1,4 @@
-//! `ipconvert`: reads an Arrow IPC stream or file and writes it again as a stream or a file, in either byte order; or goes on with a file.
+//! `ipconvert`: copies an Arrow IPC stream or file as a stream or a file, in either byte order; or appends a stream to a file.
 ghost use Rattle.std.specs.Prelude.{◌≡◌, ◌≤◌, codes, ◌↔◌, map, option_and_then, option_map, string_bytes, false, None, Some, Ok, IfErr, IfOk, IfSome, IsSome, IsTrue, OnOk};
 ghost use Rattle.ipc_devices.specs.Faults.{IsIo};
 ghost use Rattle.ipc_plan.specs.Sending.{seen_by};
@@ -31,16 +31,16 @@ pub fn place_of(words: &[String]) -> Option<Place<'_>>
 
 /// Does what the words ask for, and answers the exit status: 0 where all was written, also of a stream that waits for more; 1 after
 /// a fault, whose class stands on `err` then; and 2 for wrong words, where `err` has the usage. The words are
-/// judged before anything is read. A failed write to `err` is passed over.
+/// judged before anything is read. A failed write to `err` is ignored.
 ///
-/// `FROM` is `-`, a stream at `input`, or the path of a file, and `TO` is `stream` or `file`, written to `out`. `ORDER` is that of the bytes
-/// of numbers, `little` or `big`; where it is left out it is `little`. `append PATH` writes the chunks of the stream at `input` behind those
-/// of the file at a path, whose order of bytes stays. `file` is what stands at the path that the words name (see [`place_of`]), and None
-/// where that can't be opened, which is a fault where the words ask for it.
+/// `FROM` is `-`, for the stream at `input`, or the path of a file, and `TO` is `stream` or `file`, written to `out`. `ORDER` is the byte
+/// order of what is written, `little` or `big`; where it is left out it is `little`. `append PATH` writes the chunks of the stream at
+/// `input` behind those of the file at a path, whose byte order stays, and doesn't touch `out`. `file` is what stands at the path that the
+/// words name (see [`place_of`]), and None where that can't be opened, which is a fault where the words ask for it.
 ///
-/// A stream that waits is written as a stream that waits, and ends a file. A fault before the schema was written leaves what stands at `out`,
-/// and in a file that is to be gone on with, as it was; one behind it ends a file with the chunks that were taken, and a stream without a
-/// mark. `out` is flushed then too, but for a file that isn't there.
+/// A stream that waits is copied as a stream that waits, or as a whole file. A fault before the schema is sent leaves `out`, or the file
+/// that is appended to, as it was. A fault behind the schema ends a copied stream without a mark; a file is finished with the chunks that
+/// were taken, where its device takes the footer and there is memory for it. After a copy `out` is flushed, also after a fault of it.
 pub fn run<R: Reads, F: Reads + Writes + Seeks + Drop, O: Writes, E: Writes>(
     alloc: Global,
     words: &[String],

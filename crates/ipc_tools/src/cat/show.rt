@@ -30,8 +30,8 @@ enum Progress {
     Over,
 }
 
-/// Prints these columns of a stream, up to its end or to where it waits for more; behind `2^64 - 1` chunks as if it ended there. Its schema
-/// is read first, and then the positions of the columns are judged. Other columns aren't read.
+/// Prints these columns of a stream, up to its end or to where it waits for more; where `2^64 - 1` chunks came, as if it ended there. Its
+/// schema is read first, and then the positions of the columns are judged. Other columns aren't read.
 pub fn show_stream<R: Reads + Drop, W: Writes>(
     alloc: Global,
     input: R,

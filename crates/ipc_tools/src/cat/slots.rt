@@ -12,8 +12,8 @@ use arrow2_ipc::types::i256;
 use lower_arrays::value::{Nesting, Scalar, Value, value_at};
 
 /// Prints slot `index` of an array: `null`, `true`, `false`; a number; a text in double quotes; bytes as `h`
-/// and hexadecimal digits; the slots of a list or a map in brackets, of a record in braces; a variant behind
-/// the id of its type.
+/// and hexadecimal digits; the slots of a list or a map in brackets, those of a struct in braces; the slot of a
+/// union behind its type id and a colon.
 #[cycle(slots)]
 pub fn put_slot<W: Writes>(
     printer: &mut Printer<W>,

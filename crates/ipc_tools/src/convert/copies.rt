@@ -1,4 +1,4 @@
-//! The copies that the forms ask for. Their devices are lent: who hands them in goes on with them.
+//! The copies that the forms ask for. Their devices are lent: whoever hands them in goes on with them.
 ghost use Rattle.std.specs.Prelude.{◌≡◌, [], IfOk, IsTrue, OnOk};
 ghost use Rattle.ipc_model.specs.Streams.{marked};
 ghost use Rattle.ipc_write.specs.Writers.{order_of};

@@ -7,14 +7,14 @@ use arrow2_ipc::io::ipc::write::WriteOptions;
 /// The program's forms.
 #[derive(Clone, Copy)]
 pub enum Form<'a> {
-    /// From a source to a target that is written so.
+    /// From a source to a target, which is written with these options.
     Convert(Source<'a>, Target, WriteOptions),
 
     /// Behind the chunks of the file at a path, from the stream at the input.
     Append(&'a str),
 }
 
-/// Where it is read from.
+/// What is read.
 #[derive(Clone, Copy)]
 pub enum Source<'a> {
     /// The stream at the input.
@@ -24,14 +24,14 @@ pub enum Source<'a> {
     File(&'a str),
 }
 
-/// As what it is written.
+/// What it is written as.
 #[derive(Clone, Copy)]
 pub enum Target {
     Stream,
     File,
 }
 
-/// What stands at a path.
+/// A file that the words name.
 #[derive(Clone, Copy)]
 pub struct Place<'a> {
     /// The path.
@@ -55,7 +55,7 @@ pub fn form_of(words: &[String]) -> Option<Form<'_>>
     }
 }
 
-/// What the words of a form have opened.
+/// The file that a form asks to have opened, if it asks for one.
 pub fn place_in(form: Form<'_>) -> Option<Place<'_>>
     ensures { option_map (λ place. (place.path.now, place.is_written)) result ≡ place_for (wanted_by form.entry) }
 {

@@ -1,4 +1,4 @@
-//! Devices that are lent to a copy, by who goes on with them.
+//! Devices that are lent to a copy, and that their owner goes on with.
 //!
 //! A copy takes its devices, and gives back devices of the same types: its contract doesn't say which ones. These tell it themselves, by each
 //! read that gave bytes, and in front of the bytes that are written to. So what is said of a device that came back is said of the one that was lent.

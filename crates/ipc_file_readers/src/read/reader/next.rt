@@ -28,8 +28,9 @@ fn less(limit: Option<usize>, rows: usize) -> Option<usize>
 }
 
 impl<R: Reads + Seeks + Drop> FileReader<R> {
-    /// A reader of the chunks of a file, which `metadata` is of. Where columns are chosen, they are there, and none is chosen twice.
-    /// Where none are, it takes no memory. At most `limit` rows come, of all chunks together; without a limit all. It reads nothing.
+    /// A reader of the chunks of the file that `metadata` is of. A projection names columns that are there, each once; without one all
+    /// columns are read, and the call takes no memory. At most `limit` rows come, of all chunks together; without a limit all. The call
+    /// reads nothing.
     ///
     /// It answers `Memory` where there is no memory, and no other fault.
     pub fn new(
@@ -57,7 +58,8 @@ impl<R: Reads + Seeks + Drop> FileReader<R> {
         })
     }
 
-    /// The schema of the chunks: the fields of the columns that are asked for, in this order, with the metadata of the file's schema.
+    /// The schema of the chunks: that of the file, or, by a projection, its columns' fields in its order, with the metadata of the
+    /// file's schema.
     pub fn schema(&self) -> &Schema
         ensures { result.now ≡ schema_of self.now }
     {
@@ -85,7 +87,7 @@ impl<R: Reads + Seeks + Drop> FileReader<R> {
         self.current_block >= self.metadata.blocks.len()
     }
 
-    /// Takes the room for data and that for messages. Empty ones stay.
+    /// Hands out the scratch memory for data and that for messages, and leaves empty vectors in their place.
     pub fn get_scratches(&mut self) -> (Vec<u8>, Vec<u8>)
         ensures taken { result ≡ scratches_of self.old }
         ensures data_left { (scratches_of self.new).0.items ≡ [] }
@@ -97,7 +99,7 @@ impl<R: Reads + Seeks + Drop> FileReader<R> {
         (data, message)
     }
 
-    /// Gives room for data and room for messages, in place of those that it has.
+    /// Takes scratch memory for data and for messages, in place of what the reader has.
     pub fn set_scratches(&mut self, scratches: (Vec<u8>, Vec<u8>))
         ensures given { scratches_of self.new ≡ scratches }
         ensures same { DiffersInScratches self.old self.new }

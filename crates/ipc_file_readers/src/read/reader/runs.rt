@@ -7,7 +7,8 @@ use ipc_devices::{Reads, Seeks};
 
 /// The answers to calls of `next` over a file whose bytes are known. Where its dictionaries have a meaning, or the reader holds them, these
 /// are the chunks of its blocks in order, each by the columns that are asked for and by what the chunks before it leave of the limit,
-/// with a fault in the place of each that has no meaning, and then None; or, once, that memory or a device failed at the dictionaries.
+/// with a fault in the place of each that has no meaning, or at which memory or the device failed, and then None; or, once, that memory
+/// or the device failed at the dictionaries.
 /// Where the dictionaries have no meaning, it is told once, and then comes None. Nothing comes where there is no block.
 pub fn reading_of_files<R: Reads + Seeks + Drop>(reader: &FileReader<R>)
     ensures items { ItemsLaw R.known R.still R.memory R.failures R.given reader.now }

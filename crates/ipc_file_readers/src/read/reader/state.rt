@@ -8,20 +8,21 @@ use ipc_projections::read::chosen::ChosenColumns;
 use ipc_read::read::Dictionaries;
 use std::alloc::Global;
 
-/// Reads the chunks of a file, that of a block at a call of `next`, in the order of the footer (Arrow columnar format, "IPC File
+/// Reads the chunks of a file, one block at each call of `next`, in the order of the footer (Arrow columnar format, "IPC File
 /// Format").
 ///
-/// The first call reads the dictionaries, if there are some, once, unless there are no record blocks. A fault of theirs, of any kind, is
-/// answered once, and None from then on. Then each call answers the chunk of the next block, or its fault, after which the next call goes on with
-/// the block behind it. A chunk has the columns that are asked for, in this order, or all, and at most as many rows as are left of the
-/// limit, which is one for all chunks together: a chunk of no rows comes for each block behind the last row. Chunks share the values
-/// of the dictionaries. Behind the last block `next` answers None, reads nothing and takes no memory.
+/// The first call reads the dictionaries too, unless there are no record blocks. A fault of theirs, of any kind, is answered once, and
+/// None from then on. Else each call answers the chunk of the next block, or its fault, after which the next call goes on with the block
+/// behind it. A chunk has the columns that are asked for, in this order, or all, and at most as many rows as are left of the limit, which
+/// is one for all chunks together: a chunk of no rows comes for each block behind the last row. Chunks share the values of the
+/// dictionaries. Behind the last block `next` answers None, reads nothing and takes no memory.
 ///
-/// Faults of `next`: those of [`read_file_dictionaries`] and [`read_batch`], each where these have it, and no other; `Io` just where a call
-/// of the device failed. Where it answers a chunk, it takes no more bytes of the device than the block's message, its prefix and what the
-/// buffers of the given columns list, and at the first call what the dictionaries need. The arrays of a chunk hold together no more than
-/// these buffers list, and one offset for each buffer of offsets that lists nothing; over memory so does the array of each dictionary's
-/// values, by one of its blocks. The metadata of the message are left in the room for messages, and the room for data isn't used.
+/// Faults of `next`: those of [`read_file_dictionaries`] and [`read_batch`], and no other; `Io` exactly where a call of the device
+/// failed. A call that answers a chunk takes no more bytes of the device than the block's message, its prefix and what the buffers of the
+/// given columns list; the first one, over memory, no more than these and what the dictionaries need. The arrays of a chunk hold together
+/// no more than these buffers list, and one offset for each buffer of offsets that lists nothing; over memory so does the array of each
+/// dictionary's values, by one of its blocks. The metadata of the message are left in the scratch memory for messages; that for data
+/// isn't used.
 ///
 /// [`read_file_dictionaries`]: ipc_files::read::file::read_file_dictionaries
 /// [`read_batch`]: ipc_files::read::file::read_batch
