@@ -89,7 +89,7 @@ fn read_record<R: Reads + Seeks>(
     )
 }
 
-/// Reads the record batch at one of the blocks of a file, at any and in any order (Arrow columnar format, "IPC File Format"): the
+/// Reads the record batch at one of the blocks of a file, any of them, in any order (Arrow columnar format, "IPC File Format"): the
 /// columns of the projection, in rising order, or all where there is none, and of each at most `limit` slots. The index is that of
 /// a block in `metadata`, and the dictionaries are those of [`read_file_dictionaries`]. Each version is that of the block's own
 /// message, and the lengths of bodies aren't used. Of a column that isn't chosen no byte is read, and nothing is judged. Where it is
@@ -101,9 +101,10 @@ fn read_record<R: Reads + Seeks>(
 /// `OutOfSpec(NegativeFooterLength)` where a number of the block is below 0; `Ended` where its message isn't there, and
 /// `OutOfSpec(UnexpectedNegativeInteger)` where the length of that is below 0; `InvalidFlatbufferMessage`, `MissingMessageHeader`,
 /// `InvalidFlatbufferHeader`, `InvalidFlatbufferVersion` where it is ill-made, and `UnexpectedMessageType` where it is no record batch,
-/// each `OutOfSpec`; those of [`read_record_batch`]; `Io` and `Memory`, the former just where a call of the device failed. For a length that
+/// each `OutOfSpec`; those of [`read_record_batch`]; `Io` and `Memory`, the former exactly where a call of the device failed. For a length that
 /// isn't there no more than 65,536 bytes of memory are taken. The metadata of the message are left in `message_scratch`, and
-/// `data_scratch` isn't used; after a fault the reader stands anywhere, and other blocks can be read.
+/// `data_scratch` isn't used; after a fault the reader may stand at any place, and other blocks can be read. The
+/// blocks name places of the device: so the file has to begin where that does.
 ///
 /// [`read_file_dictionaries`]: crate::read::file::read_file_dictionaries
 #[allow(clippy::too_many_arguments)]

@@ -120,14 +120,15 @@ fn read_dictionary_block<R: Reads + Seeks>(
 /// Reads the dictionaries of a file, block by block in the order of its footer (Arrow columnar format, "IPC File Format"). Of an
 /// id that comes again the last values count. Each version is that of the block's own message, and the lengths of bodies aren't used.
 ///
-/// Where there are no blocks it is Ok. Over memory it is Ok exactly where the dictionaries have a meaning, and the values are then those. No more bytes are taken then than
-/// the messages of the blocks, their prefixes and what the buffers of the values list, and the array under an id holds no more than
+/// Where there are no blocks it is Ok. Over memory it is Ok exactly where the dictionaries have a meaning, and the values are then those.
+/// No more bytes are taken then than the messages of the blocks, their prefixes and what the buffers of the values list, and the array under an id holds no more than
 /// these list in one of its blocks, and one offset for each buffer of offsets that lists nothing. The scratch memory isn't used. Faults, of the
 /// first block that is refused: `OutOfSpec(UnexpectedNegativeInteger)` where a number of it is below 0; `Ended` where its message isn't
 /// there, and `OutOfSpec(NegativeFooterLength)` where the length of that is below 0; `InvalidFlatbufferMessage`, `MissingMessageHeader`,
 /// `InvalidFlatbufferHeader`, `InvalidFlatbufferVersion` where it is ill-made, and `UnexpectedMessageType` where it is no dictionary
-/// batch, each `OutOfSpec`; those of [`read_dictionary`]; `Io` and `Memory`, the former just where a call of the device failed. For a
-/// length that isn't there no more than 65,536 bytes of memory are taken. After a fault the reader stands anywhere.
+/// batch, each `OutOfSpec`; those of [`read_dictionary`]; `Io` and `Memory`, the former exactly where a call of the device failed. For a
+/// length that isn't there no more than 65,536 bytes of memory are taken. After a fault the reader may stand at any place.
+/// The blocks name places of the device: so the file has to begin where that does.
 pub fn read_file_dictionaries<R: Reads + Seeks>(
     alloc: Global,
     reader: &mut R,

@@ -164,8 +164,8 @@ fn read_footer_len<R: Reads + Seeks>(reader: &mut R) -> Result<(u64, u32), Fault
 /// the file is shorter than its head, the device shorter than the tail, or than that and the footer that it states;
 /// `NotYetImplemented(FeatherV1)` and `OutOfSpec(InvalidHeader)` where it has 6 bytes and begins with `FEA1`, or with anything else
 /// but `ARROW1`; `OutOfSpec(InvalidFooter)` where the device has 10 bytes and doesn't end with that; `OutOfSpec(NegativeFooterLength)` where the
-/// length of the footer is below 0; of the footer those of [`deserialize_footer`]; `Memory`; `Io`, just where a call of the device failed. For a stated length
-/// that isn't there no memory is taken. After a fault the reader stands anywhere.
+/// length of the footer is below 0; of the footer those of [`deserialize_footer`]; `Memory`; `Io`, exactly where a call of the device failed. For a stated length
+/// that isn't there no memory is taken. After a fault the reader may stand at any place.
 pub fn read_file_metadata<R: Reads + Seeks>(
     alloc: Global,
     reader: &mut R,

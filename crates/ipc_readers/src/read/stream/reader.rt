@@ -23,13 +23,13 @@ use std::alloc::Global;
 /// input ends before the next message, or up to three bytes into its prefix, which are kept, and then
 /// each later call goes on from there; None from the mark that ends the stream on; or a fault, once, and
 /// None from then on. The dictionaries that a column has are those that were read before its record batch; chunks share their values.
-/// Where columns are asked for the chunks are of these, in this order; another column isn't read, and isn't judged. The arrays of a chunk
+/// Where columns are asked for, the chunks are of these, in this order; another column isn't read, and isn't judged. The arrays of a chunk
 /// hold together no more than the buffers of its columns list, and one offset for each buffer of offsets that lists nothing.
 ///
 /// Faults of `next`: those of [`read_frame`], [`open_message`], [`read_dictionary`] and [`read_record_batch`]; `Ended` where
 /// the body is shorter than stated; `OutOfSpec(UnexpectedMessageType)` where the message is neither a
 /// record batch nor a dictionary batch; `TooManyDictionaries` at the 65,537th dictionary batch since the last record batch;
-/// `Io` where the device failed; `Memory`. No other comes. Over bytes in memory there is no `Io`, and a
+/// `Io` exactly where a call of the device failed; `Memory`. No other comes. Over bytes in memory there is no `Io`, and a
 /// fault other than `Memory` comes only where what stands ahead means nothing by the columns that are asked for.
 ///
 /// [`read_frame`]: crate::read::frame::read_frame

@@ -23,7 +23,7 @@ pub fn faults_of_devices<R: Reads + Drop>(reader: &StreamReader<R>)
     ensures { FailsLaw R.gives R.known R.memory R.failures reader.now }
 {}
 
-/// Without a projection a stream means by the columns that are asked for what it means.
+/// Without a projection, what a stream means by a request is its meaning.
 pub fn whole_streams()
     ensures { WholeLaw }
 {}
