@@ -75,7 +75,7 @@ pub front_refused : {R : Type 0} (gives : Gives R) (known : Bool) (memory : R �
 front_refused gives known memory ahead input device e refuses front = own e (HoldsOfGiven gives known memory input (λ bytes. CopiesNoStream refuses bytes e)) (λ it.
     given_so gives known memory ahead input device front.stop front.run.bytes (λ bytes. CopiesNoStream refuses bytes e) front.run.gave (λ ys f.
     let all = front.run.bytes ++ ys in
-    let said : GivesMetadata (frame all) (Err e) ys = front.run.holds ys f in
+    let said : GivesMetadata all (frame all) (Err e) ys = front.run.holds ys f in
     inl (it (¬ (IsReadable all)) (unreadable all all ys e refl said), it (BlamesStream all (stream_of all) None e) (blames_front all all ys (stream_of all) None e refl said))))
 
 not_readable : (bytes : List ℕ) (head : Head) (meant : Meant) → stream_of bytes ≡ Some (record { head = head; meant = meant }) → meant.end ≡ faulty → ¬ (IsReadable bytes)
@@ -112,7 +112,7 @@ module _ {R : Type 0} (gives : Gives R) (known : Bool) (memory : R → Memory) (
       subst (λ (x : R). gives input from going x) (sym begins.reader) (subst (λ (y : Stop). gives input from y device) front.stops front.run.gave) in
       given_so gives known memory ahead input left stop (from ++ bytes) (λ all. CopiesNoStream refuses all e) (law input from (device_of r) bytes stop left first gave) (λ ys f.
       let behind = bytes ++ ys in
-      let said : GivesMetadata (frame (from ++ behind)) (Ok m) behind = front.run.holds behind (follows_going front.stop behind front.stops) in
+      let said : GivesMetadata (from ++ behind) (frame (from ++ behind)) (Ok m) behind = front.run.holds behind (follows_going front.stop behind front.stops) in
       let is : stream_of (from ++ behind) ≡ Some (record { head = head_of m; meant = meant_by r nothing_known behind }) =
       whole_stream (from ++ behind) (from ++ behind) behind m refl said ∙ ap (λ (x : Meant). Some (record { head = head_of m; meant = x })) (sym (new_meant device m r behind begins whole)) in
       subst (λ (all : List ℕ). CopiesNoStream refuses all e) (sym (append_assoc from bytes ys)) (says (from ++ behind) ys f is))

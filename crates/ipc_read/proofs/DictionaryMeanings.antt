@@ -8,11 +8,14 @@ use Rattle.lower_arrays.specs.Slots.{slots}
 use Rattle.lower_arrays.specs.declared.array.AnyArray.{AnyArray}
 use Rattle.ipc_devices.specs.Faults.{OwnFault}
 use Rattle.ipc_devices.specs.declared.fault.Fault.{Fault}
+use Rattle.ipc_devices.specs.declared.fault.Fault.TheVariants.{OutOfSpec}
+use Rattle.ipc_devices.specs.declared.fault.OutOfSpecKind.TheVariants.{InvalidId, InvalidBuffersLength}
 use Rattle.ipc_devices.specs.declared.fault.TableFault.{TableFault}
 use Rattle.ipc_views.specs.Spot.{Spot}
 use Rattle.ipc_model.specs.Batches.{Schema, kinds, Body, lists_of, record_meaning, Place, places, place_of, values_schema, with_values, values_meaning, batch_meaning, dictionary_meaning}
 use Rattle.ipc_model.specs.Entries.{Dictionaries}
 use Rattle.ipc_model.specs.Kinds.{Kind}
+use Rattle.ipc_model.specs.TypeKinds.{kind_of}
 use Rattle.ipc_flat_columns.proofs.Refusals.{kind_column}
 use Rattle.ipc_flat_columns.specs.Bodies.{dictionary_of}
 use Rattle.ipc_flat_columns.specs.Refusals.{IsFaultOf, IsColumnFault}
@@ -20,8 +23,9 @@ use Rattle.ipc_laws.specs.Agreement.{KnowAlike}
 use Rattle.ipc_read.proofs.Meanings.{some_is, some_listed}
 use Rattle.ipc_read.proofs.Refusals.{claims_through, claims_own, own_any}
 use Rattle.ipc_read.specs.Chunks.{HasMeaning}
-use Rattle.ipc_read.specs.DictionaryBatches.{GivesColumn, whole_head, dictionary_head, place_listed, head_listed, values_listed, GivesDictionary, IsHeadFault, IsValuesFault, IsDictionaryFault}
-use Rattle.ipc_read.specs.Sizes.{chosen_listed}
+use Rattle.ipc_read.specs.DictionaryBatches.{GivesColumn, whole_head, dictionary_head, place_listed, head_listed, head_lists, values_listed, values_lists, GivesDictionary, BlamesDictionary, BlamesHead, BlamesPlace, IsHeadFault, IsValuesFault, IsDictionaryFault}
+use Rattle.ipc_read.specs.Refusals.{TellsLengths}
+use Rattle.ipc_read.specs.Sizes.{batch_listed, chosen_listed}
 
 -- ---- faults
 
@@ -37,7 +41,44 @@ values_are t e h = elim h [
 pub values_in_dictionary : (t : Kind) (e : Fault) → OwnFault e (IsValuesFault t e) → OwnFault e (IsDictionaryFault e)
 values_in_dictionary t e h = claims_own e (IsValuesFault t e) (IsDictionaryFault e) (values_are t e) h
 
-pub ruleset dictionary_faults = (head_in_dictionary, values_in_dictionary)
+-- an id that no field has
+pub unplaced_in_dictionary : (id : ℤ) → IsDictionaryFault (OutOfSpec (InvalidId id))
+unplaced_in_dictionary id = inr (inr tt)
+
+-- a fault of the head tells no lengths
+pub head_tells : (total size : ℕ) (e : Fault) → OwnFault e (IsHeadFault e) → TellsLengths total size e
+head_tells total size (OutOfSpec (InvalidBuffersLength n m)) h = absurd h
+head_tells total size _ h = tt
+
+headless : (schema : Schema) (o : Option (ℤ × Spot)) (e : Fault) → IsHeadFault e → (IsSome o → ⊥) → BlamesHead schema o e
+headless schema None e f none = f
+headless schema (Some h) e f none = absurd (none refl)
+
+pub head_blames : (schema : Schema) (t : Spot) (e : Fault) → OwnFault e (IsHeadFault e) → OwnFault e (IsSome (dictionary_head t) → ⊥) → OwnFault e (BlamesDictionary schema t e)
+head_blames schema t e h denied =
+    claims_own e (IsHeadFault e) (BlamesDictionary schema t e)
+    (λ f. claims_through e (IsSome (dictionary_head t) → ⊥) (BlamesDictionary schema t e) (headless schema (dictionary_head t) e f) denied) h
+
+pub ruleset dictionary_faults = (head_in_dictionary, values_in_dictionary, unplaced_in_dictionary, head_tells, head_blames)
+
+-- ---- faults behind the head
+
+-- the lengths that are told are those of the values
+pub values_told : (t : Spot) (id : ℤ) (v : Spot) (size : ℕ) (e : Fault) → dictionary_head t ≡ Some (id, v) → TellsLengths (batch_listed (lists_of v)) size e
+    → TellsLengths (batch_listed (values_lists t)) size e
+values_told t id v size e headed h = subst (λ (o : Option (ℤ × Spot)). TellsLengths (batch_listed (head_lists o)) size e) (sym headed) h
+
+module _ (schema : Schema) (t : Spot) (id : ℤ) (v : Spot) (headed : dictionary_head t ≡ Some (id, v)) where
+  by_place : (o : Option Place) (e : Fault) → place_of (places schema.fields schema.ids) id ≡ o → BlamesPlace id o e → BlamesDictionary schema t e
+  by_place o e placed f =
+      subst (λ (h : Option (ℤ × Spot)). BlamesHead schema h e) (sym headed) (subst (λ (q : Option Place). BlamesPlace id q e) (sym placed) f)
+
+  pub unplaced_blames : place_of (places schema.fields schema.ids) id ≡ None → BlamesDictionary schema t (OutOfSpec (InvalidId id))
+  unplaced_blames none = by_place None (OutOfSpec (InvalidId id)) none refl
+
+  pub values_blame : (p : Place) (e : Fault) → place_of (places schema.fields schema.ids) id ≡ Some p → OwnFault e (IsValuesFault (kind_of p.type None p.ids) e)
+      → OwnFault e (BlamesDictionary schema t e)
+  values_blame p e placed h = claims_through e (IsValuesFault (kind_of p.type None p.ids) e) (BlamesDictionary schema t e) (by_place (Some p) e placed) h
 
 -- ---- the meaning, by the head of the batch
 

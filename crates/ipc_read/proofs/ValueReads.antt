@@ -23,10 +23,10 @@ use Rattle.ipc_flat_columns.specs.declared.read.body.Body.{Body as Read}
 use Rattle.ipc_devices.specs.Device.{Memory}
 use Rattle.ipc_read.proofs.Listed.{given_total}
 use Rattle.ipc_read.proofs.Meanings.{IsListed, any_rows, some_is, equal_rows, fetched_meaning, judged}
-use Rattle.ipc_read.proofs.Refusals.{claims_through}
+use Rattle.ipc_read.proofs.Refusals.{claims_through, entries_in_list, entries_tell, listed_tell, values_tell}
 use Rattle.ipc_read.specs.Chunks.{HasMeaning}
 use Rattle.ipc_read.specs.DictionaryBatches.{GivesColumn, IsValuesFault}
-use Rattle.ipc_read.specs.Refusals.{IsListFault}
+use Rattle.ipc_read.specs.Refusals.{IsEntriesFault, IsListFault}
 use Rattle.ipc_read.specs.Sizes.{chosen_listed}
 
 -- ---- faults
@@ -34,10 +34,13 @@ use Rattle.ipc_read.specs.Sizes.{chosen_listed}
 pub list_in_values : (t : Kind) (e : Fault) → OwnFault e (IsListFault e) → OwnFault e (IsValuesFault t e)
 list_in_values t e h = claims_through e (IsListFault e) (IsValuesFault t e) (λ f. inl f) h
 
+pub entries_in_values : (t : Kind) (e : Fault) → OwnFault e (IsEntriesFault e) → OwnFault e (IsValuesFault t e)
+entries_in_values t e h = list_in_values t e (entries_in_list e h)
+
 pub column_in_values : (t : Kind) (e : Fault) → OwnFault e (IsFaultOf t e) → OwnFault e (IsValuesFault t e)
 column_in_values t e h = claims_through e (IsFaultOf t e) (IsValuesFault t e) (λ f. inr f) h
 
-pub ruleset values_faults = (list_in_values, column_in_values)
+pub ruleset values_faults = (list_in_values, entries_in_values, column_in_values, entries_tell, values_tell, listed_tell)
 
 -- ---- the column
 

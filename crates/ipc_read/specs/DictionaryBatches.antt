@@ -17,9 +17,10 @@ use Rattle.ipc_devices.specs.declared.fault.OutOfSpecKind.TheVariants.{InvalidFl
 use Rattle.ipc_devices.specs.declared.fault.TableFault.{TableFault}
 use Rattle.ipc_views.specs.MessageSlots.{dictionary_batch_id, dictionary_batch_is_delta, dictionary_batch_data}
 use Rattle.ipc_views.specs.Spot.{Spot}
-use Rattle.ipc_model.specs.Batches.{Schema, kinds, Body, lists_of, record_meaning, Place, places, place_of, values_schema, dictionary_meaning}
+use Rattle.ipc_model.specs.Batches.{Schema, kinds, Body, Lists, lists_of, record_meaning, Place, places, place_of, values_schema, dictionary_meaning}
 use Rattle.ipc_model.specs.Entries.{Dictionary, Dictionaries, dictionary_at}
 use Rattle.ipc_model.specs.Kinds.{Kind}
+use Rattle.ipc_model.specs.TypeKinds.{kind_of}
 use Rattle.ipc_flat_columns.specs.Refusals.{IsFaultOf, IsColumnFault}
 use Rattle.ipc_laws.specs.Agreement.{KnowAlike}
 use Rattle.ipc_read.specs.Chunks.{column_seen, HasMeaning}
@@ -43,6 +44,14 @@ whole_head _ _ _ = None
 
 abbrev pub dictionary_head : Spot → Option (ℤ × Spot)
 dictionary_head t = whole_head (dictionary_batch_id t) (dictionary_batch_is_delta t) (dictionary_batch_data t)
+
+-- what the batch of a dictionary's values lists
+abbrev pub head_lists : Option (ℤ × Spot) → Option Lists
+head_lists None = None
+head_lists (Some h) = lists_of h.1
+
+abbrev pub values_lists : Spot → Option Lists
+values_lists t = head_lists (dictionary_head t)
 
 -- how many bytes the buffers of the values of a place list together: none where there is no place
 abbrev pub place_listed : ℕ → Endianness → Spot → Option Place → ℕ
@@ -82,16 +91,29 @@ pub record PutsValues (known : Bool) (schema : Schema) (t : Spot) (before after 
 abbrev pub IsValuesFault : Kind → Fault → Type 0
 IsValuesFault t e = IsListFault e ⊎ IsFaultOf t e
 
--- of what a dictionary batch says of itself
+-- of what a dictionary batch says of itself: it is ill-made, without values, or a delta
 abbrev pub IsHeadFault : Fault → Type 0
 IsHeadFault (OutOfSpec (InvalidFlatbufferIsDelta e)) = Unit {0}
 IsHeadFault (OutOfSpec (InvalidFlatbufferId e)) = Unit {0}
 IsHeadFault (OutOfSpec (InvalidFlatbufferData e)) = Unit {0}
 IsHeadFault (OutOfSpec MissingData) = Unit {0}
-IsHeadFault (OutOfSpec (InvalidId _)) = Unit {0}
 IsHeadFault (NotYetImplemented Delta) = Unit {0}
 IsHeadFault _ = ⊥
 
--- of a dictionary batch
+-- Whose fault it is where the id of a batch is that of a place: that no field has it, or of the values there.
+abbrev pub BlamesPlace : ℤ → Option Place → Fault → Type 0
+BlamesPlace id None e = e ≡ OutOfSpec (InvalidId id)
+BlamesPlace id (Some p) e = IsValuesFault (kind_of p.type None p.ids) e
+
+abbrev pub BlamesHead : Schema → Option (ℤ × Spot) → Fault → Type 0
+BlamesHead schema None e = IsHeadFault e
+BlamesHead schema (Some h) e = BlamesPlace h.0 (place_of (places schema.fields schema.ids) h.0) e
+
+-- Which fault this dictionary batch can have: of what it says of itself; where that is well made, that no field has its id, which is named then; and
+-- where one has it, of the values, which are of the type of that field.
+abbrev pub BlamesDictionary : Schema → Spot → Fault → Type 0
+BlamesDictionary schema t e = BlamesHead schema (dictionary_head t) e
+
+-- of any dictionary batch: an id that no field has is told as one that no dictionary of a column has
 abbrev pub IsDictionaryFault : Fault → Type 0
 IsDictionaryFault e = IsHeadFault e ⊎ (IsListFault e ⊎ IsColumnFault e)

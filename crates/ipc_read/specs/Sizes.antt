@@ -15,6 +15,11 @@ pub record AreSizes (bs : List Buffer) : Type 0 where
 abbrev pub total_of : List Buffer → ℕ
 total_of bs = sum_by (λ r. size r.length) bs
 
+-- how many bytes all buffers of a batch list together, if it lists any
+abbrev pub batch_listed : Option Lists → ℕ
+batch_listed None = 0
+batch_listed (Some lists) = total_of lists.buffers
+
 -- how many bytes the buffers of some columns list together
 abbrev pub chosen_total : List Buffer → ℕ → Kinds → List ℕ → ℕ
 chosen_total bs extra ts [] = 0

@@ -15,14 +15,15 @@ use Rattle.ipc_views.specs.Spot.{Spot}
 use Rattle.ipc_views.specs.Unions.{header_parts}
 use Rattle.ipc_views.specs.declared.message.MessageHeaderRef.{MessageHeaderRef}
 use Rattle.ipc_views.specs.declared.message.MessageHeaderRef.TheVariants as headers
-use Rattle.ipc_model.specs.Batches.{Schema, Body, Chunk, chosen, batch, record_meaning, dictionary_meaning, extra_of}
+use Rattle.ipc_model.specs.Batches.{Schema, Body, Chunk, chosen, batch, record_meaning, dictionary_meaning, extra_of, lists_of}
 use Rattle.ipc_model.specs.Entries.{Dictionaries}
 use Rattle.ipc_model.specs.Kinds.{count}
 use Rattle.ipc_model.specs.TypeKinds.{kinds_of}
 use Rattle.ipc_model.specs.Streams.{Header, Known, done, faulty, whole, with_chunk, with_dictionaries, most_dictionaries}
 use Rattle.ipc_read.proofs.Refusals.{claims_through}
-use Rattle.ipc_read.specs.DictionaryBatches.{GivesDictionary, IsDictionaryFault}
-use Rattle.ipc_read.specs.Refusals.{IsFaultOfBatch}
+use Rattle.ipc_read.specs.DictionaryBatches.{BlamesDictionary, GivesDictionary, values_lists}
+use Rattle.ipc_read.specs.Refusals.{IsFaultOfBatch, TellsLengths}
+use Rattle.ipc_read.specs.Sizes.{batch_listed}
 use Rattle.ipc_read.specs.Chunks.{chunk_seen, GivesBatch}
 use Rattle.ipc_readers.specs.ChosenStreams.{Request, chosen_body}
 use Rattle.ipc_readers.proofs.Knowing.{AlsoGives, alike_then, dictionary_alike, no_dictionary_alike, record_alike, same_values}
@@ -131,23 +132,26 @@ module _ (fs : FieldTrees) (ms : Pairs) (is : IdTrees) (o : Endianness) (version
     holds,
   )
 
-  record_blames : (e' : Fault) → IsFaultOfBatch (kinds_of fs is) (chosen p (count (kinds_of fs is))) e' → BlamesBody (asks fs ms is o version p) s.count (header 3 t n) xs e'
-  record_blames e' fault = record {
+  record_blames : (e' : Fault) → TellsLengths (batch_listed (lists_of t)) n e' → IsFaultOfBatch (kinds_of fs is) (chosen p (count (kinds_of fs is))) e'
+      → BlamesBody (asks fs ms is o version p) s.count (header 3 t n) xs e'
+  record_blames e' told fault = record {
     record_batch = λ q. inl fault;
     dictionary_batch = λ q. absurd (omega (arith, q));
     other = λ q r. absurd (r refl);
     cut = λ short q. absurd (omega (arith, long, short));
+    record_lengths = λ q. told;
+    dictionary_lengths = λ q. absurd (omega (arith, q));
   }
 
-  record_refused : (e' : Fault) → OwnFault e' (IsFaultOfBatch (kinds_of fs is) (chosen p (count (kinds_of fs is))) e')
+  record_refused : (e' : Fault) → OwnFault e' (IsFaultOfBatch (kinds_of fs is) (chosen p (count (kinds_of fs is))) e') → TellsLengths (batch_listed (lists_of t)) n e'
       → OwnFault e' (record_meaning (bare fs is o) (extra_of version) k.dictionaries (first bytes n) t p None ≡ None) → (l : Known)
       → ReadsBody (asks fs ms is o version p) s (header 3 t n) xs (Err e') l (drop n xs)
-  record_refused e' only none l =
+  record_refused e' only told none l =
       both_claims e' (chosen_body (asks fs ms is o version p) s (header 3 t n) xs ≡ done faulty) (BlamesBody (asks fs ms is o version p) s.count (header 3 t n) xs e')
       (claims_through e' (record_meaning (bare fs is o) (extra_of version) k.dictionaries (first bytes n) t p None ≡ None) (chosen_body (asks fs ms is o version p) s (header 3 t n) xs ≡ done faulty)
       (λ means. record_body (asks fs ms is o version p) s t n xs None long (record_is ∙ means)) none)
       (claims_through e' (IsFaultOfBatch (kinds_of fs is) (chosen p (count (kinds_of fs is))) e') (BlamesBody (asks fs ms is o version p) s.count (header 3 t n) xs e')
-      (record_blames e') only)
+      (record_blames e' told) only)
 
   values_read : (l : Known) → k.count < most_dictionaries → l.count ≡ k.count + 1 → AlsoGives (dictionary_meaning (bare fs is o) (extra_of version) k.dictionaries (first bytes n) t) l.dictionaries
       → ReadsBody (asks fs ms is o version p) s (header 2 t n) xs (Ok None) l (drop n xs)
@@ -162,55 +166,58 @@ module _ (fs : FieldTrees) (ms : Pairs) (is : IdTrees) (o : Endianness) (version
         tt,
       )
 
-  values_blame : (e' : Fault) → IsDictionaryFault e' → BlamesBody (asks fs ms is o version p) s.count (header 2 t n) xs e'
-  values_blame e' fault = record {
+  values_blame : (e' : Fault) → TellsLengths (batch_listed (values_lists t)) n e' → BlamesDictionary (bare fs is o) t e'
+      → BlamesBody (asks fs ms is o version p) s.count (header 2 t n) xs e'
+  values_blame e' told fault = record {
     record_batch = λ q. absurd (omega (arith, q));
     dictionary_batch = λ q. inl fault;
     other = λ q r. absurd (q refl);
     cut = λ short q. absurd (omega (arith, long, short));
+    record_lengths = λ q. absurd (omega (arith, q));
+    dictionary_lengths = λ q. told;
   }
 
-  values_refused : (e' : Fault) → k.count < most_dictionaries → OwnFault e' (IsDictionaryFault e')
+  values_refused : (e' : Fault) → k.count < most_dictionaries → OwnFault e' (BlamesDictionary (bare fs is o) t e') → TellsLengths (batch_listed (values_lists t)) n e'
       → OwnFault e' (dictionary_meaning (bare fs is o) (extra_of version) k.dictionaries (first bytes n) t ≡ None) → (l : Known)
       → ReadsBody (asks fs ms is o version p) s (header 2 t n) xs (Err e') l (drop n xs)
-  values_refused e' few only none l =
+  values_refused e' few blames told none l =
       let h = asks fs ms is o version p in
       let same : s.count ≡ k.count = at.count in
       both_claims e' (chosen_body h s (header 2 t n) xs ≡ done faulty) (BlamesBody h s.count (header 2 t n) xs e')
       (claims_through e' (dictionary_meaning (bare fs is o) (extra_of version) k.dictionaries (first bytes n) t ≡ None) (chosen_body h s (header 2 t n) xs ≡ done faulty)
       (λ means. dictionary_body h s t n xs None long (omega (arith, same, few))
       (no_dictionary_alike h.head.schema (extra_of version) s.dictionaries k.dictionaries (whole (take n xs)) t at.alike (read_of ∙ means))) none)
-      (claims_through e' (IsDictionaryFault e') (BlamesBody h s.count (header 2 t n) xs e') (values_blame e') only)
+      (claims_through e' (BlamesDictionary (bare fs is o) t e') (BlamesBody h s.count (header 2 t n) xs e') (values_blame e' told) blames)
 
 -- what the answer of a record batch says, of a body with bytes behind it
 record_answer : (fs : FieldTrees) (ms : Pairs) (is : IdTrees) (o : Endianness) (version : MetadataVersion) (p : Option (List ℕ)) (k : Known) (t : Spot) (n : ℕ) (xs bytes : List ℕ)
     → n ≤ length xs → bytes ≡ take n xs → (r : Result (List AnyArray) Fault) (l : Known) → OnOk r ((l.dictionaries ≡ k.dictionaries) × (l.count ≡ 0))
-    → IfErr r (λ e. OwnFault e (IsFaultOfBatch (kinds_of fs is) (chosen p (count (kinds_of fs is))) e)) → IfOk r (HoldsRecord (asks fs ms is o version p) t)
-    → GivesBatch (bare fs is o) (extra_of version) k.dictionaries (first bytes n) t p None r
+    → IfErr r (λ e. OwnFault e (IsFaultOfBatch (kinds_of fs is) (chosen p (count (kinds_of fs is))) e)) → IfErr r (TellsLengths (batch_listed (lists_of t)) n)
+    → IfOk r (HoldsRecord (asks fs ms is o version p) t) → GivesBatch (bare fs is o) (extra_of version) k.dictionaries (first bytes n) t p None r
     → GivesBody (asks fs ms is o version p) k (header 3 t n) xs (of_record r) l (drop n xs)
-record_answer fs ms is o version p k t n xs bytes long e (Ok chunk) l next only holds read = record {
+record_answer fs ms is o version p k t n xs bytes long e (Ok chunk) l next only told holds read = record {
   each = λ s at. chunk_reads fs ms is o version p k t n xs bytes long e s at chunk l next.0 next.1 read.1 holds;
 }
-record_answer fs ms is o version p k t n xs bytes long e (Err e') l next only holds read =
+record_answer fs ms is o version p k t n xs bytes long e (Err e') l next only told holds read =
     let u : Option Chunk = record_meaning (bare fs is o) (extra_of version) k.dictionaries (first bytes n) t p None in
     record {
-      each = λ s at. record_refused fs ms is o version p k t n xs bytes long e s at e' only
+      each = λ s at. record_refused fs ms is o version p k t n xs bytes long e s at e' only told
           (claims_through e' (IsSome u → ⊥) (u ≡ None) (none_there u) read) l;
     }
 
 dictionary_answer : (fs : FieldTrees) (ms : Pairs) (is : IdTrees) (o : Endianness) (version : MetadataVersion) (p : Option (List ℕ)) (k : Known) (t : Spot) (n : ℕ) (xs bytes : List ℕ)
     → n ≤ length xs → bytes ≡ take n xs → (r : Result Unit Fault) (l : Known) → k.count < most_dictionaries → OnOk r (l.count ≡ k.count + 1)
-    → IfErr r (λ e. OwnFault e (IsDictionaryFault e))
+    → IfErr r (λ e. OwnFault e (BlamesDictionary (bare fs is o) t e)) → IfErr r (TellsLengths (batch_listed (values_lists t)) n)
     → GivesDictionary (bare fs is o) (extra_of version) k.dictionaries (first bytes n) t r l.dictionaries
     → GivesBody (asks fs ms is o version p) k (header 2 t n) xs (of_dictionary r) l (drop n xs)
-dictionary_answer fs ms is o version p k t n xs bytes long e (Ok u) l few next only read = record {
+dictionary_answer fs ms is o version p k t n xs bytes long e (Ok u) l few next blames told read = record {
   each = λ s at. values_read fs ms is o version p k t n xs bytes long e s at l few next
       (some_there (dictionary_meaning (bare fs is o) (extra_of version) k.dictionaries (first bytes n) t) l.dictionaries read.0 read.1);
 }
-dictionary_answer fs ms is o version p k t n xs bytes long e (Err e') l few next only read =
+dictionary_answer fs ms is o version p k t n xs bytes long e (Err e') l few next blames told read =
     let u : Option Dictionaries = dictionary_meaning (bare fs is o) (extra_of version) k.dictionaries (first bytes n) t in
     record {
-      each = λ s at. values_refused fs ms is o version p k t n xs bytes long e s at e' few only
+      each = λ s at. values_refused fs ms is o version p k t n xs bytes long e s at e' few blames told
           (claims_through e' (IsSome u → ⊥) (u ≡ None) (none_there u) read) l;
     }
 
@@ -227,20 +234,20 @@ held h k tag t body r l given = record {
 
 pub columns_give : (fs : FieldTrees) (ms : Pairs) (is : IdTrees) (o : Endianness) (version : MetadataVersion) (p : Option (List ℕ)) (k : Known) (t : Spot) (body : List ℕ) (r : Result (List AnyArray) Fault) (l : Known)
     → OnOk r ((l.dictionaries ≡ k.dictionaries) × (l.count ≡ 0))
-    → IfErr r (λ e. OwnFault e (IsFaultOfBatch (kinds_of fs is) (chosen p (count (kinds_of fs is))) e)) → IfOk r (HoldsRecord (asks fs ms is o version p) t)
-    → GivesBatch (bare fs is o) (extra_of version) k.dictionaries (first body (length body)) t p None r
+    → IfErr r (λ e. OwnFault e (IsFaultOfBatch (kinds_of fs is) (chosen p (count (kinds_of fs is))) e)) → IfErr r (TellsLengths (batch_listed (lists_of t)) (length body))
+    → IfOk r (HoldsRecord (asks fs ms is o version p) t) → GivesBatch (bare fs is o) (extra_of version) k.dictionaries (first body (length body)) t p None r
     → GivesHeld (asks fs ms is o version p) k 3 t body (of_record r) l
-columns_give fs ms is o version p k t body r l next only holds read =
+columns_give fs ms is o version p k t body r l next only told holds read =
     held (asks fs ms is o version p) k 3 t body (of_record r) l
-    (λ xs long e. record_answer fs ms is o version p k t (length body) xs body long e r l next only holds read)
+    (λ xs long e. record_answer fs ms is o version p k t (length body) xs body long e r l next only told holds read)
 
 pub values_give : (fs : FieldTrees) (ms : Pairs) (is : IdTrees) (o : Endianness) (version : MetadataVersion) (p : Option (List ℕ)) (k : Known) (t : Spot) (body : List ℕ) (r : Result Unit Fault) (l : Known)
-    → k.count < most_dictionaries → OnOk r (l.count ≡ k.count + 1) → IfErr r (λ e. OwnFault e (IsDictionaryFault e))
-    → GivesDictionary (bare fs is o) (extra_of version) k.dictionaries (first body (length body)) t r l.dictionaries
+    → k.count < most_dictionaries → OnOk r (l.count ≡ k.count + 1) → IfErr r (λ e. OwnFault e (BlamesDictionary (bare fs is o) t e))
+    → IfErr r (TellsLengths (batch_listed (values_lists t)) (length body)) → GivesDictionary (bare fs is o) (extra_of version) k.dictionaries (first body (length body)) t r l.dictionaries
     → GivesHeld (asks fs ms is o version p) k 2 t body (of_dictionary r) l
-values_give fs ms is o version p k t body r l few next only read =
+values_give fs ms is o version p k t body r l few next blames told read =
     held (asks fs ms is o version p) k 2 t body (of_dictionary r) l
-    (λ xs long e. dictionary_answer fs ms is o version p k t (length body) xs body long e r l few next only read)
+    (λ xs long e. dictionary_answer fs ms is o version p k t (length body) xs body long e r l few next blames told read)
 
 -- the faults of a batch are a stream's
 pub batch_faults :
@@ -262,6 +269,10 @@ outside m n denied = elim (cases_lt n m) [
   | inr p ↦ absurd (denied p)
 ]
 
+-- an end tells no lengths
+ended_tells : (total size : ℕ) (e : Fault) → e ≡ Faults.Ended → TellsLengths total size e
+ended_tells total size e is = subst (λ (x : Fault). TellsLengths total size x) (sym is) tt
+
 -- a body that isn't there, of a record or a dictionary
 pub cut_body : (h : Request) (s : Known) (m : Header) (xs : List ℕ) (e : Fault) → (m.tag ≡ 3) ⊎ (m.tag ≡ 2) → OwnFault e ((e ≡ Faults.Ended) × (m.body ≤ length xs → ⊥))
     → OwnFault e ((chosen_body h s m xs ≡ done faulty) × BlamesBody h s.count m xs e)
@@ -277,6 +288,8 @@ cut_body h s m xs e kind cut =
           | inr two ↦ absurd (q two)
         ];
         cut = λ short q. c.0;
+        record_lengths = λ q. ended_tells (batch_listed (lists_of m.table)) m.body e c.0;
+        dictionary_lengths = λ q. ended_tells (batch_listed (values_lists m.table)) m.body e c.0;
       },
     )) cut
 
@@ -297,6 +310,8 @@ no_batch h n m xs no_dictionary no_record = record {
     | inl three ↦ absurd (no_record three)
     | inr two ↦ absurd (no_dictionary two)
   ];
+  record_lengths = λ q. tt;
+  dictionary_lengths = λ q. tt;
 }
 
 -- a message that is neither a record nor a dictionary
@@ -331,6 +346,8 @@ full_refused h k t full = record {
             dictionary_batch = λ q. inr (inr (refl, there));
             other = λ q r. absurd (q refl);
             cut = λ short q. let few = q.room refl in absurd (omega (arith, few, there));
+            record_lengths = λ q. tt;
+            dictionary_lengths = λ q. tt;
           },
         );
   };

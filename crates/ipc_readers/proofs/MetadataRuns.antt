@@ -12,7 +12,7 @@ use Rattle.ipc_model.specs.Frame.{Frame, message, mark, waiting, broken, frame}
 use Rattle.ipc_model.specs.Schemas.{schema_of}
 use Rattle.ipc_schema.specs.Reading.{RefusesMessage}
 use Rattle.ipc_read.proofs.Refusals.{claims_through}
-use Rattle.ipc_readers.specs.Frames.{FrameGave, GivesFrame, IsFrame, IsFramingFault, begun_bytes, due, frame_fault, frame_stop}
+use Rattle.ipc_readers.specs.Frames.{FrameGave, GivesFrame, IsFrame, begun_bytes, due, frame_fault, frame_stop}
 use Rattle.ipc_readers.specs.Metadata.{GivesMetadata, MetadataGave, RefusesMetadata, metadata_at, metadata_seen}
 use Rattle.ipc_readers.specs.declared.read.begun.Begun.{Begun}
 use Rattle.ipc_readers.specs.declared.read.begun.Frame as read
@@ -24,36 +24,38 @@ none_begun_yet b h = rw h refl
 
 -- ---- what a frame says of the metadata
 
-broken_says : (f : Frame) (named e : Fault) (rest : List ℕ) → OwnFault e (IsFramingFault e) → OwnFault e ((f ≡ broken) × (e ≡ named)) → GivesMetadata f (Err e) rest
-broken_says (message m behind) named e rest only h =
-    claims_through e ((message m behind ≡ broken) × (e ≡ named)) ((metadata_at m ≡ None) × RefusesMetadata e m) (λ x. let no = x.0 in absurd (cc no)) h
-broken_says (mark behind) named e rest only h = claims_through e ((mark behind ≡ broken) × (e ≡ named)) (e ≡ BadSchema NotASchema) (λ x. let no = x.0 in absurd (cc no)) h
-broken_says (waiting bytes) named e rest only h = claims_through e ((waiting bytes ≡ broken) × (e ≡ named)) (e ≡ Ended) (λ x. let no = x.0 in absurd (cc no)) h
-broken_says broken named e rest only h = only
+broken_says : (xs : List ℕ) (f : Frame) (e : Fault) (rest : List ℕ) → OwnFault e ((f ≡ broken) × (e ≡ frame_fault xs)) → GivesMetadata xs f (Err e) rest
+broken_says xs (message m behind) e rest h =
+    claims_through e ((message m behind ≡ broken) × (e ≡ frame_fault xs)) ((metadata_at m ≡ None) × RefusesMetadata e m) (λ x. let no = x.0 in absurd (cc no)) h
+broken_says xs (mark behind) e rest h = claims_through e ((mark behind ≡ broken) × (e ≡ frame_fault xs)) (e ≡ BadSchema NotASchema) (λ x. let no = x.0 in absurd (cc no)) h
+broken_says xs (waiting bytes) e rest h = claims_through e ((waiting bytes ≡ broken) × (e ≡ frame_fault xs)) (e ≡ Ended) (λ x. let no = x.0 in absurd (cc no)) h
+broken_says xs broken e rest h = claims_through e ((broken ≡ broken) × (e ≡ frame_fault xs)) (e ≡ frame_fault xs) (λ x. x.1) h
 
-mark_says : (f : Frame) (m q rest : List ℕ) → IsFrame f frames.Mark m q rest → GivesMetadata f (Err (BadSchema NotASchema)) rest
-mark_says (message m' behind) m q rest h = absurd h
-mark_says (mark behind) m q rest h = refl
-mark_says (waiting bytes) m q rest h = absurd h
-mark_says broken m q rest h = absurd h
+mark_says : (xs : List ℕ) (f : Frame) (m q rest : List ℕ) → IsFrame f frames.Mark m q rest → GivesMetadata xs f (Err (BadSchema NotASchema)) rest
+mark_says xs (message m' behind) m q rest h = absurd h
+mark_says xs (mark behind) m q rest h = refl
+mark_says xs (waiting bytes) m q rest h = absurd h
+mark_says xs broken m q rest h = absurd h
 
-waiting_says : (f : Frame) (m q rest : List ℕ) → IsFrame f frames.Waiting m q rest → GivesMetadata f (Err Ended) rest
-waiting_says (message m' behind) m q rest h = absurd h
-waiting_says (mark behind) m q rest h = absurd h
-waiting_says (waiting bytes) m q rest h = refl
-waiting_says broken m q rest h = absurd h
+waiting_says : (xs : List ℕ) (f : Frame) (m q rest : List ℕ) → IsFrame f frames.Waiting m q rest → GivesMetadata xs f (Err Ended) rest
+waiting_says xs (message m' behind) m q rest h = absurd h
+waiting_says xs (mark behind) m q rest h = absurd h
+waiting_says xs (waiting bytes) m q rest h = refl
+waiting_says xs broken m q rest h = absurd h
 
-refused_says : (f : Frame) (m q rest : List ℕ) (e : Fault) → OwnFault e ((metadata_at m ≡ None) × RefusesMetadata e m) → IsFrame f frames.Message m q rest → GivesMetadata f (Err e) rest
-refused_says (message m' behind) m q rest e none h = subst (λ (l : List ℕ). OwnFault e ((metadata_at l ≡ None) × RefusesMetadata e l)) h.0 none
-refused_says (mark behind) m q rest e none h = absurd h
-refused_says (waiting bytes) m q rest e none h = absurd h
-refused_says broken m q rest e none h = absurd h
+refused_says : (xs : List ℕ) (f : Frame) (m q rest : List ℕ) (e : Fault) → OwnFault e ((metadata_at m ≡ None) × RefusesMetadata e m) → IsFrame f frames.Message m q rest
+    → GivesMetadata xs f (Err e) rest
+refused_says xs (message m' behind) m q rest e none h = subst (λ (l : List ℕ). OwnFault e ((metadata_at l ≡ None) × RefusesMetadata e l)) h.0 none
+refused_says xs (mark behind) m q rest e none h = absurd h
+refused_says xs (waiting bytes) m q rest e none h = absurd h
+refused_says xs broken m q rest e none h = absurd h
 
-made_says : (f : Frame) (m q rest : List ℕ) (x : StreamMetadata) → metadata_at m ≡ Some (metadata_seen x) → IsFrame f frames.Message m q rest → GivesMetadata f (Ok x) rest
-made_says (message m' behind) m q rest x some h = (subst (λ (l : List ℕ). metadata_at l ≡ Some (metadata_seen x)) h.0 some, h.2)
-made_says (mark behind) m q rest x some h = absurd h
-made_says (waiting bytes) m q rest x some h = absurd h
-made_says broken m q rest x some h = absurd h
+made_says : (xs : List ℕ) (f : Frame) (m q rest : List ℕ) (x : StreamMetadata) → metadata_at m ≡ Some (metadata_seen x) → IsFrame f frames.Message m q rest
+    → GivesMetadata xs f (Ok x) rest
+made_says xs (message m' behind) m q rest x some h = (subst (λ (l : List ℕ). metadata_at l ≡ Some (metadata_seen x)) h.0 some, h.2)
+made_says xs (mark behind) m q rest x some h = absurd h
+made_says xs (waiting bytes) m q rest x some h = absurd h
+made_says xs broken m q rest x some h = absurd h
 
 -- ---- why a schema message is refused
 
@@ -79,34 +81,34 @@ schema_going m _ h = tt
 -- ---- what was given
 
 module _ {S : Type 0} (gives : Gives S) (a b : S) (m q : List ℕ) where
-  frame_says : (r : Result read.Frame Fault) (s : Result StreamMetadata Fault) → ((f : Frame) (named : Fault) (rest : List ℕ) → GivesFrame f named r m q rest → GivesMetadata f s rest)
-      → FrameGave gives [] a r m q b → Gave gives (λ xs. length xs ≤ due xs) (λ all rest. GivesMetadata (frame all) s rest) a (frame_stop r) b
+  frame_says : (r : Result read.Frame Fault) (s : Result StreamMetadata Fault) → ((all rest : List ℕ) → GivesFrame (frame all) (frame_fault all) r m q rest → GivesMetadata all (frame all) s rest)
+      → FrameGave gives [] a r m q b → Gave gives (λ xs. length xs ≤ due xs) (λ all rest. GivesMetadata all (frame all) s rest) a (frame_stop r) b
   frame_says r s says g = gave_as gives (λ xs. length xs ≤ due xs) (λ xs. length xs ≤ due xs)
-      (λ all rest. GivesFrame (frame all) (frame_fault all) r m q rest) (λ all rest. GivesMetadata (frame all) s rest) a (frame_stop r) b
-      (λ xs v k. v) (λ all rest k. says (frame all) (frame_fault all) rest k) g
+      (λ all rest. GivesFrame (frame all) (frame_fault all) r m q rest) (λ all rest. GivesMetadata all (frame all) s rest) a (frame_stop r) b
+      (λ xs v k. v) (λ all rest k. says all rest k) g
 
   unbegun : (p : List ℕ) (r : Result read.Frame Fault) → p ≡ [] → FrameGave gives p a r m q b → FrameGave gives [] a r m q b
   unbegun p r e g = subst (λ (l : List ℕ). FrameGave gives l a r m q b) e g
 
-  pub metadata_breaks : (p : List ℕ) (e : Fault) → p ≡ [] → OwnFault e (IsFramingFault e) → FrameGave gives p a (Err e) m q b → MetadataGave gives a (Err e) b
-  metadata_breaks p e none only g = record {
+  pub metadata_breaks : (p : List ℕ) (e : Fault) → p ≡ [] → FrameGave gives p a (Err e) m q b → MetadataGave gives a (Err e) b
+  metadata_breaks p e none g = record {
     stop = stop_of e;
     stops = fault_stop e;
-    run = frame_says (Err e) (Err e) (λ f named rest k. broken_says f named e rest only k) (unbegun p (Err e) none g);
+    run = frame_says (Err e) (Err e) (λ all rest k. broken_says all (frame all) e rest k) (unbegun p (Err e) none g);
   }
 
   pub metadata_marked : (p : List ℕ) → p ≡ [] → FrameGave gives p a (Ok frames.Mark) m q b → MetadataGave gives a (Err (BadSchema NotASchema)) b
   metadata_marked p none g = record {
     stop = going;
     stops = tt;
-    run = frame_says (Ok frames.Mark) (Err (BadSchema NotASchema)) (λ f named rest k. mark_says f m q rest k) (unbegun p (Ok frames.Mark) none g);
+    run = frame_says (Ok frames.Mark) (Err (BadSchema NotASchema)) (λ all rest k. mark_says all (frame all) m q rest k) (unbegun p (Ok frames.Mark) none g);
   }
 
   pub metadata_waits : (p : List ℕ) → p ≡ [] → FrameGave gives p a (Ok frames.Waiting) m q b → MetadataGave gives a (Err Ended) b
   metadata_waits p none g = record {
     stop = ended;
     stops = tt;
-    run = frame_says (Ok frames.Waiting) (Err Ended) (λ f named rest k. waiting_says f m q rest k) (unbegun p (Ok frames.Waiting) none g);
+    run = frame_says (Ok frames.Waiting) (Err Ended) (λ all rest k. waiting_says all (frame all) m q rest k) (unbegun p (Ok frames.Waiting) none g);
   }
 
   pub metadata_refused : (p : List ℕ) (e : Fault) → p ≡ [] → FaultStop e going → OwnFault e ((metadata_at m ≡ None) × RefusesMetadata e m) → FrameGave gives p a (Ok frames.Message) m q b
@@ -114,7 +116,7 @@ module _ {S : Type 0} (gives : Gives S) (a b : S) (m q : List ℕ) where
   metadata_refused p e none own refused g = record {
     stop = going;
     stops = own;
-    run = frame_says (Ok frames.Message) (Err e) (λ f named rest k. refused_says f m q rest e refused k) (unbegun p (Ok frames.Message) none g);
+    run = frame_says (Ok frames.Message) (Err e) (λ all rest k. refused_says all (frame all) m q rest e refused k) (unbegun p (Ok frames.Message) none g);
   }
 
   pub metadata_made : (p : List ℕ) (x : StreamMetadata) → p ≡ [] → metadata_at m ≡ Some (metadata_seen x) → FrameGave gives p a (Ok frames.Message) m q b
@@ -122,5 +124,7 @@ module _ {S : Type 0} (gives : Gives S) (a b : S) (m q : List ℕ) where
   metadata_made p x none some g = record {
     stop = going;
     stops = refl;
-    run = frame_says (Ok frames.Message) (Ok x) (λ f named rest k. made_says f m q rest x some k) (unbegun p (Ok frames.Message) none g);
+    run = frame_says (Ok frames.Message) (Ok x) (λ all rest k. made_says all (frame all) m q rest x some k) (unbegun p (Ok frames.Message) none g);
   }
+
+pub ruleset metadata_runs = (none_begun_yet, metadata_breaks, metadata_marked, metadata_waits, metadata_refused, metadata_made, schema_going, schema_refused)

@@ -12,7 +12,7 @@ use Rattle.ipc_devices.proofs.Stops.{answer_risen, fault_risen, not_below, nothi
 use Rattle.ipc_model.specs.Frame.{Frame, message, mark, waiting, broken, frame}
 use Rattle.ipc_model.specs.Streams.{Known, done, faulty}
 use Rattle.ipc_readers.specs.ChosenStreams.{Request, chosen_item}
-use Rattle.ipc_readers.specs.Frames.{IsFramingFault, due}
+use Rattle.ipc_readers.specs.Frames.{due, frame_fault}
 use Rattle.ipc_readers.specs.Metadata.{GivesMetadata, MetadataGave, RefusesMetadata, metadata_at}
 use Rattle.ipc_readers.specs.Runs.{Answer, FailsLaw}
 use Rattle.ipc_readers.specs.Streams.{BlamesFront, GivesItem, ItemGave, ItemsGave, ItemStop, IsWithinMessage, NextStep, ReadsItem, request_of, begun_of, device_of, is_over, known_of, last_found, next_result}
@@ -50,32 +50,32 @@ item_ahead gives known memory law t h k l p q r a b g =
 
 -- ---- the schema message
 
-same_refusal : (f : Frame) (e : Fault) (zs ys : List ℕ) → GivesMetadata f (Err e) zs → GivesMetadata f (Err e) ys
-same_refusal (message m behind) e zs ys g = g
-same_refusal (mark behind) e zs ys g = g
-same_refusal (waiting begun) e zs ys g = g
-same_refusal broken e zs ys g = g
+same_refusal : (xs : List ℕ) (f : Frame) (e : Fault) (zs ys : List ℕ) → GivesMetadata xs f (Err e) zs → GivesMetadata xs f (Err e) ys
+same_refusal xs (message m behind) e zs ys g = g
+same_refusal xs (mark behind) e zs ys g = g
+same_refusal xs (waiting begun) e zs ys g = g
+same_refusal xs broken e zs ys g = g
 
-no_refusal : (f : Frame) (e : Fault) (ys : List ℕ) → AnswerStop {X = StreamMetadata} (Err e) failed → GivesMetadata f (Err e) ys
-no_refusal (message m behind) e ys s = nothing_claimed e ((metadata_at m ≡ None) × RefusesMetadata e m) s
-no_refusal (mark behind) e ys s = nothing_claimed e (e ≡ BadSchema NotASchema) s
-no_refusal (waiting begun) e ys s = nothing_claimed e (e ≡ Ended) s
-no_refusal broken e ys s = nothing_claimed e (IsFramingFault e) s
+no_refusal : (xs : List ℕ) (f : Frame) (e : Fault) (ys : List ℕ) → AnswerStop {X = StreamMetadata} (Err e) failed → GivesMetadata xs f (Err e) ys
+no_refusal xs (message m behind) e ys s = nothing_claimed e ((metadata_at m ≡ None) × RefusesMetadata e m) s
+no_refusal xs (mark behind) e ys s = nothing_claimed e (e ≡ BadSchema NotASchema) s
+no_refusal xs (waiting begun) e ys s = nothing_claimed e (e ≡ Ended) s
+no_refusal xs broken e ys s = nothing_claimed e (e ≡ frame_fault xs) s
 
-metadata_at_end : (f : Frame) (r : Result StreamMetadata Fault) (zs ys : List ℕ) → AnswerStop r ended → GivesMetadata f r zs → GivesMetadata f r ys
-metadata_at_end f (Ok x) zs ys s g = absurd (cc s)
-metadata_at_end f (Err e) zs ys s g = same_refusal f e zs ys g
+metadata_at_end : (xs : List ℕ) (f : Frame) (r : Result StreamMetadata Fault) (zs ys : List ℕ) → AnswerStop r ended → GivesMetadata xs f r zs → GivesMetadata xs f r ys
+metadata_at_end xs f (Ok x) zs ys s g = absurd (cc s)
+metadata_at_end xs f (Err e) zs ys s g = same_refusal xs f e zs ys g
 
-metadata_at_failure : (f : Frame) (r : Result StreamMetadata Fault) (ys : List ℕ) → AnswerStop r failed → GivesMetadata f r ys
-metadata_at_failure f (Ok x) ys s = absurd (cc s)
-metadata_at_failure f (Err e) ys s = no_refusal f e ys s
+metadata_at_failure : (xs : List ℕ) (f : Frame) (r : Result StreamMetadata Fault) (ys : List ℕ) → AnswerStop r failed → GivesMetadata xs f r ys
+metadata_at_failure xs f (Ok x) ys s = absurd (cc s)
+metadata_at_failure xs f (Err e) ys s = no_refusal xs f e ys s
 
 pub metadata_ahead : {S : Type 0} (gives : Gives S) (known : Bool) (memory : S → Memory) → GivesAhead known gives memory → IsTrue known
-    → (r : Result StreamMetadata Fault) (a b : S) → MetadataGave gives a r b → GivesMetadata (frame (after (memory a))) r (after (memory b))
+    → (r : Result StreamMetadata Fault) (a b : S) → MetadataGave gives a r b → GivesMetadata (after (memory a)) (frame (after (memory a))) r (after (memory b))
 metadata_ahead gives known memory law k r a b g =
-    to_memory gives known memory law k (λ xs. length xs ≤ due xs) (λ all rest. GivesMetadata (frame all) r rest) (AnswerStop r) a b
-    (λ xs ys s i. metadata_at_end (frame xs) r [] ys s i)
-    (λ xs ys s. metadata_at_failure (frame xs) r ys s) g
+    to_memory gives known memory law k (λ xs. length xs ≤ due xs) (λ all rest. GivesMetadata all (frame all) r rest) (AnswerStop r) a b
+    (λ xs ys s i. metadata_at_end xs (frame xs) r [] ys s i)
+    (λ xs ys s. metadata_at_failure xs (frame xs) r ys s) g
 
 -- ---- counts of failures
 

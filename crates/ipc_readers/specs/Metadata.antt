@@ -18,7 +18,7 @@ use Rattle.ipc_model.specs.Batches.{Schema}
 use Rattle.ipc_model.specs.Schemas.{given, schema_of}
 use Rattle.ipc_model.specs.Frame.{Frame, message, mark, waiting, broken, frame}
 use Rattle.ipc_readers.specs.declared.read.stream.metadata.StreamMetadata.{StreamMetadata}
-use Rattle.ipc_readers.specs.Frames.{IsFramingFault, due}
+use Rattle.ipc_readers.specs.Frames.{due, frame_fault}
 
 abbrev pub version_slot : Result MetadataVersion TableFault → Result MetadataVersion Fault
 version_slot (Ok v) = Ok v
@@ -47,17 +47,17 @@ metadata_at m = given (schema_of m) (λ schema. option_map (λ version. (schema,
 abbrev pub RefusesMetadata : Fault → List ℕ → Type 0
 RefusesMetadata e m = RefusesMessage e m ⊎ (version_at m ≡ Err e)
 
--- The answer is what the message at the front says, and rest what is left; and a message that is refused says none, for the reason that
--- the fault names.
-abbrev pub GivesMetadata : Frame → Result StreamMetadata Fault → (rest : List ℕ) → Type 0
-GivesMetadata (message m behind) (Ok x) rest = (metadata_at m ≡ Some (metadata_seen x)) × (rest ≡ behind)
-GivesMetadata (message m behind) (Err e) rest = OwnFault e ((metadata_at m ≡ None) × RefusesMetadata e m)
-GivesMetadata (mark behind) (Err e) rest = OwnFault e (e ≡ BadSchema NotASchema)
-GivesMetadata (waiting begun) (Err e) rest = OwnFault e (e ≡ Ended)
-GivesMetadata broken (Err e) rest = OwnFault e (IsFramingFault e)
-GivesMetadata _ (Ok x) rest = ⊥
+-- The answer is what the message at the front of xs says, and rest what is left; and a message that is refused says none, for the reason
+-- that the fault names. A broken frame is told by the length that it states.
+abbrev pub GivesMetadata : (xs : List ℕ) → Frame → Result StreamMetadata Fault → (rest : List ℕ) → Type 0
+GivesMetadata xs (message m behind) (Ok x) rest = (metadata_at m ≡ Some (metadata_seen x)) × (rest ≡ behind)
+GivesMetadata xs (message m behind) (Err e) rest = OwnFault e ((metadata_at m ≡ None) × RefusesMetadata e m)
+GivesMetadata xs (mark behind) (Err e) rest = OwnFault e (e ≡ BadSchema NotASchema)
+GivesMetadata xs (waiting begun) (Err e) rest = OwnFault e (e ≡ Ended)
+GivesMetadata xs broken (Err e) rest = OwnFault e (e ≡ frame_fault xs)
+GivesMetadata xs _ (Ok x) rest = ⊥
 
 -- Of a device, whatever it is, no more was given than one frame, and all of that where the answer is Ok. It is what
 -- GivesMetadata says of it, whatever follows.
 abbrev pub MetadataGave : {S : Type 0} → Gives S → S → Result StreamMetadata Fault → S → Type 0
-MetadataGave gives a r b = GaveTo gives (AnswerStop r) (λ xs. length xs ≤ due xs) (λ all rest. GivesMetadata (frame all) r rest) a b
+MetadataGave gives a r b = GaveTo gives (AnswerStop r) (λ xs. length xs ≤ due xs) (λ all rest. GivesMetadata all (frame all) r rest) a b

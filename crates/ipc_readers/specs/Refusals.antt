@@ -3,10 +3,11 @@ use Rattle.std.specs.Prelude.{◌≡◌, ◌⊎◌, ℕ, ◌≤◌}
 use Rattle.ipc_devices.specs.declared.fault.Fault.{Fault}
 use Rattle.ipc_devices.specs.declared.fault.Fault.TheVariants.{Ended, OutOfSpec, TooManyDictionaries}
 use Rattle.ipc_devices.specs.declared.fault.OutOfSpecKind.TheVariants.{InvalidFlatbufferMessage, MissingMessageHeader, InvalidFlatbufferHeader, InvalidFlatbufferBodyLength, UnexpectedNegativeInteger, UnexpectedMessageType}
-use Rattle.ipc_model.specs.Batches.{chosen, kinds}
+use Rattle.ipc_views.specs.Spot.{Spot}
+use Rattle.ipc_model.specs.Batches.{Schema, chosen, kinds}
 use Rattle.ipc_model.specs.Kinds.{count}
 use Rattle.ipc_model.specs.Streams.{most_dictionaries}
-use Rattle.ipc_read.specs.DictionaryBatches.{IsDictionaryFault}
+use Rattle.ipc_read.specs.DictionaryBatches.{BlamesDictionary, IsDictionaryFault}
 use Rattle.ipc_read.specs.Refusals.{IsFaultOfBatch}
 use Rattle.ipc_readers.specs.ChosenStreams.{Request}
 use Rattle.ipc_readers.specs.Frames.{IsFramingFault}
@@ -25,10 +26,10 @@ IsMessageFault _ = ⊥
 abbrev pub IsRecordFault : Request → Fault → Type 0
 IsRecordFault h e = let ts = kinds h.head.schema in IsFaultOfBatch ts (chosen h.projection (count ts)) e ⊎ (e ≡ Ended)
 
--- Of a dictionary batch, where n came since the last record batch: those of its values, of its id and of what it lists, a body that
--- isn't there, and that no more may come.
-abbrev pub IsDictionaryMessageFault : ℕ → Fault → Type 0
-IsDictionaryMessageFault n e = IsDictionaryFault e ⊎ ((e ≡ Ended) ⊎ ((e ≡ TooManyDictionaries) × (most_dictionaries ≤ n)))
+-- Of a dictionary batch, where n came since the last record batch: that of the batch itself, a body that isn't there, and that no more
+-- may come.
+abbrev pub IsDictionaryMessageFault : Schema → ℕ → Spot → Fault → Type 0
+IsDictionaryMessageFault schema n t e = BlamesDictionary schema t e ⊎ ((e ≡ Ended) ⊎ ((e ≡ TooManyDictionaries) × (most_dictionaries ≤ n)))
 
 -- of a stream of which this is asked: of a frame, a message, a record batch or a dictionary batch
 abbrev pub IsStreamFault : Request → Fault → Type 0

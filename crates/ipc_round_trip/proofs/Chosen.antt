@@ -26,21 +26,21 @@ use Rattle.ipc_round_trip.specs.Reading.{RefusesAhead}
 
 -- ---- what is read
 
-chosen_at : (p : Option (List ℕ)) (f : Frame) (rest : List ℕ) (x : StreamMetadata) → GivesMetadata f (Ok x) rest
+chosen_at : (p : Option (List ℕ)) (xs : List ℕ) (f : Frame) (rest : List ℕ) (x : StreamMetadata) → GivesMetadata xs f (Ok x) rest
     → chosen_from p f ≡ Some (record { head = head_of x; meant = chosen_meaning (record { head = head_of x; projection = p }) nothing_known rest })
-chosen_at p (message m behind) rest x h = rw (head_is m x h.0, h.1) refl
-chosen_at p (mark behind) rest x h = absurd h
-chosen_at p (waiting begun) rest x h = absurd h
-chosen_at p broken rest x h = absurd h
+chosen_at p xs (message m behind) rest x h = rw (head_is m x h.0, h.1) refl
+chosen_at p xs (mark behind) rest x h = absurd h
+chosen_at p xs (waiting begun) rest x h = absurd h
+chosen_at p xs broken rest x h = absurd h
 
-pub chosen_whole : (p : Option (List ℕ)) (bytes xs rest : List ℕ) (x : StreamMetadata) → xs ≡ bytes → GivesMetadata (frame xs) (Ok x) rest
+pub chosen_whole : (p : Option (List ℕ)) (bytes xs rest : List ℕ) (x : StreamMetadata) → xs ≡ bytes → GivesMetadata xs (frame xs) (Ok x) rest
     → chosen_stream_of p bytes ≡ Some (record { head = head_of x; meant = chosen_meaning (record { head = head_of x; projection = p }) nothing_known rest })
 unfolding chosen_stream_of
 chosen_whole p bytes xs rest x same h =
-    chosen_at p (frame bytes) rest x (subst (λ ys. GivesMetadata (frame ys) (Ok x) rest) same h)
+    chosen_at p bytes (frame bytes) rest x (subst (λ ys. GivesMetadata ys (frame ys) (Ok x) rest) same h)
 
 -- a schema that hasn't the columns that are asked for, or of which one is named twice
-pub names_others : (js : List ℕ) (bytes xs rest : List ℕ) (x : StreamMetadata) → xs ≡ bytes → GivesMetadata (frame xs) (Ok x) rest
+pub names_others : (js : List ℕ) (bytes xs rest : List ℕ) (x : StreamMetadata) → xs ≡ bytes → GivesMetadata xs (frame xs) (Ok x) rest
     → (IsProjection (Some js) (length x.schema.fields.items) → ⊥) → NamesOthers js bytes
 names_others js bytes xs rest x same h never = record {
   head = head_of x;
@@ -49,24 +49,24 @@ names_others js bytes xs rest x same h never = record {
   others = λ is. never (subst (λ (n : ℕ). IsProjection (Some js) n) (field_count x.schema.fields.items (all_ids_view x.ipc_schema.fields.items)) is);
 }
 
-none_chosen : (p : Option (List ℕ)) (f : Frame) (e : Fault) (rest : List ℕ) → GivesMetadata f (Err e) rest → OwnFault e (chosen_from p f ≡ None)
-none_chosen p (message m behind) e rest h =
+none_chosen : (p : Option (List ℕ)) (xs : List ℕ) (f : Frame) (e : Fault) (rest : List ℕ) → GivesMetadata xs f (Err e) rest → OwnFault e (chosen_from p f ≡ None)
+none_chosen p xs (message m behind) e rest h =
     claims_through e ((metadata_at m ≡ None) × RefusesMetadata e m) _
     (λ none. ap (option_map (λ x. record { head = x; meant = chosen_meaning (record { head = x; projection = p }) nothing_known behind })) (no_head m none.0)) h
-none_chosen p (mark behind) e rest h = claims_through e _ _ (λ x. refl) h
-none_chosen p (waiting begun) e rest h = claims_through e _ _ (λ x. refl) h
-none_chosen p broken e rest h = claims_through e _ _ (λ x. refl) h
+none_chosen p xs (mark behind) e rest h = claims_through e _ _ (λ x. refl) h
+none_chosen p xs (waiting begun) e rest h = claims_through e _ _ (λ x. refl) h
+none_chosen p xs broken e rest h = claims_through e _ _ (λ x. refl) h
 
 -- bytes that begin with no schema can't be read
-pub none_readable : (p : Option (List ℕ)) (bytes xs rest : List ℕ) (e : Fault) → xs ≡ bytes → GivesMetadata (frame xs) (Err e) rest → OwnFault e (¬ (IsReadableBy p bytes))
+pub none_readable : (p : Option (List ℕ)) (bytes xs rest : List ℕ) (e : Fault) → xs ≡ bytes → GivesMetadata xs (frame xs) (Err e) rest → OwnFault e (¬ (IsReadableBy p bytes))
 unfolding chosen_stream_of
 none_readable p bytes xs rest e same h =
     claims_through e _ _ (λ none readable. let there = sym none ∙ readable.stream in absurd cc)
-    (none_chosen p (frame bytes) e rest (subst (λ ys. GivesMetadata (frame ys) (Err e) rest) same h))
+    (none_chosen p bytes (frame bytes) e rest (subst (λ ys. GivesMetadata ys (frame ys) (Err e) rest) same h))
 
 -- a stream whose chunks are refused can't be read
 pub refused_columns : {R : Type 0} (memory : R → Memory) (device : R) (p : Option (List ℕ)) (bytes xs : List ℕ) (x : StreamMetadata) (r : StreamReader R) (e : Fault) → xs ≡ bytes
-    → GivesMetadata (frame xs) (Ok x) (after (memory device)) → IsUnread device x r → projection_of r ≡ p → RefusesAhead memory r e → OwnFault e (¬ (IsReadableBy p bytes))
+    → GivesMetadata xs (frame xs) (Ok x) (after (memory device)) → IsUnread device x r → projection_of r ≡ p → RefusesAhead memory r e → OwnFault e (¬ (IsReadableBy p bytes))
 refused_columns memory device p bytes xs x r e same h begins asked refused =
     claims_through e _ _ (λ ends readable.
     let rest = after (memory device) in

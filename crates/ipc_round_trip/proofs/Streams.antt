@@ -79,18 +79,18 @@ pub head_is : (m : List ℕ) (x : StreamMetadata) → metadata_at m ≡ Some (me
 unfolding metadata_at head_at version_at
 head_is m x e = schema_head (schema_of m) (root_at m) (metadata_seen x) e
 
-stream_at : (f : Frame) (rest : List ℕ) (x : StreamMetadata) → GivesMetadata f (Ok x) rest
+stream_at : (xs : List ℕ) (f : Frame) (rest : List ℕ) (x : StreamMetadata) → GivesMetadata xs f (Ok x) rest
     → stream_from f ≡ Some (record { head = head_of x; meant = meaning (head_of x) nothing_known rest })
-stream_at (message m behind) rest x h = rw (head_is m x h.0, h.1) refl
-stream_at (mark behind) rest x h = absurd h
-stream_at (waiting begun) rest x h = absurd h
-stream_at broken rest x h = absurd h
+stream_at xs (message m behind) rest x h = rw (head_is m x h.0, h.1) refl
+stream_at xs (mark behind) rest x h = absurd h
+stream_at xs (waiting begun) rest x h = absurd h
+stream_at xs broken rest x h = absurd h
 
-pub whole_stream : (bytes xs rest : List ℕ) (x : StreamMetadata) → xs ≡ bytes → GivesMetadata (frame xs) (Ok x) rest
+pub whole_stream : (bytes xs rest : List ℕ) (x : StreamMetadata) → xs ≡ bytes → GivesMetadata xs (frame xs) (Ok x) rest
     → stream_of bytes ≡ Some (record { head = head_of x; meant = meaning (head_of x) nothing_known rest })
 unfolding stream_of
 whole_stream bytes xs rest x same h =
-    stream_at (frame bytes) rest x (subst (λ ys. GivesMetadata (frame ys) (Ok x) rest) same h)
+    stream_at bytes (frame bytes) rest x (subst (λ ys. GivesMetadata ys (frame ys) (Ok x) rest) same h)
 
 -- ---- a schema message that is refused
 
@@ -113,20 +113,20 @@ pub no_head : (m : List ℕ) → metadata_at m ≡ None → head_at m ≡ None
 unfolding metadata_at head_at version_at
 no_head m e = no_schema (schema_of m) (root_at m) e
 
-no_stream : (f : Frame) (e : Fault) (rest : List ℕ) → GivesMetadata f (Err e) rest → OwnFault e (stream_from f ≡ None)
-no_stream (message m behind) e rest h =
+no_stream : (xs : List ℕ) (f : Frame) (e : Fault) (rest : List ℕ) → GivesMetadata xs f (Err e) rest → OwnFault e (stream_from f ≡ None)
+no_stream xs (message m behind) e rest h =
     claims_through e ((metadata_at m ≡ None) × RefusesMetadata e m) _
     (λ none. ap (option_map (λ x. record { head = x; meant = meaning x nothing_known behind })) (no_head m none.0)) h
-no_stream (mark behind) e rest h = claims_through e _ _ (λ x. refl) h
-no_stream (waiting begun) e rest h = claims_through e _ _ (λ x. refl) h
-no_stream broken e rest h = claims_through e _ _ (λ x. refl) h
+no_stream xs (mark behind) e rest h = claims_through e _ _ (λ x. refl) h
+no_stream xs (waiting begun) e rest h = claims_through e _ _ (λ x. refl) h
+no_stream xs broken e rest h = claims_through e _ _ (λ x. refl) h
 
 -- bytes that begin with no schema can't be read
-pub unreadable : (bytes xs rest : List ℕ) (e : Fault) → xs ≡ bytes → GivesMetadata (frame xs) (Err e) rest → OwnFault e (¬ (IsReadable bytes))
+pub unreadable : (bytes xs rest : List ℕ) (e : Fault) → xs ≡ bytes → GivesMetadata xs (frame xs) (Err e) rest → OwnFault e (¬ (IsReadable bytes))
 unfolding stream_of
 unreadable bytes xs rest e same h =
     claims_through e _ _ (λ none readable. let there = sym none ∙ readable.stream in absurd cc)
-    (no_stream (frame bytes) e rest (subst (λ ys. GivesMetadata (frame ys) (Err e) rest) same h))
+    (no_stream bytes (frame bytes) e rest (subst (λ ys. GivesMetadata ys (frame ys) (Err e) rest) same h))
 
 -- both claims of a fault of the input's
 pub own_both : (e : Fault) (P Q : Type 0) → OwnFault e P → OwnFault e Q → OwnFault e (P × Q)
@@ -135,9 +135,9 @@ own_both (faults.Io x) P Q p q = tt
 own_both _ P Q p q = (p, q)
 
 -- the fault of the front
-pub blames_front : (bytes xs rest : List ℕ) (stream : Option Stream) (p : Option (List ℕ)) (e : Fault) → xs ≡ bytes → GivesMetadata (frame xs) (Err e) rest → OwnFault e (BlamesStream bytes stream p e)
+pub blames_front : (bytes xs rest : List ℕ) (stream : Option Stream) (p : Option (List ℕ)) (e : Fault) → xs ≡ bytes → GivesMetadata xs (frame xs) (Err e) rest → OwnFault e (BlamesStream bytes stream p e)
 blames_front bytes xs rest stream p e same h =
-    claimed e (BlamesStream bytes stream p e) (inl (rest, subst (λ ys. GivesMetadata (frame ys) (Err e) rest) same h))
+    claimed e (BlamesStream bytes stream p e) (inl (rest, subst (λ ys. GivesMetadata ys (frame ys) (Err e) rest) same h))
 
 -- ---- a new reader
 
@@ -150,7 +150,7 @@ abbrev pub slice_gives : Gives (MemFile (Bor (List ℕ)))
 slice_gives a xs e b = MemoryGives (slice_memory a) a.given xs e (slice_memory b) b.given
 
 pub slice_metadata : (r : Result StreamMetadata Fault) (a b : MemFile (Bor (List ℕ))) → MetadataGave slice_gives a r b
-    → GivesMetadata (frame (after (slice_memory a))) r (after (slice_memory b))
+    → GivesMetadata (after (slice_memory a)) (frame (after (slice_memory a))) r (after (slice_memory b))
 slice_metadata r a b g = metadata_ahead slice_gives true slice_memory (λ a xs e b k g. g.takes) refl r a b g
 
 -- over memory no device's fault comes
@@ -221,7 +221,7 @@ ends_same x y e f h = subst (λ (b : Bool). EndsAs b e) (sym f) h
 
 -- a stream whose chunks are refused can't be read
 pub refused_chunks : {R : Type 0} (memory : R → Memory) (device : R) (bytes xs : List ℕ) (a b : StreamMetadata) (r : StreamReader R) (e : Fault) → xs ≡ bytes
-    → GivesMetadata (frame xs) (Ok b) (after (memory device)) → IsUnread device a r → head_of a ≡ head_of b → projection_of r ≡ None → RefusesAhead memory r e → OwnFault e (¬ (IsReadable bytes))
+    → GivesMetadata xs (frame xs) (Ok b) (after (memory device)) → IsUnread device a r → head_of a ≡ head_of b → projection_of r ≡ None → RefusesAhead memory r e → OwnFault e (¬ (IsReadable bytes))
 refused_chunks memory device bytes xs a b r e same h begins heads asked refused =
     claims_through e _ _ (λ ends readable.
     let rest = after (memory device) in

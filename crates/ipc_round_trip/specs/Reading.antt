@@ -95,7 +95,7 @@ pub record BlamesMessages (stream : Option Stream) (p : Option (List ℕ)) (e : 
 -- Whose fault it is that bytes can't be read: that of their front, as the reader of the schema message tells it, or that of a message
 -- behind it.
 abbrev pub BlamesStream : List ℕ → Option Stream → Option (List ℕ) → Fault → Type 0
-BlamesStream bytes stream p e = ((rest : List ℕ) × GivesMetadata (frame bytes) (Err e) rest) ⊎ BlamesMessages stream p e
+BlamesStream bytes stream p e = ((rest : List ℕ) × GivesMetadata bytes (frame bytes) (Err e) rest) ⊎ BlamesMessages stream p e
 
 -- All of a stream was read, or, memory aside, it can't be read.
 abbrev pub ReadsStream : List ℕ → Result WholeStream Fault → Type 0

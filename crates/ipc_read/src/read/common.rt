@@ -17,18 +17,18 @@ ghost use Rattle.ipc_flat_columns.specs.Steps.{Step};
 ghost use Rattle.ipc_read.specs.Chunks.{GivesBatch, batch_schema, chunk_seen, order_of};
 ghost use Rattle.ipc_read.specs.Columns.{ArePrepared, AreColumns, HasColumns, IsChosen, columns_listed};
 ghost use Rattle.ipc_read.specs.HeldChunks.{columns_most, arrays_held, HoldChosen};
-ghost use Rattle.ipc_read.specs.Refusals.{IsListFault, IsFaultOfSome, IsFaultOfBatch};
-ghost use Rattle.ipc_read.specs.Sizes.{AreSizes, total_of, chosen_listed};
+ghost use Rattle.ipc_read.specs.Refusals.{IsEntriesFault, IsListFault, IsFaultOfSome, IsFaultOfBatch, TellsLengths};
+ghost use Rattle.ipc_read.specs.Sizes.{AreSizes, total_of, batch_listed, chosen_listed};
 
 use crate::read::Dictionaries;
 use ipc_base::chunk::Chunk;
 use ipc_base::ipc::{IpcField, IpcSchema};
-use ipc_flat_columns::read::body::{Body, Place};
 use ipc_columns::read::deserialize::read;
 use ipc_columns::read::ids::{child_of, others_of};
-use ipc_flat_columns::read::read_basic::natural;
 use ipc_devices::fault::{Fault, Nyi, OutOfSpecKind};
 use ipc_devices::{Reads, Seeks};
+use ipc_flat_columns::read::body::{Body, Place};
+use ipc_flat_columns::read::read_basic::natural;
 use ipc_views::{Buffers, MetadataVersion, Nodes, RecordBatchRef};
 use lower::datatypes::{
     DataType, Field, count_all_buffers, count_all_nodes, count_buffers, count_nodes,
@@ -42,7 +42,7 @@ use std::snapshot::Snapshot;
 #[tactic(auto, unfolding(ipc_model::specs::Batches::lists_of), using(crate::proofs::NodeLengths::node_lengths))]
 pub(crate) fn entries_of<'a>(batch: &RecordBatchRef<'a>) -> Result<(Nodes<'a>, Buffers<'a>), Fault>
     ensures own { OnIo result ⊥ }
-    ensures only { IfErr result (λ e. OwnFault e (IsListFault e)) }
+    ensures only { IfErr result (λ e. OwnFault e (IsEntriesFault e)) }
     ensures small { IfOk result (λ r. AreSmall r.0) }
     ensures exact { Answers result (IsSome (lists_of batch.now)) (λ r. lists_of batch.now ≡ Some (record { nodes = r.0; buffers = r.1 })) }
 {
@@ -64,10 +64,10 @@ pub(crate) fn entries_of<'a>(batch: &RecordBatchRef<'a>) -> Result<(Nodes<'a>, B
 }
 
 // How many bytes the buffers list together.
-#[tactic(auto, using(crate::proofs::Refusals::negative_list))]
+#[tactic(auto, using(crate::proofs::Refusals::negative_entries))]
 fn listed_bytes(buffers: &Buffers) -> Result<u128, Fault>
     ensures own { OnIo result ⊥ }
-    ensures only { IfErr result (λ e. OwnFault e (IsListFault e)) }
+    ensures only { IfErr result (λ e. OwnFault e (IsEntriesFault e)) }
     ensures exact { Answers result (AreSizes buffers.now) (λ n. n ≡ total_of buffers.now) }
 {
     let mut total = 0;
@@ -78,9 +78,11 @@ fn listed_bytes(buffers: &Buffers) -> Result<u128, Fault>
 }
 
 // Refuses buffers that are together longer than what holds them.
+#[tactic(auto, using(crate::proofs::Refusals::list_faults))]
 pub(crate) fn check_lengths(buffers: &Buffers, file_size: u64) -> Result<(), Fault>
     ensures own { OnIo result ⊥ }
     ensures only { IfErr result (λ e. OwnFault e (IsListFault e)) }
+    ensures lengths { IfErr result (TellsLengths (total_of buffers.now) file_size) }
     ensures exact { Answers result (AreSizes buffers.now × (total_of buffers.now ≤ file_size)) (λ _. Unit {0}) }
 {
     let total = listed_bytes(buffers)?;
@@ -97,7 +99,7 @@ pub(crate) fn check_lengths(buffers: &Buffers, file_size: u64) -> Result<(), Fau
 fn check_counts(nodes: usize, buffers: usize, fields: &[Field], extra: usize) -> Result<(), Fault>
     requires { extra ≤ 1 }
     ensures own { OnIo result ⊥ }
-    ensures only { IfErr result (λ e. OwnFault e (IsListFault e)) }
+    ensures only { IfErr result (λ e. OwnFault e (IsEntriesFault e)) }
     ensures exact { let fs = fields_view fields.now in Answers result ((fields_nodes fs ≤ nodes) × (fields_buffers extra fs ≤ buffers)) (λ _. Unit {0}) }
 {
     match count_all_nodes(fields) {
@@ -238,7 +240,8 @@ pub fn read_columns<R: Reads + Seeks>(
 /// `InvalidFlatbufferNodes` where these slots are ill-made, `MissingMessageBuffers`,
 /// `MissingMessageNodes` where they are absent or there are fewer nodes than the columns of all fields
 /// take, `ExpectedBuffer` where there are too few buffers, `NegativeFooterLength` where a length is below
-/// 0, `InvalidBuffersLength` where the buffers list more than `file_size` bytes. Then
+/// 0, `InvalidBuffersLength` where the buffers list more than `file_size` bytes, with how long
+/// they are together (`u64::MAX` where 64 bits are too few) and with `file_size`. Then
 /// `NotYetImplemented(Compressed)`, `Argument(UnequalRows)`, and those of [`read_columns`]. `Io` and
 /// `Memory` come too, and no other. After a fault the reader may stand at any place. The scratch
 /// memory isn't used.
@@ -262,6 +265,7 @@ pub fn read_record_batch<R: Reads + Seeks>(
     ensures many { IfOk result (λ xs. length xs ≡ length (chosen (option_copied projection.entry) (length fields.now))) }
     ensures only { let js = chosen (option_copied projection.entry) (length fields.now) in
         IfErr result (λ e. OwnFault e (IsFaultOfBatch (kinds (batch_schema fields.now ipc_schema.now)) js e)) }
+    ensures lengths { IfErr result (TellsLengths (batch_listed (lists_of batch.entry)) file_size) }
     ensures monotone { R.failures reader.old ≤ R.failures reader.new }
     ensures failed { OnIo result (Rises (R.failures reader.old) (R.failures reader.new)) }
     ensures told { UnlessIo result (R.failures reader.new ≡ R.failures reader.old) }

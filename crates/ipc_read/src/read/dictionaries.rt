@@ -10,19 +10,19 @@ ghost use Rattle.ipc_model.specs.Batches.{kinds, extra_of, lists_of, own_place, 
 ghost use Rattle.ipc_model.specs.TypeKinds.{kind_of};
 ghost use Rattle.ipc_flat_columns.specs.Bodies.{array_under, known_dictionaries};
 ghost use Rattle.ipc_read.specs.Chunks.{batch_schema, order_of};
-ghost use Rattle.ipc_read.specs.DictionaryBatches.{GivesColumn, GivesDictionary, PutsValues, dictionary_head, values_listed, IsHeadFault, IsValuesFault, IsDictionaryFault};
+ghost use Rattle.ipc_read.specs.DictionaryBatches.{GivesColumn, GivesDictionary, PutsValues, dictionary_head, values_listed, values_lists, BlamesDictionary, IsHeadFault, IsValuesFault, IsDictionaryFault};
 ghost use Rattle.ipc_read.specs.HeldChunks.{HoldChosen, HoldsValues};
-ghost use Rattle.ipc_read.specs.Refusals.{IsListFault};
-ghost use Rattle.ipc_read.specs.Sizes.{chosen_listed};
+ghost use Rattle.ipc_read.specs.Refusals.{IsEntriesFault, TellsLengths};
+ghost use Rattle.ipc_read.specs.Sizes.{batch_listed, chosen_listed};
 
 use crate::read::Dictionaries;
 use crate::read::common::{byte_order, check_lengths, count_extra, entries_of};
 use ipc_base::ipc::{IpcField, IpcSchema};
-use ipc_flat_columns::read::body::{Body, Place};
 use ipc_columns::read::deserialize::read;
 use ipc_columns::read::ids::{first_of, others_of};
 use ipc_devices::fault::{Fault, Nyi, OutOfSpecKind};
 use ipc_devices::{Reads, Seeks};
+use ipc_flat_columns::read::body::{Body, Place};
 use ipc_views::{DictionaryBatchRef, MetadataVersion, RecordBatchRef};
 use lower::datatypes::{DataType, Field, count_buffers, count_nodes};
 use lower_arrays::array::AnyArray;
@@ -100,7 +100,7 @@ fn check_column(
 ) -> Result<(), Fault>
     requires { extra ≤ 1 }
     ensures own { OnIo result ⊥ }
-    ensures only { IfErr result (λ e. OwnFault e (IsListFault e)) }
+    ensures only { IfErr result (λ e. OwnFault e (IsEntriesFault e)) }
     ensures exact { let t = type_view data_type.now in Answers result ((nodes t ≤ node_count) × (buffers extra t ≤ buffer_count)) (λ _. Unit {0}) }
 {
     match count_nodes(data_type) {
@@ -129,6 +129,7 @@ fn read_values<R: Reads + Seeks>(
     file_size: u64,
 ) -> Result<AnyArray, Fault>
     ensures only { IfErr result (λ e. OwnFault e (IsValuesFault (kind_of (type_view value_type.now) None (all_ids_view ids.now)) e)) }
+    ensures lengths { IfErr result (TellsLengths (batch_listed (lists_of batch.entry)) file_size) }
     ensures monotone { R.failures reader.old ≤ R.failures reader.new }
     ensures failed { OnIo result (Rises (R.failures reader.old) (R.failures reader.new)) }
     ensures told { UnlessIo result (R.failures reader.new ≡ R.failures reader.old) }
@@ -190,10 +191,10 @@ fn head_of<'a>(batch: &DictionaryBatchRef<'a>) -> Result<(i64, RecordBatchRef<'a
 /// of the values holds no more than these and one offset for each buffer of offsets that lists nothing.
 ///
 /// Faults, each `OutOfSpec`: `InvalidFlatbufferIsDelta`, `InvalidFlatbufferId`, `InvalidFlatbufferData` where these slots
-/// are ill-made, `InvalidId` where no field has the id, `MissingData` where there are no values; of these
+/// are ill-made, `InvalidId` with the id where no field has it, `MissingData` where there are no values; of these
 /// `InvalidFlatbufferCompression`, `InvalidFlatbufferBuffers`, `InvalidFlatbufferNodes`, `MissingMessageBuffers`,
-/// `MissingMessageNodes`, `ExpectedBuffer`, `NegativeFooterLength`, `InvalidBuffersLength`. Then `NotYetImplemented(Delta)`
-/// where the values are to follow others, `NotYetImplemented(Compressed)`, and those of their column ([`read`]). `Io` and
+/// `MissingMessageNodes`, `ExpectedBuffer`, `NegativeFooterLength`, `InvalidBuffersLength` with how long
+/// the buffers are together (`u64::MAX` where 64 bits are too few) and with `file_size`. Then `NotYetImplemented(Delta)` where the values are to follow others, `NotYetImplemented(Compressed)`, and those of their column ([`read`]). `Io` and
 /// `Memory` come too, and no other. After a fault the reader may stand at any place. The scratch memory isn't used.
 #[allow(clippy::too_many_arguments)]
 #[tactic(auto, using(crate::proofs::DictionaryMeanings::dictionary_faults))]
@@ -210,6 +211,8 @@ pub fn read_dictionary<R: Reads + Seeks>(
     _scratch: &mut Vec<u8>,
 ) -> Result<(), Fault>
     ensures only { IfErr result (λ e. OwnFault e (IsDictionaryFault e)) }
+    ensures blames { IfErr result (λ e. OwnFault e (BlamesDictionary (batch_schema fields.now ipc_schema.now) batch.entry e)) }
+    ensures lengths { IfErr result (TellsLengths (batch_listed (values_lists batch.entry)) file_size) }
     ensures monotone { R.failures reader.old ≤ R.failures reader.new }
     ensures failed { OnIo result (Rises (R.failures reader.old) (R.failures reader.new)) }
     ensures told { UnlessIo result (R.failures reader.new ≡ R.failures reader.old) }

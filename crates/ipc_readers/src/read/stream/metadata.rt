@@ -66,7 +66,7 @@ fn version_of(message: &[u8]) -> Result<MetadataVersion, Fault>
 /// Faults: those of [`read_frame`] and [`deserialize_schema`]; `Ended` where the input ends inside of
 /// the message, or before it; `Schema(NotASchema)` where the mark stands in its place;
 /// `OutOfSpec(InvalidFlatbufferVersion)` where its version is ill-made.
-#[tactic(auto, unfolding(crate::specs::Metadata::metadata_at))]
+#[tactic(auto, unfolding(crate::specs::Metadata::metadata_at), using(crate::proofs::MetadataRuns::metadata_runs))]
 pub fn read_stream_metadata<R: Reads>(
     alloc: Global,
     reader: &mut R,

@@ -11,6 +11,8 @@ use Rattle.lower_arrays.specs.declared.array.AnyArray.{AnyArray}
 use Rattle.ipc_base.specs.IdTrees.{all_ids_view}
 use Rattle.ipc_base.specs.declared.ipc.IpcField.{IpcField}
 use Rattle.ipc_devices.specs.Faults.{OwnFault}
+use Rattle.ipc_devices.specs.declared.fault.Fault.TheVariants.{OutOfSpec}
+use Rattle.ipc_devices.specs.declared.fault.OutOfSpecKind.TheVariants.{InvalidId}
 use Rattle.ipc_model.specs.Batches.{Schema, Place, extra_of, places, place_of, values_schema, dictionary_meaning}
 use Rattle.ipc_model.specs.Batches as model
 use Rattle.ipc_flat_columns.proofs.Fetches.{denies_through}
@@ -18,7 +20,7 @@ use Rattle.ipc_flat_columns.specs.Bodies.{dictionary_of, known_dictionaries}
 use Rattle.ipc_laws.specs.Agreement.{KnowAlike}
 use Rattle.ipc_read.specs.Chunks.{batch_schema, HasMeaning}
 use Rattle.ipc_read.specs.DictionaryBatches.{dictionary_head}
-use Rattle.ipc_read.proofs.DictionaryMeanings.{head_there, no_place, values_there, dictionary_given}
+use Rattle.ipc_read.proofs.DictionaryMeanings.{head_there, no_place, values_there, dictionary_given, unplaced_blames, values_blame, values_told}
 use Rattle.ipc_read.proofs.HeldLists.{values_held}
 use Rattle.ipc_read.proofs.KnownDictionaries.{known_put, puts_values}
 use Rattle.ipc_read.proofs.Refusals.{own_any}
@@ -51,6 +53,44 @@ returns-in_default-clause-memory g c = λ k.
     (subst (λ (l : List IpcField). place_of (places (fields_view c.args.fields.now) (all_ids_view l)) (to_z w64 (of_z w64 id)) ≡ None) ids_are c.in_default.ensures) in
     own_any c.into.result (IsSome (dictionary_meaning schema extra ds body c.args.batch) → ⊥)
     (λ h. no_place schema extra ds body c.args.batch id c.in_ok-id.values headed none h)
+
+pub returns-in_default-clause-blames : goal.returns-in_default-clause-blames
+returns-in_default-clause-blames g c =
+    let schema : Schema = batch_schema c.args.fields.now c.args.ipc_schema.now in
+    let id = c.in_ok-id.id in
+    let headed : dictionary_head c.args.batch ≡ Some (id, c.in_ok-id.values) = c.in_ok-id.ensures.exact.1 in
+    let ids_are : c.as_slice-schema_ids.result.now ≡ c.args.ipc_schema.now.fields.items = search rules in
+    let same_id : to_z w64 (of_z w64 id) ≡ id = search rules in
+    let none : place_of (places schema.fields schema.ids) id ≡ None =
+    subst (λ (j : ℤ). place_of (places (fields_view c.args.fields.now) (all_ids_view c.args.ipc_schema.now.fields.items)) j ≡ None) same_id
+    (subst (λ (l : List IpcField). place_of (places (fields_view c.args.fields.now) (all_ids_view l)) (to_z w64 (of_z w64 id)) ≡ None) ids_are c.in_default.ensures) in
+    let told : c.into.result ≡ OutOfSpec (InvalidId id) = search rules in
+    rw told (unplaced_blames schema c.args.batch id c.in_ok-id.values headed none)
+
+pub returns-in_err-values-clause-blames : goal.returns-in_err-values-clause-blames
+returns-in_err-values-clause-blames g c =
+    let fault = c.in_err-values.field-0.0 in
+    let e : c.from_residual-in_err-values.result ≡ Err fault = search rules in
+    let schema : Schema = batch_schema c.args.fields.now c.args.ipc_schema.now in
+    let id = c.in_ok-id.id in
+    let v = c.in_ok-id.values in
+    let headed : dictionary_head c.args.batch ≡ Some (id, v) = c.in_ok-id.ensures.exact.1 in
+    let ids_are : c.as_slice-schema_ids.result.now ≡ c.args.ipc_schema.now.fields.items = search rules in
+    let same_id : to_z w64 (of_z w64 id) ≡ id = search rules in
+    let u = type_view c.in-Some.value_type.now in
+    let is = all_ids_view c.in-Some.ids.now in
+    let p : Place = record { id = Some id; type = u; ids = is } in
+    let placed : place_of (places schema.fields schema.ids) id ≡ Some p =
+    subst (λ (j : ℤ). place_of (places (fields_view c.args.fields.now) (all_ids_view c.args.ipc_schema.now.fields.items)) j ≡ Some (record { id = Some j; type = u; ids = is })) same_id
+    (subst (λ (l : List IpcField). place_of (places (fields_view c.args.fields.now) (all_ids_view l)) (to_z w64 (of_z w64 id)) ≡ Some (record { id = Some (to_z w64 (of_z w64 id)); type = u; ids = is })) ids_are
+    c.in-Some.ensures) in
+    rw e (values_blame schema c.args.batch id v headed p fault placed c.in_err-values.ensures.only)
+
+pub returns-in_err-values-clause-lengths : goal.returns-in_err-values-clause-lengths
+returns-in_err-values-clause-lengths g c =
+    let fault = c.in_err-values.field-0.0 in
+    let e : c.from_residual-in_err-values.result ≡ Err fault = search rules in
+    rw e (values_told c.args.batch c.in_ok-id.id c.in_ok-id.values c.args.file_size fault c.in_ok-id.ensures.exact.1 c.in_err-values.ensures.lengths)
 
 pub returns-in_err-values-clause-memory : goal.returns-in_err-values-clause-memory
 returns-in_err-values-clause-memory g c = λ k.

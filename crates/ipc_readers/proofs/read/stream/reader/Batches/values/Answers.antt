@@ -3,10 +3,11 @@ use Rattle.lower.specs.TypeViews.{fields_view, pairs_of}
 use Rattle.lower.specs.declared.datatypes.Field.{Field}
 use Rattle.ipc_base.specs.IdTrees.{all_ids_view}
 use Rattle.ipc_flat_columns.specs.Bodies.{known_dictionaries}
+use Rattle.ipc_devices.specs.Faults.{OwnFault}
 use Rattle.ipc_devices.specs.declared.fault.Fault.{Fault}
 use Rattle.ipc_model.specs.Batches.{extra_of}
 use Rattle.ipc_read.specs.Chunks.{batch_schema, order_of}
-use Rattle.ipc_read.specs.DictionaryBatches.{GivesDictionary}
+use Rattle.ipc_read.specs.DictionaryBatches.{BlamesDictionary, GivesDictionary}
 use Rattle.ipc_readers.proofs.Bodies.{values_give}
 use Rattle.ipc_projections.specs.ChosenColumns.{asked_by}
 use Rattle.ipc_readers.specs.Streams.{known_in}
@@ -26,7 +27,7 @@ returns-clause-memory c =
     let Read : List Field → List ℕ → Type 0 = λ ds bs. GivesDictionary (batch_schema ds m.ipc_schema) (extra_of m.version) (known_dictionaries old.dictionaries) (record { source = bs; base = 0; size = length body }) c.args.batch r after in
     let given : Read c.deref.result.now bytes = c.in_ok-read_dictionary.ensures.memory refl in
     values_give (fields_view fs) (pairs_of m.schema.metadata.entries) (all_ids_view m.ipc_schema.fields.items) (order_of m.ipc_schema.is_little_endian) m.version (asked_by old.projection) (known_in old)
-    c.args.batch body r (record { dictionaries = after; count = old.count + 1 }) c.requires refl tt
+    c.args.batch body r (record { dictionaries = after; count = old.count + 1 }) c.requires refl tt tt
     (subst (λ bs. Read fs bs) bytes_are (subst (λ ds. Read ds bytes) fields_are given))
 
 pub returns-in_err-read_dictionary-clause-memory : goal.returns-in_err-read_dictionary-clause-memory
@@ -44,6 +45,9 @@ returns-in_err-read_dictionary-clause-memory c =
     let after = known_dictionaries c.read_dictionary.new.dictionaries in
     let Read : List Field → List ℕ → Type 0 = λ ds bs. GivesDictionary (batch_schema ds m.ipc_schema) (extra_of m.version) (known_dictionaries old.dictionaries) (record { source = bs; base = 0; size = length body }) c.args.batch r after in
     let given : Read c.deref.result.now bytes = c.in_err-read_dictionary.ensures.memory refl in
+    let Blames : List Field → Type 0 = λ ds. OwnFault fault (BlamesDictionary (batch_schema ds m.ipc_schema) c.args.batch fault) in
+    let blamed : Blames c.deref.result.now = c.in_err-read_dictionary.ensures.blames in
     rw e (values_give (fields_view fs) (pairs_of m.schema.metadata.entries) (all_ids_view m.ipc_schema.fields.items) (order_of m.ipc_schema.is_little_endian) m.version (asked_by old.projection) (known_in old)
-    c.args.batch body r (record { dictionaries = after; count = old.count }) c.requires tt c.in_err-read_dictionary.ensures.only
+    c.args.batch body r (record { dictionaries = after; count = old.count }) c.requires tt
+    (subst (λ ds. Blames ds) fields_are blamed) c.in_err-read_dictionary.ensures.lengths
     (subst (λ bs. Read fs bs) bytes_are (subst (λ ds. Read ds bytes) fields_are given)))
