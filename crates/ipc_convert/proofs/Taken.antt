@@ -185,7 +185,7 @@ whole_file w order fs es ids pairs bytes cs o f m i p whole =
 -- a writer that was made, took its pairs and was started
 pub file_begun : {W : Type 0} (known grows : Bool) (failures room : W → ℕ) (memory : W → Memory) (out : W) (big : Bool) (fields : FieldTrees) (metadata : Pairs) (ids : IdTrees) (pairs : Pairs) (u t v : FileSeen W) (x : Unit {0})
     → u.device ≡ out → files.HasNothing memory u → files.IsFileOf u fields metadata ids (byte_order (not big)) [] → files.TakesPairs u t pairs → files.Remains known memory u t
-    → files.SendsBytes known grows failures room memory t (Ok x) v → files.StartsWith t v → files.Remains known memory t v
+    → files.SendsBeginning known grows failures room memory t (Ok x) v → files.StartsWith t v → files.Remains known memory t v
     → BeginsFile known memory out (if big then Big else Little) fields metadata ids pairs v
 file_begun {W = W} known grows failures room memory out big fs es ids pairs u t v x at nothing is takes kept sends starts remains =
     let same = sends.step.same in

@@ -13,7 +13,7 @@ use Rattle.ipc_schema_write.specs.WriterAnswers.{RefusesSchema, max_weight}
 use Rattle.ipc_write.specs.Agreement as streams
 use Rattle.ipc_write.specs.Writers.{WriterSeen}
 use Rattle.ipc_write.specs.declared.stream.WriterState.TheVariants.{Started, Finished}
-use Rattle.ipc_file_write.specs.FileWriters.{Agrees, AnswersFinish, EndsWith, FileSeen, ReachesEnd, Remains, SendsBytes}
+use Rattle.ipc_file_write.specs.FileWriters.{Agrees, AnswersFinish, EndsWith, FileSeen, ReachesEnd, Remains, SendsEnding}
 use Rattle.ipc_convert.specs.declared.chunks.Ending.{Ending}
 use Rattle.ipc_convert.specs.declared.chunks.Ending.TheVariants.{Over, Waits}
 
@@ -39,7 +39,7 @@ RefusesWithPairs fs es is pairs e = RefusesSchema e fs es is ⊎ ((e ≡ Argumen
 -- All chunks were taken, and the file that has them was ended.
 pub record EndsCopy {W : Type 0} (known grows : Bool) (failures room : W → ℕ) (memory : W → Memory) (copied : Result Ending Fault) (ending : Ending) (a b : FileSeen W) : Type 0 where
   pub all : copied ≡ Ok ending
-  pub sends : SendsBytes known grows failures room memory a (Ok tt) b
+  pub sends : SendsEnding known grows failures room memory a (Ok tt) b
   pub ends : EndsWith a b
   pub reaches : ReachesEnd known memory a b
   pub remains : Remains known memory a b

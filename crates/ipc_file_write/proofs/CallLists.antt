@@ -22,7 +22,7 @@ use Rattle.ipc_write.specs.declared.stream.WriterState.{WriterState}
 use Rattle.ipc_write.specs.declared.stream.WriterState.TheVariants.{New, Started, Finished, Failed}
 use Rattle.ipc_base.specs.IdTrees.{IdTrees}
 use Rattle.ipc_file_write.specs.Calls.{AreMade, EndsFile, GrowsBy, HasChosen, IdsAre, IsMade, IsWrittenFile, MakesCall, vector, writer_seen}
-use Rattle.ipc_file_write.specs.FileWriters.{Agrees, EndsWith, FileIs, FileSeen, HasNothing, IsFileOf, IsSameFile, IsWholeFile, Remains, SendsBytes, StartsWith, StateComesFirst, TakesPairs}
+use Rattle.ipc_file_write.specs.FileWriters.{Agrees, EndsWith, FileIs, FileSeen, HasNothing, IsFileOf, IsSameFile, IsWholeFile, Remains, SendsBeginning, SendsEnding, StartsWith, StateComesFirst, TakesPairs}
 use Rattle.ipc_file_write.specs.Writes.{Appends, SendsColumns}
 
 -- all calls are made, each of the writer that the one before it left
@@ -116,7 +116,7 @@ module _ {W : Type 0} (known grows : Bool) (failures room : W → ℕ) (memory :
   remains : Remains known memory a b → GrowsBy known memory a b []
   remains h = record { followed = λ k base cs at. subst (λ (xs : List Chunk). Agrees memory b base xs) (sym (append-nil cs)) (h.kept k true base cs at) }
 
-  pub start_moves : (r : Result (Unit {0}) Fault) → StateComesFirst (fault_unless_new a.state) a r b → SendsBytes known grows failures room memory a r b → OnOk r (StartsWith a b) → Remains known memory a b → MakesCall known memory a Start r b
+  pub start_moves : (r : Result (Unit {0}) Fault) → StateComesFirst (fault_unless_new a.state) a r b → SendsBeginning known grows failures room memory a r b → OnOk r (StartsWith a b) → Remains known memory a b → MakesCall known memory a Start r b
   start_moves (Ok x) first sends ok means = record {
     may = ap state_seen ok.was;
     after = writer_after_is a b _ (ap state_seen ok.is) sends.step.same.order sends.step.same.pairs;
@@ -139,7 +139,7 @@ module _ {W : Type 0} (known grows : Bool) (failures room : W → ℕ) (memory :
     chosen = chosen_stay a b sends.step.refused.state sends.step.refused.ids sends.step.same.chosen;
   }
 
-  pub finish_moves : (r : Result (Unit {0}) Fault) → StateComesFirst (fault_unless_started a.state) a r b → SendsBytes known grows failures room memory a r b → OnOk r (EndsWith a b) → Remains known memory a b → MakesCall known memory a Finish r b
+  pub finish_moves : (r : Result (Unit {0}) Fault) → StateComesFirst (fault_unless_started a.state) a r b → SendsEnding known grows failures room memory a r b → OnOk r (EndsWith a b) → Remains known memory a b → MakesCall known memory a Finish r b
   finish_moves (Ok x) first sends ok means = record {
     may = ap state_seen ok.was;
     after = writer_after_is a b _ (ap state_seen ok.is) sends.step.same.order sends.step.same.pairs;
@@ -239,7 +239,7 @@ file_ended a b v remains chosen same is over = record {
       (record { dictionaries = b.dictionaries; blocks = b.blocks; file = whole.file; stream = whole.stream refl });
 }
 
-pub finished_now : (a b : FileSeen (Vec ℕ Global)) (v : Vec ℕ Global) → SendsBytes true true (λ v. 0) (λ v. vec_capacity v - vec_len v) vector a (Ok tt) b → EndsWith a b → Remains true vector a b → v ≡ b.device → EndsFile a v.items
+pub finished_now : (a b : FileSeen (Vec ℕ Global)) (v : Vec ℕ Global) → SendsEnding true true (λ v. 0) (λ v. vec_capacity v - vec_len v) vector a (Ok tt) b → EndsWith a b → Remains true vector a b → v ≡ b.device → EndsFile a v.items
 finished_now a b v sends ok means over = file_ended a b v means (λ h. chosen_finished b ok.is (chosen_of a b ok.was ok.ids sends.step.same.chosen h)) sends.step.same ok.is over
 
 pub finished_before : (a : FileSeen (Vec ℕ Global)) (v : Vec ℕ Global) → a.state ≡ Finished → v ≡ a.device → EndsFile a v.items

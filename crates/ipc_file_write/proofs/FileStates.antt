@@ -1,5 +1,5 @@
 -- What the bytes of a file's writer are after each call.
-use Rattle.std.proofs.Common.{◌≡◌, ℕ, ◌+◌, ◌≤◌, Bool, IsTrue, List, [], ◌∷◌, ◌++◌, length, take, replicate, Some, refl, sym, ap, ◌∙◌, subst, append_assoc, append-nil, length-append, arith, Ok, Err}
+use Rattle.std.proofs.Common.{◌≡◌, ℕ, ◌+◌, ◌%◌, ◌≤◌, Bool, IsTrue, List, [], ◌∷◌, ◌++◌, length, take, replicate, Some, refl, sym, ap, ◌∙◌, subst, append_assoc, append-nil, length-append, arith, Ok, Err}
 use Rattle.ipc_devices.specs.Device.{Memory, WritesOver, before}
 use Rattle.ipc_devices.specs.Faults.{OnIo, OnRefused}
 use Rattle.ipc_devices.specs.declared.fault.Fault.{Fault}
@@ -20,13 +20,14 @@ use Rattle.ipc_model.specs.Writable.{IsWritable, file_weight, weight}
 use Rattle.ipc_schema_write.specs.WriterAnswers.{RefusesSchema, max_weight, written_head_as}
 use Rattle.ipc_write.specs.declared.stream.WriterState.{WriterState}
 use Rattle.ipc_write.specs.declared.stream.WriterState.TheVariants.{New, Started, Finished, Failed}
+use Rattle.ipc_write.specs.Sending.{OnSent}
 use Rattle.ipc_footers.specs.Footers.{HasFooter, tail_of}
 use Rattle.std.proofs.lemmas.List.{length-replicate, take-append-le}
 use Rattle.ipc_file_laws.proofs.Ends.{chunk_ends, chunk_natural, chunk_reaches, no_ends, none_at_all}
 use Rattle.ipc_file_laws.specs.FileBytes.{EndsStreamBehind, HoldsFile, HasStreamBehind, SendsChunk, Sent, all_bytes, block_at, blocks_at, chunk_bytes, file_head}
 use Rattle.ipc_file_laws.proofs.FileSteps.{end_law, grow_law, start_law, write_law}
 use Rattle.ipc_file_laws.proofs.StreamSteps.{stream_end_law, stream_start_law, stream_write_law}
-use Rattle.ipc_file_write.specs.FileWriters.{Delivers, FileIs, FileSeen, FileStep, HoldsBytes, IsFresh, IsOpenFile, IsSameFile, Kept, MayFinish, MayStart, ReachesEnd, RefusesFinish, RefusesStart, Remains, RemembersSame, SendsBytes, ending_bytes, head_of_file}
+use Rattle.ipc_file_write.specs.FileWriters.{Delivers, FileIs, FileSeen, FileStep, HoldsBytes, IsEnding, IsFresh, IsOpenFile, IsSameFile, Kept, MayFinish, MayStart, ReachesEnd, RefusesFinish, RefusesStart, Remains, RemembersSame, SendsBeginning, SendsEnding, ending_bytes, head_of_file}
 use Rattle.ipc_file_write.specs.declared.sending.Ending.{Ending}
 use Rattle.ipc_file_write.specs.declared.writer.Starting.{Starting}
 
@@ -54,13 +55,24 @@ kept_step known grows failures room memory a b e bytes kept same not_io = record
   some_sent = λ k. rw kept.device (some_none (memory a.device) bytes);
 }
 
-pub refused_step : {W : Type 0} (known grows : Bool) (failures room : W → ℕ) (memory : W → Memory) (a : FileSeen W) (e : Fault)
-    → ((P : Type 0) → OnIo {X = Unit {0}} (Err e) P) → SendsBytes known grows failures room memory a (Err e) a
-refused_step known grows failures room memory a e not_io = record {
-  bytes = [];
-  step = kept_step known grows failures room memory a a e [] (record { device = refl; state = refl; ids = refl; pairs = refl; remembers = λ id. refl; dictionaries = refl; blocks = refl; place = refl })
-      (record { order = refl; fields = refl; metadata = refl; chosen = refl; pairs = refl; size = refl }) not_io;
-}
+refused_step : {W : Type 0} (known grows : Bool) (failures room : W → ℕ) (memory : W → Memory) (a : FileSeen W) (e : Fault)
+    → ((P : Type 0) → OnIo {X = Unit {0}} (Err e) P) → FileStep known grows failures room memory a (Err e) a []
+refused_step known grows failures room memory a e not_io =
+    kept_step known grows failures room memory a a e [] (record { device = refl; state = refl; ids = refl; pairs = refl; remembers = λ id. refl; dictionaries = refl; blocks = refl; place = refl })
+    (record { order = refl; fields = refl; metadata = refl; chosen = refl; pairs = refl; size = refl }) not_io
+
+-- so that nothing was sent of a file's beginning, and nothing of its end
+none_sent : (e : Fault) (P : Type 0) → ((Q : Type 0) → OnIo {X = Unit {0}} (Err e) Q) → OnSent (Err e) P
+none_sent (Io x) P not_io = not_io _
+none_sent _ P not_io = tt
+
+pub refused_beginning : {W : Type 0} (known grows : Bool) (failures room : W → ℕ) (memory : W → Memory) (a : FileSeen W) (e : Fault)
+    → ((P : Type 0) → OnIo {X = Unit {0}} (Err e) P) → SendsBeginning known grows failures room memory a (Err e) a
+refused_beginning known grows failures room memory a e not_io = record { bytes = []; is = none_sent e _ not_io; place = tt; step = refused_step known grows failures room memory a e not_io }
+
+pub refused_ending : {W : Type 0} (known grows : Bool) (failures room : W → ℕ) (memory : W → Memory) (a : FileSeen W) (e : Fault)
+    → ((P : Type 0) → OnIo {X = Unit {0}} (Err e) P) → SendsEnding known grows failures room memory a (Err e) a
+refused_ending known grows failures room memory a e not_io = record { bytes = []; is = none_sent e _ not_io; step = refused_step known grows failures room memory a e not_io }
 
 pub start_not_io : {W : Type 0} (w : FileSeen W) (e : Fault) → RefusesStart w e → (P : Type 0) → OnIo {X = Unit {0}} (Err e) P
 start_not_io w (Io x) h P = absurd h
@@ -78,18 +90,22 @@ ids_refused w _ h = absurd h
 
 -- what is made for the start
 pub may_start : {W : Type 0} (w : FileSeen W) (s : Starting) (message : List ℕ) (is : IdTrees) → w.state ≡ New → is ≡ w.chosen → all_ids_view s.ipc_fields.items ≡ is → file_weight w.fields w.metadata w.pairs ≤ max_weight
-    → IsWritable w.fields w.metadata is → length message ≤ weight w.fields w.metadata → head_of message ≡ Some (written_head_as w.order w.fields w.metadata is) → IsWritten message
+    → IsWritable w.fields w.metadata is → length message ≤ weight w.fields w.metadata → head_of message ≡ Some (written_head_as w.order w.fields w.metadata is) → length message % 8 ≡ 0 → IsWritten message
     → s.bytes.items ≡ file_head ++ (prefix (length message) ++ message) → MayStart w s
-may_start w s message is was chosen ids light writable long headed written bytes_are = record {
+may_start w s message is was chosen ids light writable long headed aligned written bytes_are = record {
   was = was;
   ids = ids ∙ chosen;
   writable = subst (λ (x : IdTrees). IsWritable w.fields w.metadata x) chosen writable;
   light = light;
-  message = message;
-  some = let whole = written.encoding.size in omega (arith, whole);
-  short = let most = writable.light in omega (arith, long, most);
-  headed = headed ∙ ap (λ (x : IdTrees). Some (written_head_as w.order w.fields w.metadata x)) chosen;
-  bytes_are = bytes_are ∙ ap (λ (xs : List ℕ). file_head ++ (prefix (length message) ++ xs)) (sym (append-nil message));
+  begins = record {
+    message = message;
+    some = let whole = written.encoding.size in omega (arith, whole);
+    short = let most = writable.light in omega (arith, long, most);
+    whole = aligned;
+    headed = headed ∙ ap (λ (x : IdTrees). Some (written_head_as w.order w.fields w.metadata x)) chosen;
+    written = written;
+    bytes_are = bytes_are ∙ ap (λ (xs : List ℕ). file_head ++ (prefix (length message) ++ xs)) (sym (append-nil message));
+  };
 }
 
 -- ---- what stays
@@ -169,7 +185,7 @@ module _ {W : Type 0} (known grows : Bool) (failures room : W → ℕ) (memory :
         let held = held_more (memory a.device) (memory b.device) base h.bytes bytes h.held (sent.memory k) ∙ ap (λ (xs : List ℕ). base ++ xs) first in
         let h0 : Head = written_head_as a.order a.fields a.metadata a.chosen in
         let head : h0 ≡ head_of_file b = rw (order, fields, metadata, ids) refl in
-        let first_bytes : bytes ≡ file_head ++ message_bytes may.message [] = same ∙ may.bytes_are in
+        let first_bytes : bytes ≡ file_head ++ message_bytes may.begins.message [] = same ∙ may.begins.bytes_are in
         let none : (id : _) → b.remembers id ≡ nothing_remembered id = λ id. ap (λ (r : Remembered). r id) remembers ∙ fresh.nothing id in
         record {
           bytes = bytes;
@@ -178,11 +194,11 @@ module _ {W : Type 0} (known grows : Bool) (failures room : W → ℕ) (memory :
             writable = rw (fields, metadata, ids) may.writable;
             light = rw (fields, metadata, pairs) may.light;
             begun = ap (take 6) first_bytes;
-            long = omega (arith, ap length first_bytes, length-append file_head (message_bytes may.message []));
+            long = omega (arith, ap length first_bytes, length-append file_head (message_bytes may.begins.message []));
             file = fresh_file (head_of_file b).schema b.size bytes b.dictionaries b.blocks b.remembers cs (dictionaries ∙ fresh.no_dictionaries) (blocks ∙ fresh.no_blocks) fresh.no_chunks none;
             stream = λ is_one.
-                stream_same (file_head ++ message_bytes may.message []) bytes h0 (head_of_file b) nothing_remembered b.remembers [] cs (sym first_bytes) head none (sym fresh.no_chunks)
-                (stream_start_law may.message h0 may.some may.short may.headed);
+                stream_same (file_head ++ message_bytes may.begins.message []) bytes h0 (head_of_file b) nothing_remembered b.remembers [] cs (sym first_bytes) head none (sym fresh.no_chunks)
+                (stream_start_law may.begins.message h0 may.begins.some may.begins.short may.begins.headed);
             place = place;
             natural = none_at_all b.dictionaries b.blocks (dictionaries ∙ fresh.no_dictionaries) (blocks ∙ fresh.no_blocks);
             reached = λ some. absurd (omega (arith, some, ap length (blocks ∙ fresh.no_blocks)));
@@ -217,12 +233,12 @@ open_same is_stream a b bytes cs same place h = record {
   last = rw (same.dictionaries, same.blocks, place) h.last;
 }
 
--- how far the bytes of an ending reach
-ending-length : (e : Ending) → length (ending_bytes e) ≡ 8 + (e.zeros + length e.bytes.items)
-ending-length e = let zero_byte : ℕ = 0 in omega (arith, length-append (replicate e.zeros zero_byte) e.bytes.items, length-replicate e.zeros zero_byte)
+-- how far an ending reaches
+ending-length : (zeros : ℕ) (behind : List ℕ) → length (prefix 0 ++ (replicate zeros 0 ++ behind)) ≡ 8 + (zeros + length behind)
+ending-length zeros behind = let zero_byte : ℕ = 0 in omega (arith, length-append (replicate zeros zero_byte) behind, length-replicate zeros zero_byte)
 
-pub ending-reaches : {W : Type 0} (w : FileSeen W) (e : Ending) → MayFinish w e → w.size ≤ w.place + length (ending_bytes e)
-ending-reaches w e may = omega (arith, may.zeros_are, ending-length e)
+pub ending-reaches : {W : Type 0} (w : FileSeen W) (bytes : List ℕ) → IsEnding w bytes → w.size ≤ w.place + length bytes
+ending-reaches w bytes ends = omega (arith, ends.zeros_are, ap length ends.bytes_are, ending-length ends.zeros (ends.footer ++ tail_of ends.footer))
 
 module _ {W : Type 0} (known grows : Bool) (failures room : W → ℕ) (memory : W → Memory) (a b : FileSeen W) where
   -- a device failed behind a file that was started
@@ -247,24 +263,25 @@ module _ {W : Type 0} (known grows : Bool) (failures room : W → ℕ) (memory :
   finished e may is same place sent = record {
     kept = λ k is_stream base cs h.
         let open_file : IsOpenFile is_stream a h.bytes cs = at_state is_stream a.state Started a h.bytes cs may.was h.file in
-        let footer = may.footer in
-        let gap : List ℕ = replicate e.zeros 0 in
-        let rest : List ℕ = ending_bytes e in
+        let ends = may.ends in
+        let footer = ends.footer in
+        let gap : List ℕ = replicate ends.zeros 0 in
+        let rest : List ℕ = prefix 0 ++ (gap ++ (footer ++ tail_of footer)) in
         let all : List ℕ = h.bytes ++ rest in
         let longer = length-append h.bytes rest in
         let front : List ℕ = (h.bytes ++ prefix 0) ++ gap in
         let begun : take 6 all ≡ magic = take-append-le 6 h.bytes rest (omega (arith, open_file.long)) ∙ open_file.begun in
         let parts : all ≡ front ++ (footer ++ tail_of footer) =
-        ap (λ (xs : List ℕ). h.bytes ++ (prefix 0 ++ (gap ++ xs))) may.bytes_are ∙ sym (append_assoc h.bytes (prefix 0) (gap ++ (footer ++ tail_of footer))) ∙ sym (append_assoc (h.bytes ++ prefix 0) gap (footer ++ tail_of footer)) in
+        sym (append_assoc h.bytes (prefix 0) (gap ++ (footer ++ tail_of footer))) ∙ sym (append_assoc (h.bytes ++ prefix 0) gap (footer ++ tail_of footer)) in
         let has : HasFooter all footer = record { head = begun; front = front; bytes_are = parts } in
-        let long : a.size ≤ length all = omega (arith, longer, open_file.place, ending-reaches a e may) in
-        let whole = end_law a.order a.fields a.metadata a.ids a.pairs a.size h.bytes rest all footer a.dictionaries a.blocks a.remembers cs open_file.file refl long has may.short may.writes.means in
+        let long : a.size ≤ length all = omega (arith, longer, open_file.place, ap length ends.bytes_are, ending-reaches a (ending_bytes e) ends) in
+        let whole = end_law a.order a.fields a.metadata a.ids a.pairs a.size h.bytes rest all footer a.dictionaries a.blocks a.remembers cs open_file.file refl long has ends.short ends.writes.means in
         record {
           bytes = all;
-          held = held_more (memory a.device) (memory b.device) base h.bytes rest h.held (sent.memory k);
+          held = held_more (memory a.device) (memory b.device) base h.bytes rest h.held (subst (λ (xs : List ℕ). WritesOver (memory a.device) (memory b.device) xs) ends.bytes_are (sent.memory k));
           file = at_state is_stream Finished b.state b all cs (sym is) (record {
             file = rw (same.order, same.fields, same.metadata, same.ids, same.pairs, same.dictionaries, same.blocks) whole;
-            stream = λ is_one. subst (λ (h : Head). EndsStreamBehind all h cs) (head_same a b same) (stream_end_law h.bytes (gap ++ e.bytes.items) (head_of_file a) a.remembers cs (open_file.stream is_one));
+            stream = λ is_one. subst (λ (h : Head). EndsStreamBehind all h cs) (head_same a b same) (stream_end_law h.bytes (gap ++ (footer ++ tail_of footer)) (head_of_file a) a.remembers cs (open_file.stream is_one));
             front = h.bytes;
             behind = rest;
             bytes_are = refl;
@@ -277,7 +294,7 @@ module _ {W : Type 0} (known grows : Bool) (failures room : W → ℕ) (memory :
   -- it ends no earlier than what it goes on with
   pub reaches_end : (e : Ending) → MayFinish a e → Delivers {X = Unit {0}} known grows (seen_by failures room memory a.device) (seen_by failures room memory b.device) (Ok tt) (ending_bytes e)
       → ReachesEnd known memory a b
-  reaches_end e may sent = record { reaches = λ k at. let moved = (sent.memory k).place in omega (arith, at, moved, ending-reaches a e may) }
+  reaches_end e may sent = record { reaches = λ k at. let moved = (sent.memory k).place in omega (arith, at, moved, ending-reaches a (ending_bytes e) may.ends) }
 
 -- ---- a chunk
 

@@ -1,5 +1,5 @@
 -- What bytes that are written leave of a memory.
-use Rattle.std.proofs.Common.{◌≡◌, ℕ, ◌+◌, ◌-◌, ◌≤◌, List, [], ◌++◌, length, take, drop, sym, ap, ◌∙◌, arith, append-nil, length-drop, length-take-le}
+use Rattle.std.proofs.Common.{◌≡◌, ℕ, ◌-◌, ◌≤◌, List, ◌++◌, length, take, sym, ap, ◌∙◌, arith, append-nil, length-drop, length-take-le}
 use Rattle.std.proofs.lemmas.List.{take-append-le, take-take, take_all}
 use Rattle.ipc_devices.specs.Device.{Memory, WritesOver, after, before}
 use Rattle.ipc_file_laws.proofs.Appending.{stay_law}

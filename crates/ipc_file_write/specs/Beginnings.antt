@@ -8,7 +8,7 @@ use Rattle.ipc_devices.specs.Device.{Memory}
 use Rattle.ipc_devices.specs.Faults.{OwnFault}
 use Rattle.ipc_devices.specs.declared.fault.Fault.{Fault}
 use Rattle.ipc_write.specs.declared.stream.WriterState.TheVariants.{New}
-use Rattle.ipc_file_write.specs.FileWriters.{FileSeen, HasNothing, IsFileOf, MayBeStarted, MissesStart, OrFails, RefusesStart, SendsBytes, StartsWith, seen}
+use Rattle.ipc_file_write.specs.FileWriters.{FileSeen, HasNothing, IsFileOf, MayBeStarted, MissesStart, OrFails, RefusesStart, SendsBeginning, StartsWith, seen}
 use Rattle.ipc_file_write.specs.declared.file.FileWriter.{FileWriter}
 
 -- It is `start` of a new writer of this file: that one is Ok just where a file of this schema with these ids may be started, memory and
@@ -20,7 +20,7 @@ pub record StartsNew {W : Type 0} (known grows : Bool) (failures room : W → �
   pub device_is : new.device ≡ device
   pub file : IsFileOf new fields metadata ids order []
   pub nothing : HasNothing memory new
-  pub sends : IfOk r (λ w. SendsBytes known grows failures room memory new (Ok tt) (seen w))
+  pub sends : IfOk r (λ w. SendsBeginning known grows failures room memory new (Ok tt) (seen w))
   pub starts : IfOk r (λ w. StartsWith new (seen w))
   pub may : OnOk r (MayBeStarted new)
   pub only : IfErr r (OrFails (RefusesStart new))

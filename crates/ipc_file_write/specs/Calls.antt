@@ -22,7 +22,7 @@ use Rattle.ipc_write.specs.declared.stream.WriterState.{WriterState}
 use Rattle.ipc_write.specs.declared.stream.WriterState.TheVariants.{Started, Finished}
 use Rattle.ipc_footers.specs.Footers.{file_written}
 use Rattle.ipc_file_laws.specs.FileBytes.{EndsStreamBehind, IsFile}
-use Rattle.ipc_file_write.specs.FileWriters.{Agrees, AnswersFinish, AnswersStart, EndsWith, FileSeen, IsSameFile, OrFails, ReachesEnd, RefusesFinish, RefusesStart, Remains, SendsBytes, StartsWith, StateComesFirst}
+use Rattle.ipc_file_write.specs.FileWriters.{Agrees, AnswersFinish, AnswersStart, EndsWith, FileSeen, IsSameFile, OrFails, ReachesEnd, RefusesFinish, RefusesStart, Remains, SendsBeginning, SendsEnding, StartsWith, StateComesFirst}
 use Rattle.ipc_file_write.specs.Writes.{Appends, NamesOne, SendsColumns, WritesExactly}
 
 -- ---- one call
@@ -30,7 +30,7 @@ use Rattle.ipc_file_write.specs.Writes.{Appends, NamesOne, SendsColumns, WritesE
 -- what `start` says of itself
 pub record DoesStart {W : Type 0} (known grows : Bool) (failures room : W → ℕ) (memory : W → Memory) (a : FileSeen W) (r : Result Unit Fault) (b : FileSeen W) : Type 0 where
   pub first : StateComesFirst (fault_unless_new a.state) a r b
-  pub step : SendsBytes known grows failures room memory a r b
+  pub step : SendsBeginning known grows failures room memory a r b
   pub ok : OnOk r (StartsWith a b)
   pub only : IfErr r (OrFails (RefusesStart a))
   pub exact : AnswersStart a r
@@ -47,7 +47,7 @@ pub record DoesWrite {W : Type 0} (known grows : Bool) (failures room : W → �
 -- what `finish` says of itself
 pub record DoesFinish {W : Type 0} (known grows : Bool) (failures room : W → ℕ) (memory : W → Memory) (a : FileSeen W) (r : Result Unit Fault) (b : FileSeen W) : Type 0 where
   pub first : StateComesFirst (fault_unless_started a.state) a r b
-  pub step : SendsBytes known grows failures room memory a r b
+  pub step : SendsEnding known grows failures room memory a r b
   pub ok : OnOk r (EndsWith a b)
   pub reaches : OnOk r (ReachesEnd known memory a b)
   pub only : IfErr r (OrFails (RefusesFinish a))

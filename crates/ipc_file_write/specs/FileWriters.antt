@@ -1,6 +1,6 @@
 -- What the calls of a file's writer do, and what its bytes mean.
 -- (Arrow columnar format, "IPC File Format".)
-use Rattle.std.specs.Prelude.{◌≡◌, ℕ, ◌+◌, ◌-◌, ◌<◌, ◌≤◌, ◌^◌, max, Bool, true, false, IsTrue, List, [], ◌++◌, length, take, replicate, Option, Some, None, IfSome, Result, Ok, Err, OnErr, OnOk, IfErr}
+use Rattle.std.specs.Prelude.{◌≡◌, ℕ, ◌+◌, ◌-◌, ◌%◌, ◌<◌, ◌≤◌, ◌^◌, max, Bool, true, false, IsTrue, List, [], ◌++◌, length, take, replicate, Option, Some, None, IfSome, Result, Ok, Err, OnErr, OnOk, IfErr}
 use Rattle.lower.specs.TypeTrees.{Pairs, FieldTrees}
 use Rattle.lower.specs.TypeViews.{fields_view, pairs_of}
 use Rattle.lower_types.specs.declared.Endianness.{Endianness}
@@ -26,7 +26,8 @@ use Rattle.ipc_laws.specs.Remembered.{Remembered, nothing_remembered}
 use Rattle.ipc_schema_write.specs.WriterAnswers.{RefusesSchema, byte_order, max_weight, written_head_as}
 use Rattle.ipc_encode.specs.declared.common.EncodedData.{EncodedData}
 use Rattle.ipc_tracker.specs.Trackers.{remembered}
-use Rattle.ipc_write.specs.Sending.{FailsOrIsFull}
+use Rattle.ipc_tables.specs.Written.{IsWritten}
+use Rattle.ipc_write.specs.Sending.{FailsOrIsFull, OnSent}
 use Rattle.ipc_write.specs.Writers.{chosen_ids, fault_unless_new, fault_unless_started}
 use Rattle.ipc_write.specs.declared.stream.WriterState.{WriterState}
 use Rattle.ipc_write.specs.declared.stream.WriterState.TheVariants.{New, Started, Finished, Failed}
@@ -204,9 +205,38 @@ pub record FileStep {W : Type 0} (known grows : Bool) (failures room : W → ℕ
   pub all_sent : IsTrue known → OnOk r (WritesOver (memory a.device) (memory b.device) bytes)
   pub some_sent : IsTrue known → WritesSome (memory a.device) (memory b.device) bytes
 
--- a call that sends some bytes
-pub record SendsBytes {W : Type 0} (known grows : Bool) (failures room : W → ℕ) (memory : W → Memory) (a : FileSeen W) (r : Result Unit Fault) (b : FileSeen W) : Type 0 where
+-- What a file begins with: its head, which makes eight bytes, and behind it the message of the schema, which has no body, begins a stream with
+-- what this writer writes, and is laid out as messages are written.
+pub record IsBeginning {W : Type 0} (w : FileSeen W) (bytes : List ℕ) : Type 0 where
+  pub message : List ℕ
+  pub some : 0 < length message
+  pub short : length message < 2 ^ 31
+  pub whole : length message % 8 ≡ 0
+  pub headed : head_of message ≡ Some (written_head_as w.order w.fields w.metadata w.chosen)
+  pub written : IsWritten message
+  pub bytes_are : bytes ≡ file_head ++ message_bytes message []
+
+-- What a file ends with: the mark that ends the stream, as many bytes 0 as it takes to end no earlier than a file that is gone on with ended, the
+-- footer, and what stands behind that.
+pub record IsEnding {W : Type 0} (w : FileSeen W) (bytes : List ℕ) : Type 0 where
+  pub footer : List ℕ
+  pub short : length footer < 2 ^ 31
+  pub writes : WritesFooter w.order footer w.fields w.metadata w.ids w.pairs w.dictionaries w.blocks
+  pub zeros : ℕ
+  pub zeros_are : zeros ≡ w.size - w.place - (8 + length (footer ++ tail_of footer))
+  pub bytes_are : bytes ≡ prefix 0 ++ (replicate zeros 0 ++ (footer ++ tail_of footer))
+
+-- A call that sends what a file begins with, where anything was sent. The next message stands behind it.
+pub record SendsBeginning {W : Type 0} (known grows : Bool) (failures room : W → ℕ) (memory : W → Memory) (a : FileSeen W) (r : Result Unit Fault) (b : FileSeen W) : Type 0 where
   pub bytes : List ℕ
+  pub is : OnSent r (IsBeginning a bytes)
+  pub place : OnOk r (b.place ≡ length bytes)
+  pub step : FileStep known grows failures room memory a r b bytes
+
+-- a call that sends what a file ends with, where anything was sent
+pub record SendsEnding {W : Type 0} (known grows : Bool) (failures room : W → ℕ) (memory : W → Memory) (a : FileSeen W) (r : Result Unit Fault) (b : FileSeen W) : Type 0 where
+  pub bytes : List ℕ
+  pub is : OnSent r (IsEnding a bytes)
   pub step : FileStep known grows failures room memory a r b bytes
 
 -- why a writer refuses to start
@@ -240,17 +270,13 @@ abbrev pub OrFails : (Fault → Type 0) → Fault → Type 0
 OrFails P (Io e) = Unit {0}
 OrFails P e = P e
 
--- A writer may start with these ids: what it sends then is what a file begins with, and the message of its schema.
+-- A writer may start with these ids: what it sends then is what a file begins with.
 pub record MayStart {W : Type 0} (w : FileSeen W) (s : Starting) : Type 0 where
   pub was : w.state ≡ New
   pub ids : all_ids_view s.ipc_fields.items ≡ w.chosen
   pub writable : IsWritable w.fields w.metadata w.chosen
   pub light : file_weight w.fields w.metadata w.pairs ≤ max_weight
-  pub message : List ℕ
-  pub some : 0 < length message
-  pub short : length message < 2 ^ 31
-  pub headed : head_of message ≡ Some (written_head_as w.order w.fields w.metadata w.chosen)
-  pub bytes_are : s.bytes.items ≡ file_head ++ message_bytes message []
+  pub begins : IsBeginning w s.bytes.items
 
 -- a writer was started, with the blocks and the dictionaries that it had: none where it is new
 pub record StartsWith {W : Type 0} (a b : FileSeen W) : Type 0 where
@@ -302,15 +328,10 @@ AnswersFinish w (Err e) = MissesFinish w e × OwnFault e (¬ MayBeFinished w)
 abbrev pub ending_bytes : Ending → List ℕ
 ending_bytes e = prefix 0 ++ (replicate e.zeros 0 ++ e.bytes.items)
 
--- A writer may end its file: what it sends then is the mark that ends the stream, the footer, and what stands behind that; and before
--- the footer as many bytes 0 as it takes to end no earlier than a file that is gone on with ended.
+-- A writer may end its file: what it sends then is what a file ends with.
 pub record MayFinish {W : Type 0} (w : FileSeen W) (e : Ending) : Type 0 where
   pub was : w.state ≡ Started
-  pub footer : List ℕ
-  pub short : length footer < 2 ^ 31
-  pub writes : WritesFooter w.order footer w.fields w.metadata w.ids w.pairs w.dictionaries w.blocks
-  pub bytes_are : e.bytes.items ≡ footer ++ tail_of footer
-  pub zeros_are : e.zeros ≡ w.size - w.place - (8 + length e.bytes.items)
+  pub ends : IsEnding w (ending_bytes e)
 
 -- The file ends no earlier than one that is gone on with ended: nothing of that stands behind its footer.
 pub record ReachesEnd {W : Type 0} (known : Bool) (memory : W → Memory) (a b : FileSeen W) : Type 0 where

@@ -12,7 +12,7 @@ ghost use Rattle.ipc_write.specs.Writers.{HaveTypes, RefusesState, RefusesTypes,
 ghost use Rattle.ipc_write.specs.declared.stream.WriterState.TheVariants.{New, Started};
 ghost use Rattle.ipc_file_write.specs.Beginnings.{StartsNew};
 ghost use Rattle.ipc_file_write.specs.Writes.{Appends, MayList, NamesOne, RefusesChunk, SendsColumns, WritesExactly, field_normal};
-ghost use Rattle.ipc_file_write.specs.FileWriters.{Agrees, AnswersFinish, AnswersStart, EndsWith, HasNothing, IsFileOf, MayFinish, MayStart, OrFails, ReachesEnd, RefusesFinish, TakesNoPairs, RefusesStart, Remains, SendsBytes, StartsWith, StateComesFirst, TakesPairs, fault_if_over, scratches_of, seen};
+ghost use Rattle.ipc_file_write.specs.FileWriters.{Agrees, AnswersFinish, AnswersStart, EndsWith, HasNothing, IsFileOf, MayFinish, MayStart, OrFails, ReachesEnd, RefusesFinish, TakesNoPairs, RefusesStart, Remains, SendsBeginning, SendsEnding, StartsWith, StateComesFirst, TakesPairs, fault_if_over, scratches_of, seen};
 
 use crate::blocks::{add, add_all, make_room};
 pub use crate::file::FileWriter;
@@ -225,7 +225,7 @@ impl<W: Writes + Drop> FileWriter<W> {
     /// may have been sent, and each later `start`, `write` and `finish` answers `State(Failed)`.
     pub fn start(&mut self) -> Result<(), Fault>
         ensures first { StateComesFirst (fault_unless_new (seen self.old).state) (seen self.old) result (seen self.new) }
-        ensures step { SendsBytes W.known W.grows W.failures W.room W.memory (seen self.old) result (seen self.new) }
+        ensures step { SendsBeginning W.known W.grows W.failures W.room W.memory (seen self.old) result (seen self.new) }
         ensures ok { OnOk result (StartsWith (seen self.old) (seen self.new)) }
         ensures only { IfErr result (OrFails (RefusesStart (seen self.old))) }
         ensures exact { AnswersStart (seen self.old) result }
@@ -346,7 +346,7 @@ impl<W: Writes + Drop> FileWriter<W> {
     /// where it is memory whose growth was refused, after which each later `start`, `write` and `finish` answers `State(Failed)`.
     pub fn finish(&mut self) -> Result<(), Fault>
         ensures first { StateComesFirst (fault_unless_started (seen self.old).state) (seen self.old) result (seen self.new) }
-        ensures step { SendsBytes W.known W.grows W.failures W.room W.memory (seen self.old) result (seen self.new) }
+        ensures step { SendsEnding W.known W.grows W.failures W.room W.memory (seen self.old) result (seen self.new) }
         ensures ok { OnOk result (EndsWith (seen self.old) (seen self.new)) }
         ensures reaches { OnOk result (ReachesEnd W.known W.memory (seen self.old) (seen self.new)) }
         ensures only { IfErr result (OrFails (RefusesFinish (seen self.old))) }

@@ -9,7 +9,7 @@ use Rattle.ipc_model.specs.Streams.{Head}
 use Rattle.ipc_write.specs.declared.stream.WriterState.TheVariants.{Finished, Started}
 use Rattle.ipc_file_write.specs.AppendLaws.{NoMore, Onward}
 use Rattle.ipc_file_write.specs.Calls.{DoesFinish}
-use Rattle.ipc_file_write.specs.FileWriters.{EndsWith, FileSeen, HoldsBytes, IsOpenFile, IsWholeFile, ReachesEnd, Remains, SendsBytes, head_of_file}
+use Rattle.ipc_file_write.specs.FileWriters.{EndsWith, FileSeen, HoldsBytes, IsOpenFile, IsWholeFile, ReachesEnd, Remains, SendsEnding, head_of_file}
 use Rattle.ipc_file_write.proofs.FileStates.{at_state}
 use Rattle.ipc_file_write.proofs.Onward.{onward_both}
 use Rattle.ipc_sessions.specs.Sessions.{IsEndedFile, taken_of}
@@ -79,12 +79,12 @@ length-before m bytes inside held = omega (arith, ap length (sym (front_before m
 -- ---- a session
 
 module _ {W : Type 0} (known grows : Bool) (failures room : W → ℕ) (memory : W → Memory) (a b c : FileSeen W) (cs : List Chunk) (took : TakesChunks known memory a b cs) where
-  onward-all : (r : Result (Unit {0}) Fault) → SendsBytes known grows failures room memory b r c → IsTrue known → (memory a.device).place ≤ length (memory a.device).whole → Onward (memory a.device) (memory c.device)
+  onward-all : (r : Result (Unit {0}) Fault) → SendsEnding known grows failures room memory b r c → IsTrue known → (memory a.device).place ≤ length (memory a.device).whole → Onward (memory a.device) (memory c.device)
   onward-all r sent k inside =
       let first = took.onward k inside in
       onward_both (memory a.device) (memory b.device) (memory c.device) first (onward_step known grows failures room memory b c r sent.bytes sent.step k first.there)
 
-  module _ (r : Result (Unit {0}) Fault) (sent : SendsBytes known grows failures room memory b r c) (ends : EndsWith b c) (reaches : ReachesEnd known memory b c) (remains : Remains known memory b c) (k : IsTrue known) (is_stream : Bool) (then : List Chunk)
+  module _ (r : Result (Unit {0}) Fault) (sent : SendsEnding known grows failures room memory b r c) (ends : EndsWith b c) (reaches : ReachesEnd known memory b c) (remains : Remains known memory b c) (k : IsTrue known) (is_stream : Bool) (then : List Chunk)
       (h : HoldsBytes is_stream (memory a.device) a [] then) (inside : (memory a.device).place ≤ length (memory a.device).whole) (more : NoMore (memory a.device) a.size) where
     ended : IsEndedFile is_stream (memory c.device).whole (head_of_file a).schema a.pairs (then ++ cs)
     ended =
@@ -108,7 +108,7 @@ module _ {W : Type 0} (known grows : Bool) (failures room : W → ℕ) (memory :
           pairs_are = ends.pairs ∙ took.same.pairs;
         }
 
-  pub session_leaves : (r : Result (Unit {0}) Fault) → SendsBytes known grows failures room memory b r c → OnOk r (EndsWith b c) → OnOk r (ReachesEnd known memory b c) → Remains known memory b c → Leaves known memory a c.device r cs
+  pub session_leaves : (r : Result (Unit {0}) Fault) → SendsEnding known grows failures room memory b r c → OnOk r (EndsWith b c) → OnOk r (ReachesEnd known memory b c) → Remains known memory b c → Leaves known memory a c.device r cs
   session_leaves (Ok x) sent ends reaches remains = record {
     onward = λ k inside. onward-all (Ok x) sent k inside;
     ended = λ k is_stream then h inside more. ended (Ok x) sent ends reaches remains k is_stream then h inside more;

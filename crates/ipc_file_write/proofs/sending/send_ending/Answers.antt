@@ -1,4 +1,4 @@
-use Rattle.std.proofs.Common.{◌≡◌, replicate, ◌++◌, append-nil, ap, sym}
+use Rattle.std.proofs.Common.{replicate, ◌++◌, append-nil, ap, sym}
 use Rattle.ipc_model.specs.WrittenLaws.{prefix}
 use Rattle.ipc_file_write.proofs.sending.send_ending.Goals as goal
 

@@ -1,7 +1,7 @@
 use Rattle.std.proofs.Common.{rules, ◌≡◌, Err, refl}
 use Rattle.std.proofs.lemmas.Result.{err_from_is_err_and}
 use Rattle.ipc_file_write.specs.FileWriters.{ending_bytes, seen}
-use Rattle.ipc_file_write.proofs.FileStates.{finish_broken, finish_not_io, finished, reaches_end, refused_step}
+use Rattle.ipc_file_write.proofs.FileStates.{finish_broken, finish_not_io, finished, reaches_end, refused_ending}
 use Rattle.ipc_write.specs.Writers.{fault_unless_started}
 use Rattle.ipc_file_write.proofs.StartsAndEnds.{finish_failed, finish_refused, first_passed, first_refused}
 use Rattle.ipc_file_write.proofs.file.FileWriter.finish.Goals as goal
@@ -30,12 +30,12 @@ pub returns-clause-first : goal.returns-clause-first
 returns-clause-first g c = first_passed (seen c.args.self.now) _ _ c.in_ok-ending.ensures.ok.was
 
 pub returns-clause-exact : goal.returns-clause-exact
-returns-clause-exact g c = record { started = c.in_ok-ending.ensures.ok.was; few = c.in_ok-ending.ensures.ok.writes.few }
+returns-clause-exact g c = record { started = c.in_ok-ending.ensures.ok.was; few = c.in_ok-ending.ensures.ok.ends.writes.few }
 
 pub returns-in_err-ending-clause-step : goal.returns-in_err-ending-clause-step
 returns-in_err-ending-clause-step g c =
     let p = err_from_is_err_and c.from_residual.result c.from_residual.ensures.1 in
-    rw (p.1, p.2) (refused_step g.W.Failures.known g.W.Writes.grows g.W.Failures.failures g.W.Writes.room g.W.Failures.memory (seen c.args.self.now) c.in_err-ending.field-0.0
+    rw (p.1, p.2) (refused_ending g.W.Failures.known g.W.Writes.grows g.W.Failures.failures g.W.Writes.room g.W.Failures.memory (seen c.args.self.now) c.in_err-ending.field-0.0
     (finish_not_io (seen c.args.self.now) c.in_err-ending.field-0.0 c.in_err-ending.ensures.only))
 
 pub returns-in_err-send_last-clause-means : goal.returns-in_err-send_last-clause-means

@@ -1,7 +1,7 @@
 use Rattle.std.proofs.Common.{rules, ◌≡◌, Err, length, refl}
 use Rattle.std.proofs.lemmas.Result.{err_from_is_err_and}
 use Rattle.ipc_file_write.specs.FileWriters.{seen}
-use Rattle.ipc_file_write.proofs.FileStates.{refused_step, start_broken, start_not_io, started}
+use Rattle.ipc_file_write.proofs.FileStates.{refused_beginning, start_broken, start_not_io, started}
 use Rattle.ipc_write.specs.Writers.{fault_unless_new}
 use Rattle.ipc_file_write.proofs.StartsAndEnds.{first_new, first_refused, start_failed, start_refused, start_taken}
 use Rattle.ipc_file_write.proofs.file.FileWriter.start.Goals as goal
@@ -34,7 +34,7 @@ returns-clause-exact g c = start_taken (seen c.args.self.now) c.in_ok-ipc_fields
 pub returns-in_err-ipc_fields-clause-step : goal.returns-in_err-ipc_fields-clause-step
 returns-in_err-ipc_fields-clause-step g c =
     let p = err_from_is_err_and c.from_residual.result c.from_residual.ensures.1 in
-    rw (p.1, p.2) (refused_step g.W.Failures.known g.W.Writes.grows g.W.Failures.failures g.W.Writes.room g.W.Failures.memory (seen c.args.self.now) c.in_err-ipc_fields.field-0.0
+    rw (p.1, p.2) (refused_beginning g.W.Failures.known g.W.Writes.grows g.W.Failures.failures g.W.Writes.room g.W.Failures.memory (seen c.args.self.now) c.in_err-ipc_fields.field-0.0
     (start_not_io (seen c.args.self.now) c.in_err-ipc_fields.field-0.0 c.in_err-ipc_fields.ensures.only))
 
 pub returns-in_err-send-clause-means : goal.returns-in_err-send-clause-means

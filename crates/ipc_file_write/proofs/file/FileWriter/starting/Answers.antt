@@ -37,4 +37,4 @@ returns-clause-ok g c =
     let b = rw (c.deref-3.ensures.value) at c.in_ok-bytes.ensures in
     let light = new_light c.args.self.now.state fs (pairs_of s.metadata.entries) (all_ids_view c.args.self.now.ipc_fields.items) (all_ids_view c.match-self.ipc_fields.items) (pairs_of c.args.self.now.custom_metadata.entries) c.args.self.now.writable
     c.in_ok-check_new.ensures.ok w.0 in
-    may_start (seen c.args.self.now) _ c.in_ok-message.message.items (all_ids_view c.match-self.ipc_fields.items) c.in_ok-check_new.ensures.ok ids refl light w.0 w.2 w.3 w.5 b
+    may_start (seen c.args.self.now) _ c.in_ok-message.message.items (all_ids_view c.match-self.ipc_fields.items) c.in_ok-check_new.ensures.ok ids refl light w.0 w.2 w.3 w.4 w.5 b
