@@ -27,13 +27,32 @@ use Rattle.ipc_file_write.specs.FileWriters as files
 use Rattle.ipc_file_write.specs.declared.file.FileWriter.{FileWriter}
 use Rattle.ipc_convert.proofs.ReadFiles.{all_blocks, file_copied, new_whole}
 use Rattle.ipc_convert.proofs.Taken.{Holds, LeftAt, begun_stream, ended_stream, file_written_so, stream_written}
-use Rattle.ipc_convert.proofs.ReadStreams.{was_copied, was_read}
+use Rattle.ipc_convert.proofs.ReadStreams.{was_copied, was_read, was_taken}
 use Rattle.ipc_convert.specs.Chunks.{Copied, Moved}
-use Rattle.ipc_convert.specs.Copies.{CopiesFile, CopiesStream, HasBlockChunks, WritesFile, WritesStream}
+use Rattle.ipc_convert.specs.Copies.{CopiesFile, CopiesStream, HasBlockChunks, TakesStream, WritesFile, WritesStream}
 use Rattle.ipc_convert.specs.Sinks.{FileTook, StreamTook}
 use Rattle.ipc_convert.specs.Sources.{FileCame, FileStopped, StreamCame, StreamStopped, is_end}
 use Rattle.ipc_convert.specs.Steps.{BeginsFile, EndsAsSource, EndsCopy}
 use Rattle.ipc_convert.specs.declared.chunks.Ending.{Ending}
+
+-- ---- what is taken
+
+-- a stream was taken whose chunks were copied, whatever took them
+pub stream_taken : {R T : Type 0} (gives : Gives R) (took : Moved T) → GivesInOrder gives → (input device last : R) (m : StreamMetadata) (r c : StreamReader R) (v w : T) (ending : Ending)
+    → MetadataGave gives input (Ok m) device → IsUnread device m r → projection_of r ≡ None → Copied (StreamCame gives) (StreamStopped gives) took r v ending c w → last ≡ device_of c
+    → TakesStream gives input last
+stream_taken gives took law input device last m r c v w ending front begins whole copied same =
+    was_taken gives input (device_of c) last m copied.handed.chunks (is_end ending) same
+    (was_read gives law input device m r copied.last c copied.handed.chunks ending front begins whole copied.handed.came_all copied.stops)
+
+-- the same of one whose chunks went into a file that was ended
+pub stream_taken_so : {R W : Type 0} (gives : Gives R) (known grows : Bool) (failures room : W → ℕ) (memory : W → Memory) → GivesInOrder gives
+    → (input device last : R) (m : StreamMetadata) (r c : StreamReader R) (v w x : FileWriter W) (result : Result Ending Fault) (ending : Ending)
+    → MetadataGave gives input (Ok m) device → IsUnread device m r → projection_of r ≡ None → IfOk result (λ e. Copied (StreamCame gives) (StreamStopped gives) (FileTook known memory) r v e c w)
+    → EndsCopy known grows failures room memory result ending (files.seen w) (files.seen x) → last ≡ device_of c → TakesStream gives input last
+stream_taken_so gives known grows failures room memory law input device last m r c v w x result ending front begins whole all ends same =
+    stream_taken gives (FileTook known memory) law input device last m r c v w ending front begins whole
+    (subst (λ (o : Result Ending Fault). IfOk o (λ e. Copied (StreamCame gives) (StreamStopped gives) (FileTook known memory) r v e c w)) ends.all all) same
 
 -- ---- as a stream
 

@@ -3,6 +3,7 @@ pub mod Appended
 pub mod Conversions
 pub mod CopyFaults
 pub mod Handing
+pub mod Marks
 pub mod Own
 pub mod ReadFiles
 pub mod ReadStreams

@@ -32,7 +32,7 @@ use Rattle.ipc_round_trip.proofs.Streams.{blames_front, stream_or, unreadable, w
 use Rattle.ipc_round_trip.specs.Reading.{BlamesStream, IsReadable}
 use Rattle.ipc_write.specs.Meaning.{normal_types}
 use Rattle.ipc_schema_write.specs.WriterAnswers.{RefusesSchema}
-use Rattle.ipc_write.specs.Writers.{MissesWrite, RefusesFinish, RefusesStart, WriterSeen, WritesExactly, fault_unless_new, fault_unless_started}
+use Rattle.ipc_write.specs.Writers.{MissesWrite, RefusesFinish, RefusesStart, RefusesWrite, WriterSeen, WritesExactly, fault_unless_new, fault_unless_started}
 use Rattle.ipc_write.specs.declared.stream.WriterState.{WriterState}
 use Rattle.ipc_write.specs.declared.stream.WriterState.TheVariants.{New, Started}
 use Rattle.ipc_convert.proofs.Own.{own}
@@ -225,27 +225,28 @@ module _ {F : Type 0} (known : Bool) (memory : F → Memory) (k : IsTrue known) 
 
 -- ---- what the writer of a stream misses
 
-misses : {W : Type 0} (w : WriterSeen W) (fs : FieldTrees) (columns : List AnyArray) (e : Fault) → w.state ≡ Started → MissesWrite w fs columns None e → OwnFault e (MissesChunk fs w.ids (map layout_of columns) e)
-misses w fs columns (faults.State x) started h = absurd (h started)
-misses w fs columns (faults.Argument FieldsDiffer) started h = absurd (h tt)
-misses w fs columns (faults.Argument ColumnCount) started h = h
-misses w fs columns (faults.Argument ColumnType) started h = h
-misses w fs columns (faults.Argument (SharedDictionary j)) started h = h
-misses w fs columns (faults.Argument TooLong) started h = h
-misses w fs columns (faults.Argument TooLarge) started h = h
-misses w fs columns faults.Memory started h = tt
-misses w fs columns (faults.Io x) started h = tt
-misses w fs columns _ started h = absurd h
+misses : {W : Type 0} (w : WriterSeen W) (fs : FieldTrees) (columns : List AnyArray) (e : Fault) → w.state ≡ Started → MissesWrite w fs columns None e → RefusesWrite w columns None e
+    → OwnFault e (MissesChunk fs w.ids (map layout_of columns) e)
+misses w fs columns (faults.State x) started h why = absurd (h started)
+misses w fs columns (faults.Argument FieldsDiffer) started h why = absurd (h tt)
+misses w fs columns (faults.Argument ColumnCount) started h why = h
+misses w fs columns (faults.Argument ColumnType) started h why = h
+misses w fs columns (faults.Argument (SharedDictionary j)) started h why = (h, why.1)
+misses w fs columns (faults.Argument TooLong) started h why = h
+misses w fs columns (faults.Argument TooLarge) started h why = h
+misses w fs columns faults.Memory started h why = tt
+misses w fs columns (faults.Io x) started h why = tt
+misses w fs columns _ started h why = absurd h
 
 -- columns that a writer refuses which was started with a schema, and took some chunks then
 pub stream_misses : {W : Type 0} (known : Bool) (memory : W → Memory) (v w : WriterSeen W) (fields : FieldTrees) (metadata : Pairs) (ids : IdTrees) (cs : List Chunk) (columns : List AnyArray) (e : Fault)
-    → ((P : Type 0) → OwnFault e P → P) → v.state ≡ Started → v.types ≡ normal_types fields → v.ids ≡ ids → IsWritable fields metadata ids → TookChunks known memory v cs w → WritesExactly w columns None (Err e)
-    → MissesChunk fields ids (map layout_of columns) e
-stream_misses known memory v w fields metadata ids cs columns e it started types same writable took exact =
+    → ((P : Type 0) → OwnFault e P → P) → v.state ≡ Started → v.types ≡ normal_types fields → v.ids ≡ ids → IsWritable fields metadata ids → TookChunks known memory v cs w
+    → WritesExactly w columns None (Err e) × RefusesWrite w columns None e → MissesChunk fields ids (map layout_of columns) e
+stream_misses known memory v w fields metadata ids cs columns e it started types same writable took refused =
     let ids_are : w.ids ≡ ids = took.ids ∙ same in
-    let answer = exact.exact fields metadata (subst (λ (is : IdTrees). IsWritable fields metadata is) (sym ids_are) writable) (sym types ∙ sym took.types) in
+    let answer = refused.0.exact fields metadata (subst (λ (is : IdTrees). IsWritable fields metadata is) (sym ids_are) writable) (sym types ∙ sym took.types) in
     subst (λ (is : IdTrees). MissesChunk fields is (map layout_of columns) e) ids_are
-    (it (MissesChunk fields w.ids (map layout_of columns) e) (misses w fields columns e (took.state ∙ started) answer.0))
+    (it (MissesChunk fields w.ids (map layout_of columns) e) (misses w fields columns e (took.state ∙ started) answer.0 refused.1))
 
 -- ---- calls that come between
 

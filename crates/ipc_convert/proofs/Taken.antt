@@ -19,7 +19,7 @@ use Rattle.ipc_schema_write.specs.WriterAnswers.{byte_order, written_head_as}
 use Rattle.ipc_write.specs.Agreement as streams
 use Rattle.ipc_write.specs.Agreement.{Agrees, BeginsStream, HasEnded, IsFresh, IsOpen, StreamIs}
 use Rattle.ipc_write.specs.Meaning.{chunk_written}
-use Rattle.ipc_write.specs.Writers.{SendsStep, TakesChunk, WriterSeen, WritesExactly}
+use Rattle.ipc_write.specs.Writers.{RefusesWrite, SendsStep, TakesChunk, WriterSeen, WritesExactly}
 use Rattle.ipc_write.specs.declared.stream.WriterState.{WriterState}
 use Rattle.ipc_write.specs.declared.stream.WriterState.TheVariants.{Started, Finished}
 use Rattle.ipc_footers.specs.Footers.{file_written}
@@ -105,9 +105,10 @@ file_kept known grows failures room memory v w columns r wrote sends =
     }) sends.step.refused
 
 -- why it is, as the call says it
-pub stream_refuses : {W : Type 0} (v : WriterSeen W) (columns : List AnyArray) (r : Result (Unit {0}) Fault) → WritesExactly v columns None r → IfErr r (λ e. OwnFault e (WritesExactly v columns None (Err e)))
-stream_refuses v columns (Ok x) exact = tt
-stream_refuses v columns (Err e) exact = claimed e (WritesExactly v columns None (Err e)) exact
+pub stream_refuses : {W : Type 0} (v : WriterSeen W) (columns : List AnyArray) (r : Result (Unit {0}) Fault) → WritesExactly v columns None r → IfErr r (RefusesWrite v columns None)
+    → IfErr r (λ e. OwnFault e (WritesExactly v columns None (Err e) × RefusesWrite v columns None e))
+stream_refuses v columns (Ok x) exact only = tt
+stream_refuses v columns (Err e) exact only = claimed e (WritesExactly v columns None (Err e) × RefusesWrite v columns None e) (exact, only)
 
 pub file_refuses : {W : Type 0} (v : FileSeen W) (columns : List AnyArray) (r : Result (Unit {0}) Fault) → writes.WritesExactly v columns None r → IfErr r (writes.NamesOne v columns)
     → IfErr r (λ e. OwnFault e (writes.WritesExactly v columns None (Err e) × writes.NamesOne v columns e))

@@ -6,10 +6,11 @@ use Rattle.lower.specs.TypeTrees.{FieldTrees, Pairs}
 use Rattle.lower_types.specs.declared.Endianness.{Endianness}
 use Rattle.ipc_base.specs.IdTrees.{IdTrees}
 use Rattle.ipc_devices.specs.Device.{Memory, before}
-use Rattle.ipc_devices.specs.Gives.{Gives, Stop}
+use Rattle.ipc_devices.specs.Gives.{Gives, Stop, ended, going}
 use Rattle.ipc_model.specs.Batches.{Chunk, Schema}
 use Rattle.ipc_model.specs.Entries.{Dictionaries}
 use Rattle.ipc_model.specs.Files.{FileMetadata, all_of, chunks_at, file_dictionaries, metadata_of}
+use Rattle.ipc_model.specs.Frame.{frame, mark}
 use Rattle.ipc_model.specs.Streams.{End, Head, faulty, marked, waits}
 use Rattle.ipc_model.specs.WholeStreams.{Stream, stream_of}
 use Rattle.ipc_model.specs.Writers.{IsFinished}
@@ -26,6 +27,21 @@ pub record HasBlockChunks (bytes : List ℕ) (m : FileMetadata) (cs : List Chunk
   pub known : Dictionaries
   pub dictionaries : (m.blocks ≡ []) ⊎ (file_dictionaries m bytes ≡ Some known)
   pub chunks : chunks_at m known (all_of bytes) None None m.blocks ≡ map Some cs
+
+-- Bytes end with the mark, and P is what stands in front of it: nothing stands behind.
+pub record EndsWithMark (P : List ℕ → Type 0) (bytes : List ℕ) : Type 0 where
+  pub front : List ℕ
+  pub last : List ℕ
+  pub parts : bytes ≡ front ++ last
+  pub is_front : P front
+  pub is_mark : frame last ≡ mark []
+
+-- These bytes of a stream without a fault that ends so were taken of a device: the stream as it waits for the next message, and the mark, and
+-- no byte behind it; or all that there were, where it waits.
+abbrev pub TakenToEnd : End → Stream → List ℕ → Stop → Type 0
+TakenToEnd marked stream bytes stop = EndsWithMark (λ front. WasStarted front stream.head stream.meant.chunks) bytes × (stop ≡ going)
+TakenToEnd (waits known begun) stream bytes stop = stop ≡ ended
+TakenToEnd faulty stream bytes stop = ⊥
 
 -- ---- what is written
 
@@ -69,21 +85,19 @@ pub record AppendsTo (old new : List ℕ) (schema : Schema) (cs : List Chunk) : 
 
 -- ---- one from the other
 
--- how a stream ends that has no fault
-abbrev pub IsSound : End → Type 0
-IsSound marked = Unit {0}
-IsSound (waits known begun) = Unit {0}
-IsSound faulty = ⊥
-
--- What a device gave is a stream without a fault, and of its schema and its chunks, and how it ends, this was written.
-pub record CopiesStream {R : Type 0} (gives : Gives R) (a b : R) (Writes : Schema → List Chunk → End → Type 0) : Type 0 where
+-- What a device gave is a stream without a fault, and no byte more.
+pub record TakesStream {R : Type 0} (gives : Gives R) (a b : R) : Type 0 where
   pub bytes : List ℕ
   pub stop : Stop
   pub gave : gives a bytes stop b
   pub stream : Stream
   pub read : stream_of bytes ≡ Some stream
-  pub sound : IsSound stream.meant.end
-  pub written : Writes stream.head.schema stream.meant.chunks stream.meant.end
+  pub whole : TakenToEnd stream.meant.end stream bytes stop
+
+-- Of the schema and the chunks of the stream that a device gave, and how it ends, this was written.
+pub record CopiesStream {R : Type 0} (gives : Gives R) (a b : R) (Writes : Schema → List Chunk → End → Type 0) : Type 0 where
+  pub takes : TakesStream gives a b
+  pub written : Writes takes.stream.head.schema takes.stream.meant.chunks takes.stream.meant.end
 
 -- These bytes are a file, and of its schema, its pairs and the chunks at its blocks, in their order, this was written.
 pub record CopiesFile (bytes : List ℕ) (Writes : Schema → Pairs → List Chunk → Type 0) : Type 0 where

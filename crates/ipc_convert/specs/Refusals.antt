@@ -1,12 +1,12 @@
 -- Why a stream or a file isn't written again. A fault names what is at fault: what is read, or what can't be written of it.
 -- (Arrow columnar format, "IPC Streaming Format" and "IPC File Format".)
-use Rattle.std.specs.Prelude.{◌≡◌, ◌⊎◌, ℕ, Bool, IsTrue, List, [], ◌∷◌, ◌++◌, length, map, None, Some, Err}
+use Rattle.std.specs.Prelude.{◌≡◌, ◌⊎◌, ℕ, ℤ, Bool, IsTrue, List, [], ◌∷◌, ◌++◌, length, map, None, Some, Err}
 use Rattle.std.specs.List.{AllByRecursion}
 use Rattle.lower.specs.Normal.{norm}
 use Rattle.lower.specs.TypeTrees.{FieldTrees, Pairs}
 use Rattle.lower_types.specs.declared.Endianness.{Endianness}
 use Rattle.lower_arrays.specs.AnyLayouts.{layout_of}
-use Rattle.lower_arrays.specs.Layouts.{Layout}
+use Rattle.lower_arrays.specs.Layouts.{Layout, layouts}
 use Rattle.lower_arrays.specs.declared.array.AnyArray.{AnyArray}
 use Rattle.ipc_base.specs.IdTrees.{IdTrees}
 use Rattle.ipc_devices.specs.Device.{Memory, after}
@@ -16,10 +16,11 @@ use Rattle.ipc_devices.specs.declared.fault.Fault.{Fault}
 use Rattle.ipc_devices.specs.declared.fault.Fault.TheVariants.{Argument}
 use Rattle.ipc_model.specs.Accepted.{AreShared, IsSayable, body_length, types_of}
 use Rattle.ipc_model.specs.Batches.{Chunk, Schema}
-use Rattle.ipc_model.specs.Entries.{Dictionaries}
+use Rattle.ipc_model.specs.Entries.{Dictionaries, Dictionary}
 use Rattle.ipc_model.specs.Files.{FileMetadata, file_dictionaries, metadata_of}
-use Rattle.ipc_model.specs.Offers.{offer_of}
+use Rattle.ipc_model.specs.Offers.{FilledPlace, offer_of, values_of}
 use Rattle.ipc_model.specs.WholeStreams.{Stream, stream_of}
+use Rattle.ipc_tracker.specs.Places.{AllHave}
 use Rattle.ipc_read.specs.Chunks.{chunk_seen}
 use Rattle.ipc_files.specs.Files.{FileReason}
 use Rattle.ipc_schema_write.specs.WriterAnswers.{RefusesSchema}
@@ -36,11 +37,16 @@ use Rattle.ipc_convert.specs.Steps.{BeginsFile, RefusesWithPairs}
 
 -- ---- which chunk isn't taken
 
--- which condition columns don't meet that an accepted chunk of these fields with these ids meets
+-- the places of an id have no values in common
+abbrev pub HaveNoneInCommon : ℤ → List FilledPlace → Type 0
+HaveNoneInCommon id ps = (d : Dictionary) → ¬ AllHave id d ps
+
+-- Which condition columns don't meet that an accepted chunk of these fields with these ids meets. Where an id is named, its places are those
+-- that share no values.
 abbrev pub MissesChunk : FieldTrees → IdTrees → List Layout → Fault → Type 0
 MissesChunk fs is columns (Argument ColumnCount) = ¬ (length (offer_of columns is).columns ≡ length (types_of fs))
 MissesChunk fs is columns (Argument ColumnType) = ¬ (map (λ c. norm c.type) (offer_of columns is).columns ≡ map norm (types_of fs))
-MissesChunk fs is columns (Argument (SharedDictionary j)) = ¬ AreShared (offer_of columns is).dictionaries
+MissesChunk fs is columns (Argument (SharedDictionary j)) = ¬ AreShared (offer_of columns is).dictionaries × HaveNoneInCommon j (values_of (layouts columns) is)
 MissesChunk fs is columns (Argument TooLong) = ¬ AllByRecursion IsSayable (offer_of columns is).nodes
 MissesChunk fs is columns (Argument TooLarge) = ¬ AllByRecursion (λ lengths. IsSayable (body_length lengths)) (offer_of columns is).bodies
 MissesChunk fs is columns _ = ⊥

@@ -5,7 +5,7 @@ use Rattle.ipc_devices.specs.Device.{Memory}
 use Rattle.ipc_model.specs.Batches.{Chunk}
 use Rattle.ipc_model.specs.Streams.{Head}
 use Rattle.ipc_write.specs.Agreement.{Agrees}
-use Rattle.ipc_write.specs.Writers.{WriterSeen, WritesExactly, seen}
+use Rattle.ipc_write.specs.Writers.{RefusesWrite, WriterSeen, WritesExactly, seen}
 use Rattle.ipc_write.specs.declared.stream.writer.StreamWriter.{StreamWriter}
 use Rattle.ipc_file_write.specs.FileWriters as files
 use Rattle.ipc_file_write.specs.Writes as writes
@@ -25,9 +25,9 @@ pub record TookChunks {W : Type 0} (known : Bool) (memory : W → Memory) (v : W
 abbrev pub StreamTook : {W : Type 0} → Bool → (W → Memory) → Moved (StreamWriter W)
 StreamTook known memory v cs w = TookChunks known memory (seen v) cs (seen w)
 
--- a chunk of these columns isn't one that it takes
+-- a chunk of these columns isn't one that it takes, and a dictionary that the fault names is one that is refused
 abbrev pub StreamRefuses : {W : Type 0} → RefusesAt (StreamWriter W)
-StreamRefuses v columns e = WritesExactly (seen v) columns None (Err e)
+StreamRefuses v columns e = WritesExactly (seen v) columns None (Err e) × RefusesWrite (seen v) columns None e
 
 -- The writer of a file took them so: the file has just these more, in the normal form, and nothing before the place of its writer changed.
 pub record TookBlocks {W : Type 0} (known : Bool) (memory : W → Memory) (v : files.FileSeen W) (cs : List Chunk) (w : files.FileSeen W) : Type 0 where
@@ -37,6 +37,6 @@ pub record TookBlocks {W : Type 0} (known : Bool) (memory : W → Memory) (v : f
 abbrev pub FileTook : {W : Type 0} → Bool → (W → Memory) → Moved (FileWriter W)
 FileTook known memory v cs w = TookBlocks known memory (files.seen v) cs (files.seen w)
 
--- nor is it one that this one takes, and a dictionary that the fault names is one that is refused
+-- nor is it one that this one takes, and so it is with a dictionary that is named
 abbrev pub FileRefuses : {W : Type 0} → RefusesAt (FileWriter W)
 FileRefuses v columns e = writes.WritesExactly (files.seen v) columns None (Err e) × writes.NamesOne (files.seen v) columns e

@@ -22,6 +22,7 @@ stream_came_nothing gives law a = record {
   gave = λ unfinished. record {
     unfinished = unfinished;
     asked = refl;
+    begun = λ none. none;
     bytes = [];
     gave = law (device_of a);
     rest = λ s ys at. (s, at, refl);
@@ -35,6 +36,7 @@ gave_chunks : {R : Type 0} (gives : Gives R) → GivesInOrder gives → (a b c :
 gave_chunks gives law a b c xs ys one more = record {
   unfinished = more.unfinished;
   asked = more.asked ∙ one.asked;
+  begun = λ none. more.begun (one.begun none);
   bytes = one.bytes ++ more.bytes;
   gave = law (device_of a) one.bytes (device_of b) more.bytes going (device_of c) one.gave more.gave;
   rest = λ s zs at.

@@ -2,14 +2,14 @@
 -- (Arrow columnar format, "IPC Streaming Format" and "IPC File Format".)
 use Rattle.std.specs.Prelude.{◌≡◌, ◌⊎◌, ℕ, ◌+◌, Bool, true, false, IsSome, IsTrue, List, [], ◌++◌, length, map, slice_get, take, Option, None, Some}
 use Rattle.ipc_devices.specs.Device.{Memory}
-use Rattle.ipc_devices.specs.Gives.{Follows, Stop, going, Gives}
+use Rattle.ipc_devices.specs.Gives.{Follows, Stop, ended, going, Gives}
 use Rattle.ipc_devices.specs.declared.fault.Fault.{Fault}
 use Rattle.ipc_laws.specs.Agreement.{AreAlike}
 use Rattle.ipc_model.specs.Batches.{Chunk, chosen, kinds}
 use Rattle.ipc_model.specs.Entries.{Dictionaries}
 use Rattle.ipc_model.specs.Files.{FileMetadata, all_of, chunks_at, file_chunk, file_dictionaries}
 use Rattle.ipc_model.specs.Kinds.{count}
-use Rattle.ipc_model.specs.Streams.{Known, Meant, faulty, with_chunks}
+use Rattle.ipc_model.specs.Streams.{Known, Meant, faulty, waits, with_chunks}
 use Rattle.ipc_readers.specs.ChosenStreams.{chosen_meaning}
 use Rattle.ipc_readers.specs.Refusals.{IsStreamFault}
 use Rattle.ipc_readers.specs.Streams.{Knows, begun_of, device_of, is_over, request_of}
@@ -20,6 +20,7 @@ use Rattle.ipc_file_readers.specs.Readers as files
 use Rattle.ipc_file_readers.specs.declared.read.reader.state.FileReader.{FileReader}
 use Rattle.ipc_round_trip.specs.Reading.{EndsNow}
 use Rattle.ipc_convert.specs.Chunks.{BreaksAt, Moved}
+use Rattle.ipc_convert.specs.Copies.{EndsWithMark}
 use Rattle.ipc_convert.specs.declared.chunks.Ending.{Ending}
 use Rattle.ipc_convert.specs.declared.chunks.Ending.TheVariants.{Over, Waits}
 
@@ -29,20 +30,31 @@ use Rattle.ipc_convert.specs.declared.chunks.Ending.TheVariants.{Over, Waits}
 abbrev pub meant_by : {R : Type 0} → StreamReader R → Known → List ℕ → Meant
 meant_by r s bytes = chosen_meaning (request_of r) s (begun_of r ++ bytes)
 
--- From a to b a device gave these chunks to a reader: whatever follows, it means these chunks, and then what it means to the reader.
+-- From a to b a device gave these chunks to a reader: whatever follows, it means these chunks, and then what it means to the reader. The
+-- messages were taken whole: where nothing was begun, nothing is.
 pub record GaveChunks {R : Type 0} (gives : Gives R) (a : StreamReader R) (cs : List Chunk) (b : StreamReader R) : Type 0 where
   pub unfinished : is_over b ≡ false
   pub asked : request_of b ≡ request_of a
+  pub begun : begun_of a ≡ [] → begun_of b ≡ []
   pub bytes : List ℕ
   pub gave : gives (device_of a) bytes going (device_of b)
   pub rest : (s : Known) (ys : List ℕ) → Knows a s → (t : Known) × Knows b t × (meant_by a s (bytes ++ ys) ≡ with_chunks cs (meant_by b t ys))
 
--- From a to b a device gave no chunk more: the stream is over, or it waits.
+-- To a reader these bytes mean no chunk, and that the stream waits for the next message, of which nothing is begun.
+pub record WaitsForNext {R : Type 0} (a : StreamReader R) (bytes : List ℕ) : Type 0 where
+  pub each : (s : Known) → Knows a s → (t : Known) × (meant_by a s bytes ≡ record { chunks = []; end = waits t [] })
+
+-- how a device stopped behind a stream that is over, or that waits: no byte was left then
+abbrev pub last_stop : Bool → Stop
+last_stop true = going
+last_stop false = ended
+
+-- From a to b a device gave no chunk more: the stream is over, and nothing was taken behind its mark, or it waits, and all was taken.
 pub record GaveNoMore {R : Type 0} (gives : Gives R) (a : StreamReader R) (over : Bool) (b : StreamReader R) : Type 0 where
   pub bytes : List ℕ
-  pub stop : Stop
-  pub gave : gives (device_of a) bytes stop (device_of b)
+  pub gave : gives (device_of a) bytes (last_stop over) (device_of b)
   pub ends : (s : Known) → Knows a s → EndsNow over (meant_by a s bytes)
+  pub no_more : over ≡ true → begun_of a ≡ [] → EndsWithMark (WaitsForNext a) bytes
 
 -- From a on a device gave bytes that mean a fault to a reader, whatever follows them, and no chunk; the fault is one of a stream's.
 pub record GaveFault {R : Type 0} (gives : Gives R) (a : StreamReader R) (e : Fault) : Type 0 where

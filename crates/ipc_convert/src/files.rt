@@ -3,7 +3,7 @@ ghost use Rattle.std.specs.Prelude.{◌≡◌, [], IfErr, IfOk, IsTrue};
 ghost use Rattle.lower.specs.TypeViews.{fields_view, pairs_of};
 ghost use Rattle.ipc_base.specs.IdTrees.{all_ids_view};
 ghost use Rattle.ipc_devices.specs.Faults.{OwnFault};
-ghost use Rattle.ipc_convert.specs.Copies.{CopiesFileOf, CopiesStream, WritesFile};
+ghost use Rattle.ipc_convert.specs.Copies.{CopiesFileOf, CopiesStream, TakesStream, WritesFile};
 ghost use Rattle.ipc_convert.specs.Refusals.{CopiesNoFile, CopiesNoStream, HoldsOfGiven, RefusesAsFile};
 ghost use Rattle.ipc_convert.specs.Steps.{BeginsFile, EndsAnyway, EndsCopy, RefusesWithPairs};
 ghost use Rattle.ipc_file_write.specs.FileWriters.{seen};
@@ -23,7 +23,8 @@ use lower::datatypes::{Metadata, Schema};
 use std::alloc::Global;
 
 /// Copies the stream at `input` as a file to `out`: its schema, in the normal form and with the ids of its dictionaries, then each chunk
-/// as soon as it is read, and the footer, without pairs, where the stream ends by its mark or waits for more. Both devices are given back.
+/// as soon as it is read, and the footer, without pairs, where the stream ends by its mark or waits for more. Both devices are given back,
+/// and nothing behind the mark was taken of the input.
 ///
 /// Faults before anything is written: those of [`read_stream_metadata`], and the `Argument` faults of a schema that can't be written.
 /// Faults after that: those of the calls of [`StreamReader`] and [`FileWriter`], and `Argument(TooLarge)` where `2^64 - 1` chunks came and
@@ -36,6 +37,7 @@ pub fn stream_to_file<R: Reads + Drop, W: Writes + Drop>(
     out: W,
     write_options: WriteOptions,
 ) -> Result<(R, W), Fault>
+    ensures takes { IfOk result (λ devices. TakesStream R.gives input devices.0) }
     ensures copies { IsTrue W.known → IfOk result (λ devices. CopiesStream R.gives input devices.0
         (λ schema chunks _. WritesFile (order_of write_options) (W.memory out) (W.memory devices.1) schema [] chunks)) }
     ensures refused { IfErr result (λ e. OwnFault e (HoldsOfGiven R.gives R.known R.memory input

@@ -2,7 +2,7 @@
 ghost use Rattle.std.specs.Prelude.{◌≡◌, IfErr, IfOk, IsTrue, OnOk};
 ghost use Rattle.ipc_devices.specs.Faults.{OwnFault};
 ghost use Rattle.ipc_model.specs.Streams.{marked};
-ghost use Rattle.ipc_convert.specs.Copies.{CopiesFileOf, CopiesStream, WritesStream};
+ghost use Rattle.ipc_convert.specs.Copies.{CopiesFileOf, CopiesStream, TakesStream, WritesStream};
 ghost use Rattle.ipc_convert.specs.Refusals.{CopiesNoFile, CopiesNoStream, HoldsOfGiven, RefusesAsStream};
 ghost use Rattle.ipc_convert.specs.Steps.{EndsAsSource};
 ghost use Rattle.ipc_write.specs.Writers.{RefusesFinish, order_of, seen};
@@ -19,7 +19,7 @@ use std::alloc::Global;
 
 /// Copies the stream at `input` to `out`: its schema, in the normal form and with the ids of its dictionaries, then each chunk as soon as
 /// it is read, and the mark where the stream ends by one. Where the stream waits for more, so does what is written. Both devices are given
-/// back.
+/// back, and nothing behind the mark was taken of the input.
 ///
 /// Faults: those of [`read_stream_metadata`] and of the calls of [`StreamReader`] and [`StreamWriter`]; the `Argument` faults among them
 /// tell that a schema or a chunk can't be written, or, as `TooLarge`, that `2^64 - 1` chunks came and no end. Each but `Memory` and `Io`
@@ -31,6 +31,7 @@ pub fn stream_to_stream<R: Reads + Drop, W: Writes + Drop>(
     out: W,
     write_options: WriteOptions,
 ) -> Result<(R, W), Fault>
+    ensures takes { IfOk result (λ devices. TakesStream R.gives input devices.0) }
     ensures copies { IsTrue W.known → IfOk result (λ devices. CopiesStream R.gives input devices.0
         (WritesStream (order_of write_options) (W.memory out) (W.memory devices.1))) }
     ensures refused { IfErr result (λ e. OwnFault e (HoldsOfGiven R.gives R.known R.memory input

@@ -4,7 +4,7 @@ use Rattle.ipc_devices.specs.Device.{Memory, before}
 use Rattle.ipc_devices.specs.Gives.{Gives}
 use Rattle.ipc_model.specs.Batches.{Chunk, Schema}
 use Rattle.ipc_model.specs.Streams.{End}
-use Rattle.ipc_convert.specs.Copies.{CopiesFileOf, CopiesStream, WritesFile, WritesStream}
+use Rattle.ipc_convert.specs.Copies.{CopiesFileOf, CopiesStream, TakesStream, WritesFile, WritesStream}
 use Rattle.ipc_tools.specs.Named.{named}
 use Rattle.ipc_tools.specs.declared.convert.lent.LentReader.{LentReader}
 use Rattle.ipc_tools.specs.declared.convert.lent.LentWriter.{LentWriter}
@@ -44,17 +44,24 @@ module _ {W : Type 0} (memory : W → Memory) (v w : LentWriter W) (old new : W)
 abbrev lent_gives : {R : Type 0} → Gives R → Gives (LentReader R)
 lent_gives gives a bytes stop b = gives a.device.now bytes stop b.device.now × (b.device.ghost_name ≡ a.device.ghost_name)
 
-pub copies_stream : {R : Type 0} (gives : Gives R) (a b : LentReader R) (old new : R) (V W : Schema → List Chunk → End → Type 0) → a.device.now ≡ old
-    → (b.device.ghost_name ≡ a.device.ghost_name → new ≡ b.device.now) → ((schema : Schema) (cs : List Chunk) (end : End) → V schema cs end → W schema cs end)
-    → CopiesStream (lent_gives gives) a b V → CopiesStream gives old new W
-copies_stream gives a b old new V W was ends each h = record {
+pub takes_stream : {R : Type 0} (gives : Gives R) (a b : LentReader R) (old new : R) → a.device.now ≡ old → (b.device.ghost_name ≡ a.device.ghost_name → new ≡ b.device.now)
+    → TakesStream (lent_gives gives) a b → TakesStream gives old new
+takes_stream gives a b old new was ends h = record {
   bytes = h.bytes;
   stop = h.stop;
   gave = rw (sym was) (rw (ends h.gave.1) h.gave.0);
   stream = h.stream;
   read = h.read;
-  sound = h.sound;
-  written = each h.stream.head.schema h.stream.meant.chunks h.stream.meant.end h.written;
+  whole = h.whole;
+}
+
+pub copies_stream : {R : Type 0} (gives : Gives R) (a b : LentReader R) (old new : R) (V W : Schema → List Chunk → End → Type 0) → a.device.now ≡ old
+    → (b.device.ghost_name ≡ a.device.ghost_name → new ≡ b.device.now) → ((schema : Schema) (cs : List Chunk) (end : End) → V schema cs end → W schema cs end)
+    → CopiesStream (lent_gives gives) a b V → CopiesStream gives old new W
+unfolding takes_stream
+copies_stream gives a b old new V W was ends each h = record {
+  takes = takes_stream gives a b old new was ends h.takes;
+  written = each h.takes.stream.head.schema h.takes.stream.meant.chunks h.takes.stream.meant.end h.written;
 }
 
 pub copies_file : {F : Type 0} (known : Bool) (memory : F → Memory) (file : F) (V W : Schema → _ → List Chunk → Type 0)

@@ -1,6 +1,7 @@
 //! `ipconvert`: copies an Arrow IPC stream or file as a stream or a file, in either byte order; or appends a stream to a file.
-ghost use Rattle.std.specs.Prelude.{◌≡◌, ◌≤◌, codes, ◌↔◌, map, option_and_then, option_map, string_bytes, false, None, Some, Ok, IfErr, IfOk, IfSome, IsSome, IsTrue, OnOk};
+ghost use Rattle.std.specs.Prelude.{◌≡◌, ◌≤◌, codes, ◌↔◌, map, option_and_then, option_map, string_bytes, false, true, None, Some, Ok, IfErr, IfOk, IfSome, IsSome, IsTrue, OnOk};
 ghost use Rattle.ipc_devices.specs.Faults.{IsIo};
+ghost use Rattle.ipc_convert.specs.Copies.{TakesStream};
 ghost use Rattle.ipc_plan.specs.Sending.{seen_by};
 ghost use Rattle.ipc_tools.specs.Lines.{Tells, Told};
 ghost use Rattle.ipc_tools.specs.ConvertWords.{asked, wanted_by, place_for, reads_input, writes_output};
@@ -36,7 +37,8 @@ pub fn place_of(words: &[String]) -> Option<Place<'_>>
 /// `FROM` is `-`, for the stream at `input`, or the path of a file, and `TO` is `stream` or `file`, written to `out`. `ORDER` is the byte
 /// order of what is written, `little` or `big`; where it is left out it is `little`. `append PATH` writes the chunks of the stream at
 /// `input` behind those of the file at a path, whose byte order stays, and doesn't touch `out`. `file` is what stands at the path that the
-/// words name (see [`place_of`]), and None where that can't be opened, which is a fault where the words ask for it.
+/// words name (see [`place_of`]), and None where that can't be opened, which is a fault where the words ask for it. Where all went well,
+/// nothing behind the mark was taken of `input`.
 ///
 /// A stream that waits is copied as a stream that waits, or as a whole file. A fault before the schema is sent leaves `out`, or the file
 /// that is appended to, as it was. A fault behind the schema ends a copied stream without a mark; a file is finished with the chunks that
@@ -62,6 +64,8 @@ pub fn run<R: Reads, F: Reads + Writes + Seeks + Drop, O: Writes, E: Writes>(
     ensures unopened_told { IfSome (option_and_then place_for (asked (map string_bytes words.now)))
         (λ place. file ≡ None → Told E.known E.grows
         (seen_by E.failures E.room E.memory err.old) (seen_by E.failures E.room E.memory err.new) (codes "ipconvert: input or output failed\n")) }
+    ensures taken { result ≡ 0 → IfSome (asked (map string_bytes words.now))
+        (λ form. reads_input form ≡ true → TakesStream R.gives input.old input.new) }
     ensures copied { result ≡ 0 → IsTrue O.known → IfSome (asked (map string_bytes words.now))
         (λ form. CopiesAsAsked R.gives F.known F.memory form input.old input.new file (O.memory out.old) (O.memory out.new)) }
     ensures appended { result ≡ 0 → IfSome (asked (map string_bytes words.now))
@@ -95,6 +99,7 @@ fn run_form<R: Reads, F: Reads + Writes + Seeks + Drop, O: Writes>(
     ensures spared { IfSome (place_for (wanted_by form.entry)) (λ place. file ≡ None → (input.new ≡ input.old) × (out.new ≡ out.old)) }
     ensures unread { reads_input (wanted_by form.entry) ≡ false → input.new ≡ input.old }
     ensures unwritten { writes_output (wanted_by form.entry) ≡ false → out.new ≡ out.old }
+    ensures taken { reads_input (wanted_by form.entry) ≡ true → OnOk result (TakesStream R.gives input.old input.new) }
     ensures copied { IsTrue O.known → OnOk result
         (CopiesAsAsked R.gives F.known F.memory (wanted_by form.entry) input.old input.new file (O.memory out.old) (O.memory out.new)) }
     ensures appended { OnOk result (Appended R.gives F.known F.memory (wanted_by form.entry) input.old input.new file) }

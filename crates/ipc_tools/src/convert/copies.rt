@@ -2,7 +2,7 @@
 ghost use Rattle.std.specs.Prelude.{◌≡◌, [], IfOk, IsTrue, OnOk};
 ghost use Rattle.ipc_model.specs.Streams.{marked};
 ghost use Rattle.ipc_write.specs.Writers.{order_of};
-ghost use Rattle.ipc_convert.specs.Copies.{AppendsTo, CopiesFileOf, CopiesStream, WritesFile, WritesStream};
+ghost use Rattle.ipc_convert.specs.Copies.{AppendsTo, CopiesFileOf, CopiesStream, TakesStream, WritesFile, WritesStream};
 ghost use Rattle.ipc_tools.specs.Written.{CopiesInput, CopiesOpened};
 
 use crate::convert::forms::Target;
@@ -22,7 +22,8 @@ pub fn copy_input<R: Reads, O: Writes>(
     target: Target,
     write_options: WriteOptions,
 ) -> Result<(), Fault>
-    ensures { IsTrue O.known → OnOk result
+    ensures takes { OnOk result (TakesStream R.gives input.old input.new) }
+    ensures copies { IsTrue O.known → OnOk result
         (CopiesInput R.gives input.old input.new target write_options (O.memory out.old) (O.memory out.new)) }
 {
     match target {
@@ -54,7 +55,8 @@ pub fn append_input<F: Reads + Writes + Seeks + Drop, R: Reads>(
     file: F,
     input: &mut R,
 ) -> Result<F, Fault>
-    ensures { IsTrue F.known → (F.memory file).place ≡ 0 → IfOk result (λ device. CopiesStream R.gives input.old input.new
+    ensures takes { IfOk result (λ device. TakesStream R.gives input.old input.new) }
+    ensures appends { IsTrue F.known → (F.memory file).place ≡ 0 → IfOk result (λ device. CopiesStream R.gives input.old input.new
         (λ schema chunks _. AppendsTo (F.memory file).whole (F.memory device).whole schema chunks)) }
 {
     let (file, input) = append_stream(alloc, file, LentReader::new(input))?;
@@ -68,7 +70,8 @@ fn input_to_stream<R: Reads, O: Writes>(
     out: &mut O,
     write_options: WriteOptions,
 ) -> Result<(), Fault>
-    ensures { IsTrue O.known → OnOk result (CopiesStream R.gives input.old input.new
+    ensures takes { OnOk result (TakesStream R.gives input.old input.new) }
+    ensures copies { IsTrue O.known → OnOk result (CopiesStream R.gives input.old input.new
         (WritesStream (order_of write_options) (O.memory out.old) (O.memory out.new))) }
 {
     let (input, out) = stream_to_stream(
@@ -88,7 +91,8 @@ fn input_to_file<R: Reads, O: Writes>(
     out: &mut O,
     write_options: WriteOptions,
 ) -> Result<(), Fault>
-    ensures { IsTrue O.known → OnOk result (CopiesStream R.gives input.old input.new
+    ensures takes { OnOk result (TakesStream R.gives input.old input.new) }
+    ensures copies { IsTrue O.known → OnOk result (CopiesStream R.gives input.old input.new
         (λ schema chunks _. WritesFile (order_of write_options) (O.memory out.old) (O.memory out.new) schema [] chunks)) }
 {
     let (input, out) = stream_to_file(

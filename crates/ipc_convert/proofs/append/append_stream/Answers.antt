@@ -8,10 +8,18 @@ use Rattle.ipc_files.specs.Footers.{file_seen}
 use Rattle.ipc_files.specs.Files.{FileReason}
 use Rattle.ipc_convert.proofs.AppendFaults.{appended_refused, file_not_gone_on, no_metadata, other_schema}
 use Rattle.ipc_convert.proofs.Appended.{stream_appended}
+use Rattle.ipc_convert.proofs.Conversions.{stream_taken_so}
 use Rattle.ipc_convert.proofs.CopyFaults.{memory_alone, stream_blocks_stop}
 use Rattle.ipc_convert.proofs.Refused.{front_refused}
 use Rattle.ipc_convert.specs.Refusals.{RefusesBehind}
 use Rattle.ipc_convert.proofs.append.append_stream.Goals as goal
+
+pub returns-clause-takes : goal.returns-clause-takes
+returns-clause-takes g c =
+    stream_taken_so g.R.Reads.gives g.F.Failures.known g.F.Writes.grows g.F.Failures.failures g.F.Writes.room g.F.Failures.memory g.met.R.Reads.gives_in_order
+    c.args.input c.read_stream_metadata.new.reader _ c.in_ok-metadata-2.metadata c.in_ok-reader.reader c.copy_chunks-copied.new.source
+    c.in_ok-writer.writer c.copy_chunks-copied.new.sink c.finish_file.new.writer c.copy_chunks-copied.result c.in_ok-finish_file.field-0
+    c.in_ok-metadata-2.ensures.gives c.in_ok-reader.ensures.ok c.in_ok-reader.ensures.asked c.copy_chunks-copied.ensures.copied c.in_ok-finish_file.ensures.ends c.into_inner-2.ensures
 
 pub returns-clause-appends : goal.returns-clause-appends
 returns-clause-appends g c = λ k front.

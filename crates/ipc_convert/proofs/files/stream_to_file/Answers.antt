@@ -4,12 +4,19 @@ use Rattle.ipc_read.proofs.Refusals.{claims_through}
 use Rattle.lower.specs.TypeViews.{pairs_of}
 use Rattle.ipc_write.specs.Writers.{order_of}
 use Rattle.ipc_readers.specs.Streams.{head_of}
-use Rattle.ipc_convert.proofs.Conversions.{stream_filed}
+use Rattle.ipc_convert.proofs.Conversions.{stream_filed, stream_taken_so}
 use Rattle.ipc_convert.proofs.CopyFaults.{memory_alone, same_begun, same_refused, stream_blocks_stop}
 use Rattle.ipc_convert.proofs.Refused.{front_refused, schema_refused}
 use Rattle.ipc_convert.specs.Refusals.{RefusesAsFile}
 use Rattle.ipc_convert.specs.Steps.{BeginsFile}
 use Rattle.ipc_convert.proofs.files.stream_to_file.Goals as goal
+
+pub returns-clause-takes : goal.returns-clause-takes
+returns-clause-takes g c =
+    stream_taken_so g.R.Reads.gives g.W.Failures.known g.W.Writes.grows g.W.Failures.failures g.W.Writes.room g.W.Failures.memory g.met.R.Reads.gives_in_order
+    c.args.input c.read_stream_metadata.new.reader _ c.in_ok-metadata.metadata c.in_ok-reader.reader c.copy_chunks-copied.new.source
+    c.in_ok-writer.writer c.copy_chunks-copied.new.sink c.finish_file.new.writer c.copy_chunks-copied.result c.in_ok-finish_file.field-0
+    c.in_ok-metadata.ensures.gives c.in_ok-reader.ensures.ok c.in_ok-reader.ensures.asked c.copy_chunks-copied.ensures.copied c.in_ok-finish_file.ensures.ends c.into_inner.ensures
 
 pub returns-clause-copies : goal.returns-clause-copies
 returns-clause-copies g c = λ k.

@@ -1,11 +1,18 @@
 use Rattle.std.proofs.Common.{ap, ◌∙◌}
 use Rattle.std.proofs.lemmas.Result.{err_from_is_err_and}
 use Rattle.ipc_write.specs.Writers.{order_of}
-use Rattle.ipc_convert.proofs.Conversions.{stream_streamed}
+use Rattle.ipc_convert.proofs.Conversions.{stream_streamed, stream_taken}
 use Rattle.ipc_convert.proofs.CopyFaults.{memory_alone, stream_copy_stops, stream_start_stops}
 use Rattle.ipc_convert.proofs.Refused.{front_refused, mark_refused}
 use Rattle.ipc_convert.specs.Refusals.{RefusesAsStream}
+use Rattle.ipc_convert.specs.Sinks.{StreamTook}
 use Rattle.ipc_convert.proofs.streams.stream_to_stream.Goals as goal
+
+pub returns-clause-takes : goal.returns-clause-takes
+returns-clause-takes g c =
+    stream_taken g.R.Reads.gives (StreamTook g.W.Failures.known g.W.Failures.memory) g.met.R.Reads.gives_in_order c.args.input c.read_stream_metadata.new.reader _ c.in_ok-metadata.metadata
+    c.in_ok-reader.reader c.copy_chunks.new.source c.start.new.self c.copy_chunks.new.sink c.in_ok-ending.ending c.in_ok-metadata.ensures.gives c.in_ok-reader.ensures.ok c.in_ok-reader.ensures.asked
+    c.in_ok-ending.ensures.copied c.into_inner.ensures
 
 pub returns-clause-copies : goal.returns-clause-copies
 returns-clause-copies g c = λ k.

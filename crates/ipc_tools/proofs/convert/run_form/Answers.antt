@@ -16,4 +16,4 @@ appended gives known memory form path file device last a b e f h = rw e (rw f (Î
 pub returns-in_ok-append_input-in-Append-clause-appended : goal.returns-in_ok-append_input-in-Append-clause-appended
 returns-in_ok-append_input-in-Append-clause-appended g c =
     appended g.R.Reads.gives g.F.Failures.known g.F.Failures.memory c.args.form _ c.args.file c.in_ok-opened-in-Append.field-0 c.in_ok-append_input-in-Append.field-0 _ _
-    c.in-Append.is c.in_ok-opened-in-Append.ensures.there c.in_ok-append_input-in-Append.ensures
+    c.in-Append.is c.in_ok-opened-in-Append.ensures.there c.in_ok-append_input-in-Append.ensures.appends

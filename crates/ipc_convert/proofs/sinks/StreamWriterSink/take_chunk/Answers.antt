@@ -10,4 +10,4 @@ returns-clause-kept g c =
     stream_kept g.W.Failures.known g.W.Writes.grows g.W.Failures.failures g.W.Writes.room g.W.Failures.memory (seen c.args.self.now) (seen c.write.new.self) _ c.write.result c.write.ensures.means c.write.ensures.step
 
 pub returns-clause-refused : goal.returns-clause-refused
-returns-clause-refused g c = stream_refuses (seen c.args.self.now) _ c.write.result c.write.ensures.exact
+returns-clause-refused g c = stream_refuses (seen c.args.self.now) _ c.write.result c.write.ensures.exact c.write.ensures.only
