@@ -1,4 +1,4 @@
-//! Devices that fail, and memory that is refused, while streams and files are written, read and gone on with, in either order of bytes, and
+//! Devices that fail, and memory that is refused, while streams and files are written, read and appended to, in either order of bytes, and
 //! while messages are sent and batches read by themselves.
 
 use crate::rough::Way;

@@ -1,4 +1,4 @@
-//! Files that are too long to be gone on with, as their metadata say.
+//! Files that are too long to be appended to, as their metadata say.
 
 use crate::fixtures::{make_example, refusal};
 use arrow2_ipc::datatypes::Metadata;

@@ -1,4 +1,4 @@
-//! Streams and files that are written, read and gone on with on a device that isn't sound, told by letters. A writer's call that was
+//! Streams and files that are written, read and appended to on a device that isn't sound, told by letters. A writer's call that was
 //! refused memory is made again.
 
 use crate::alone;

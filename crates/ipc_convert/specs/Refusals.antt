@@ -153,11 +153,11 @@ DiffersFrom s t e = (e ≡ Argument FieldsDiffer) × ¬ AreSame (s.fields, s.met
 abbrev pub RefusesBehind : {W : Type 0} → Bool → (W → Memory) → FileMetadata → W → (List Chunk → Type 0) → Schema → Fault → Type 0
 RefusesBehind known memory m file first s e = DiffersFrom s m.schema e ⊎ RefusesInBlocks known memory (GoesOn known memory m file) first e
 
--- Why a file isn't gone on with: it has no metadata, by a fault of its bytes, or they are refused.
+-- Why a file isn't appended to: it has no metadata, by a fault of its bytes, or they are refused.
 abbrev pub GoesOnWithNone : Bool → List ℕ → Fault → Type 0
 GoesOnWithNone known bytes e = ((metadata_of bytes ≡ None) × FileReason 0 bytes e) ⊎ CantGoOn known bytes e
 
--- A file was gone on with, and the stream behind it was refused.
+-- A file was appended to, and the stream behind it was refused.
 pub record RefusesAppended {F R : Type 0} (known : Bool) (memory : F → Memory) (file : F) (gives : Gives R) (fills : Bool) (source : R → Memory) (input : R) (e : Fault) : Type 0 where
   pub metadata : FileMetadata
   pub is : metadata_of (memory file).whole ≡ Some metadata

@@ -78,7 +78,7 @@ fn plan_to_message(alloc: Global, plan: &mut Plan<'_>, kind: BatchKind, length: 
 
 /// Encodes columns of so many rows as the message of a batch, with their numbers in this byte order: the metadata are of version V5,
 /// without pairs of their own, and the body is planned. No byte of a column is moved. Of a dictionary the keys are encoded: its values
-/// belong into a message of their own.
+/// belong in a message of their own.
 ///
 /// Faults: `Argument(TooLong)` where there are more than `2^63 - 1` rows, or where an array, at any level, has more slots that would be
 /// written; `Argument(TooLarge)` where the body would have more than `2^63 - 1` bytes, or the metadata more than `2^31 - 1`; `Memory`.

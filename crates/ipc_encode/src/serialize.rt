@@ -82,7 +82,7 @@ fn append_plan(
 
 /// Appends an array to the parts of a record batch: a node for each of its levels to `nodes`, their buffers to `buffers`, the offsets of
 /// these counted from `offset`, and their bytes to `arrow_data`, each buffer padded with zeros to a multiple of 64; `offset` is then
-/// behind the last one. Numbers have this byte order. Of a dictionary the keys are appended: its values belong into a message of their
+/// behind the last one. Numbers have this byte order. Of a dictionary the keys are appended: its values belong in a message of their
 /// own. So the batch has one column more, of the array's type and with its slots.
 ///
 /// Faults: `Argument(TooLong)` where the array, at any level, has more than `2^63 - 1` slots that would be appended;

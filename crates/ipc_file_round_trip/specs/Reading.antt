@@ -103,7 +103,7 @@ pub record IsReadBy (p : Option (List ℕ)) (limit : Limit) (bytes : List ℕ) (
   pub asked : IsProjection p (count (kinds (file_seen f.metadata).schema))
   pub means : file_by p limit bytes ≡ Some (file_read f)
 
--- a file has a schema that hasn't these columns, or one of them is named twice
+-- a file has a schema that doesn't have these columns, or one of them is named twice
 pub record NamesOthers (p : Option (List ℕ)) (bytes : List ℕ) : Type 0 where
   pub metadata : Meaning
   pub there : metadata_of bytes ≡ Some metadata

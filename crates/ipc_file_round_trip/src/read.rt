@@ -125,7 +125,7 @@ fn are_there(projection: &Option<Vec<usize>>, count: usize) -> bool
 }
 
 /// Reads some columns of a file, or all where there is no projection, and at most `limit` rows of it. The chunks have the columns in the
-/// order in which they are asked for; one comes for each block, of no rows behind the last of the limit. None where the schema hasn't
+/// order in which they are asked for; one comes for each block, of no rows behind the last of the limit. None where the schema doesn't have
 /// one of them, or one is named twice; then no chunk was read.
 ///
 /// Ok exactly where the metadata and, by these columns and the limit, each block have a meaning, memory aside. The rows, joined, are the

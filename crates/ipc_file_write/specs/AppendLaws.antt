@@ -1,4 +1,4 @@
--- What stays of a file that is gone on with, whatever its writer's calls answer.
+-- What stays of a file that is appended to, whatever its writer's calls answer.
 -- (Arrow columnar format, "IPC File Format".)
 use Rattle.std.specs.Prelude.{◌≡◌, ℕ, ◌-◌, ◌≤◌, List, length, take}
 use Rattle.ipc_devices.specs.Device.{GoesTo, Memory, after}

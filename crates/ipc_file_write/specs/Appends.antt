@@ -1,4 +1,4 @@
--- Files that are gone on with: which ones can be, and the writer of one.
+-- Files that are appended to: which ones can be, and the writer of one.
 -- (Arrow columnar format, "IPC File Format"; the limits are this project's own.)
 use Rattle.std.specs.Prelude.{◌≡◌, ◌⊎◌, ℕ, ℤ, ◌^◌, ◌<◌, ◌≤◌, Bool, IsTrue, List, [], ◌++◌, map, Some, None}
 use Rattle.ipc_devices.specs.Device.{GoesTo, Memory}
@@ -22,7 +22,7 @@ use Rattle.ipc_file_write.specs.FileWriters.{AgreesAlone, FileSeen, HoldsBytes, 
 
 -- ---- which files
 
--- A file with these metadata can be gone on with: it has a record block, no number of its blocks is below 0, it is no longer than a signed
+-- A file with these metadata can be appended to: it has a record block, no number of its blocks is below 0, it is no longer than a signed
 -- number of 64 bits can say, and its schema and its pairs can be written.
 pub record MayGoOn (m : FileMetadata) : Type 0 where
   pub some_blocks : m.blocks ≡ [] → ⊥
@@ -53,7 +53,7 @@ pub record HasNoDictionaries (known : Bool) (m : FileMetadata) (bytes : List ℕ
   pub none : IsTrue known → file_dictionaries m bytes ≡ None
   pub reason : IsTrue known → DictionariesReason m bytes [] m.dictionaries e
 
--- The file can't be gone on with, or its dictionaries can't be read. Memory and the devices tell nothing.
+-- The file can't be appended to, or its dictionaries can't be read. Memory and the devices tell nothing.
 abbrev pub RefusesFile : Bool → FileMetadata → List ℕ → Fault → Type 0
 RefusesFile known m bytes e = OwnFault e (RefusesToGoOn m e ⊎ HasNoDictionaries known m bytes e)
 

@@ -42,7 +42,7 @@ use Rattle.ipc_file_write.specs.declared.writer.Starting.{Starting}
 
 -- What a writer writes to, how far it is, the order of the bytes of its numbers, its schema, the ids that it starts with, those that it
 -- was started with, the pairs of its footer, the dictionaries that it remembers, the blocks of its file, where the next message stands, and
--- how many bytes the file has at least, once it is finished: those of a file that is gone on with.
+-- how many bytes the file has at least, once it is finished: those of a file that is appended to.
 pub record FileSeen (W : Type 0) : Type 0 where
   pub device : W
   pub state : WriterState
@@ -120,7 +120,7 @@ pub record IsOpenFile {W : Type 0} (is_stream : Bool) (w : FileSeen W) (bytes : 
   pub last : IsTrue is_stream → greatest_end (w.dictionaries ++ w.blocks) ≤ w.place
 
 -- A whole file of the normal form of the schema with its ids, in this order of bytes, with these pairs and these chunks. Where it is a
--- stream too, it is one of the same without its first eight bytes. What it has before its mark can be gone on with.
+-- stream too, it is one of the same without its first eight bytes. What it has before its mark can be appended to.
 pub record IsWholeFile {W : Type 0} (is_stream : Bool) (w : FileSeen W) (bytes : List ℕ) (cs : List Chunk) : Type 0 where
   pub file : IsFile bytes (file_written w.order w.fields w.metadata w.ids w.pairs w.dictionaries w.blocks (length bytes)) cs
   pub stream : IsTrue is_stream → EndsStreamBehind bytes (head_of_file w) cs
@@ -216,7 +216,7 @@ pub record IsBeginning {W : Type 0} (w : FileSeen W) (bytes : List ℕ) : Type 0
   pub written : IsWritten message
   pub bytes_are : bytes ≡ file_head ++ message_bytes message []
 
--- What a file ends with: the mark that ends the stream, as many bytes 0 as it takes to end no earlier than a file that is gone on with ended, the
+-- What a file ends with: the mark that ends the stream, as many bytes 0 as it takes to end no earlier than a file that is appended to ended, the
 -- footer, and what stands behind that.
 pub record IsEnding {W : Type 0} (w : FileSeen W) (bytes : List ℕ) : Type 0 where
   pub footer : List ℕ
@@ -333,7 +333,7 @@ pub record MayFinish {W : Type 0} (w : FileSeen W) (e : Ending) : Type 0 where
   pub was : w.state ≡ Started
   pub ends : IsEnding w (ending_bytes e)
 
--- The file ends no earlier than one that is gone on with ended: nothing of that stands behind its footer.
+-- The file ends no earlier than one that is appended to ended: nothing of that stands behind its footer.
 pub record ReachesEnd {W : Type 0} (known : Bool) (memory : W → Memory) (a b : FileSeen W) : Type 0 where
   pub reaches : IsTrue known → a.place ≤ (memory a.device).place → a.size ≤ (memory b.device).place
 

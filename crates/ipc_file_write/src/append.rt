@@ -81,7 +81,7 @@ fn place_in(size: u64, end: u64) -> u64
     end.min(size).max(HEAD_LEN)
 }
 
-// Judges whether a file of these metadata can be gone on with, and says where.
+// Judges whether a file of these metadata can be appended to, and says where.
 fn place_to_go_on(alloc: Global, metadata: &FileMetadata) -> Result<u64, Fault>
     ensures place { IfOk result (λ place. place ≡ goes_on (file_seen metadata.now)) }
     ensures ok { OnOk result (MayGoOn (file_seen metadata.now)) }

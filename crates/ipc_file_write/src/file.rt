@@ -33,7 +33,7 @@ pub struct FileWriter<W> {
     pub(crate) record_blocks: Vec<Block>,
     // where the next message stands in the file
     pub(crate) block_offsets: u64,
-    // how long the file was that is gone on with, else 0
+    // how long the file was that is appended to, else 0
     pub(crate) size: u64,
     pub(crate) custom_metadata: Metadata,
     // the dictionaries that were written, which have to stay

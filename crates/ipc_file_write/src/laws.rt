@@ -1,4 +1,4 @@
-//! Laws of files that are gone on with.
+//! Laws of files that are appended to.
 ghost use Rattle.ipc_file_write.specs.AppendLaws.{OnwardBothLaw, OnwardLaw, StillGivesLaw};
 
 /// No call of a writer changes what stood before its place, and none makes the file shorter, whatever it answers: so the metadata that were

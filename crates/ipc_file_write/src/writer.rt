@@ -43,7 +43,7 @@ pub(crate) struct Starting {
     pub(crate) bytes: Vec<u8>,
 }
 
-// Refuses columns that have not the types of these fields, one each, both in their normal form.
+// Refuses columns that don't have the types of these fields, one each, both in their normal form.
 fn check_types(columns: &[AnyArray], fields: &[Field]) -> Result<(), Fault>
     ensures ok { OnOk result (HaveTypes columns.now (map field_normal fields.now)) }
     ensures arrays { OnOk result (All (λ array. IsArray (layout_of array)) columns.now) }
@@ -338,7 +338,7 @@ impl<W: Writes + Drop> FileWriter<W> {
         behind.saturating_sub(count + 8)
     }
 
-    /// Writes the mark that ends the stream, and the footer, and flushes the device. A file that is gone on with ends no earlier than it
+    /// Writes the mark that ends the stream, and the footer, and flushes the device. A file that is appended to ends no earlier than it
     /// did: where it would, bytes 0 stand between the mark and the footer.
     ///
     /// Faults: `State(NotStarted)`, `State(Finished)`, `State(Failed)` by the writer's state; `Argument(TooLarge)` where the file has

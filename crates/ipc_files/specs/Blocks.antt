@@ -43,11 +43,11 @@ prefix_of bytes =
     else if word bytes == 0xFFFF_FFFF then (if nat_lt (length (drop 4 bytes)) 4 then None else Some (word (drop 4 bytes)))
     else Some (word bytes)
 
--- of a frame: less bytes than stated, or a length below 0, which has the name that is handed
+-- of a frame: fewer bytes than stated, or a length below 0, which has the name that is handed
 abbrev pub IsFrameFault : OutOfSpecKind → Fault → Type 0
 IsFrameFault negative e = (e ≡ Ended) ⊎ (e ≡ OutOfSpec negative)
 
--- of one that isn't there: the prefix states a length below 0, or less bytes follow than it states, or there is no prefix
+-- of one that isn't there: the prefix states a length below 0, or fewer bytes follow than it states, or there is no prefix
 abbrev pub frame_fault : OutOfSpecKind → Option ℕ → Fault
 frame_fault negative (Some n) = if nat_lt n (2 ^ 31) then Ended else OutOfSpec negative
 frame_fault negative None = Ended

@@ -47,7 +47,7 @@ use std::alloc::Global;
 
 /// Plans the message of these columns: nodes, buffers and pieces of each, one after the other, with their
 /// numbers in this byte order. No byte of a column is moved. Of a dictionary the keys are planned: its
-/// values belong into a message of their own.
+/// values belong in a message of their own.
 ///
 /// Faults: `Argument(TooLong)` where an array, at any level, has more than `2^63 - 1` slots that would be
 /// written; `Argument(TooLarge)` where the body would end past `2^63 - 1`; `Memory`. Where both of the

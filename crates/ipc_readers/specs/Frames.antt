@@ -36,7 +36,7 @@ abbrev pub GivesFrame : Frame → Fault → Result read.Frame Fault → (metadat
 GivesFrame f named (Ok x) metadata begun rest = IsFrame f x metadata begun rest
 GivesFrame f named (Err e) metadata begun rest = OwnFault e ((f ≡ broken) × (e ≡ named))
 
--- a length below 0, or less bytes than stated
+-- a length below 0, or fewer bytes than stated
 abbrev pub IsFramingFault : Fault → Type 0
 IsFramingFault Ended = Unit {0}
 IsFramingFault (OutOfSpec NegativeFooterLength) = Unit {0}

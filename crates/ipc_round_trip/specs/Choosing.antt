@@ -42,7 +42,7 @@ pub record IsReadableBy (p : Option (List ℕ)) (bytes : List ℕ) : Type 0 wher
   pub stream : chosen_stream_of p bytes ≡ Some (record { head = head; meant = meant })
   pub sound : meant.end ≢ faulty
 
--- a stream has a schema that hasn't these columns, or one of them is named twice
+-- a stream has a schema that doesn't have these columns, or one of them is named twice
 pub record NamesOthers (js : List ℕ) (bytes : List ℕ) : Type 0 where
   pub head : Head
   pub meant : Meant

@@ -8,7 +8,7 @@ use ipc_readers::read::stream::{StreamReader, read_stream_metadata};
 use std::alloc::Global;
 
 /// Reads these columns of a stream to its mark, or to where it waits for more. The chunks have them in this order. None where the
-/// schema hasn't one of them, or one is named twice (see [`is_projection`]); then no chunk was read.
+/// schema doesn't have one of them, or one is named twice (see [`is_projection`]); then no chunk was read.
 ///
 /// Faults: those of [`read_stream_metadata`] and of the calls of [`StreamReader`], each of which but `Memory`
 /// says that the bytes mean no stream, or by these columns one that ends in a fault: of those of a message only one that a stream of its

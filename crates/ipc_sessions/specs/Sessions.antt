@@ -83,7 +83,7 @@ pub record KeepsOld (m : FileMetadata) (old new : List ℕ) : Type 0 where
   pub kept : take (goes_on m) new ≡ take (goes_on m) old
   pub gives : (known : Dictionaries) (cs : List Chunk) → MeansBefore m old known cs → BlocksMean m (all_of new) known cs
 
--- Memory and devices aside, no old file is refused that may be gone on with.
+-- Memory and devices aside, no old file is refused that may be appended to.
 abbrev pub RefusesNoOld : FileMetadata → List ℕ → Fault → Type 0
 RefusesNoOld m old e =
     OwnFault e (MayGoOn m → (is_stream : Bool) (schema : Schema) (pairs : Pairs) (before : List Chunk) → IsOldFile is_stream old schema pairs before → ⊥)
@@ -117,7 +117,7 @@ pub record ReadsAs (is_stream : Bool) (bytes : List ℕ) (schema : Schema) (pair
 abbrev pub EndedLaw : Type 0
 EndedLaw = (is_stream : Bool) (bytes : List ℕ) (schema : Schema) (pairs : Pairs) (cs : List Chunk) → IsEndedFile is_stream bytes schema pairs cs → ReadsAs is_stream bytes schema pairs cs
 
--- One that has a chunk, and is no longer than a signed number of 64 bits can say, may be gone on with.
+-- One that has a chunk, and is no longer than a signed number of 64 bits can say, may be appended to.
 abbrev pub MayLaw : Type 0
 MayLaw = (is_stream : Bool) (bytes : List ℕ) (schema : Schema) (pairs : Pairs) (c : Chunk) (cs : List Chunk) (m : FileMetadata) → IsEndedFile is_stream bytes schema pairs (c ∷ cs)
     → metadata_of bytes ≡ Some m → length bytes < 2 ^ 63 → MayGoOn m

@@ -44,7 +44,7 @@ pub record TakesChunks {W : Type 0} (known : Bool) (memory : W → Memory) (a b 
       → HoldsBytes is_stream (memory b.device) b base (before ++ cs)
 
 -- A writer took these chunks more, and then its `finish` answered this: nothing before its place changed. Where it was Ok, and no more stood
--- behind the place than the file has that is gone on with, all of the device is a file that a session left.
+-- behind the place than the file has that is appended to, all of the device is a file that a session left.
 pub record Leaves {W : Type 0} (known : Bool) (memory : W → Memory) (a : FileSeen W) (device : W) (end : Result Unit Fault) (cs : List Chunk) : Type 0 where
   pub onward : IsTrue known → (memory a.device).place ≤ length (memory a.device).whole → Onward (memory a.device) (memory device)
   pub ended : IsTrue known → OnOk end ((is_stream : Bool) (before : List Chunk) → HoldsBytes is_stream (memory a.device) a [] before
@@ -132,7 +132,7 @@ AreSessions {W = W} known grows failures room memory device (cs ∷ rest) (rs �
     (next : W) × (IsSessionOn known grows failures room memory device cs.items rs.items (Ok tt) next × AreSessions known grows failures room memory next rest answers left)
 AreSessions known grows failures room memory device _ _ left = ⊥
 
--- Why one session is refused: the file has no metadata, or can't be gone on with; or this is what its end answered, behind its writes.
+-- Why one session is refused: the file has no metadata, or can't be appended to; or this is what its end answered, behind its writes.
 pub record EndsRefused {W : Type 0} (known grows : Bool) (failures room : W → ℕ) (memory : W → Memory) (device : W) (chunks : List (List AnyArray)) (e : Fault) : Type 0 where
   pub answers : List (Result Unit Fault)
   pub left : W

@@ -98,7 +98,7 @@ pub record HeldRows : Type 0 where
   pub of_file : (path : Bor (List ℕ)) → wanted_by (Convert (File path) FileTarget little) ≡ copy (Some path.now) FileTarget little
   pub of_append : (path : Bor (List ℕ)) → wanted_by (Append path) ≡ append path.now
 
--- What is copied is only read, and what is gone on with is written to. No other file is opened.
+-- What is copied is only read, and what is appended to is written to. No other file is opened.
 pub record PlaceRows : Type 0 where
   pub for_input : place_for (copy None FileTarget big) ≡ None
   pub for_copy : place_for (copy (Some (codes "numbers.arrow")) FileTarget big) ≡ Some (codes "numbers.arrow", false)

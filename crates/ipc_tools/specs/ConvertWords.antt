@@ -50,7 +50,7 @@ reads_input (copy None target options) = true
 reads_input (copy (Some path) target options) = false
 reads_input (append path) = true
 
--- whether the output is written to: not where a file is gone on with
+-- whether the output is written to: not where a file is appended to
 abbrev pub writes_output : Wanted → Bool
 writes_output (copy from target options) = true
 writes_output (append path) = false

@@ -50,7 +50,7 @@ pub enum WriterState {
     Failed,
 }
 
-// Refuses columns that have not these types, one each.
+// Refuses columns that don't have these types, one each.
 fn check_types(columns: &[AnyArray], types: &[DataType]) -> Result<(), Fault>
     ensures ok { OnOk result (HaveTypes columns.now (map normal_view types.now)) }
     ensures arrays { OnOk result (All (λ array. IsArray (layout_of array)) columns.now) }

@@ -286,7 +286,7 @@ fn read_map<R: Reads + Seeks>(
     Ok((array, after))
 }
 
-// The column of records at a place, and the place behind it.
+// The column of structs at a place, and the place behind it.
 #[cycle(columns)]
 #[tactic(auto, using(crate::proofs::ColumnLevels::columns, ipc_flat_columns::proofs::Refusals::child_faults))]
 fn read_struct<R: Reads + Seeks>(

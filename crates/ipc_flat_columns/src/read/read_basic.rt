@@ -283,7 +283,7 @@ fn type_name(primitive: PrimitiveType) -> &'static str {
     }
 }
 
-// The fault of a buffer of `listed` bytes that hasn't `count` values of `width` bytes.
+// The fault of a buffer of `listed` bytes that doesn't have `count` values of `width` bytes.
 fn too_short(count: usize, type_name: &'static str, width: usize, listed: usize) -> Fault
     ensures buffer { IsBufferFault result }
     ensures told { TellsShort count (min (count * width) (2 ^ 64 - 1)) listed result }
@@ -459,7 +459,7 @@ pub fn read_node<R: Failures>(
     })
 }
 
-// Refuses a buffer that hasn't `count` bits by what is listed of it.
+// Refuses a buffer that doesn't have `count` bits by what is listed of it.
 #[tactic(auto, using(crate::proofs::Refusals::negative_buffer), unfolding(crate::specs::Bodies::entries))]
 fn check_bits<R: Failures>(body: &Body<R>, index: usize, count: usize) -> Result<(), Fault>
     requires inside { index < length body.now.buffers }

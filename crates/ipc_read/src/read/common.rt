@@ -231,7 +231,7 @@ pub fn read_columns<R: Reads + Seeks>(
 /// in rising order, or all where there is none, and of each at most `limit` slots. They come exactly
 /// where the batch has a meaning by these, and there is memory for them. At each dictionary place of a
 /// column, those inside the values of others aside, stand the values that the dictionaries have under
-/// its id. A column that isn't chosen is gone past by its type: no byte of it is read, and it isn't
+/// its id. A column that isn't chosen is skipped by what its type takes: no byte of it is read, and it isn't
 /// judged. An empty projection gives a chunk without columns. No more bytes are taken of the device
 /// than the buffers of the chosen columns list, and the arrays hold together no more than these and one
 /// offset for each buffer of offsets that lists nothing, the values of dictionaries aside.

@@ -31,7 +31,7 @@ pub fn times_limit(limit: Option<usize>, size: usize) -> Option<usize>
 }
 
 /// The array of lists of `size` slots each over a child (Arrow columnar format, "Fixed-Size List Layout").
-/// `ChildLength` where the child hasn't so many slots for each list of the head, `ChildType` where it hasn't
+/// `ChildLength` where the child doesn't have so many slots for each list of the head, `ChildType` where it doesn't have
 /// the type of the field. `Memory` comes too, and no other.
 #[tactic(auto, using(crate::proofs::FixedReads::fixed_rules))]
 pub fn make_fixed_size_list(

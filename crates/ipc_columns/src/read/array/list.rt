@@ -91,8 +91,8 @@ pub fn read_list_head<R: Reads + Seeks>(
     })
 }
 
-/// The array of lists over a child. `ChildLength` where the child hasn't as many slots as the last offset
-/// says, `ChildType` where it hasn't the type of the field. `Memory` comes too, and no other.
+/// The array of lists over a child. `ChildLength` where the child doesn't have as many slots as the last offset
+/// says, `ChildType` where it doesn't have the type of the field. `Memory` comes too, and no other.
 #[tactic(auto, using(crate::proofs::ListLevels::list_rules))]
 pub fn make_list(
     alloc: Global,

@@ -78,8 +78,8 @@ pub fn read_map_head<R: Reads + Seeks>(
     })
 }
 
-/// The array of maps over a child. `ChildLength` where the child hasn't as many slots as the last offset says,
-/// `MapChild` where its type isn't a struct of two fields, `ChildType` where it hasn't the type of the field.
+/// The array of maps over a child. `ChildLength` where the child doesn't have as many slots as the last offset says,
+/// `MapChild` where its type isn't a struct of two fields, `ChildType` where it doesn't have the type of the field.
 /// `Memory` comes too, and no other.
 #[tactic(auto, using(crate::proofs::MapReads::map_rules))]
 pub fn make_map(

@@ -1,4 +1,4 @@
-//! Makes the arrays of columns of records.
+//! Makes the arrays of columns of structs.
 ghost use Rattle.std.specs.Prelude.{◌≡◌, map, IfErr};
 ghost use Rattle.ipc_devices.specs.Faults.{OnIo, OwnFault, Answers};
 ghost use Rattle.lower.specs.TypeViews.{type_view};
@@ -17,8 +17,8 @@ use lower::datatypes::DataType;
 use lower::error::{Error, Rule};
 use lower_arrays::array::{AnyArray, StructArray};
 
-/// The array of records of some columns (Arrow columnar format, "Struct Layout"). `NoChild` where there is no
-/// column, `ChildLength` where one hasn't as many slots as the head says, `ChildCount` and `ChildType` where
+/// The array of structs of some columns (Arrow columnar format, "Struct Layout"). `NoChild` where there is no
+/// column, `ChildLength` where one doesn't have as many slots as the head says, `ChildCount` and `ChildType` where
 /// they aren't those of its fields. `Memory` comes too, and no other.
 #[tactic(auto, using(crate::proofs::Records::records))]
 pub fn make_struct(own: &DataType, head: Head, columns: Vec<AnyArray>) -> Result<AnyArray, Fault>

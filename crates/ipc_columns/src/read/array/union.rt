@@ -97,8 +97,8 @@ pub fn read_types<R: Reads + Seeks>(
 /// no union, `UnionChildren` where there are no columns or more than 127, `UnionIds` where the ids that the type
 /// gives aren't as many, distinct and from 0 to 126, `UnionType` where the type of a slot names no column,
 /// `ChildCount` and `ChildType` where the columns aren't those of the fields, `UnionOffsets` where a dense union
-/// hasn't an offset for each slot or a sparse one has offsets, `ChildLength` where a column of a sparse union
-/// hasn't as many slots, `UnionOffset` where an offset isn't from 0 to below its column's slots. `Memory` comes
+/// doesn't have an offset for each slot or a sparse one has offsets, `ChildLength` where a column of a sparse union
+/// doesn't have as many slots, `UnionOffset` where an offset isn't from 0 to below its column's slots. `Memory` comes
 /// too, and no other.
 #[tactic(auto, using(crate::proofs::UnionRules::union_rules))]
 pub fn make_union(

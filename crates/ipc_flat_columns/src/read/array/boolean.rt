@@ -1,4 +1,4 @@
-//! Reads columns of truth values.
+//! Reads columns of booleans.
 ghost use Rattle.std.specs.Prelude.{◌≡◌, ◌+◌, ◌<◌, IsTrue, IfOk, IfErr};
 ghost use Rattle.ipc_devices.specs.Faults.{OwnFault, Answers};
 ghost use Rattle.lower.specs.TypeViews.{type_view};
@@ -22,7 +22,7 @@ use lower::datatypes::DataType;
 use lower_arrays::array::BooleanArray;
 use std::alloc::Global;
 
-/// The column of truth values at a place (Arrow columnar format, "Fixed-size Primitive Layout"): a node, and
+/// The column of booleans at a place (Arrow columnar format, "Fixed-size Primitive Layout"): a node, and
 /// a validity and a bit for each slot. Its data type is one that lies in memory as such bits do.
 ///
 /// `NegativeFooterLength` where its length, or the offset of a buffer that is used, is below 0,

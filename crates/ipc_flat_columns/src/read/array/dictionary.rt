@@ -38,7 +38,7 @@ use std::rc::Rc;
 /// "Dictionary-encoded Layout").
 ///
 /// `InvalidId` where none are known under it, or there is no id: then the fault names 0. `InvalidIdDataType` where
-/// they haven't this type, both in their normal form. `Memory` where the values have as many owners as can be
+/// they don't have this type, both in their normal form. `Memory` where the values have as many owners as can be
 /// counted.
 #[tactic(auto, using(crate::proofs::KnownValues::known_values))]
 pub fn shared_values<R: Failures>(
