@@ -3,6 +3,9 @@ mod ClassRows
 mod ConvertRows
 mod IoLines
 mod Lending
+mod LentFiles
 mod LineRows
 mod PositionRows
+mod Reasons
+mod RefusalRows
 mod WrittenRows

@@ -9,5 +9,7 @@ pub mod Lines
 pub mod Named
 pub mod PositionRows
 pub mod Positions
+pub mod RefusalRows
+pub mod Refusals
 pub mod Written
 pub mod WrittenRows

@@ -13,7 +13,14 @@ pub record Told (known grows : Bool) (d d' : DeviceSeen) (bytes : List ℕ) : Ty
   pub answer : Result Unit Fault
   pub sends : Sends known grows d d' answer bytes
 
--- So was the line of a program that a fault ended.
+-- So was the line of a program that a fault ended which this is said of.
+pub record TellsWhy (program : List ℕ) (Why : Fault → Type 0) (known grows : Bool) (d d' : DeviceSeen) : Type 0 where
+  pub fault : Fault
+  pub why : Why fault
+  pub answer : Result Unit Fault
+  pub sends : Sends known grows d d' answer (line_of program fault)
+
+-- So was that of any fault.
 pub record Tells (program : List ℕ) (known grows : Bool) (d d' : DeviceSeen) : Type 0 where
   pub fault : Fault
   pub answer : Result Unit Fault

@@ -1,9 +1,10 @@
 //! `ipconvert`: copies an Arrow IPC stream or file as a stream or a file, in either byte order; or appends a stream to a file.
-ghost use Rattle.std.specs.Prelude.{◌≡◌, ◌≤◌, codes, ◌↔◌, map, option_and_then, option_map, string_bytes, false, true, None, Some, Ok, IfErr, IfOk, IfSome, IsSome, IsTrue, OnOk};
-ghost use Rattle.ipc_devices.specs.Faults.{IsIo};
+ghost use Rattle.std.specs.Prelude.{◌≡◌, ◌⊎◌, ◌≤◌, codes, ◌↔◌, map, option_and_then, option_map, string_bytes, false, true, None, Some, Ok, Err, IfErr, IfOk, IfSome, IsSome, IsTrue, OnOk};
+ghost use Rattle.ipc_devices.specs.Faults.{IsIo, OwnFault};
 ghost use Rattle.ipc_convert.specs.Copies.{TakesStream};
 ghost use Rattle.ipc_plan.specs.Sending.{seen_by};
-ghost use Rattle.ipc_tools.specs.Lines.{Tells, Told};
+ghost use Rattle.ipc_tools.specs.Lines.{TellsWhy, Told};
+ghost use Rattle.ipc_tools.specs.Refusals.{RefusesAsAsked};
 ghost use Rattle.ipc_tools.specs.ConvertWords.{asked, wanted_by, place_for, reads_input, writes_output};
 ghost use Rattle.ipc_tools.specs.Written.{Appended, CopiesAsAsked};
 
@@ -34,6 +35,9 @@ pub fn place_of(words: &[String]) -> Option<Place<'_>>
 /// a fault, whose class stands on `err` then; and 2 for wrong words, where `err` has the usage. The words are
 /// judged before anything is read. A failed write to `err` is ignored.
 ///
+/// Each class but `no memory` and `input or output failed` tells a fault that names a condition which holds: of what `input` gave, or, where
+/// it is in memory, of `file`; or of what can't be written of the one or the other.
+///
 /// `FROM` is `-`, for the stream at `input`, or the path of a file, and `TO` is `stream` or `file`, written to `out`. `ORDER` is the byte
 /// order of what is written, `little` or `big`; where it is left out it is `little`. `append PATH` writes the chunks of the stream at
 /// `input` behind those of the file at a path, whose byte order stays, and doesn't touch `out`. `file` is what stands at the path that the
@@ -56,8 +60,9 @@ pub fn run<R: Reads, F: Reads + Writes + Seeks + Drop, O: Writes, E: Writes>(
     ensures unopened { IfSome (option_and_then place_for (asked (map string_bytes words.now))) (λ place. file ≡ None → result ≡ 1) }
     ensures unread { IfSome (asked (map string_bytes words.now)) (λ form. reads_input form ≡ false → input.new ≡ input.old) }
     ensures unwritten { IfSome (asked (map string_bytes words.now)) (λ form. writes_output form ≡ false → out.new ≡ out.old) }
-    ensures line { result ≡ 1 → Tells (codes "ipconvert") E.known E.grows
-        (seen_by E.failures E.room E.memory err.old) (seen_by E.failures E.room E.memory err.new) }
+    ensures line { result ≡ 1 → TellsWhy (codes "ipconvert") (λ e. IfSome (asked (map string_bytes words.now)) (λ form. OwnFault e
+        (RefusesAsAsked R.gives R.known R.memory F.known F.memory O.known O.memory form input.old file out.old e)))
+        E.known E.grows (seen_by E.failures E.room E.memory err.old) (seen_by E.failures E.room E.memory err.new) }
     ensures silent { result ≡ 0 → err.new ≡ err.old }
     ensures spared { IfSome (option_and_then place_for (asked (map string_bytes words.now)))
         (λ place. file ≡ None → (input.new ≡ input.old) × (out.new ≡ out.old)) }
@@ -103,6 +108,8 @@ fn run_form<R: Reads, F: Reads + Writes + Seeks + Drop, O: Writes>(
     ensures copied { IsTrue O.known → OnOk result
         (CopiesAsAsked R.gives F.known F.memory (wanted_by form.entry) input.old input.new file (O.memory out.old) (O.memory out.new)) }
     ensures appended { OnOk result (Appended R.gives F.known F.memory (wanted_by form.entry) input.old input.new file) }
+    ensures refused { IfErr result (λ e. OwnFault e
+        (RefusesAsAsked R.gives R.known R.memory F.known F.memory O.known O.memory (wanted_by form.entry) input.old file out.old e)) }
 {
     match form {
         Form::Convert(Source::Input, target, write_options) => {
@@ -136,6 +143,7 @@ fn flushed<O: Writes>(copied: Result<(), Fault>, out: &mut O) -> Result<(), Faul
     ensures same { IfOk result (λ done. copied ≡ Ok done) }
     ensures both { OnOk result (O.failures out.new ≡ O.failures out.old) }
     ensures memory { IsTrue O.known → O.memory out.new ≡ O.memory out.old }
+    ensures fault { IfErr result (λ e. (copied ≡ Err e) ⊎ IsIo e) }
 {
     let sent = out.flush();
     copied?;

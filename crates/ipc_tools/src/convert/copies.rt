@@ -1,8 +1,10 @@
 //! The copies that the forms ask for. Their devices are lent: whoever hands them in goes on with them.
-ghost use Rattle.std.specs.Prelude.{◌≡◌, [], IfOk, IsTrue, OnOk};
+ghost use Rattle.std.specs.Prelude.{◌≡◌, [], IfErr, IfOk, IsTrue, OnOk};
+ghost use Rattle.ipc_devices.specs.Faults.{OwnFault};
 ghost use Rattle.ipc_model.specs.Streams.{marked};
 ghost use Rattle.ipc_write.specs.Writers.{order_of};
 ghost use Rattle.ipc_convert.specs.Copies.{AppendsTo, CopiesFileOf, CopiesStream, TakesStream, WritesFile, WritesStream};
+ghost use Rattle.ipc_tools.specs.Refusals.{AppendsNone, CopiesNoInput, CopiesNoOpened};
 ghost use Rattle.ipc_tools.specs.Written.{CopiesInput, CopiesOpened};
 
 use crate::convert::forms::Target;
@@ -25,6 +27,8 @@ pub fn copy_input<R: Reads, O: Writes>(
     ensures takes { OnOk result (TakesStream R.gives input.old input.new) }
     ensures copies { IsTrue O.known → OnOk result
         (CopiesInput R.gives input.old input.new target write_options (O.memory out.old) (O.memory out.new)) }
+    ensures refused { IfErr result (λ e. OwnFault e
+        (CopiesNoInput R.gives R.known R.memory input.old O.known O.memory out.old target write_options e)) }
 {
     match target {
         Target::Stream => input_to_stream(alloc, input, out, write_options),
@@ -40,8 +44,10 @@ pub fn copy_file<F: Reads + Seeks + Drop, O: Writes>(
     target: Target,
     write_options: WriteOptions,
 ) -> Result<(), Fault>
-    ensures { IsTrue O.known → OnOk result
+    ensures copies { IsTrue O.known → OnOk result
         (CopiesOpened F.known F.memory file target write_options (O.memory out.old) (O.memory out.new)) }
+    ensures refused { IfErr result (λ e. OwnFault e
+        (CopiesNoOpened F.known F.memory file O.known O.memory out.old target write_options e)) }
 {
     match target {
         Target::Stream => opened_to_stream(alloc, file, out, write_options),
@@ -58,6 +64,7 @@ pub fn append_input<F: Reads + Writes + Seeks + Drop, R: Reads>(
     ensures takes { IfOk result (λ device. TakesStream R.gives input.old input.new) }
     ensures appends { IsTrue F.known → (F.memory file).place ≡ 0 → IfOk result (λ device. CopiesStream R.gives input.old input.new
         (λ schema chunks _. AppendsTo (F.memory file).whole (F.memory device).whole schema chunks)) }
+    ensures refused { IfErr result (λ e. OwnFault e (AppendsNone R.gives R.known R.memory input.old F.known F.memory file e)) }
 {
     let (file, input) = append_stream(alloc, file, LentReader::new(input))?;
     input.into_inner();
@@ -73,6 +80,8 @@ fn input_to_stream<R: Reads, O: Writes>(
     ensures takes { OnOk result (TakesStream R.gives input.old input.new) }
     ensures copies { IsTrue O.known → OnOk result (CopiesStream R.gives input.old input.new
         (WritesStream (order_of write_options) (O.memory out.old) (O.memory out.new))) }
+    ensures refused { IfErr result (λ e. OwnFault e
+        (CopiesNoInput R.gives R.known R.memory input.old O.known O.memory out.old Target.Stream write_options e)) }
 {
     let (input, out) = stream_to_stream(
         alloc,
@@ -94,6 +103,8 @@ fn input_to_file<R: Reads, O: Writes>(
     ensures takes { OnOk result (TakesStream R.gives input.old input.new) }
     ensures copies { IsTrue O.known → OnOk result (CopiesStream R.gives input.old input.new
         (λ schema chunks _. WritesFile (order_of write_options) (O.memory out.old) (O.memory out.new) schema [] chunks)) }
+    ensures refused { IfErr result (λ e. OwnFault e
+        (CopiesNoInput R.gives R.known R.memory input.old O.known O.memory out.old Target.File write_options e)) }
 {
     let (input, out) = stream_to_file(
         alloc,
@@ -112,8 +123,10 @@ fn opened_to_stream<F: Reads + Seeks + Drop, O: Writes>(
     out: &mut O,
     write_options: WriteOptions,
 ) -> Result<(), Fault>
-    ensures { IsTrue O.known → OnOk result (CopiesFileOf F.known F.memory file
+    ensures copies { IsTrue O.known → OnOk result (CopiesFileOf F.known F.memory file
         (λ schema _ chunks. WritesStream (order_of write_options) (O.memory out.old) (O.memory out.new) schema chunks marked)) }
+    ensures refused { IfErr result (λ e. OwnFault e
+        (CopiesNoOpened F.known F.memory file O.known O.memory out.old Target.Stream write_options e)) }
 {
     let out = file_to_stream(alloc, file, LentWriter::new(out), write_options)?;
     out.into_inner();
@@ -126,8 +139,10 @@ fn opened_to_file<F: Reads + Seeks + Drop, O: Writes>(
     out: &mut O,
     write_options: WriteOptions,
 ) -> Result<(), Fault>
-    ensures { IsTrue O.known → OnOk result (CopiesFileOf F.known F.memory file
+    ensures copies { IsTrue O.known → OnOk result (CopiesFileOf F.known F.memory file
         (WritesFile (order_of write_options) (O.memory out.old) (O.memory out.new))) }
+    ensures refused { IfErr result (λ e. OwnFault e
+        (CopiesNoOpened F.known F.memory file O.known O.memory out.old Target.File write_options e)) }
 {
     let out = file_to_file(alloc, file, LentWriter::new(out), write_options)?;
     out.into_inner();

@@ -1,5 +1,6 @@
 use Rattle.std.proofs.Common.{rules}
-use Rattle.ipc_tools.proofs.Lending.{copies_stream, takes_stream, writes_stream}
+use Rattle.std.proofs.lemmas.Result.{err_from_is_err_and}
+use Rattle.ipc_tools.proofs.Lending.{copies_stream, given_refused, takes_stream, writes_stream}
 use Rattle.ipc_tools.proofs.convert.copies.input_to_stream.Goals as goal
 
 pub returns-clause-takes : goal.returns-clause-takes
@@ -9,3 +10,8 @@ pub returns-clause-copies : goal.returns-clause-copies
 returns-clause-copies g c known =
     copies_stream _ _ _ _ _ _ _ c.new.ensures.now (λ e. search rules)
     (writes_stream g.O.Failures.memory c.new-2.result c.in_ok-input.out _ _ c.new-2.ensures.now (λ e. search rules) _) (c.in_ok-input.ensures.copies known)
+
+pub returns-in_err-input-clause-refused : goal.returns-in_err-input-clause-refused
+returns-in_err-input-clause-refused g c =
+    let p = err_from_is_err_and c.from_residual.result c.from_residual.ensures.1 in
+    rw (p.1, p.2) (given_refused g.R.Reads.gives g.R.Failures.known g.R.Failures.memory c.new.result c.args.input.now c.in_err-input.field-0.0 _ _ c.new.ensures.now (λ bytes why. why) c.in_err-input.ensures.refused)
