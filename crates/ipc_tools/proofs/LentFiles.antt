@@ -1,5 +1,5 @@
 -- What is said of the writer of a file over a device that is lent is said of one over the device itself.
-use Rattle.std.proofs.Common.{arith, ◌≡◌, ◌⊎◌, ℕ, ◌+◌, ◌≤◌, Bool, true, IsTrue, List, [], ◌∷◌, ◌++◌, length, take, None, Result, Err, inl, inr, ap, refl, subst, sym, ◌∙◌}
+use Rattle.std.proofs.Common.{arith, ◌≡◌, ℕ, ◌+◌, ◌≤◌, Bool, true, IsTrue, List, [], ◌∷◌, ◌++◌, length, take, None, Err, inl, inr, ap, subst, sym, ◌∙◌}
 use Rattle.lower_arrays.specs.declared.array.AnyArray.{AnyArray}
 use Rattle.ipc_devices.specs.Device.{Memory, after, before}
 use Rattle.ipc_devices.specs.Faults.{OwnFault}

@@ -4,7 +4,7 @@ use Rattle.ipc_devices.specs.Device.{Memory}
 use Rattle.ipc_devices.specs.Faults.{OwnFault}
 use Rattle.ipc_devices.specs.Gives.{Gives}
 use Rattle.ipc_devices.specs.declared.fault.Fault.{Fault}
-use Rattle.ipc_devices.specs.declared.fault.Fault.TheVariants.{Argument, Ended, OutOfSpec}
+use Rattle.ipc_devices.specs.declared.fault.Fault.TheVariants.{Ended, OutOfSpec}
 use Rattle.ipc_write.specs.Writers.{order_of}
 use Rattle.ipc_convert.specs.Refusals.{CopiesNoFile, CopiesNoStream, GoesOnWithNone, HoldsOfGiven, RefusesAppended, RefusesAsFile, RefusesAsStream}
 use Rattle.ipc_tools.specs.declared.convert.forms.Target.TheVariants.{Stream, File as FileTarget}
