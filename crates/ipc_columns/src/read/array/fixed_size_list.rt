@@ -60,8 +60,6 @@ pub fn make_fixed_size_list(
     }
     let own = own.clone()?;
     let child = Box::new(alloc, child)?;
-    match FixedSizeListArray::try_new(own, child, head.validity) {
-        Ok(array) => Ok(AnyArray::FixedSizeList(array)),
-        Err(e) => Err(Fault::Lower(e)),
-    }
+    let array = FixedSizeListArray::try_new(own, child, head.validity)?;
+    Ok(AnyArray::FixedSizeList(array))
 }

@@ -113,8 +113,6 @@ pub fn make_list(
     }
     let own = own.clone()?;
     let child = Box::new(alloc, child)?;
-    match ListArray::try_new(own, head.offsets, child, head.validity) {
-        Ok(array) => Ok(array.boxed()),
-        Err(e) => Err(Fault::Lower(e)),
-    }
+    let array = ListArray::try_new(own, head.offsets, child, head.validity)?;
+    Ok(array.boxed())
 }

@@ -101,8 +101,6 @@ pub fn make_map(
     }
     let own = own.clone()?;
     let child = Box::new(alloc, child)?;
-    match MapArray::try_new(own, head.offsets, child, head.validity) {
-        Ok(array) => Ok(AnyArray::Map(array)),
-        Err(e) => Err(Fault::Lower(e)),
-    }
+    let array = MapArray::try_new(own, head.offsets, child, head.validity)?;
+    Ok(AnyArray::Map(array))
 }

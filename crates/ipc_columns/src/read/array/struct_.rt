@@ -38,8 +38,6 @@ pub fn make_struct(own: &DataType, head: Head, columns: Vec<AnyArray>) -> Result
         return Err(Fault::Lower(Error::OutOfSpec(Rule::ChildLength)));
     }
     let own = own.clone()?;
-    match StructArray::try_new(own, columns, head.validity) {
-        Ok(array) => Ok(AnyArray::Struct(array)),
-        Err(e) => Err(Fault::Lower(e)),
-    }
+    let array = StructArray::try_new(own, columns, head.validity)?;
+    Ok(AnyArray::Struct(array))
 }

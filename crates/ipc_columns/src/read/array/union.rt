@@ -114,8 +114,6 @@ pub fn make_union(
         (λ array. layout_of array ≡ union_layout (union_seen u types cs offsets)) }
 {
     let own = own.clone()?;
-    match UnionArray::try_new(own, types, columns, offsets) {
-        Ok(array) => Ok(AnyArray::Union(array)),
-        Err(e) => Err(Fault::Lower(e)),
-    }
+    let array = UnionArray::try_new(own, types, columns, offsets)?;
+    Ok(AnyArray::Union(array))
 }

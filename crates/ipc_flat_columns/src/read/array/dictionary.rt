@@ -140,10 +140,8 @@ pub fn make_dictionary(
         (λ array. layout_of array ≡ dictionary_layout (dictionary_seen u (keys_seen keys) c)) }
 {
     let own = own.clone()?;
-    match DictionaryArray::try_new(own, keys, values) {
-        Ok(array) => Ok(AnyArray::Dictionary(array)),
-        Err(e) => Err(Fault::Lower(e)),
-    }
+    let array = DictionaryArray::try_new(own, keys, values)?;
+    Ok(AnyArray::Dictionary(array))
 }
 
 /// The column of keys at a place, and the place behind it (Arrow columnar format, "Dictionary-encoded Layout"): a
