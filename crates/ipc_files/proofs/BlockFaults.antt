@@ -16,7 +16,8 @@ use Rattle.ipc_model.specs.Files.{Placed, BlockHeader, placed}
 use Rattle.ipc_model.specs.Frame.{frame}
 use Rattle.ipc_files.specs.declared.read.file.block.BlockMessage.{BlockMessage}
 use Rattle.ipc_files.specs.Batches.{needed_record}
-use Rattle.ipc_files.specs.Blocks.{MessageReason, block_message, frame_fault, message_seen, needed_kind, opened_message, placed_message, prefix_of, result_and_then, answered_as, stated_metadata}
+use Rattle.ipc_read.specs.Headers.{answered_as}
+use Rattle.ipc_files.specs.Blocks.{MessageReason, block_message, frame_fault, message_seen, needed_kind, opened_message, placed_message, prefix_of, result_and_then, stated_metadata}
 use Rattle.ipc_files.specs.Dictionaries.{needed_dictionary}
 use Rattle.ipc_read.proofs.Refusals.{claims_own, claims_through, own_any}
 

@@ -2,7 +2,8 @@
 use Rattle.std.proofs.Common.{◌≡◌, ℕ, List, [], Option, Some, None, Result, Ok, Err, refl}
 use Rattle.ipc_devices.specs.Faults.{OwnFault}
 use Rattle.ipc_devices.specs.declared.fault.Fault.{Fault}
-use Rattle.ipc_devices.specs.declared.fault.Fault.TheVariants as faults
+use Rattle.ipc_devices.specs.declared.fault.Fault.TheVariants.{OutOfSpec}
+use Rattle.ipc_devices.specs.declared.fault.OutOfSpecKind.TheVariants.{MissingMessageHeader, InvalidFlatbufferHeader}
 use Rattle.ipc_devices.specs.declared.fault.TableFault.{TableFault}
 use Rattle.ipc_views.specs.MessageSlots.{message_header, message_version}
 use Rattle.ipc_views.specs.Spot.{Spot}
@@ -12,7 +13,9 @@ use Rattle.ipc_model.specs.Batches.{extra_of}
 use Rattle.ipc_model.specs.Files.{BlockHeader, block_header}
 use Rattle.ipc_model.specs.Schemas.{made, present, given}
 use Rattle.ipc_files.specs.declared.read.file.block.BlockMessage.{BlockMessage}
-use Rattle.ipc_files.specs.Blocks.{message_seen, needed_header, opened_message, opened_table, answered_as, stated_version, with_header}
+use Rattle.ipc_read.specs.Headers.{LacksHeader, answered_as, needed_header}
+use Rattle.ipc_read.proofs.Refusals.{claims_through, own_any}
+use Rattle.ipc_files.specs.Blocks.{IsHeaderFault, message_seen, opened_message, opened_table, stated_version, with_header}
 use Rattle.ipc_files.specs.Footers.{GivesPart}
 
 abbrev found : Result BlockHeader Fault → Option BlockHeader
@@ -37,14 +40,9 @@ found-header : (metadata : List ℕ) → block_header metadata ≡ found (opened
 unfolding block_header opened_message
 found-header metadata = found-table (root_at metadata)
 
-pub own-none : {P : Type 0} (e : Fault) → P → OwnFault e P
-own-none faults.Memory p = tt
-own-none (faults.Io e) p = tt
-own-none _ p = p
-
 gives : (result : Result BlockMessage Fault) (h : Option BlockHeader) (o : Result BlockHeader Fault) → answered_as message_seen result ≡ o → h ≡ found o → GivesPart message_seen result h
 gives (Ok m) h o e f = rw (← e) at f
-gives (Err x) h o e f = own-none x (rw (← e) at f)
+gives (Err x) h o e f = own_any x _ (rw (← e) at f)
 
 pub gives-message : (metadata : List ℕ) (result : Result BlockMessage Fault) → answered_as message_seen result ≡ opened_message metadata → GivesPart message_seen result (block_header metadata)
 gives-message metadata result e = gives result (block_header metadata) (opened_message metadata) e (found-header metadata)
@@ -53,3 +51,12 @@ gives-message metadata result e = gives result (block_header metadata) (opened_m
 pub no-header : block_header [] ≡ None
 unfolding block_header number_at
 no-header = refl
+
+-- a message that lacks its header is refused
+lacks : (e : Fault) → LacksHeader e → IsHeaderFault e
+lacks (OutOfSpec MissingMessageHeader) h = tt
+lacks (OutOfSpec (InvalidFlatbufferHeader x)) h = tt
+lacks _ h = absurd h
+
+pub header_faults : (e : Fault) → OwnFault e (LacksHeader e) → OwnFault e (IsHeaderFault e)
+header_faults e = claims_through e (LacksHeader e) (IsHeaderFault e) (lacks e)

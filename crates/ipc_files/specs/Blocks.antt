@@ -16,6 +16,7 @@ use Rattle.ipc_views.specs.declared.schema.MetadataVersion.{MetadataVersion}
 use Rattle.ipc_model.specs.Batches.{extra_of}
 use Rattle.ipc_model.specs.Files.{BlockHeader, Placed, placed}
 use Rattle.ipc_model.specs.Frame.{Frame, message, mark, waiting, broken, frame, sized, word}
+use Rattle.ipc_read.specs.Headers.{needed_header}
 use Rattle.ipc_files.specs.declared.read.file.block.BlockMessage.{BlockMessage}
 use Rattle.ipc_files.specs.declared.read.file.block.BlockPlace.{BlockPlace}
 
@@ -56,17 +57,6 @@ frame_fault negative None = Ended
 
 abbrev pub message_seen : BlockMessage → BlockHeader
 message_seen m = record { tag = (header_parts m.header).0; table = (header_parts m.header).1; extra = extra_of m.version }
-
--- an answer, seen as something else
-abbrev pub answered_as : {A B : Type 0} → (A → B) → Result A Fault → Result B Fault
-answered_as view (Ok x) = Ok (view x)
-answered_as view (Err e) = Err e
-
--- the header, which has to be there
-abbrev pub needed_header : Result (Option (ℕ × Spot)) TableFault → Result (ℕ × Spot) Fault
-needed_header (Ok (Some h)) = Ok h
-needed_header (Ok None) = Err (OutOfSpec MissingMessageHeader)
-needed_header (Err e) = Err (OutOfSpec (InvalidFlatbufferHeader e))
 
 abbrev pub stated_version : Result MetadataVersion TableFault → Result MetadataVersion Fault
 stated_version (Ok v) = Ok v

@@ -4,3 +4,4 @@ pub mod Chunks
 pub mod DictionaryBatches
 pub mod Refusals
 pub mod HeldChunks
+pub mod Headers

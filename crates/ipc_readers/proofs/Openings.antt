@@ -1,13 +1,19 @@
 -- An opened message is the message that the metadata means.
 use Rattle.std.proofs.Common.{◌≡◌, ℕ, ℤ, pos, negsuc, List, Option, Some, None, Result, Ok, Err, refl}
+use Rattle.ipc_devices.specs.Faults.{OwnFault}
 use Rattle.ipc_devices.specs.declared.fault.Fault.{Fault}
+use Rattle.ipc_devices.specs.declared.fault.Fault.TheVariants.{OutOfSpec}
+use Rattle.ipc_devices.specs.declared.fault.OutOfSpecKind.TheVariants.{MissingMessageHeader, InvalidFlatbufferHeader}
 use Rattle.ipc_devices.specs.declared.fault.TableFault.{TableFault}
 use Rattle.ipc_views.specs.MessageSlots.{message_header, message_body_length}
 use Rattle.ipc_views.specs.Spot.{Spot}
 use Rattle.ipc_views.specs.Tables.{root_at}
 use Rattle.ipc_model.specs.Streams.{Header, header_of, header_at, both_slots}
 use Rattle.ipc_readers.specs.declared.read.message.Message.{Message}
-use Rattle.ipc_readers.specs.Messages.{GivesMessage, header_seen, natural_length, needed_header, opened, opened_table, answered_as, with_header}
+use Rattle.ipc_read.specs.Headers.{LacksHeader, answered_as, needed_header}
+use Rattle.ipc_read.proofs.Refusals.{claims_through}
+use Rattle.ipc_readers.specs.Messages.{GivesMessage, header_seen, natural_length, opened, opened_table, with_header}
+use Rattle.ipc_readers.specs.Refusals.{IsMessageFault}
 
 found : Result Header Fault → Option Header
 found (Ok h) = Some h
@@ -37,3 +43,12 @@ gives (Err x) h o e f = rw (← e) at f
 
 pub gives_message : (metadata : List ℕ) (result : Result Message Fault) → answered_as header_seen result ≡ opened metadata → GivesMessage (header_of metadata) result
 gives_message metadata result e = gives result (header_of metadata) (opened metadata) e (found_header metadata)
+
+-- a message that lacks its header is refused
+lacks : (e : Fault) → LacksHeader e → IsMessageFault e
+lacks (OutOfSpec MissingMessageHeader) h = tt
+lacks (OutOfSpec (InvalidFlatbufferHeader x)) h = tt
+lacks _ h = absurd h
+
+pub header_faults : (e : Fault) → OwnFault e (LacksHeader e) → OwnFault e (IsMessageFault e)
+header_faults e = claims_through e (LacksHeader e) (IsMessageFault e) (lacks e)

@@ -3,28 +3,18 @@
 use Rattle.std.specs.Prelude.{◌≡◌, ℕ, ℤ, List, pos, negsuc, Option, Some, None, Result, Ok, Err}
 use Rattle.ipc_devices.specs.declared.fault.Fault.{Fault}
 use Rattle.ipc_devices.specs.declared.fault.Fault.TheVariants.{OutOfSpec}
-use Rattle.ipc_devices.specs.declared.fault.OutOfSpecKind.TheVariants.{InvalidFlatbufferMessage, MissingMessageHeader, InvalidFlatbufferHeader, InvalidFlatbufferBodyLength, UnexpectedNegativeInteger}
+use Rattle.ipc_devices.specs.declared.fault.OutOfSpecKind.TheVariants.{InvalidFlatbufferMessage, InvalidFlatbufferBodyLength, UnexpectedNegativeInteger}
 use Rattle.ipc_devices.specs.declared.fault.TableFault.{TableFault}
 use Rattle.ipc_views.specs.MessageSlots.{message_header, message_body_length}
 use Rattle.ipc_views.specs.Spot.{Spot}
 use Rattle.ipc_views.specs.Tables.{root_at}
 use Rattle.ipc_views.specs.Unions.{header_parts}
 use Rattle.ipc_model.specs.Streams.{Header}
+use Rattle.ipc_read.specs.Headers.{needed_header}
 use Rattle.ipc_readers.specs.declared.read.message.Message.{Message}
 
 abbrev pub header_seen : Message → Header
 header_seen m = record { tag = (header_parts m.header).0; table = (header_parts m.header).1; body = m.body_length }
-
--- an answer, seen as something else
-abbrev pub answered_as : {A B : Type 0} → (A → B) → Result A Fault → Result B Fault
-answered_as view (Ok x) = Ok (view x)
-answered_as view (Err e) = Err e
-
--- the header, which has to be there
-abbrev pub needed_header : Result (Option (ℕ × Spot)) TableFault → Result (ℕ × Spot) Fault
-needed_header (Ok (Some h)) = Ok h
-needed_header (Ok None) = Err (OutOfSpec MissingMessageHeader)
-needed_header (Err e) = Err (OutOfSpec (InvalidFlatbufferHeader e))
 
 -- the length, which isn't below 0
 abbrev pub natural_length : Result ℤ TableFault → Result ℕ Fault

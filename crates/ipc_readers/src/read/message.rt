@@ -1,13 +1,14 @@
 //! Opens the messages of a stream.
 ghost use Rattle.std.specs.Prelude.{◌≡◌, ◌<◌, ◌^◌, IfOk, IfErr};
 ghost use Rattle.ipc_devices.specs.Faults.{OnIo, OwnFault};
-ghost use Rattle.ipc_views.specs.MessageSlots.{message_header, message_body_length};
-ghost use Rattle.ipc_views.specs.Unions.{header_parts};
+ghost use Rattle.ipc_views.specs.MessageSlots.{message_body_length};
 ghost use Rattle.ipc_model.specs.Streams.{header_of};
-ghost use Rattle.ipc_readers.specs.Messages.{GivesMessage, header_seen, natural_length, needed_header, opened, answered_as};
+ghost use Rattle.ipc_read.specs.Headers.{answered_as};
+ghost use Rattle.ipc_readers.specs.Messages.{GivesMessage, header_seen, natural_length, opened};
 ghost use Rattle.ipc_readers.specs.Refusals.{IsMessageFault};
 
 use ipc_devices::fault::{Fault, OutOfSpecKind};
+use ipc_read::read::header::header_of;
 use ipc_views::{MessageHeaderRef, MessageRef};
 
 /// What a message behind the schema says of itself and of its body.
@@ -17,19 +18,6 @@ pub struct Message<'a> {
     pub header: MessageHeaderRef<'a>,
     /// The number of bytes of the body.
     pub body_length: usize,
-}
-
-// The header, which has to be there.
-fn header_of<'a>(message: &MessageRef<'a>) -> Result<MessageHeaderRef<'a>, Fault>
-    ensures value { answered_as header_parts result ≡ needed_header (message_header message.now) }
-    ensures device { OnIo result ⊥ }
-    ensures only { IfErr result (λ e. OwnFault e (IsMessageFault e)) }
-{
-    match message.header() {
-        Ok(Some(header)) => Ok(header),
-        Ok(None) => Err(Fault::OutOfSpec(OutOfSpecKind::MissingMessageHeader)),
-        Err(e) => Err(Fault::OutOfSpec(OutOfSpecKind::InvalidFlatbufferHeader(e))),
-    }
 }
 
 // The number of bytes of the body, which isn't below 0.
@@ -51,7 +39,7 @@ fn body_length_of(message: &MessageRef<'_>) -> Result<usize, Fault>
 /// Faults, each `OutOfSpec`: `InvalidFlatbufferMessage`, `MissingMessageHeader`,
 /// `InvalidFlatbufferHeader`, `InvalidFlatbufferBodyLength`, and `UnexpectedNegativeInteger` where the
 /// body's length is below 0.
-#[tactic(auto, unfolding(crate::specs::Messages::opened))]
+#[tactic(auto, unfolding(crate::specs::Messages::opened), using(crate::proofs::Openings::header_faults))]
 pub fn open_message(metadata: &[u8]) -> Result<Message<'_>, Fault>
     ensures small { IfOk result (λ m. m.body_length < 2 ^ 63) }
     ensures message { GivesMessage (header_of metadata.now) result }

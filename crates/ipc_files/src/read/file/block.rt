@@ -3,16 +3,17 @@ ghost use Rattle.std.specs.Prelude.{◌≡◌, ◌+◌, ◌≤◌, length, drop,
 ghost use Rattle.ipc_devices.specs.Device.{Rises, after};
 ghost use Rattle.ipc_devices.specs.Faults.{OnIo, UnlessIo, OwnFault, Answers};
 ghost use Rattle.ipc_devices.specs.declared.fault.Fault.TheVariants.{Ended, OutOfSpec};
-ghost use Rattle.ipc_views.specs.MessageSlots.{message_header, message_version};
-ghost use Rattle.ipc_views.specs.Unions.{header_parts};
+ghost use Rattle.ipc_views.specs.MessageSlots.{message_version};
 ghost use Rattle.ipc_model.specs.Files.{block_header, placed};
 ghost use Rattle.ipc_model.specs.Frame.{frame, word};
-ghost use Rattle.ipc_files.specs.Blocks.{GivesPrefix, IsFrameFault, IsHeaderFault, frame_fault, message_seen, needed_header, opened_message, place_seen, prefix_of, answered_as, stated_metadata, stated_version};
+ghost use Rattle.ipc_read.specs.Headers.{answered_as};
+ghost use Rattle.ipc_files.specs.Blocks.{GivesPrefix, IsFrameFault, IsHeaderFault, frame_fault, message_seen, opened_message, place_seen, prefix_of, stated_metadata, stated_version};
 ghost use Rattle.ipc_files.specs.Footers.{GivesPart};
 
 use crate::read::file::exact::read_exact;
 use ipc_devices::fault::{Fault, OutOfSpecKind};
 use ipc_devices::{Reads, Seeks, read_into};
+use ipc_read::read::header::header_of;
 use ipc_views::{Block, MessageHeaderRef, MessageRef, MetadataVersion};
 
 // The marker in front of a length, as a number.
@@ -109,18 +110,6 @@ pub(super) fn read_metadata<R: Reads + Seeks>(
     Ok(())
 }
 
-// The header, which has to be there.
-fn header_of<'a>(message: &MessageRef<'a>) -> Result<MessageHeaderRef<'a>, Fault>
-    ensures value { answered_as header_parts result ≡ needed_header (message_header message.now) }
-    ensures only { IfErr result (λ e. OwnFault e (IsHeaderFault e)) }
-{
-    match message.header() {
-        Ok(Some(header)) => Ok(header),
-        Ok(None) => Err(Fault::OutOfSpec(OutOfSpecKind::MissingMessageHeader)),
-        Err(e) => Err(Fault::OutOfSpec(OutOfSpecKind::InvalidFlatbufferHeader(e))),
-    }
-}
-
 // The version, which is judged in each message of a file.
 fn version_of(message: &MessageRef<'_>) -> Result<MetadataVersion, Fault>
     ensures value { result ≡ stated_version (message_version message.now) }
@@ -133,7 +122,7 @@ fn version_of(message: &MessageRef<'_>) -> Result<MetadataVersion, Fault>
 }
 
 // Opens the metadata of a message. It takes no memory.
-#[tactic(auto, unfolding(crate::specs::Blocks::opened_message))]
+#[tactic(auto, unfolding(crate::specs::Blocks::opened_message), using(crate::proofs::BlockHeaders::header_faults))]
 pub(super) fn open_message(metadata: &[u8]) -> Result<BlockMessage<'_>, Fault>
     ensures exact { answered_as message_seen result ≡ opened_message metadata.now }
     ensures meaning { GivesPart message_seen result (block_header metadata.now) }

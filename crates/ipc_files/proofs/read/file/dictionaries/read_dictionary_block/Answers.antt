@@ -6,7 +6,7 @@ use Rattle.ipc_files.specs.Blocks.{message_seen, place_seen}
 use Rattle.ipc_read.specs.DictionaryBatches.{IsDictionaryFault}
 use Rattle.ipc_files.proofs.BlockDictionaries.{refused-dictionary-place, refused-dictionary-message, refused-dictionary-header, refused-dictionary-kind, read-dictionary}
 use Rattle.ipc_files.proofs.BlockFaults.{dictionary-kind, ill-made, in-batch, no-message, other-kind, unplaced}
-use Rattle.ipc_files.proofs.BlockHeaders.{own-none}
+use Rattle.ipc_read.proofs.Refusals.{own_any}
 use Rattle.ipc_files.proofs.BlockRecords.{message-read}
 use Rattle.ipc_files.proofs.read.file.dictionaries.read_dictionary_block.Goals as goal
 
@@ -35,7 +35,7 @@ pub returns-in_err-batch-clause-memory : goal.returns-in_err-batch-clause-memory
 returns-in_err-batch-clause-memory g c = λ k.
     let e = c.in_err-batch.field-0.0 in
     let is : c.from_residual-in_err-batch.result ≡ Err e = search rules in
-    rw is (own-none e (refused-dictionary-kind c.args.metadata.now (known_dictionaries c.args.dictionaries.now) (g.R.Failures.memory c.args.reader.now).whole c.args.block.now
+    rw is (own_any e _ (refused-dictionary-kind c.args.metadata.now (known_dictionaries c.args.dictionaries.now) (g.R.Failures.memory c.args.reader.now).whole c.args.block.now
     c.in_ok-place.place c.in_ok-place.ensures.place c.read_metadata.new.metadata.items (c.in_ok-read_metadata.ensures.memory k) c.in_ok-message.message
     (ap block_header (sym c.deref.ensures.value) ∙ c.in_ok-message.ensures.meaning) e c.in_err-batch.ensures))
 
