@@ -1,8 +1,7 @@
 -- What is said of the writer of a file over a device that is lent is said of one over the device itself.
-use Rattle.std.proofs.Common.{arith, ◌≡◌, ℕ, ◌+◌, ◌≤◌, Bool, true, IsTrue, List, [], ◌∷◌, ◌++◌, length, take, None, Err, inl, inr, ap, subst, sym, ◌∙◌}
+use Rattle.std.proofs.Common.{arith, ◌≡◌, ℕ, ◌+◌, ◌≤◌, Bool, true, List, [], ◌∷◌, ◌++◌, length, take, None, Err, inl, inr, ap, subst, sym, ◌∙◌}
 use Rattle.lower_arrays.specs.declared.array.AnyArray.{AnyArray}
 use Rattle.ipc_devices.specs.Device.{Memory, after, before}
-use Rattle.ipc_devices.specs.Faults.{OwnFault}
 use Rattle.ipc_devices.specs.declared.fault.ArgFault.TheVariants.{TooLarge}
 use Rattle.ipc_devices.specs.declared.fault.Fault.{Fault}
 use Rattle.ipc_devices.specs.declared.fault.Fault.TheVariants.{Argument}
@@ -11,9 +10,8 @@ use Rattle.ipc_model.specs.Entries.{Dictionaries}
 use Rattle.ipc_write.specs.declared.stream.WriterState.{WriterState}
 use Rattle.ipc_write.specs.declared.stream.WriterState.TheVariants.{Failed, Finished, New, Started}
 use Rattle.ipc_file_write.specs.AppendLaws.{NoMore, Onward}
-use Rattle.ipc_file_write.specs.FileWriters.{AnswersFinish, FileIs, FileSeen, HoldsBytes, IsFresh, IsOpenFile, IsWholeFile, MayBeFinished}
+use Rattle.ipc_file_write.specs.FileWriters.{AnswersFinish, FileIs, FileSeen, HoldsBytes, IsOpenFile, MayBeFinished}
 use Rattle.ipc_file_write.specs.Writes.{HaveBlocks, MayBeWritten, MissesWrite, Written, WritesExactly}
-use Rattle.ipc_sessions.specs.Steps.{TakesChunks}
 use Rattle.ipc_convert.proofs.Own.{own}
 use Rattle.ipc_convert.specs.Refusals.{CopiesNoFile, CopiesNoStream, RefusesAsFile}
 use Rattle.ipc_convert.specs.Sinks.{TookBlocks}

@@ -1,6 +1,7 @@
 mod CatRows
 mod ClassRows
 mod ConvertRows
+mod Demos
 mod IoLines
 mod Lending
 mod LentFiles
@@ -8,4 +9,6 @@ mod LineRows
 mod PositionRows
 mod Reasons
 mod RefusalRows
+mod Shown
+mod ShownRows
 mod WrittenRows

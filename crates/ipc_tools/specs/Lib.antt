@@ -1,9 +1,11 @@
+pub mod CatRefusals
 pub mod CatRows
 pub mod CatWords
 pub mod ClassRows
 pub mod Classes
 pub mod ConvertRows
 pub mod ConvertWords
+pub mod Demo
 pub mod LineRows
 pub mod Lines
 pub mod Named
@@ -11,5 +13,6 @@ pub mod PositionRows
 pub mod Positions
 pub mod RefusalRows
 pub mod Refusals
+pub mod ShownRows
 pub mod Written
 pub mod WrittenRows

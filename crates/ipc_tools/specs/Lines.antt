@@ -19,9 +19,3 @@ pub record TellsWhy (program : List ℕ) (Why : Fault → Type 0) (known grows :
   pub why : Why fault
   pub answer : Result Unit Fault
   pub sends : Sends known grows d d' answer (line_of program fault)
-
--- So was that of any fault.
-pub record Tells (program : List ℕ) (known grows : Bool) (d d' : DeviceSeen) : Type 0 where
-  pub fault : Fault
-  pub answer : Result Unit Fault
-  pub sends : Sends known grows d d' answer (line_of program fault)

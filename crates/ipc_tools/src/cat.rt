@@ -1,8 +1,9 @@
 //! `ipcat`: writes the documented example as an Arrow IPC stream, and shows the streams and files that it is given.
-ghost use Rattle.std.specs.Prelude.{◌≡◌, ◌≤◌, codes, map, option_and_then, option_map, string_bytes, false, None, Some, Ok, Err, IfErr, IfOk, IfSome, IsSome};
-ghost use Rattle.ipc_devices.specs.Faults.{IsIo};
+ghost use Rattle.std.specs.Prelude.{◌≡◌, ◌⊎◌, ◌≤◌, codes, map, option_and_then, option_map, string_bytes, false, None, Some, Ok, Err, IfErr, IfOk, IfSome, IsSome};
+ghost use Rattle.ipc_devices.specs.Faults.{IsIo, OwnFault};
 ghost use Rattle.ipc_plan.specs.Sending.{seen_by};
-ghost use Rattle.ipc_tools.specs.Lines.{Tells, Told};
+ghost use Rattle.ipc_tools.specs.Lines.{TellsWhy, Told};
+ghost use Rattle.ipc_tools.specs.CatRefusals.{ShowsNoFile, ShowsNothing};
 ghost use Rattle.ipc_tools.specs.CatWords.{asked, wanted_by, judges_columns, opened_for, reads_input};
 ghost use Rattle.ipc_tools.specs.declared.cat.show.Outcome.TheVariants.{Done};
 
@@ -53,8 +54,9 @@ pub fn run<R: Reads, F: Reads + Seeks + Drop, O: Writes, E: Writes>(
     ensures usage { asked (map string_bytes words.now) ≡ None → result ≡ 2 }
     ensures unopened { IfSome (option_and_then opened_for (asked (map string_bytes words.now))) (λ path. file ≡ None → result ≡ 1) }
     ensures unread { IfSome (asked (map string_bytes words.now)) (λ form. reads_input form ≡ false → input.new ≡ input.old) }
-    ensures line { result ≡ 1 → Tells (codes "ipcat") E.known E.grows
-        (seen_by E.failures E.room E.memory err.old) (seen_by E.failures E.room E.memory err.new) }
+    ensures line { result ≡ 1 → TellsWhy (codes "ipcat") (λ e. IfSome (asked (map string_bytes words.now)) (λ form. OwnFault e
+        (ShowsNothing R.gives R.known R.memory F.known F.memory form input.old file e)))
+        E.known E.grows (seen_by E.failures E.room E.memory err.old) (seen_by E.failures E.room E.memory err.new) }
     ensures unopened_told { IfSome (option_and_then opened_for (asked (map string_bytes words.now)))
         (λ path. file ≡ None → Told E.known E.grows
         (seen_by E.failures E.room E.memory err.old) (seen_by E.failures E.room E.memory err.new) (codes "ipcat: input or output failed\n")) }
@@ -94,6 +96,7 @@ fn run_form<R: Reads, F: Reads + Seeks + Drop, O: Writes>(
     ensures missing { IfSome (opened_for (wanted_by form.entry)) (λ path. file ≡ None → IfErr result IsIo) }
     ensures judged { judges_columns (wanted_by form.entry) ≡ false → IfOk result (λ outcome. outcome ≡ Done) }
     ensures unread { reads_input (wanted_by form.entry) ≡ false → input.new ≡ input.old }
+    ensures refused { IfErr result (λ e. OwnFault e (ShowsNothing R.gives R.known R.memory F.known F.memory (wanted_by form.entry) input.old file e)) }
 {
     match form {
         Form::Demo => {
@@ -117,6 +120,7 @@ fn run_form<R: Reads, F: Reads + Seeks + Drop, O: Writes>(
 fn sent<O: Writes>(shown: Result<Outcome, Fault>, mut printer: Printer<O>) -> Result<Outcome, Fault>
     ensures same { IfOk result (λ outcome. shown ≡ Ok outcome) }
     ensures first { IfErr shown (λ fault. result ≡ Err fault) }
+    ensures fault { IfErr result (λ e. (shown ≡ Err e) ⊎ OwnFault e ⊥) }
 {
     let sent = printer.send();
     let outcome = shown?;
@@ -132,6 +136,7 @@ fn show_opened<F: Reads + Seeks + Drop, O: Writes>(
 ) -> Result<Outcome, Fault>
     ensures opened { IfOk result (λ _. IsSome file) }
     ensures missing { file ≡ None → IfErr result IsIo }
+    ensures refused { IfSome file (λ device. IfErr result (λ e. OwnFault e (ShowsNoFile F.known F.memory device e))) }
 {
     match file {
         Some(mut file) => show_file(alloc, &mut file, words, printer),

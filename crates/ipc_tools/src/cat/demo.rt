@@ -1,4 +1,11 @@
 //! The documented example: two columns of whole numbers, written five times.
+ghost use Rattle.std.specs.Prelude.{◌≡◌, [], ◌∷◌, false, map, IfErr, IfOk};
+ghost use Rattle.lower.specs.TypeTrees.{field, int32, plain};
+ghost use Rattle.lower.specs.TypeViews.{field_view, fields_view, pairs_of};
+ghost use Rattle.lower_arrays.specs.AnyLayouts.{layout_of};
+ghost use Rattle.ipc_devices.specs.Faults.{OwnFault};
+ghost use Rattle.ipc_model.specs.OfferRows.{demo, integers_are};
+ghost use Rattle.ipc_tools.specs.Demo.{demo_fields};
 
 use arrow2_ipc::array::{AnyArray, AnyPrimitive, PrimitiveArray};
 use arrow2_ipc::buffer::Buffer;
@@ -8,8 +15,10 @@ use arrow2_ipc::io::ipc::fault::{Fault, Writes};
 use arrow2_ipc::io::ipc::write::{StreamWriter, WriteOptions};
 use std::alloc::Global;
 
-/// Writes the example as a stream.
-pub fn write_demo<W: Writes + Drop>(alloc: Global, out: W) -> Result<(), Fault> {
+/// Writes the example as a stream. `Memory` and `Io` are the only faults.
+pub fn write_demo<W: Writes + Drop>(alloc: Global, out: W) -> Result<(), Fault>
+    ensures { IfErr result (λ e. OwnFault e ⊥) }
+{
     let schema = demo_schema(alloc)?;
     let chunk = demo_chunk(alloc)?;
     let mut writer = StreamWriter::new(alloc, out, WriteOptions::default());
@@ -20,14 +29,21 @@ pub fn write_demo<W: Writes + Drop>(alloc: Global, out: W) -> Result<(), Fault> 
     writer.finish()
 }
 
-fn demo_schema(alloc: Global) -> Result<Schema, Fault> {
+fn demo_schema(alloc: Global) -> Result<Schema, Fault>
+    ensures fields { IfOk result (λ schema. fields_view schema.fields.items ≡ demo_fields) }
+    ensures metadata { IfOk result (λ schema. pairs_of schema.metadata.entries ≡ []) }
+    ensures only { IfErr result (λ e. OwnFault e ⊥) }
+{
     Ok(Schema {
         fields: vec![in alloc; demo_field(alloc, "x")?, demo_field(alloc, "y")?]?,
         metadata: Metadata::new(alloc),
     })
 }
 
-fn demo_field(alloc: Global, name: &str) -> Result<Field, Fault> {
+fn demo_field(alloc: Global, name: &str) -> Result<Field, Fault>
+    ensures is { IfOk result (λ f. field_view f ≡ field name.now (plain int32) false []) }
+    ensures only { IfErr result (λ e. OwnFault e ⊥) }
+{
     Ok(Field {
         name: name.to_string(alloc)?,
         data_type: DataType::Int32,
@@ -36,14 +52,20 @@ fn demo_field(alloc: Global, name: &str) -> Result<Field, Fault> {
     })
 }
 
-fn demo_chunk(alloc: Global) -> Result<Chunk<AnyArray>, Fault> {
+fn demo_chunk(alloc: Global) -> Result<Chunk<AnyArray>, Fault>
+    ensures columns { IfOk result (λ chunk. map layout_of chunk ≡ demo) }
+    ensures only { IfErr result (λ e. OwnFault e ⊥) }
+{
     let mut columns = Vec::new(alloc);
     columns.push(demo_column(alloc, [-1, 1])?)?;
     columns.push(demo_column(alloc, [1, -1])?)?;
     Chunk::try_new(columns)
 }
 
-fn demo_column(alloc: Global, numbers: [i32; 2]) -> Result<AnyArray, Fault> {
+fn demo_column(alloc: Global, numbers: [i32; 2]) -> Result<AnyArray, Fault>
+    ensures is { IfOk result (λ column. layout_of column ≡ integers_are numbers) }
+    ensures only { IfErr result (λ e. OwnFault e ⊥) }
+{
     let values = Buffer::new(Vec::from_slice(alloc, &numbers)?)?;
     let array = PrimitiveArray::try_new(DataType::Int32, values, None)?;
     Ok(AnyArray::Primitive(AnyPrimitive::Int32(array)))

@@ -1,6 +1,10 @@
 //! Prints a file: its schema, and the chunk at each of its blocks row by row.
-ghost use Rattle.std.specs.Prelude.{length, IfOk};
+ghost use Rattle.std.specs.Prelude.{◌≡◌, ◌⊎◌, length, IfErr, IfOk, IsTrue};
+ghost use Rattle.ipc_devices.specs.Faults.{OwnFault};
+ghost use Rattle.ipc_files.specs.Footers.{file_seen};
+ghost use Rattle.ipc_convert.specs.Sources.{LacksDictionaries};
 ghost use Rattle.ipc_projections.specs.Projections.{IsPrepared, IsReordering};
+ghost use Rattle.ipc_tools.specs.CatRefusals.{LacksColumns, ShowsNoFile};
 ghost use Rattle.ipc_tools.specs.Positions.{AreOf};
 
 use crate::cat::forms::{Columns, FileWords};
@@ -21,7 +25,9 @@ pub fn show_file<F: Reads + Seeks, W: Writes>(
     file: &mut F,
     words: FileWords<'_>,
     printer: &mut Printer<W>,
-) -> Result<Outcome, Fault> {
+) -> Result<Outcome, Fault>
+    ensures { IfErr result (λ e. OwnFault e (ShowsNoFile F.known F.memory file.old e)) }
+{
     let metadata = read_file_metadata(alloc, file)?;
     let fields = metadata.schema.fields.as_slice();
     let Some(positions) = positions_of(alloc, words.columns, fields.len())? else {
@@ -73,6 +79,8 @@ fn show_blocks<F: Reads + Seeks, W: Writes>(
 ) -> Result<(), Fault>
     requires prepared { IsPrepared columns.now (length metadata.now.schema.fields.items) }
     requires reordering { IsReordering places.now (length columns.now) }
+    ensures { IsTrue F.known → IfErr result (λ e. OwnFault e
+        (LacksDictionaries (file_seen metadata.now) (F.memory file.old).whole e ⊎ LacksColumns (file_seen metadata.now) (F.memory file.old).whole e)) }
 {
     if metadata.blocks.is_empty() {
         return Ok(());

@@ -1,5 +1,6 @@
 //! What is printed, sent to the output in large writes.
-ghost use Rattle.std.specs.Prelude.{◌<◌};
+ghost use Rattle.std.specs.Prelude.{◌<◌, IfErr};
+ghost use Rattle.ipc_devices.specs.Faults.{OwnFault};
 
 use arrow2_ipc::io::ipc::fault::{Fault, Writes};
 use ipc_write::common_sync::write_all;
@@ -26,7 +27,9 @@ impl<'a, W: Writes> Printer<'a, W> {
     }
 
     /// Adds these bytes. `Io` where sending fails, `Memory` where they can't be kept.
-    pub fn put(&mut self, bytes: &[u8]) -> Result<(), Fault> {
+    pub fn put(&mut self, bytes: &[u8]) -> Result<(), Fault>
+        ensures { IfErr result (λ e. OwnFault e ⊥) }
+    {
         self.kept.extend_from_slice(bytes)?;
         if KEPT <= self.kept.len() {
             self.send()?;
@@ -35,7 +38,9 @@ impl<'a, W: Writes> Printer<'a, W> {
     }
 
     /// Sends what is kept. What couldn't be sent is given up: a failed call isn't tried again.
-    pub fn send(&mut self) -> Result<(), Fault> {
+    pub fn send(&mut self) -> Result<(), Fault>
+        ensures { IfErr result (λ e. OwnFault e ⊥) }
+    {
         let sent = write_all(&mut *self.out, &self.kept);
         self.kept.clear();
         sent?;
@@ -44,18 +49,24 @@ impl<'a, W: Writes> Printer<'a, W> {
     }
 
     /// Adds a byte as two hexadecimal digits.
-    pub fn put_byte(&mut self, byte: u8) -> Result<(), Fault> {
+    pub fn put_byte(&mut self, byte: u8) -> Result<(), Fault>
+        ensures { IfErr result (λ e. OwnFault e ⊥) }
+    {
         self.put(&[hexadecimal(byte / 16), hexadecimal(byte % 16)])
     }
 }
 
 /// Prints a whole number in decimal.
-pub fn put_number<W: Writes, N: Integer>(printer: &mut Printer<W>, number: N) -> Result<(), Fault> {
+pub fn put_number<W: Writes, N: Integer>(printer: &mut Printer<W>, number: N) -> Result<(), Fault>
+    ensures { IfErr result (λ e. OwnFault e ⊥) }
+{
     printer.put(Buffer::new().format(number).as_bytes())
 }
 
 /// Prints a text in double quotes, in which quotes, backslashes and control bytes are `\x` and two digits.
-pub fn put_text<W: Writes>(printer: &mut Printer<W>, text: &[u8]) -> Result<(), Fault> {
+pub fn put_text<W: Writes>(printer: &mut Printer<W>, text: &[u8]) -> Result<(), Fault>
+    ensures { IfErr result (λ e. OwnFault e ⊥) }
+{
     printer.put(b"\"")?;
     for byte in text {
         if *byte < 0x20 || *byte == 0x7f || *byte == b'"' || *byte == b'\\' {

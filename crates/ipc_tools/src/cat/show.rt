@@ -1,5 +1,9 @@
 //! Prints a stream: its schema, and each chunk row by row.
-ghost use Rattle.std.specs.Prelude.{◌≡◌, IfOk, IsSome};
+ghost use Rattle.std.specs.Prelude.{◌≡◌, IfErr, IfOk, IfSome, IsSome, None};
+ghost use Rattle.ipc_devices.specs.Faults.{OwnFault};
+ghost use Rattle.ipc_convert.specs.Sources.{StreamBreaks};
+ghost use Rattle.ipc_tools.specs.CatWords.{columns_by};
+ghost use Rattle.ipc_tools.specs.CatRefusals.{BreaksBehind, Came, OpensStream, ShowsNoStream};
 ghost use Rattle.ipc_tools.specs.declared.cat.forms.Columns.TheVariants.{All};
 ghost use Rattle.ipc_tools.specs.declared.cat.show.Outcome.TheVariants.{Done};
 
@@ -10,7 +14,8 @@ use arrow2_ipc::array::AnyArray;
 use arrow2_ipc::chunk::Chunk;
 use arrow2_ipc::datatypes::Field;
 use arrow2_ipc::io::ipc::fault::{Fault, Reads, Writes};
-use arrow2_ipc::io::ipc::read::{StreamReader, StreamState, is_projection, read_stream_metadata};
+use arrow2_ipc::io::ipc::read::{StreamReader, is_projection, read_stream_metadata};
+use ipc_convert::chunks::{Ending, Next, Source};
 use std::alloc::{AllocError, Global};
 
 /// What came of a form that met no fault.
@@ -22,14 +27,6 @@ pub enum Outcome {
     WrongWords,
 }
 
-// What a stream gave, and whether to ask it again.
-#[derive(Clone, Copy, PartialEq, Eq)]
-enum Progress {
-    Chunk,
-    Waits,
-    Over,
-}
-
 /// Prints these columns of a stream, up to its end or to where it waits for more; where `2^64 - 1` chunks came, as if it ended there. Its
 /// schema is read first, and then the positions of the columns are judged. Other columns aren't read.
 pub fn show_stream<R: Reads + Drop, W: Writes>(
@@ -38,23 +35,17 @@ pub fn show_stream<R: Reads + Drop, W: Writes>(
     columns: Columns<'_>,
     printer: &mut Printer<W>,
 ) -> Result<Outcome, Fault>
-    ensures { columns.entry ≡ All → IfOk result (λ outcome. outcome ≡ Done) }
+    ensures done { columns.entry ≡ All → IfOk result (λ outcome. outcome ≡ Done) }
+    ensures refused { IfErr result (λ e. OwnFault e (ShowsNoStream R.gives R.known R.memory input (columns_by columns.entry) e)) }
 {
     let Some(mut reader) = open_stream(alloc, input, columns)? else {
         return Ok(Outcome::WrongWords);
     };
     put_schema(printer, &reader.schema().fields)?;
-    for _ in 0..u64::MAX {
-        match show_next(&mut reader, printer)? {
-            Progress::Chunk => printer.send()?,
-            Progress::Waits => {
-                printer.put(b"waiting\n")?;
-                return Ok(Outcome::Done);
-            }
-            Progress::Over => break,
-        }
+    match show_chunks(&mut reader, printer)? {
+        Ending::Waits => printer.put(b"waiting\n")?,
+        Ending::Over => printer.put(b"end\n")?,
     }
-    printer.put(b"end\n")?;
     Ok(Outcome::Done)
 }
 
@@ -64,7 +55,9 @@ fn open_stream<R: Reads + Drop>(
     input: R,
     columns: Columns<'_>,
 ) -> Result<Option<StreamReader<R>>, Fault>
-    ensures { columns.entry ≡ All → IfOk result (λ reader. IsSome reader) }
+    ensures there { columns.entry ≡ All → IfOk result (λ reader. IsSome reader) }
+    ensures opens { IfOk result (λ reader. IfSome reader (OpensStream R.gives input (columns_by columns.entry))) }
+    ensures refused { IfErr result (λ e. OwnFault e (ShowsNoStream R.gives R.known R.memory input (columns_by columns.entry) e)) }
 {
     let mut input = input;
     let metadata = read_stream_metadata(alloc, &mut input)?;
@@ -94,23 +87,43 @@ pub fn positions_in(alloc: Global, word: &str) -> Result<Option<Vec<usize>>, All
     Ok(Some(positions))
 }
 
+// Prints the chunks up to where they end, or to where the stream waits.
+fn show_chunks<R: Reads + Drop, W: Writes>(
+    reader: &mut StreamReader<R>,
+    printer: &mut Printer<W>,
+) -> Result<Ending, Fault>
+    ensures { IfErr result (λ e. OwnFault e (BreaksBehind R.gives reader.old e)) }
+{
+    for _ in 0..u64::MAX {
+        if let Some(ending) = show_next(reader, printer)? {
+            return Ok(ending);
+        }
+        printer.send()?;
+    }
+    Ok(Ending::Over)
+}
+
+// Prints the next chunk, where one comes, else says how they ended.
 fn show_next<R: Reads + Drop, W: Writes>(
     reader: &mut StreamReader<R>,
     printer: &mut Printer<W>,
-) -> Result<Progress, Fault> {
-    match reader.next() {
-        None => Ok(Progress::Over),
-        Some(Err(fault)) => Err(fault),
-        Some(Ok(StreamState::Waiting)) => Ok(Progress::Waits),
-        Some(Ok(StreamState::Some(chunk))) => {
+) -> Result<Option<Ending>, Fault>
+    ensures came { IfOk result (λ ending. ending ≡ None → Came R.gives reader.old reader.new) }
+    ensures broken { IfErr result (λ e. OwnFault e (StreamBreaks R.gives reader.old e)) }
+{
+    match reader.next_chunk()? {
+        Next::Chunk(chunk) => {
             put_chunk(printer, &chunk)?;
-            Ok(Progress::Chunk)
+            Ok(None)
         }
+        Next::End(ending) => Ok(Some(ending)),
     }
 }
 
 /// Prints the names of these fields.
-pub fn put_schema<W: Writes>(printer: &mut Printer<W>, fields: &[Field]) -> Result<(), Fault> {
+pub fn put_schema<W: Writes>(printer: &mut Printer<W>, fields: &[Field]) -> Result<(), Fault>
+    ensures { IfErr result (λ e. OwnFault e ⊥) }
+{
     printer.put(b"schema ")?;
     put_number(printer, fields.len())?;
     printer.put(b"\n")?;
@@ -122,10 +135,9 @@ pub fn put_schema<W: Writes>(printer: &mut Printer<W>, fields: &[Field]) -> Resu
 }
 
 /// Prints a chunk row by row.
-pub fn put_chunk<W: Writes>(
-    printer: &mut Printer<W>,
-    chunk: &Chunk<AnyArray>,
-) -> Result<(), Fault> {
+pub fn put_chunk<W: Writes>(printer: &mut Printer<W>, chunk: &Chunk<AnyArray>) -> Result<(), Fault>
+    ensures { IfErr result (λ e. OwnFault e ⊥) }
+{
     printer.put(b"chunk ")?;
     put_number(printer, chunk.len())?;
     printer.put(b"\n")?;
@@ -139,7 +151,9 @@ fn put_row<W: Writes>(
     printer: &mut Printer<W>,
     arrays: &[AnyArray],
     row: usize,
-) -> Result<(), Fault> {
+) -> Result<(), Fault>
+    ensures { IfErr result (λ e. OwnFault e ⊥) }
+{
     for (column, array) in arrays.iter().enumerate() {
         if column != 0 {
             printer.put(b"\t")?;
@@ -150,11 +164,9 @@ fn put_row<W: Writes>(
 }
 
 // Prints what stands in a row. A row that isn't there, which no column of a chunk lacks, prints as `null`.
-fn put_cell<W: Writes>(
-    printer: &mut Printer<W>,
-    array: &AnyArray,
-    row: usize,
-) -> Result<(), Fault> {
+fn put_cell<W: Writes>(printer: &mut Printer<W>, array: &AnyArray, row: usize) -> Result<(), Fault>
+    ensures { IfErr result (λ e. OwnFault e ⊥) }
+{
     if row < array.len() {
         put_slot(printer, array, row)
     } else {

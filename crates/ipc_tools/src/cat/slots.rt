@@ -1,5 +1,6 @@
 //! Prints slots of arrays of any kind.
-ghost use Rattle.std.specs.Prelude.{◌+◌, ◌<◌, ◌≤◌, length, map};
+ghost use Rattle.std.specs.Prelude.{◌+◌, ◌<◌, ◌≤◌, IfErr, length, map};
+ghost use Rattle.ipc_devices.specs.Faults.{OwnFault};
 ghost use Rattle.lower_arrays.specs.AnyLayouts.{layout_of};
 ghost use Rattle.lower_arrays.specs.Children.{AllReach};
 ghost use Rattle.lower_arrays.specs.Layouts.{height, heights, layouts, len_of};
@@ -21,6 +22,7 @@ pub fn put_slot<W: Writes>(
     index: usize,
 ) -> Result<(), Fault>
     requires { index < len_of (layout_of array.now) }
+    ensures { IfErr result (λ e. OwnFault e ⊥) }
 {
     match value_at(array, index) {
         Value::Null => printer.put(b"null"),
@@ -45,6 +47,7 @@ fn put_nested<W: Writes>(
     place: usize,
 ) -> Result<(), Fault>
     requires { NestedFits nesting children.now place }
+    ensures { IfErr result (λ e. OwnFault e ⊥) }
 {
     match nesting {
         Nesting::List(len) => put_list(printer, &children[0], place, len),
@@ -66,6 +69,7 @@ fn put_list<W: Writes>(
     len: usize,
 ) -> Result<(), Fault>
     requires { place + len ≤ len_of (layout_of child.now) }
+    ensures { IfErr result (λ e. OwnFault e ⊥) }
 {
     let _slots = child.len();
     printer.put(b"[")?;
@@ -95,6 +99,7 @@ fn put_record<W: Writes>(
     place: usize,
 ) -> Result<(), Fault>
     requires { AllReach (place + 1) (layouts (map layout_of children.now)) }
+    ensures { IfErr result (λ e. OwnFault e ⊥) }
 {
     printer.put(b"{")?;
     for index in 0..children.len() {
@@ -105,7 +110,9 @@ fn put_record<W: Writes>(
 }
 
 // What stands in front of all but the first.
-fn put_comma<W: Writes>(printer: &mut Printer<W>, index: usize) -> Result<(), Fault> {
+fn put_comma<W: Writes>(printer: &mut Printer<W>, index: usize) -> Result<(), Fault>
+    ensures { IfErr result (λ e. OwnFault e ⊥) }
+{
     if index == 0 {
         return Ok(());
     }
@@ -113,7 +120,9 @@ fn put_comma<W: Writes>(printer: &mut Printer<W>, index: usize) -> Result<(), Fa
 }
 
 // Prints a whole number in decimal, 256 bits in hexadecimal, and the parts of others in parentheses.
-fn put_scalar<W: Writes>(printer: &mut Printer<W>, number: Scalar) -> Result<(), Fault> {
+fn put_scalar<W: Writes>(printer: &mut Printer<W>, number: Scalar) -> Result<(), Fault>
+    ensures { IfErr result (λ e. OwnFault e ⊥) }
+{
     match number {
         Scalar::Whole(number) => put_number(printer, number),
         Scalar::Wide(number) => put_wide(printer, number),
@@ -137,14 +146,18 @@ fn put_scalar<W: Writes>(printer: &mut Printer<W>, number: Scalar) -> Result<(),
 }
 
 // Prints a number of 256 bits: `0x` and its 64 digits in two's complement, the highest first.
-fn put_wide<W: Writes>(printer: &mut Printer<W>, number: i256) -> Result<(), Fault> {
+fn put_wide<W: Writes>(printer: &mut Printer<W>, number: i256) -> Result<(), Fault>
+    ensures { IfErr result (λ e. OwnFault e ⊥) }
+{
     printer.put(b"0x")?;
     put_digits(printer, &number.high.to_be_bytes())?;
     put_digits(printer, &number.low.to_be_bytes())
 }
 
 // Prints each byte as two hexadecimal digits.
-fn put_digits<W: Writes>(printer: &mut Printer<W>, bytes: &[u8]) -> Result<(), Fault> {
+fn put_digits<W: Writes>(printer: &mut Printer<W>, bytes: &[u8]) -> Result<(), Fault>
+    ensures { IfErr result (λ e. OwnFault e ⊥) }
+{
     for byte in bytes {
         printer.put_byte(*byte)?;
     }

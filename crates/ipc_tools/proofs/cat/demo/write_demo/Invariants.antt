@@ -1,0 +1,7 @@
+use Rattle.ipc_write.specs.Writers.{seen}
+use Rattle.ipc_tools.proofs.Demos.{IsDemoWriter}
+use Rattle.ipc_tools.proofs.cat.demo.write_demo.Given as goal
+
+-- the writer was started, and takes the chunk
+abbrev pub invariant-loop : goal.invariant-loop
+invariant-loop g l = IsDemoWriter (seen l.writer)
