@@ -23,6 +23,7 @@ column_rows = record {
   all_columns = refl;
   one_position = refl;
   as_named = refl;
+  leading_zeros = refl;
   repeated = refl;
   too_great = refl;
   no_position = refl;
@@ -105,6 +106,12 @@ held_rows = record {
   of_stream = refl;
   of_columns = λ word. refl;
   of_path = λ path. refl;
+  numbers = refl;
+  no_number = λ h. cc;
+  names_all = tt;
+  names_word = λ word h. h;
+  has_of_stream = λ word h. h;
+  has_of_file = λ path word h. h;
   of_file = λ path word. refl;
 }
 

@@ -1,3 +1,4 @@
+mod Blocks
 mod CatRows
 mod ClassRows
 mod ConvertRows
@@ -6,6 +7,7 @@ mod IoLines
 mod Lending
 mod LentFiles
 mod LineRows
+mod Numbers
 mod PositionRows
 mod Reasons
 mod RefusalRows

@@ -4,7 +4,7 @@ use Rattle.std.specs.Borrow.{Bor}
 use Rattle.std.specs.List.{slice_split}
 use Rattle.ipc_tools.specs.declared.cat.forms.Columns.TheVariants.{All, At}
 use Rattle.ipc_tools.specs.declared.cat.forms.Form.TheVariants.{Demo, Stream, File}
-use Rattle.ipc_tools.specs.CatWords.{Wanted, demo, stream, file, asked, wanted_by, columns_by, columns_named, is_decimal, limit_named, opened_for, pieces}
+use Rattle.ipc_tools.specs.CatWords.{Wanted, demo, stream, file, asked, wanted_by, columns_by, columns_named, is_decimal, limit_named, opened_for, pieces, positions_named, AreNumbers, HasNumbers, NamesNumbers}
 
 -- The first and the last digit, and the bytes next to them. No sign and no blank belongs to a number, and no digit of another script.
 pub record DecimalRows : Type 0 where
@@ -25,10 +25,11 @@ pub record ColumnRows : Type 0 where
   pub one_piece : pieces (codes "10") ≡ codes "10" ∷ []
   pub two_pieces : pieces (codes "10,2") ≡ codes "10" ∷ codes "2" ∷ []
   pub all_columns : columns_named (codes "-") ≡ Some None
-  pub one_position : columns_named (codes "3") ≡ Some (Some (codes "3"))
-  pub as_named : columns_named (codes "2,0,10") ≡ Some (Some (codes "2,0,10"))
-  pub repeated : columns_named (codes "0,0") ≡ Some (Some (codes "0,0"))
-  pub too_great : columns_named (codes "18446744073709551616") ≡ Some (Some (codes "18446744073709551616"))
+  pub one_position : columns_named (codes "3") ≡ Some (Some (3 ∷ []))
+  pub as_named : columns_named (codes "2,0,10") ≡ Some (Some (2 ∷ 0 ∷ 10 ∷ []))
+  pub leading_zeros : columns_named (codes "007") ≡ Some (Some (7 ∷ []))
+  pub repeated : columns_named (codes "0,0") ≡ Some (Some (0 ∷ 0 ∷ []))
+  pub too_great : columns_named (codes "18446744073709551616") ≡ Some (Some (2 ^ 64 ∷ []))
   pub no_position : columns_named [] ≡ None
   pub no_first : columns_named (codes ",1") ≡ None
   pub no_last : columns_named (codes "1,") ≡ None
@@ -80,16 +81,16 @@ pub record FormRows : Type 0 where
   pub demo_and_words : asked_in (codes "demo - 1") ≡ None
   pub stream_alone : asked_in (codes "stream") ≡ Some (stream None)
   pub stream_all : asked_in (codes "stream -") ≡ Some (stream None)
-  pub stream_columns : asked_in (codes "stream 1,0") ≡ Some (stream (Some (codes "1,0")))
+  pub stream_columns : asked_in (codes "stream 1,0") ≡ Some (stream (Some (1 ∷ 0 ∷ [])))
   pub stream_path : asked_in (codes "stream numbers.arrow") ≡ None
   pub stream_limit : asked_in (codes "stream - 5") ≡ None
   pub stream_many : asked_in (codes "stream - 5 5") ≡ None
   pub file_alone : asked_in (codes "file") ≡ None
   pub file_path : asked_in (codes "file numbers.arrow") ≡ Some (file (codes "numbers.arrow") None None)
   pub file_all : asked_in (codes "file numbers.arrow -") ≡ Some (file (codes "numbers.arrow") None None)
-  pub file_columns : asked_in (codes "file numbers.arrow 5") ≡ Some (file (codes "numbers.arrow") (Some (codes "5")) None)
+  pub file_columns : asked_in (codes "file numbers.arrow 5") ≡ Some (file (codes "numbers.arrow") (Some (5 ∷ [])) None)
   pub file_limit : asked_in (codes "file numbers.arrow - 5") ≡ Some (file (codes "numbers.arrow") None (Some 5))
-  pub file_both : asked_in (codes "file numbers.arrow 1,0 5") ≡ Some (file (codes "numbers.arrow") (Some (codes "1,0")) (Some 5))
+  pub file_both : asked_in (codes "file numbers.arrow 1,0 5") ≡ Some (file (codes "numbers.arrow") (Some (1 ∷ 0 ∷ [])) (Some 5))
   pub file_no_columns : asked_in (codes "file numbers.arrow x") ≡ None
   pub file_no_columns_before_limit : asked_in (codes "file numbers.arrow x 5") ≡ None
   pub file_no_limit : asked_in (codes "file numbers.arrow - x") ≡ None
@@ -105,18 +106,24 @@ pub record FormRows : Type 0 where
 -- Whatever the words are that a form holds.
 pub record HeldRows : Type 0 where
   pub columns_all : columns_by All ≡ None
-  pub columns_at : (word : Bor (List ℕ)) → columns_by (At word) ≡ Some word.now
+  pub columns_at : (word : Bor (List ℕ)) → columns_by (At word) ≡ Some (positions_named word.now)
   pub of_demo : wanted_by Demo ≡ demo
   pub of_stream : wanted_by (Stream All) ≡ stream None
-  pub of_columns : (word : Bor (List ℕ)) → wanted_by (Stream (At word)) ≡ stream (Some word.now)
+  pub of_columns : (word : Bor (List ℕ)) → wanted_by (Stream (At word)) ≡ stream (Some (positions_named word.now))
   pub of_path : (path : Bor (List ℕ)) → wanted_by (File (record { path = path; columns = All; limit = None })) ≡ file path.now None None
-  pub of_file : (path word : Bor (List ℕ)) → wanted_by (File (record { path = path; columns = At word; limit = Some 5 })) ≡ file path.now (Some word.now) (Some 5)
+  pub numbers : AreNumbers (codes "2,0,10")
+  pub no_number : ¬ AreNumbers (codes "2,+1")
+  pub names_all : NamesNumbers All
+  pub names_word : (word : Bor (List ℕ)) → NamesNumbers (At word) → AreNumbers word.now
+  pub has_of_stream : (word : Bor (List ℕ)) → HasNumbers (Stream (At word)) → AreNumbers word.now
+  pub has_of_file : (path word : Bor (List ℕ)) → HasNumbers (File (record { path = path; columns = At word; limit = None })) → AreNumbers word.now
+  pub of_file : (path word : Bor (List ℕ)) → wanted_by (File (record { path = path; columns = At word; limit = Some 5 })) ≡ file path.now (Some (positions_named word.now)) (Some 5)
 
 -- Only a file has to be opened, also one that is called as what stands for the input elsewhere.
 pub record OpenedRows : Type 0 where
   pub for_demo : opened_for demo ≡ None
   pub for_stream : opened_for (stream None) ≡ None
-  pub for_columns : opened_for (stream (Some (codes "0"))) ≡ None
+  pub for_columns : opened_for (stream (Some (0 ∷ []))) ≡ None
   pub for_path : opened_for (file (codes "numbers.arrow") None None) ≡ Some (codes "numbers.arrow")
-  pub for_file : opened_for (file (codes "numbers.arrow") (Some (codes "0")) (Some 5)) ≡ Some (codes "numbers.arrow")
+  pub for_file : opened_for (file (codes "numbers.arrow") (Some (0 ∷ [])) (Some 5)) ≡ Some (codes "numbers.arrow")
   pub for_dash : opened_for (file (codes "-") None None) ≡ Some (codes "-")

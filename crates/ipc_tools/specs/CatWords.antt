@@ -1,5 +1,5 @@
 -- What the words of `ipcat` ask for.
-use Rattle.std.specs.Prelude.{ℕ, List, [], ◌∷◌, Option, None, Some, Bool, true, false, codes, if◌then◌else◌, bytes_eq, option_and_then, option_map, eqb, ltb, ◌==◌, not, ◌&&◌, ◌^◌, length}
+use Rattle.std.specs.Prelude.{◌≡◌, ℕ, List, [], ◌∷◌, Option, None, Some, Bool, true, false, codes, if◌then◌else◌, bytes_eq, map, option_and_then, option_map, eqb, ltb, ◌==◌, not, ◌&&◌, ◌^◌, length}
 use Rattle.std.specs.Char.{is_ascii_digit}
 use Rattle.std.specs.List.{list_all, slice_split}
 use Rattle.std.specs.Str.Parse.{digits_value}
@@ -8,7 +8,7 @@ use Rattle.ipc_tools.specs.declared.cat.forms.Form.TheVariants.{Demo, Stream, Fi
 use Rattle.ipc_tools.specs.declared.cat.forms.Columns.{Columns}
 use Rattle.ipc_tools.specs.declared.cat.forms.Columns.TheVariants.{All, At}
 
--- what is asked for: the example; columns of the stream at the input; columns of the file at a path, and how many rows at most
+-- what is asked for: the example; the columns of the stream at the input at these positions, or all; those of the file at a path, and how many rows at most
 pub data Wanted : Type 0 where
   demo : Wanted
   stream : Option (List ℕ) → Wanted
@@ -22,11 +22,15 @@ is_decimal word = not (length word == 0) && list_all is_ascii_digit word
 abbrev pub pieces : List ℕ → List (List ℕ)
 pieces = slice_split (λ byte. eqb byte 44)
 
+-- the numbers that the pieces write
+abbrev pub positions_named : List ℕ → List ℕ
+positions_named word = map (digits_value 10) (pieces word)
+
 -- all columns, or those at these positions; none where the word names no columns
 abbrev pub columns_named : List ℕ → Option (Option (List ℕ))
 columns_named word =
     if bytes_eq word (codes "-") then Some None
-    else (if list_all is_decimal (pieces word) then Some (Some word) else None)
+    else (if list_all is_decimal (pieces word) then Some (Some (positions_named word)) else None)
 
 abbrev pub limit_named : List ℕ → Option ℕ
 limit_named word = if is_decimal word && ltb (digits_value 10 word) (2 ^ 64) then Some (digits_value 10 word) else None
@@ -56,9 +60,23 @@ asked (name ∷ others) =
     else (if bytes_eq name (codes "stream") then stream_asked others
     else (if bytes_eq name (codes "file") then file_asked others else None))
 
+-- each piece of a word is a number
+abbrev pub AreNumbers : List ℕ → Type 0
+AreNumbers word = list_all is_decimal (pieces word) ≡ true
+
+-- so are the pieces of the word that names columns
+abbrev pub NamesNumbers : Columns → Type 0
+NamesNumbers All = Unit {0}
+NamesNumbers (At word) = AreNumbers word.now
+
+abbrev pub HasNumbers : Form → Type 0
+HasNumbers Demo = Unit {0}
+HasNumbers (Stream columns) = NamesNumbers columns
+HasNumbers (File words) = NamesNumbers words.columns
+
 abbrev pub columns_by : Columns → Option (List ℕ)
 columns_by All = None
-columns_by (At word) = Some word.now
+columns_by (At word) = Some (positions_named word.now)
 
 -- what a form asks for
 abbrev pub wanted_by : Form → Wanted
@@ -71,13 +89,6 @@ abbrev pub reads_input : Wanted → Bool
 reads_input demo = false
 reads_input (stream columns) = true
 reads_input (file path columns limit) = false
-
--- whether the schema judges the columns: of a file also all of them
-abbrev pub judges_columns : Wanted → Bool
-judges_columns demo = false
-judges_columns (stream None) = false
-judges_columns (stream (Some columns)) = true
-judges_columns (file path columns limit) = true
 
 -- the path of the file that has to be opened
 abbrev pub opened_for : Wanted → Option (List ℕ)

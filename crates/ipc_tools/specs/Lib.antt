@@ -13,6 +13,7 @@ pub mod PositionRows
 pub mod Positions
 pub mod RefusalRows
 pub mod Refusals
+pub mod Shown
 pub mod ShownRows
 pub mod Written
 pub mod WrittenRows

@@ -1,24 +1,42 @@
--- Why `ipcat` ends with a fault, for each form, whatever its devices are.
+-- Why `ipcat` ends with a fault, and when its words are wrong, for each form, whatever its devices are.
 use Rattle.std.specs.Prelude.{◌≡◌, ◌⊎◌, ℕ, Bool, IsTrue, List, Option, None, Some}
 use Rattle.ipc_devices.specs.Device.{Memory}
 use Rattle.ipc_devices.specs.Faults.{OwnFault}
 use Rattle.ipc_devices.specs.Gives.{Gives}
 use Rattle.ipc_devices.specs.declared.fault.Fault.{Fault}
 use Rattle.ipc_devices.specs.declared.fault.Fault.TheVariants.{Ended, OutOfSpec}
-use Rattle.ipc_model.specs.Files.{metadata_of}
-use Rattle.ipc_files.specs.Files.{FileReason}
-use Rattle.ipc_round_trip.specs.Choosing.{IsReadableBy, chosen_stream_of}
+use Rattle.ipc_round_trip.specs.Choosing.{IsReadableBy, NamesOthers as StreamNamesOthers, chosen_stream_of}
 use Rattle.ipc_round_trip.specs.Reading.{BlamesStream}
+use Rattle.ipc_file_round_trip.specs.Reading.{IsUnreadable, NamesOthers, ReadingReason}
 use Rattle.ipc_convert.specs.Refusals.{HoldsOfGiven}
-use Rattle.ipc_tools.specs.CatRefusals.{LacksShown, ShowsNothing}
+use Rattle.ipc_tools.specs.CatRefusals.{AsksForOthers, HasTooMany, IsNoStream, ShowsNothing}
 use Rattle.ipc_tools.specs.CatWords.{demo, file, stream}
+use Rattle.ipc_tools.specs.Shown.{GivesReadable, IsReadableFile, Shows}
 
--- The example, and a file that couldn't be opened, are refused by a device, or for want of memory, alone. A stream is judged by the input, and not by a file, and by all of its columns where
--- no word names any; a file by what stands in its device's memory, from the beginning on.
-pub record ShownRows {R F : Type 0} (gives : Gives R) (fills : Bool) (source : R → Memory) (held : Bool) (contents : F → Memory) (input : R) (device : F) (path : List ℕ) (word : Option (List ℕ)) (limit : Option ℕ) (e : Fault) : Type 0 where
+-- The example, and a file that couldn't be opened, are refused by a device, or for want of memory, alone. A stream is judged by the input, and not by a file, a
+-- file by what stands in its device's memory, from the beginning on; and each by the columns that the words name, a file by their limit too.
+pub record ShownRows {R F : Type 0} (gives : Gives R) (fills : Bool) (source : R → Memory) (held : Bool) (contents : F → Memory) (input : R) (device : F) (path : List ℕ) (asked : Option (List ℕ)) (limit : Option ℕ) (e : Fault) : Type 0 where
   pub example : ¬ OwnFault Ended (ShowsNothing gives fills source held contents demo input (Some device) Ended)
-  pub no_file : (kind : _) → ¬ OwnFault (OutOfSpec kind) (ShowsNothing gives fills source held contents (file path word limit) input None (OutOfSpec kind))
-  pub all_of_a_stream : ShowsNothing gives fills source held contents (stream None) input (Some device) e
-      → HoldsOfGiven gives fills source input (λ bytes. (¬ IsReadableBy None bytes) × BlamesStream bytes (chosen_stream_of None bytes) None e)
-  pub in_memory : ShowsNothing gives fills source held contents (file path word limit) input (Some device) e → IsTrue held → (contents device).place ≡ 0
-      → ((metadata_of (contents device).whole ≡ None) × FileReason 0 (contents device).whole e) ⊎ LacksShown (contents device).whole e
+  pub no_file : (kind : _) → ¬ OwnFault (OutOfSpec kind) (ShowsNothing gives fills source held contents (file path asked limit) input None (OutOfSpec kind))
+  pub of_a_stream : ShowsNothing gives fills source held contents (stream asked) input (Some device) e → HoldsOfGiven gives fills source input (IsNoStream asked e)
+  pub by_its_bytes : (bytes : List ℕ) → IsNoStream asked e bytes → ((¬ IsReadableBy asked bytes) × BlamesStream bytes (chosen_stream_of asked bytes) asked e) ⊎ HasTooMany asked e bytes
+  pub in_memory : ShowsNothing gives fills source held contents (file path asked limit) input (Some device) e → IsTrue held → (contents device).place ≡ 0
+      → IsUnreadable asked limit (contents device).whole × ReadingReason asked limit (contents device).whole e
+
+-- The words are wrong by columns alone that they name: of a stream by what the input gave, of a file in memory by what its footer says.
+pub record OtherRows {R F : Type 0} (gives : Gives R) (fills : Bool) (source : R → Memory) (held : Bool) (contents : F → Memory) (input : R) (device : F) (path : List ℕ) (columns : List ℕ) (limit : Option ℕ) : Type 0 where
+  pub example : ¬ AsksForOthers gives fills source held contents demo input (Some device)
+  pub all_of_a_stream : ¬ AsksForOthers gives fills source held contents (stream None) input (Some device)
+  pub all_of_a_file : ¬ AsksForOthers gives fills source held contents (file path None limit) input (Some device)
+  pub no_file : ¬ AsksForOthers gives fills source held contents (file path (Some columns) limit) input None
+  pub of_a_stream : AsksForOthers gives fills source held contents (stream (Some columns)) input (Some device) → HoldsOfGiven gives fills source input (StreamNamesOthers columns)
+  pub in_memory : AsksForOthers gives fills source held contents (file path (Some columns) limit) input (Some device) → IsTrue held → (contents device).place ≡ 0
+      → NamesOthers (Some columns) (contents device).whole
+
+-- What was shown can be read: of a stream what the input gave, of a file in memory what stands in it from the beginning on, each by the columns that are
+-- asked for. A file that wasn't opened was not shown.
+pub record ReadableRows {R F : Type 0} (gives : Gives R) (held : Bool) (contents : F → Memory) (input : R) (device : F) (path : List ℕ) (asked : Option (List ℕ)) (limit : Option ℕ) : Type 0 where
+  pub example : Shows gives held contents demo input (Some device)
+  pub of_a_stream : Shows gives held contents (stream asked) input (Some device) → GivesReadable gives input asked
+  pub in_memory : Shows gives held contents (file path asked limit) input (Some device) → IsTrue held → (contents device).place ≡ 0 → IsReadableFile asked limit (contents device).whole
+  pub no_file : ¬ Shows gives held contents (file path asked limit) input None

@@ -1,12 +1,14 @@
 //! `ipcat`: writes the documented example as an Arrow IPC stream, and shows the streams and files that it is given.
-ghost use Rattle.std.specs.Prelude.{◌≡◌, ◌⊎◌, ◌≤◌, codes, map, option_and_then, option_map, string_bytes, false, None, Some, Ok, Err, IfErr, IfOk, IfSome, IsSome};
+ghost use Rattle.std.specs.Prelude.{◌≡◌, ◌⊎◌, ◌≤◌, codes, map, option_and_then, option_map, string_bytes, false, None, Ok, Err, IfErr, IfOk, IfSome, IsSome};
 ghost use Rattle.ipc_devices.specs.Faults.{IsIo, OwnFault};
 ghost use Rattle.ipc_plan.specs.Sending.{seen_by};
 ghost use Rattle.ipc_tools.specs.Lines.{TellsWhy, Told};
-ghost use Rattle.ipc_tools.specs.CatRefusals.{ShowsNoFile, ShowsNothing};
-ghost use Rattle.ipc_tools.specs.CatWords.{asked, wanted_by, judges_columns, opened_for, reads_input};
-ghost use Rattle.ipc_tools.specs.declared.cat.show.Outcome.TheVariants.{Done};
+ghost use Rattle.ipc_tools.specs.CatRefusals.{AsksForOthers, FileHasOthers, ShowsNoFile, ShowsNothing};
+ghost use Rattle.ipc_tools.specs.CatWords.{HasNumbers, NamesNumbers, asked, columns_by, wanted_by, opened_for, reads_input};
+ghost use Rattle.ipc_tools.specs.Shown.{ReadsFile, Shows};
+ghost use Rattle.ipc_tools.specs.declared.cat.show.Outcome.TheVariants.{Done, WrongWords};
 
+mod chosen;
 mod demo;
 mod file;
 mod forms;
@@ -42,6 +44,10 @@ pub fn path_of(words: &[String]) -> Option<&str>
 /// `err` then, and 2 for wrong words, or positions of columns that repeat or aren't in the schema, where `err` has the
 /// usage. `file` is what stands at the path that the words name (see [`path_of`]), and None where that can't be opened, which
 /// is a fault where the words ask for it. A failed write to `err` is ignored.
+///
+/// Each class but `no memory` and `input or output failed` tells a fault that names a condition which holds: of what `input` gave, or, where
+/// it is in memory, of `file`, as they are read by the columns, and up to the limit, that the words name. Positions are judged where the
+/// schema could be read, and nothing was printed then. So what was shown whole, with status 0, can be read.
 pub fn run<R: Reads, F: Reads + Seeks + Drop, O: Writes, E: Writes>(
     alloc: Global,
     words: &[String],
@@ -60,7 +66,10 @@ pub fn run<R: Reads, F: Reads + Seeks + Drop, O: Writes, E: Writes>(
     ensures unopened_told { IfSome (option_and_then opened_for (asked (map string_bytes words.now)))
         (λ path. file ≡ None → Told E.known E.grows
         (seen_by E.failures E.room E.memory err.old) (seen_by E.failures E.room E.memory err.new) (codes "ipcat: input or output failed\n")) }
-    ensures judged { IfSome (asked (map string_bytes words.now)) (λ form. judges_columns form ≡ false → result ≤ 1) }
+    ensures shown { result ≡ 0 → IfSome (asked (map string_bytes words.now)) (λ form.
+        Shows R.gives F.known F.memory form input.old file) }
+    ensures wrong { result ≡ 2 → IfSome (asked (map string_bytes words.now)) (λ form.
+        AsksForOthers R.gives R.known R.memory F.known F.memory form input.old file) }
     ensures silent { result ≡ 0 → err.new ≡ err.old }
     ensures usage_told { result ≡ 2 → Told E.known E.grows
         (seen_by E.failures E.room E.memory err.old) (seen_by E.failures E.room E.memory err.new) USAGE.now }
@@ -92,9 +101,11 @@ fn run_form<R: Reads, F: Reads + Seeks + Drop, O: Writes>(
     file: Option<F>,
     out: &mut O,
 ) -> Result<Outcome, Fault>
+    requires { HasNumbers form }
     ensures unopened { IfSome (opened_for (wanted_by form.entry)) (λ path. IfOk result (λ _. IsSome file)) }
     ensures missing { IfSome (opened_for (wanted_by form.entry)) (λ path. file ≡ None → IfErr result IsIo) }
-    ensures judged { judges_columns (wanted_by form.entry) ≡ false → IfOk result (λ outcome. outcome ≡ Done) }
+    ensures shown { IfOk result (λ outcome. outcome ≡ Done → Shows R.gives F.known F.memory (wanted_by form.entry) input.old file) }
+    ensures wrong { IfOk result (λ outcome. outcome ≡ WrongWords → AsksForOthers R.gives R.known R.memory F.known F.memory (wanted_by form.entry) input.old file) }
     ensures unread { reads_input (wanted_by form.entry) ≡ false → input.new ≡ input.old }
     ensures refused { IfErr result (λ e. OwnFault e (ShowsNothing R.gives R.known R.memory F.known F.memory (wanted_by form.entry) input.old file e)) }
 {
@@ -134,12 +145,15 @@ fn show_opened<F: Reads + Seeks + Drop, O: Writes>(
     words: FileWords<'_>,
     printer: &mut Printer<O>,
 ) -> Result<Outcome, Fault>
+    requires { NamesNumbers words.columns }
     ensures opened { IfOk result (λ _. IsSome file) }
     ensures missing { file ≡ None → IfErr result IsIo }
-    ensures refused { IfSome file (λ device. IfErr result (λ e. OwnFault e (ShowsNoFile F.known F.memory device e))) }
+    ensures shown { IfSome file (λ device. IfOk result (λ outcome. outcome ≡ Done → ReadsFile F.known F.memory device (columns_by words.entry.columns) words.entry.limit)) }
+    ensures wrong { IfSome file (λ device. IfOk result (λ outcome. outcome ≡ WrongWords → FileHasOthers F.known F.memory device (columns_by words.entry.columns))) }
+    ensures refused { IfSome file (λ device. IfErr result (λ e. OwnFault e (ShowsNoFile F.known F.memory device (columns_by words.entry.columns) words.entry.limit e))) }
 {
     match file {
-        Some(mut file) => show_file(alloc, &mut file, words, printer),
+        Some(file) => show_file(alloc, file, words, printer),
         None => Err(Fault::Io(io::Error::from(ErrorKind::NotFound))),
     }
 }

@@ -1,110 +1,93 @@
 //! Prints a file: its schema, and the chunk at each of its blocks row by row.
-ghost use Rattle.std.specs.Prelude.{◌≡◌, ◌⊎◌, length, IfErr, IfOk, IsTrue};
+ghost use Rattle.std.specs.Prelude.{◌≡◌, ◌<◌, IfErr, IfOk, IfSome, IsTrue, List, None, Some, Err, Ok, false};
+ghost use Rattle.lower_arrays.specs.declared.array.AnyArray.{AnyArray as Array};
 ghost use Rattle.ipc_devices.specs.Faults.{OwnFault};
-ghost use Rattle.ipc_files.specs.Footers.{file_seen};
-ghost use Rattle.ipc_convert.specs.Sources.{LacksDictionaries};
-ghost use Rattle.ipc_projections.specs.Projections.{IsPrepared, IsReordering};
-ghost use Rattle.ipc_tools.specs.CatRefusals.{LacksColumns, ShowsNoFile};
-ghost use Rattle.ipc_tools.specs.Positions.{AreOf};
+ghost use Rattle.ipc_file_readers.specs.Readers.{NextStep, blocks_left};
+ghost use Rattle.ipc_file_readers.specs.declared.read.reader.state.FileReader.{FileReader as Reader};
+ghost use Rattle.ipc_file_round_trip.specs.Steps.{GivesThenFails};
+ghost use Rattle.ipc_tools.specs.Shown.{GaveBlocks, ReadsFile};
+ghost use Rattle.ipc_tools.specs.CatWords.{NamesNumbers, columns_by};
+ghost use Rattle.ipc_tools.specs.CatRefusals.{FileHasOthers, OpensFile, ShowsNoFile};
+ghost use Rattle.ipc_tools.specs.declared.cat.show.Outcome.TheVariants.{Done, WrongWords};
 
-use crate::cat::forms::{Columns, FileWords};
+use crate::cat::chosen::{Chosen, chosen_among};
+use crate::cat::forms::FileWords;
 use crate::cat::printer::Printer;
-use crate::cat::show::{Outcome, positions_in, put_chunk, put_schema};
+use crate::cat::show::{Outcome, put_schema};
 use arrow2_ipc::io::ipc::fault::{Fault, Reads, Seeks, Writes};
-use arrow2_ipc::io::ipc::read::{
-    FileMetadata, apply_projection, is_projection, prepare_projection, read_batch,
-    read_file_dictionaries, read_file_metadata,
-};
-use std::alloc::{AllocError, Global};
-use std::collections::HashMap;
+use arrow2_ipc::io::ipc::read::{FileReader, read_file_metadata};
+use ipc_convert::chunks::Sink;
+use std::alloc::Global;
 
 /// Prints what the words ask of a file, block by block. Its metadata are read first, and then the positions of the columns are
 /// judged. Its dictionaries are read with the first block, and other columns aren't read.
-pub fn show_file<F: Reads + Seeks, W: Writes>(
+pub fn show_file<F: Reads + Seeks + Drop, W: Writes>(
     alloc: Global,
-    file: &mut F,
+    file: F,
     words: FileWords<'_>,
     printer: &mut Printer<W>,
 ) -> Result<Outcome, Fault>
-    ensures { IfErr result (λ e. OwnFault e (ShowsNoFile F.known F.memory file.old e)) }
+    requires { NamesNumbers words.columns }
+    ensures shown { IfOk result (λ outcome. outcome ≡ Done → ReadsFile F.known F.memory file (columns_by words.entry.columns) words.entry.limit) }
+    ensures wrong { IfOk result (λ outcome. outcome ≡ WrongWords → FileHasOthers F.known F.memory file (columns_by words.entry.columns)) }
+    ensures refused { IfErr result (λ e. OwnFault e (ShowsNoFile F.known F.memory file (columns_by words.entry.columns) words.entry.limit e)) }
 {
-    let metadata = read_file_metadata(alloc, file)?;
-    let fields = metadata.schema.fields.as_slice();
-    let Some(positions) = positions_of(alloc, words.columns, fields.len())? else {
+    let Some(mut reader) = open_file(alloc, file, words)? else {
         return Ok(Outcome::WrongWords);
     };
-    let (columns, places, shown) = prepare_projection(alloc, fields, positions)?;
-    put_schema(printer, &shown)?;
-    show_blocks(
-        alloc,
-        file,
-        &metadata,
-        &columns,
-        &places,
-        words.limit,
-        printer,
-    )?;
+    put_schema(printer, &reader.schema().fields)?;
+    show_blocks(&mut reader, printer)?;
     printer.put(b"end\n")?;
     Ok(Outcome::Done)
 }
 
-// The positions of these columns of so many, where each is one of them and none repeats.
-fn positions_of(
+// A reader of what the words ask of a file. There is none where a position isn't in the schema, or repeats.
+fn open_file<F: Reads + Seeks + Drop>(
     alloc: Global,
-    columns: Columns<'_>,
-    count: usize,
-) -> Result<Option<Vec<usize>>, AllocError>
-    ensures { IfOk result (AreOf count) }
+    file: F,
+    words: FileWords<'_>,
+) -> Result<Option<FileReader<F>>, Fault>
+    requires { NamesNumbers words.columns }
+    ensures wrong { IfOk result (λ reader. reader ≡ None → FileHasOthers F.known F.memory file (columns_by words.entry.columns)) }
+    ensures opens { IfOk result (λ reader. IfSome reader (OpensFile F.known F.memory file (columns_by words.entry.columns) words.entry.limit)) }
+    ensures refused { IfErr result (λ e. OwnFault e (ShowsNoFile F.known F.memory file (columns_by words.entry.columns) words.entry.limit e)) }
 {
-    let positions = match columns {
-        Columns::All => Some((0..count).collect(alloc)?),
-        Columns::At(word) => positions_in(alloc, word)?,
+    let mut file = file;
+    let metadata = read_file_metadata(alloc, &mut file)?;
+    let count = metadata.schema.fields.len();
+    let Chosen::Columns(projection) = chosen_among(alloc, words.columns, count)? else {
+        return Ok(None);
     };
-    match positions {
-        Some(positions) if is_projection(&positions, count) => Ok(Some(positions)),
-        _ => Ok(None),
-    }
+    let reader = FileReader::new(alloc, file, metadata, projection, words.limit)?;
+    Ok(Some(reader))
 }
 
-// Prints the chunks at all blocks, together at most so many rows: these columns, each at its place.
-#[allow(clippy::too_many_arguments)]
-fn show_blocks<F: Reads + Seeks, W: Writes>(
-    alloc: Global,
-    file: &mut F,
-    metadata: &FileMetadata,
-    columns: &[usize],
-    places: &HashMap<usize, usize>,
-    limit: Option<usize>,
+// Prints the chunks at all blocks.
+fn show_blocks<F: Reads + Seeks + Drop, W: Writes>(
+    reader: &mut FileReader<F>,
     printer: &mut Printer<W>,
 ) -> Result<(), Fault>
-    requires prepared { IsPrepared columns.now (length metadata.now.schema.fields.items) }
-    requires reordering { IsReordering places.now (length columns.now) }
-    ensures { IsTrue F.known → IfErr result (λ e. OwnFault e
-        (LacksDictionaries (file_seen metadata.now) (F.memory file.old).whole e ⊎ LacksColumns (file_seen metadata.now) (F.memory file.old).whole e)) }
+    ensures shown { IfOk result (λ _. GaveBlocks F.known F.still F.memory F.failures F.given reader.old) }
+    ensures broken { IfErr result (λ e. OwnFault e (GivesThenFails F.known F.still F.memory F.failures F.given reader.old e)) }
 {
-    if metadata.blocks.is_empty() {
-        return Ok(());
-    }
-    let mut message = Vec::new(alloc);
-    let mut data = Vec::new(alloc);
-    let dictionaries = read_file_dictionaries(alloc, file, metadata, &mut data)?;
-    let mut limit = limit;
-    for index in 0..metadata.blocks.len() {
-        let chunk = read_batch(
-            alloc,
-            file,
-            &dictionaries,
-            metadata,
-            Some(columns),
-            limit,
-            index,
-            &mut message,
-            &mut data,
-        )?;
-        let chunk = apply_projection(alloc, chunk, places)?;
-        put_chunk(printer, &chunk)?;
-        printer.send()?;
-        limit = limit.map(|left| left.saturating_sub(chunk.len()));
-    }
+    while show_block(reader, printer)? {}
     Ok(())
+}
+
+// Prints the chunk at the next block, and answers whether there was one.
+fn show_block<F: Reads + Seeks + Drop, W: Writes>(
+    reader: &mut FileReader<F>,
+    printer: &mut Printer<W>,
+) -> Result<bool, Fault>
+    ensures shown { IfOk result (λ more. IsTrue more → (chunk : List Array) × NextStep F.known F.still F.memory F.failures F.given reader.old (Some (Ok chunk)) reader.new) }
+    ensures all { IfOk result (λ more. more ≡ false → NextStep F.known F.still F.memory F.failures F.given reader.old None reader.new) }
+    ensures fewer { IfOk result (λ more. IsTrue more → blocks_left reader.new < blocks_left reader.old) }
+    ensures broken { IfErr result (λ e. OwnFault e ((left : Reader F) × NextStep F.known F.still F.memory F.failures F.given reader.old (Some (Err e)) left)) }
+{
+    let Some(next) = reader.next() else {
+        return Ok(false);
+    };
+    let chunk = next?;
+    printer.take_chunk(&chunk)?;
+    Ok(true)
 }

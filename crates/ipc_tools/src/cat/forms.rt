@@ -1,6 +1,6 @@
 //! What the words of a call ask for.
-ghost use Rattle.std.specs.Prelude.{◌≡◌, map, option_map, string_bytes};
-ghost use Rattle.ipc_tools.specs.CatWords.{asked, wanted_by, columns_by, columns_named, demo_asked, file_asked, is_decimal, limit_named, stream_asked};
+ghost use Rattle.std.specs.Prelude.{◌≡◌, map, option_map, string_bytes, IfSome};
+ghost use Rattle.ipc_tools.specs.CatWords.{HasNumbers, NamesNumbers, asked, wanted_by, columns_by, columns_named, demo_asked, file_asked, is_decimal, limit_named, stream_asked};
 
 /// The program's forms.
 #[derive(Clone, Copy)]
@@ -41,7 +41,8 @@ pub enum Columns<'a> {
 
 /// The form that these words ask for, or None where no form has them.
 pub fn form_of(words: &[String]) -> Option<Form<'_>>
-    ensures { option_map wanted_by result ≡ asked (map string_bytes words.now) }
+    ensures is { option_map wanted_by result ≡ asked (map string_bytes words.now) }
+    ensures numbers { IfSome result HasNumbers }
 {
     let (name, others) = words.split_first()?;
     match name.as_str() {
@@ -53,7 +54,8 @@ pub fn form_of(words: &[String]) -> Option<Form<'_>>
 }
 
 fn demo_form(words: &[String]) -> Option<Form<'_>>
-    ensures { option_map wanted_by result ≡ demo_asked (map string_bytes words.now) }
+    ensures is { option_map wanted_by result ≡ demo_asked (map string_bytes words.now) }
+    ensures numbers { IfSome result HasNumbers }
 {
     if words.is_empty() {
         Some(Form::Demo)
@@ -63,7 +65,8 @@ fn demo_form(words: &[String]) -> Option<Form<'_>>
 }
 
 fn stream_form(words: &[String]) -> Option<Form<'_>>
-    ensures { option_map wanted_by result ≡ stream_asked (map string_bytes words.now) }
+    ensures is { option_map wanted_by result ≡ stream_asked (map string_bytes words.now) }
+    ensures numbers { IfSome result HasNumbers }
 {
     match words {
         [] => Some(Form::Stream(Columns::All)),
@@ -73,7 +76,8 @@ fn stream_form(words: &[String]) -> Option<Form<'_>>
 }
 
 fn file_form(words: &[String]) -> Option<Form<'_>>
-    ensures { option_map wanted_by result ≡ file_asked (map string_bytes words.now) }
+    ensures is { option_map wanted_by result ≡ file_asked (map string_bytes words.now) }
+    ensures numbers { IfSome result HasNumbers }
 {
     let (path, others) = words.split_first()?;
     let (columns, limit) = match others {
@@ -95,7 +99,8 @@ fn file_form(words: &[String]) -> Option<Form<'_>>
 
 // `-`, which stands for all columns, or positions joined by commas.
 fn columns_in(word: &str) -> Option<Columns<'_>>
-    ensures { option_map columns_by result ≡ columns_named word.now }
+    ensures is { option_map columns_by result ≡ columns_named word.now }
+    ensures numbers { IfSome result NamesNumbers }
 {
     if word == "-" {
         return Some(Columns::All);

@@ -1,12 +1,12 @@
 //! Prints a stream: its schema, and each chunk row by row.
-ghost use Rattle.std.specs.Prelude.{◌≡◌, IfErr, IfOk, IfSome, IsSome, None};
+ghost use Rattle.std.specs.Prelude.{◌≡◌, IfErr, IfOk, IfSome, None};
 ghost use Rattle.ipc_devices.specs.Faults.{OwnFault};
-ghost use Rattle.ipc_convert.specs.Sources.{StreamBreaks};
-ghost use Rattle.ipc_tools.specs.CatWords.{columns_by};
-ghost use Rattle.ipc_tools.specs.CatRefusals.{BreaksBehind, Came, OpensStream, ShowsNoStream};
-ghost use Rattle.ipc_tools.specs.declared.cat.forms.Columns.TheVariants.{All};
-ghost use Rattle.ipc_tools.specs.declared.cat.show.Outcome.TheVariants.{Done};
+ghost use Rattle.ipc_tools.specs.CatWords.{NamesNumbers, columns_by};
+ghost use Rattle.ipc_tools.specs.CatRefusals.{OpensStream, ShowsNoStream, StreamHasOthers};
+ghost use Rattle.ipc_tools.specs.Shown.{GivesReadable};
+ghost use Rattle.ipc_tools.specs.declared.cat.show.Outcome.TheVariants.{Done, WrongWords};
 
+use crate::cat::chosen::{Chosen, chosen_among};
 use crate::cat::forms::Columns;
 use crate::cat::printer::{Printer, put_number, put_text};
 use crate::cat::slots::put_slot;
@@ -14,9 +14,9 @@ use arrow2_ipc::array::AnyArray;
 use arrow2_ipc::chunk::Chunk;
 use arrow2_ipc::datatypes::Field;
 use arrow2_ipc::io::ipc::fault::{Fault, Reads, Writes};
-use arrow2_ipc::io::ipc::read::{StreamReader, is_projection, read_stream_metadata};
-use ipc_convert::chunks::{Ending, Next, Source};
-use std::alloc::{AllocError, Global};
+use arrow2_ipc::io::ipc::read::{StreamReader, read_stream_metadata};
+use ipc_convert::chunks::{Ending, Sink, copy_chunks};
+use std::alloc::Global;
 
 /// What came of a form that met no fault.
 #[derive(Clone, Copy, PartialEq, Eq)]
@@ -27,22 +27,24 @@ pub enum Outcome {
     WrongWords,
 }
 
-/// Prints these columns of a stream, up to its end or to where it waits for more; where `2^64 - 1` chunks came, as if it ended there. Its
-/// schema is read first, and then the positions of the columns are judged. Other columns aren't read.
+/// Prints these columns of a stream, up to its end or to where it waits for more. Its schema is read first, and then the positions of the
+/// columns are judged. Other columns aren't read. Where `2^64 - 1` chunks came and no end, it answers `Argument(TooLarge)`.
 pub fn show_stream<R: Reads + Drop, W: Writes>(
     alloc: Global,
     input: R,
     columns: Columns<'_>,
     printer: &mut Printer<W>,
 ) -> Result<Outcome, Fault>
-    ensures done { columns.entry ≡ All → IfOk result (λ outcome. outcome ≡ Done) }
+    requires { NamesNumbers columns }
+    ensures shown { IfOk result (λ outcome. outcome ≡ Done → GivesReadable R.gives input (columns_by columns.entry)) }
+    ensures wrong { IfOk result (λ outcome. outcome ≡ WrongWords → StreamHasOthers R.gives R.known R.memory input (columns_by columns.entry)) }
     ensures refused { IfErr result (λ e. OwnFault e (ShowsNoStream R.gives R.known R.memory input (columns_by columns.entry) e)) }
 {
     let Some(mut reader) = open_stream(alloc, input, columns)? else {
         return Ok(Outcome::WrongWords);
     };
     put_schema(printer, &reader.schema().fields)?;
-    match show_chunks(&mut reader, printer)? {
+    match copy_chunks(&mut reader, printer)? {
         Ending::Waits => printer.put(b"waiting\n")?,
         Ending::Over => printer.put(b"end\n")?,
     }
@@ -55,68 +57,35 @@ fn open_stream<R: Reads + Drop>(
     input: R,
     columns: Columns<'_>,
 ) -> Result<Option<StreamReader<R>>, Fault>
-    ensures there { columns.entry ≡ All → IfOk result (λ reader. IsSome reader) }
+    requires { NamesNumbers columns }
+    ensures wrong { IfOk result (λ reader. reader ≡ None → StreamHasOthers R.gives R.known R.memory input (columns_by columns.entry)) }
     ensures opens { IfOk result (λ reader. IfSome reader (OpensStream R.gives input (columns_by columns.entry))) }
     ensures refused { IfErr result (λ e. OwnFault e (ShowsNoStream R.gives R.known R.memory input (columns_by columns.entry) e)) }
 {
     let mut input = input;
     let metadata = read_stream_metadata(alloc, &mut input)?;
-    let Columns::At(word) = columns else {
-        let reader = StreamReader::new(alloc, input, metadata, None)?;
-        return Ok(Some(reader));
-    };
-    let Some(positions) = positions_in(alloc, word)? else {
+    let count = metadata.schema.fields.len();
+    let Chosen::Columns(projection) = chosen_among(alloc, columns, count)? else {
         return Ok(None);
     };
-    if !is_projection(&positions, metadata.schema.fields.len()) {
-        return Ok(None);
-    }
-    let reader = StreamReader::new(alloc, input, metadata, Some(positions))?;
+    let reader = StreamReader::new(alloc, input, metadata, projection)?;
     Ok(Some(reader))
 }
 
-/// The positions in a word, where each of them is a number that a position can be.
-pub fn positions_in(alloc: Global, word: &str) -> Result<Option<Vec<usize>>, AllocError> {
-    let mut positions = Vec::new(alloc);
-    for position in word.split(',') {
-        match position.parse::<usize>() {
-            Ok(position) => positions.push(position)?,
-            Err(_) => return Ok(None),
-        }
-    }
-    Ok(Some(positions))
-}
+impl<'a, W: Writes> Sink for Printer<'a, W> {
+    // Nothing is said of what it printed.
+    ghost took = { λ a chunks b. Unit {0} };
 
-// Prints the chunks up to where they end, or to where the stream waits.
-fn show_chunks<R: Reads + Drop, W: Writes>(
-    reader: &mut StreamReader<R>,
-    printer: &mut Printer<W>,
-) -> Result<Ending, Fault>
-    ensures { IfErr result (λ e. OwnFault e (BreaksBehind R.gives reader.old e)) }
-{
-    for _ in 0..u64::MAX {
-        if let Some(ending) = show_next(reader, printer)? {
-            return Ok(ending);
-        }
-        printer.send()?;
-    }
-    Ok(Ending::Over)
-}
+    ghost refuses = { λ a columns e. ⊥ };
 
-// Prints the next chunk, where one comes, else says how they ended.
-fn show_next<R: Reads + Drop, W: Writes>(
-    reader: &mut StreamReader<R>,
-    printer: &mut Printer<W>,
-) -> Result<Option<Ending>, Fault>
-    ensures came { IfOk result (λ ending. ending ≡ None → Came R.gives reader.old reader.new) }
-    ensures broken { IfErr result (λ e. OwnFault e (StreamBreaks R.gives reader.old e)) }
-{
-    match reader.next_chunk()? {
-        Next::Chunk(chunk) => {
-            put_chunk(printer, &chunk)?;
-            Ok(None)
-        }
-        Next::End(ending) => Ok(Some(ending)),
+    ghost took_nothing = { λ a. tt };
+
+    ghost took_in_order = { λ a xs b ys c one more. tt };
+
+    /// Prints a chunk row by row, and sends all that is kept.
+    fn take_chunk(&mut self, chunk: &Chunk<AnyArray>) -> Result<(), Fault> {
+        put_chunk(self, chunk)?;
+        self.send()
     }
 }
 

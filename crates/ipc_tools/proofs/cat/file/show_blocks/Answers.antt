@@ -1,11 +1,27 @@
 use Rattle.std.proofs.lemmas.Result.{err_from_is_err_and}
-use Rattle.ipc_files.specs.Footers.{file_seen}
-use Rattle.ipc_tools.proofs.Shown.{block_lacks}
+use Rattle.ipc_convert.proofs.Own.{own}
+use Rattle.ipc_tools.proofs.Blocks.{none_given, one_given, then_fails, then_nothing}
 use Rattle.ipc_tools.proofs.cat.file.show_blocks.Goals as goal
 
-pub returns-in_err-chunk : goal.returns-in_err-chunk
-returns-in_err-chunk g c = λ k.
-    let p = err_from_is_err_and c.from_residual-in_err-chunk.result c.from_residual-in_err-chunk.ensures.1 in
-    rw (p.1, p.2) (block_lacks (file_seen c.args.metadata.now) (g.F.Failures.memory c.args.file.now).whole (g.F.Failures.memory c.loop-index.file).whole
-    _ c.args.columns.now c.loop-index.limit c.loop-index.index c.in_err-chunk.field-0.0
-    (c.loop-index.invariant k) (c.in_ok-dictionaries.ensures.memory k) (c.in_err-chunk.ensures.memory k) (c.in_err-chunk.ensures.reason k))
+pub loop-init : goal.loop-init
+loop-init g c = none_given g.F.Failures.known g.F.Failures.still g.F.Failures.memory g.F.Failures.failures g.F.Failures.given _
+
+pub loop-preserved : goal.loop-preserved
+loop-preserved g c =
+    let shown = c.in_ok-show_block.ensures.shown c.if-branch.true in
+    one_given g.F.Failures.known g.F.Failures.still g.F.Failures.memory g.F.Failures.failures g.F.Failures.given _ _ _ shown.0 c.loop.invariant shown.1
+
+pub returns : goal.returns
+returns g c = record {
+  shown =
+      then_nothing g.F.Failures.known g.F.Failures.still g.F.Failures.memory g.F.Failures.failures g.F.Failures.given _ _ _ c.loop.invariant
+      (c.in_ok-show_block.ensures.all c.if-branch.false);
+  broken = tt;
+}
+
+pub returns-in_err-show_block-clause-broken : goal.returns-in_err-show_block-clause-broken
+returns-in_err-show_block-clause-broken g c =
+    let p = err_from_is_err_and c.from_residual.result c.from_residual.ensures.1 in
+    rw (p.1, p.2) (own c.in_err-show_block.field-0.0 _ (λ it.
+    let broken = it _ c.in_err-show_block.ensures.broken in
+    then_fails g.F.Failures.known g.F.Failures.still g.F.Failures.memory g.F.Failures.failures g.F.Failures.given _ _ broken.0 _ c.loop.invariant broken.1))

@@ -1,6 +1,9 @@
-use Rattle.std.proofs.Common.{◌≡◌, IsTrue}
+use Rattle.ipc_file_readers.specs.Readers.{blocks_left}
+use Rattle.ipc_tools.proofs.Blocks.{HasGiven}
 use Rattle.ipc_tools.proofs.cat.file.show_blocks.Given as goal
 
--- the bytes of the file stay
-abbrev pub invariant-loop-index : goal.invariant-loop-index
-invariant-loop-index g l = IsTrue g.F.Failures.known → (g.F.Failures.memory l.file).whole ≡ (g.F.Failures.memory l.fn.file).whole
+abbrev pub invariant-loop : goal.invariant-loop
+invariant-loop g l = HasGiven g.F.Failures.known g.F.Failures.still g.F.Failures.memory g.F.Failures.failures g.F.Failures.given l.fn.reader l.reader
+
+abbrev pub decreases-loop : goal.decreases-loop
+decreases-loop g l = blocks_left l.reader

@@ -1,0 +1,45 @@
+-- That what `ipcat` showed can be read.
+-- (Arrow columnar format, "IPC Streaming Format" and "IPC File Format".)
+use Rattle.std.specs.Prelude.{◌≡◌, ℕ, Bool, IsTrue, List, Option, None, Some}
+use Rattle.lower_arrays.specs.declared.array.AnyArray.{AnyArray}
+use Rattle.ipc_devices.specs.Device.{Memory}
+use Rattle.ipc_devices.specs.Gives.{Gives, Stop}
+use Rattle.ipc_model.specs.Batches.{IsProjection, kinds}
+use Rattle.ipc_model.specs.Kinds.{count}
+use Rattle.ipc_file_readers.specs.declared.read.reader.state.FileReader.{FileReader}
+use Rattle.ipc_round_trip.specs.Choosing.{IsReadableBy}
+use Rattle.ipc_file_round_trip.specs.Reading.{FileMeant, file_by}
+use Rattle.ipc_file_round_trip.specs.Steps.{GivesAll}
+use Rattle.ipc_tools.specs.CatWords.{Wanted, demo, stream, file}
+
+-- What an input gave is a stream that can be read by the columns that are asked for.
+pub record GivesReadable {R : Type 0} (gives : Gives R) (input : R) (asked : Option (List ℕ)) : Type 0 where
+  pub bytes : List ℕ
+  pub stop : Stop
+  pub left : R
+  pub gave : gives input bytes stop left
+  pub readable : IsReadableBy asked bytes
+
+-- A file has a meaning by the columns that are asked for, which it has, and up to the limit.
+pub record IsReadableFile (asked : Option (List ℕ)) (limit : Option ℕ) (bytes : List ℕ) : Type 0 where
+  pub meant : FileMeant
+  pub is : file_by asked limit bytes ≡ Some meant
+  pub columns : IsProjection asked (count (kinds meant.metadata.schema))
+
+-- so has the one that a device in memory has at its beginning
+abbrev pub ReadsFile : {F : Type 0} → Bool → (F → Memory) → F → Option (List ℕ) → Option ℕ → Type 0
+ReadsFile held contents device asked limit = IsTrue held → (contents device).place ≡ 0 → IsReadableFile asked limit (contents device).whole
+
+-- A reader of a file gave some chunks, and then nothing.
+pub record GaveBlocks {F : Type 0} (known still : Bool) (memory : F → Memory) (failures given : F → ℕ) (a : FileReader F) : Type 0 where
+  pub chunks : List (List AnyArray)
+  pub all : GivesAll known still memory failures given a chunks
+
+-- To who knows which bytes an input gives, and which an opened file holds where it is memory (`held`), what the words ask for can be read:
+-- where they ask for a file, one was opened.
+module _ {R F : Type 0} (gives : Gives R) (held : Bool) (contents : F → Memory) where
+  abbrev pub Shows : Wanted → R → Option F → Type 0
+  Shows demo input device = Unit {0}
+  Shows (stream asked) input device = GivesReadable gives input asked
+  Shows (file path asked limit) input (Some device) = ReadsFile held contents device asked limit
+  Shows (file path asked limit) input None = ⊥

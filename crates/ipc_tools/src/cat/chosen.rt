@@ -1,0 +1,47 @@
+//! Which of its columns are shown of a stream or of a file.
+ghost use Rattle.std.specs.Prelude.{IfOk};
+ghost use Rattle.ipc_tools.specs.CatWords.{AreNumbers, NamesNumbers, columns_by};
+ghost use Rattle.ipc_tools.specs.Positions.{ArePositions, IsChoice};
+
+use crate::cat::forms::Columns;
+use arrow2_ipc::io::ipc::read::is_projection;
+use std::alloc::{AllocError, Global};
+
+/// Which columns of a schema are asked for.
+#[derive(Drop)]
+pub enum Chosen {
+    /// Those of a projection, or all where there is none.
+    Columns(Option<Vec<usize>>),
+
+    /// A position repeats, or isn't in the schema.
+    Others,
+}
+
+/// The columns that are asked for among so many.
+pub fn chosen_among(alloc: Global, columns: Columns<'_>, count: usize) -> Result<Chosen, AllocError>
+    requires { NamesNumbers columns }
+    ensures { IfOk result (IsChoice (columns_by columns.entry) count) }
+{
+    let Columns::At(word) = columns else {
+        return Ok(Chosen::Columns(None));
+    };
+    match positions_in(alloc, word)? {
+        Some(positions) if is_projection(&positions, count) => Ok(Chosen::Columns(Some(positions))),
+        _ => Ok(Chosen::Others),
+    }
+}
+
+// The positions in a word, where each of them is a number that a position can be.
+fn positions_in(alloc: Global, word: &str) -> Result<Option<Vec<usize>>, AllocError>
+    requires { AreNumbers word.now }
+    ensures { IfOk result (ArePositions word.now) }
+{
+    let mut positions = Vec::new(alloc);
+    for position in word.split(',') {
+        match position.parse::<usize>() {
+            Ok(position) => positions.push(position)?,
+            Err(_) => return Ok(None),
+        }
+    }
+    Ok(Some(positions))
+}
