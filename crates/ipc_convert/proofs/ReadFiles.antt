@@ -136,7 +136,7 @@ module _ {R : Type 0} (known still : Bool) (memory : R → Memory) (failures giv
         known = es;
         dictionaries = is;
         none = sym (λ i. file_chunk (file_of a) es (bytes_of memory a) (whole.columns i) (whole.rows i) (block_of a)) ∙ none;
-        reason = subst (λ (js : List ℕ). RecordReason (kinds (file_of a).schema) js (bytes_of memory a) (slice_get (file_of a).blocks (block_of a)) e)
+        reason = subst (λ (js : List ℕ). RecordReason (file_of a) js (bytes_of memory a) (slice_get (file_of a).blocks (block_of a)) e)
             (λ i. chosen (whole.columns i) (sym many i)) (it _ (w.reason k));
       }
 

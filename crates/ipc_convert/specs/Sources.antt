@@ -139,7 +139,7 @@ pub record LacksChunk (m : FileMetadata) (bytes : List ℕ) (e : Fault) : Type 0
   pub known : Dictionaries
   pub dictionaries : file_dictionaries m bytes ≡ Some known
   pub none : file_chunk m known bytes None None block ≡ None
-  pub reason : let ts = kinds m.schema in RecordReason ts (chosen None (count ts)) bytes (slice_get m.blocks block) e
+  pub reason : RecordReason m (chosen None (count (kinds m.schema))) bytes (slice_get m.blocks block) e
 
 -- its dictionaries or one of its blocks
 abbrev pub LacksPart : FileMetadata → List ℕ → Fault → Type 0

@@ -6,16 +6,15 @@ use Rattle.lower_arrays.specs.declared.array.AnyArray.{AnyArray}
 use Rattle.ipc_devices.specs.declared.fault.Fault.{Fault}
 use Rattle.ipc_devices.specs.declared.fault.OutOfSpecKind.TheVariants.{NegativeFooterLength, UnexpectedNegativeInteger}
 use Rattle.ipc_views.specs.declared.file.Block.{Block}
-use Rattle.ipc_model.specs.Batches.{chosen, lists_of}
-use Rattle.ipc_model.specs.Files.{BlockHeader, block_header}
+use Rattle.ipc_model.specs.Batches.{chosen, kinds, lists_of}
+use Rattle.ipc_model.specs.Files.{BlockHeader, FileMetadata, block_header}
 use Rattle.ipc_model.specs.Kinds.{Kinds}
 use Rattle.ipc_projections.specs.ChosenColumns.{AreAsMany, AreOrdered, AreShuffled, asked_by, rising_by}
 use Rattle.ipc_projections.specs.declared.read.chosen.ChosenColumns.{ChosenColumns}
 use Rattle.ipc_read.proofs.AskedColumns.{batch_fault}
 use Rattle.ipc_read.proofs.AskedSums.{held_in_order, listed_same}
-use Rattle.ipc_files.specs.Batches.{HoldBatch, HeaderHolds, IsRecordFault, RecordReason, header_lists, needed_bytes}
+use Rattle.ipc_files.specs.Batches.{BlamesRecord, HoldBatch, HeaderHolds, IsRecordFault, RecordReason, header_lists, needed_bytes}
 use Rattle.ipc_files.specs.Blocks.{MessageReason, block_message}
-use Rattle.ipc_read.specs.Refusals.{IsFaultOfBatch}
 
 record_fault : (ts : Kinds) (e : Fault) (xs ys : List ℕ) → IsPermutation xs ys → IsRecordFault ts ys e → IsRecordFault ts xs e
 record_fault ts e xs ys same (inl f) = inl f
@@ -30,19 +29,20 @@ fault_asked None n ts e same f = f
 fault_asked (Some q) n ts e same f = record_fault ts e q.columns.columns q.columns.rising same.0 f
 
 -- and so is the reason
-reason_through : (r : Result BlockHeader Fault) (P Q : Fault → Type 0) (e : Fault) → (P e → Q e) → MessageReason r P e → MessageReason r Q e
-reason_through (Ok h) P Q e f why = f why
+reason_through : (r : Result BlockHeader Fault) (P Q : BlockHeader → Fault → Type 0) (e : Fault) → ((h : BlockHeader) → P h e → Q h e) → MessageReason r P e → MessageReason r Q e
+reason_through (Ok h) P Q e f why = f h why
 reason_through (Err g) P Q e f why = why
 
-record_reason : (ts : Kinds) (e : Fault) (source xs ys : List ℕ) (b : Option Block) → IsPermutation xs ys → RecordReason ts ys source b e → RecordReason ts xs source b e
-record_reason ts e source xs ys None same why = why
-record_reason ts e source xs ys (Some b) same why =
-    reason_through (block_message 3 NegativeFooterLength UnexpectedNegativeInteger source b) (IsFaultOfBatch ts ys) (IsFaultOfBatch ts xs) e (batch_fault ts e ys xs (IsPermutation-sym xs ys same)) why
+record_reason : (m : FileMetadata) (e : Fault) (source xs ys : List ℕ) (b : Option Block) → IsPermutation xs ys → RecordReason m ys source b e → RecordReason m xs source b e
+record_reason m e source xs ys None same why = why
+record_reason m e source xs ys (Some b) same why =
+    reason_through (block_message 3 NegativeFooterLength UnexpectedNegativeInteger source b) (BlamesRecord m ys) (BlamesRecord m xs) e
+    (λ h is. (batch_fault (kinds m.schema) e ys xs (IsPermutation-sym xs ys same) is.0, is.1)) why
 
-pub reason_asked : (q : Option ChosenColumns) (n : ℕ) (ts : Kinds) (e : Fault) (source : List ℕ) (b : Option Block) → AreShuffled q → RecordReason ts (chosen (rising_by q) n) source b e
-    → RecordReason ts (chosen (asked_by q) n) source b e
-reason_asked None n ts e source b same why = why
-reason_asked (Some q) n ts e source b same why = record_reason ts e source q.columns.columns q.columns.rising b same.0 why
+pub reason_asked : (q : Option ChosenColumns) (n : ℕ) (m : FileMetadata) (e : Fault) (source : List ℕ) (b : Option Block) → AreShuffled q → RecordReason m (chosen (rising_by q) n) source b e
+    → RecordReason m (chosen (asked_by q) n) source b e
+reason_asked None n m e source b same why = why
+reason_asked (Some q) n m e source b same why = record_reason m e source q.columns.columns q.columns.rising b same.0 why
 
 -- ---- bytes
 

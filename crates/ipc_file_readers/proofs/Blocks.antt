@@ -115,13 +115,13 @@ module _ (known : Bool) (q : Option ChosenColumns) (m : FileMetadata) (limit : L
 
   -- it was refused
   pub refused_chunk : (r : Result (List AnyArray) Fault) (e : Fault) → r ≡ Err e → OwnFault e (IsRecordFault (kinds (file_seen m).schema) (chosen o N) e)
-      → (IsTrue known → OwnFault e (RecordReason (kinds (file_seen m).schema) (chosen o N) source (slice_get m.blocks.items i) e))
+      → (IsTrue known → OwnFault e (RecordReason (file_seen m) (chosen o N) source (slice_get m.blocks.items i) e))
       → (IsTrue known → OwnFault e (file_chunk (file_seen m) d source o limit i ≡ None)) → WasChunk known m (asked_by q) limit i ds source old new metadata r
   refused_chunk r e is only why means = rw is (record {
     many = tt;
     only = claims_through e _ _ (fault_asked q N (kinds (file_seen m).schema) e same) (subst (λ (p : Option (List ℕ)). OwnFault e (IsRecordFault (kinds (file_seen m).schema) (chosen p N) e)) rising only);
-    reason = λ k. claims_through e _ _ (reason_asked q N (kinds (file_seen m).schema) e source (slice_get m.blocks.items i) same)
-        (subst (λ (p : Option (List ℕ)). OwnFault e (RecordReason (kinds (file_seen m).schema) (chosen p N) source (slice_get m.blocks.items i) e)) rising (why k));
+    reason = λ k. claims_through e _ _ (reason_asked q N (file_seen m) e source (slice_get m.blocks.items i) same)
+        (subst (λ (p : Option (List ℕ)). OwnFault e (RecordReason (file_seen m) (chosen p N) source (slice_get m.blocks.items i) e)) rising (why k));
     message = λ k. tt;
     bytes = tt;
     holds = tt;

@@ -74,7 +74,7 @@ module _ {R : Type 0} (known still : Bool) (memory : R → Memory) (failures giv
     many = here.many;
     only = here.only;
     reason = λ k.
-        let why = λ (xs : List ℕ) (e : Fault). OwnFault e (RecordReason (kinds (file_of a).schema) (columns_asked (metadata_of a) (asked_of a)) xs (slice_get (metadata_of a).blocks.items (block_of a)) e) in
+        let why = λ (xs : List ℕ) (e : Fault). OwnFault e (RecordReason (file_of a) (columns_asked (metadata_of a) (asked_of a)) xs (slice_get (metadata_of a).blocks.items (block_of a)) e) in
         subst (λ (xs : List ℕ). IfErr r (why xs)) (same_source k) (here.reason k);
     message = λ k.
         subst (λ (xs : List ℕ). OnOk r (block_metadata xs (slice_get (metadata_of a).blocks.items (block_of a)) ≡ Some (message_of b))) (same_source k) (here.message k);

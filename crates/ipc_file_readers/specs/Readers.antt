@@ -174,7 +174,7 @@ pub record WasNext {R : Type 0} (known : Bool) (memory : R → Memory) (given : 
   pub many : IfOk r (λ xs. length xs ≡ length (columns_asked (metadata_of a) (asked_of a)))
   pub only : IfErr r (λ e. OwnFault e (IsRecordFault (kinds (file_of a).schema) (columns_asked (metadata_of a) (asked_of a)) e))
   pub reason : IsTrue known
-      → IfErr r (λ e. OwnFault e (RecordReason (kinds (file_of a).schema) (columns_asked (metadata_of a) (asked_of a)) (memory (device_of a)).whole (slice_get (metadata_of a).blocks.items (block_of a)) e))
+      → IfErr r (λ e. OwnFault e (RecordReason (file_of a) (columns_asked (metadata_of a) (asked_of a)) (memory (device_of a)).whole (slice_get (metadata_of a).blocks.items (block_of a)) e))
   pub message : IsTrue known
       → OnOk r (block_metadata (memory (device_of a)).whole (slice_get (metadata_of a).blocks.items (block_of a)) ≡ Some (message_of b))
   pub bytes : (ds : Dictionaries) → known_of a ≡ Some ds

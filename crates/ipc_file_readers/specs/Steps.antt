@@ -48,7 +48,7 @@ pub record WasChunk (known : Bool) (m : FileMetadata) (asked : Option (List ℕ)
     (r : Result (List AnyArray) Fault) : Type 0 where
   pub many : IfOk r (λ xs. length xs ≡ length (columns_asked m asked))
   pub only : IfErr r (λ e. OwnFault e (IsRecordFault (kinds (file_seen m).schema) (columns_asked m asked) e))
-  pub reason : IsTrue known → IfErr r (λ e. OwnFault e (RecordReason (kinds (file_seen m).schema) (columns_asked m asked) source (slice_get m.blocks.items i) e))
+  pub reason : IsTrue known → IfErr r (λ e. OwnFault e (RecordReason (file_seen m) (columns_asked m asked) source (slice_get m.blocks.items i) e))
   pub message : IsTrue known → OnOk r (block_metadata source (slice_get m.blocks.items i) ≡ Some metadata)
   pub bytes : OnOk r (new ≤ old + needed_bytes (kinds (file_seen m).schema) (columns_asked m asked) metadata)
   pub holds : IfOk r (HoldBatch (kinds (file_seen m).schema) (columns_asked m asked) metadata)

@@ -45,10 +45,10 @@ never_known known (Some x) file d k e f h = absurd cc
 module _ (m : Meaning) (ds : Dictionaries) (source : List ℕ) (p : Option (List ℕ)) (limit : Limit) (b : Block) (bs : List Block) (e : Fault) where
   abbrev By : Option Chunk → Type 0
   By o =
-      MatchOption o (RecordReason (kinds m.schema) (chosen p (count (kinds m.schema))) source (Some b) e)
+      MatchOption o (RecordReason m (chosen p (count (kinds m.schema))) source (Some b) e)
       (λ c. BlocksReason m ds source p (less limit (rows_of c)) bs e)
 
-  none_here : chunk_at m ds source b p limit ≡ None → RecordReason (kinds m.schema) (chosen p (count (kinds m.schema))) source (Some b) e → BlocksReason m ds source p limit (b ∷ bs) e
+  none_here : chunk_at m ds source b p limit ≡ None → RecordReason m (chosen p (count (kinds m.schema))) source (Some b) e → BlocksReason m ds source p limit (b ∷ bs) e
   none_here none why = subst By (sym none) why
 
   one_here : (c : Chunk) → chunk_at m ds source b p limit ≡ Some c → BlocksReason m ds source p (less limit (rows_of c)) bs e → BlocksReason m ds source p limit (b ∷ bs) e
@@ -78,12 +78,12 @@ module _ {R : Type 0} (known still : Bool) (memory : R → Memory) (failures giv
       none_over (vec_len (metadata_of a).blocks) (block_of a) (omega (arith, long, length-drop (block_of a) (file_of a).blocks, (metadata_of a).blocks.ok))
 
   why_here : (a : FileReader R) (b : Block) → slice_get (file_of a).blocks (block_of a) ≡ Some b
-      → RecordReason (kinds (file_of a).schema) (columns_asked (metadata_of a) (asked_of a)) (whole_of a) (slice_get (file_of a).blocks (block_of a)) e
-      → RecordReason (kinds (file_of a).schema) (chosen (asked_of a) (count (kinds (file_of a).schema))) (whole_of a) (Some b) e
+      → RecordReason (file_of a) (columns_asked (metadata_of a) (asked_of a)) (whole_of a) (slice_get (file_of a).blocks (block_of a)) e
+      → RecordReason (file_of a) (chosen (asked_of a) (count (kinds (file_of a).schema))) (whole_of a) (Some b) e
   why_here a b at why =
       let m = metadata_of a in
-      subst (λ (n : ℕ). RecordReason (kinds (file_of a).schema) (chosen (asked_of a) n) (whole_of a) (Some b) e) (sym (field_count m.schema.fields.items (all_ids_view m.ipc_schema.fields.items)))
-      (subst (λ (o : Option Block). RecordReason (kinds (file_of a).schema) (columns_asked m (asked_of a)) (whole_of a) o e) at why)
+      subst (λ (n : ℕ). RecordReason (file_of a) (chosen (asked_of a) n) (whole_of a) (Some b) e) (sym (field_count m.schema.fields.items (all_ids_view m.ipc_schema.fields.items)))
+      (subst (λ (o : Option Block). RecordReason (file_of a) (columns_asked m (asked_of a)) (whole_of a) o e) at why)
 
   -- it was refused
   refused_here : (a next : FileReader R) (b : Block) (bs : List Block) (ds : Dictionaries) → slice_get (file_of a).blocks (block_of a) ≡ Some b → (w : WasNext known memory given a (Err e) next)

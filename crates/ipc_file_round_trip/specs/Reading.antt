@@ -64,7 +64,7 @@ all_pruned p limit (c ∷ cs) = pruned p limit c ∷ all_pruned p (less limit (r
 abbrev pub BlocksReason : Meaning → Dictionaries → List ℕ → Option (List ℕ) → Limit → List Block → Fault → Type 0
 BlocksReason m ds source p limit [] e = ⊥
 BlocksReason m ds source p limit (b ∷ bs) e =
-    MatchOption (chunk_at m ds source b p limit) (RecordReason (kinds m.schema) (chosen p (count (kinds m.schema))) source (Some b) e)
+    MatchOption (chunk_at m ds source b p limit) (RecordReason m (chosen p (count (kinds m.schema))) source (Some b) e)
     (λ c. BlocksReason m ds source p (less limit (rows_of c)) bs e)
 
 -- Why those of a file aren't: its dictionaries have no meaning, or one of its blocks has none.

@@ -65,7 +65,7 @@ dictionary-kind x r is = dictionary-tag x.header (extra_of x.version) ∙ ap (an
 
 -- ---- the message at a block
 
-module _ (tag : ℕ) (numbers negative : OutOfSpecKind) (source : List ℕ) {o : Option Block} {b : Block} (listed : o ≡ Some b) (P : Fault → Type 0) where
+module _ (tag : ℕ) (numbers negative : OutOfSpecKind) (source : List ℕ) {o : Option Block} {b : Block} (listed : o ≡ Some b) (P : BlockHeader → Fault → Type 0) where
   abbrev header-at : Result BlockHeader Fault
   header-at = block_message tag numbers negative source b
 
@@ -107,8 +107,15 @@ module _ (tag : ℕ) (numbers negative : OutOfSpecKind) (source : List ℕ) {o :
         pub other-kind : (e : Fault) → needed_kind tag h ≡ Err e → OwnFault e (Reason o e)
         other-kind e is = own_any e (Reason o e) (in-message e (kind-is ∙ is))
 
-        pub in-batch : {X : Type 0} (r : Result X Fault) → needed_kind tag h ≡ Ok h → IfErr r (λ e. OwnFault e (P e)) → IfErr r (λ e. OwnFault e (Reason o e))
+        pub in-batch : {X : Type 0} (r : Result X Fault) → needed_kind tag h ≡ Ok h → IfErr r (λ e. OwnFault e (P h e)) → IfErr r (λ e. OwnFault e (Reason o e))
         in-batch (Ok x) is why = tt
         in-batch (Err e) is why =
             subst (λ (y : Option Block). OwnFault e (Reason y e)) (sym listed)
             (subst (λ (m : Result BlockHeader Fault). OwnFault e (MessageReason m P e)) (sym (kind-is ∙ is)) why)
+
+-- ---- the batch at a block
+
+-- a fault of it, and what it tells
+pub and-tells : {X : Type 0} (r : Result X Fault) (P Q : Fault → Type 0) → IfErr r (λ e. OwnFault e (P e)) → IfErr r Q → IfErr r (λ e. OwnFault e (P e × Q e))
+and-tells (Ok x) P Q why told = tt
+and-tells (Err e) P Q why told = claims_through e (P e) (P e × Q e) (λ is. (is, told)) why

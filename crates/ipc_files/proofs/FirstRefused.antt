@@ -27,7 +27,7 @@ module _ (m : FileMetadata) (source : List ℕ) (e : Fault) where
   reason-alike : (bs : List Block) (ds es : Dictionaries) → KnowAlike ds es → DictionariesReason m source ds bs e → DictionariesReason m source es bs e
   reason-alike [] ds es alike h = h
   reason-alike (b ∷ bs) ds es alike h =
-      match-alike (dictionaries_at m ds source b) (dictionaries_at m es source b) (DictionaryReason source b e) (λ (after : Dictionaries). DictionariesReason m source after bs e)
+      match-alike (dictionaries_at m ds source b) (dictionaries_at m es source b) (DictionaryReason m source b e) (λ (after : Dictionaries). DictionariesReason m source after bs e)
       (block-alike m ds es source b alike) (reason-alike bs) h
 
   pub from-none : (bs : List Block) (ds : Dictionaries) → ds ≡ [] → DictionariesReason m source ds (drop 0 bs) e → DictionariesReason m source [] bs e
@@ -42,16 +42,16 @@ module _ (m : FileMetadata) (source : List ℕ) (e : Fault) where
         let here : AreAlike (dictionaries_at m ds source (get_or bs i d)) (Some es) = subst (λ (xs : List ℕ). AreAlike (dictionaries_at m ds xs (get_or bs i d)) (Some es)) same read in
         let next = subst (λ (n : ℕ). DictionariesReason m source es (drop n bs) e) (add-one i) h in
         subst (λ (xs : List Block). DictionariesReason m source ds xs e) (sym (drop-cons bs i d within))
-        (match-alike (Some es) (dictionaries_at m ds source (get_or bs i d)) (DictionaryReason source (get_or bs i d) e) (λ (after : Dictionaries). DictionariesReason m source after (drop (suc i) bs) e)
+        (match-alike (Some es) (dictionaries_at m ds source (get_or bs i d)) (DictionaryReason m source (get_or bs i d) e) (λ (after : Dictionaries). DictionariesReason m source after (drop (suc i) bs) e)
         (alike-back _ _ here) (reason-alike (drop (suc i) bs)) next)
 
-    first : dictionaries_at m ds bytes (get_or bs i d) ≡ None → DictionaryReason bytes (get_or bs i d) e → DictionariesReason m source ds (drop i bs) e
+    first : dictionaries_at m ds bytes (get_or bs i d) ≡ None → DictionaryReason m bytes (get_or bs i d) e → DictionariesReason m source ds (drop i bs) e
     first none why =
         subst (λ (xs : List Block). DictionariesReason m source ds xs e) (sym (drop-cons bs i d within))
-        (subst (λ (xs : List ℕ). MatchOption (dictionaries_at m ds xs (get_or bs i d)) (DictionaryReason xs (get_or bs i d) e) (λ (after : Dictionaries). DictionariesReason m source after (drop (suc i) bs) e)) same
-        (subst (λ (o : Option Dictionaries). MatchOption o (DictionaryReason bytes (get_or bs i d) e) (λ (after : Dictionaries). DictionariesReason m source after (drop (suc i) bs) e)) (sym none) why))
+        (subst (λ (xs : List ℕ). MatchOption (dictionaries_at m ds xs (get_or bs i d)) (DictionaryReason m xs (get_or bs i d) e) (λ (after : Dictionaries). DictionariesReason m source after (drop (suc i) bs) e)) same
+        (subst (λ (o : Option Dictionaries). MatchOption o (DictionaryReason m bytes (get_or bs i d) e) (λ (after : Dictionaries). DictionariesReason m source after (drop (suc i) bs) e)) (sym none) why))
 
     pub refused-first : {Q : Type 0} → (DictionariesReason m source ds (drop i bs) e → Q) → OwnFault e (dictionaries_at m ds bytes (get_or bs i d) ≡ None)
-        → OwnFault e (DictionaryReason bytes (get_or bs i d) e) → OwnFault e Q
+        → OwnFault e (DictionaryReason m bytes (get_or bs i d) e) → OwnFault e Q
     refused-first {Q} f h why =
-        claims_own e (dictionaries_at m ds bytes (get_or bs i d) ≡ None) Q (λ none. claims_through e (DictionaryReason bytes (get_or bs i d) e) Q (λ is. f (first none is)) why) h
+        claims_own e (dictionaries_at m ds bytes (get_or bs i d) ≡ None) Q (λ none. claims_through e (DictionaryReason m bytes (get_or bs i d) e) Q (λ is. f (first none is)) why) h

@@ -10,14 +10,14 @@ use Rattle.ipc_views.specs.Spot.{Spot}
 use Rattle.ipc_views.specs.declared.file.Block.{Block}
 use Rattle.ipc_views.specs.declared.message.MessageHeaderRef.{MessageHeaderRef}
 use Rattle.ipc_views.specs.declared.message.MessageHeaderRef.TheVariants.{RecordBatch}
-use Rattle.ipc_model.specs.Batches.{lists_of}
-use Rattle.ipc_model.specs.Files.{BlockHeader, block_header, metadata_at, placed}
+use Rattle.ipc_model.specs.Batches.{kinds, lists_of}
+use Rattle.ipc_model.specs.Files.{BlockHeader, FileMetadata, block_header, metadata_at, placed}
 use Rattle.ipc_model.specs.Kinds.{Kinds}
 use Rattle.ipc_model.specs.Schemas.{given}
 use Rattle.ipc_files.specs.Blocks.{IsFrameFault, IsHeaderFault, MessageReason, block_message}
 use Rattle.ipc_read.specs.HeldChunks.{HoldChosen}
-use Rattle.ipc_read.specs.Refusals.{IsFaultOfBatch}
-use Rattle.ipc_read.specs.Sizes.{chosen_listed}
+use Rattle.ipc_read.specs.Refusals.{IsFaultOfBatch, TellsLengths}
+use Rattle.ipc_read.specs.Sizes.{batch_listed, chosen_listed}
 
 -- the record batch in the header of a message, which has to be one
 abbrev pub needed_record : MessageHeaderRef → Result Spot Fault
@@ -59,6 +59,11 @@ IsRecordFault ts js e =
     (e ≡ OutOfSpec NegativeFooterLength) ⊎ (IsFrameFault UnexpectedNegativeInteger e ⊎ (IsHeaderFault e
     ⊎ ((e ≡ OutOfSpec UnexpectedMessageType) ⊎ IsFaultOfBatch ts js e)))
 
+-- Which fault the record batch in this header can have, in a file. Buffers that are together longer than the file are told by both lengths.
+abbrev pub BlamesRecord : FileMetadata → List ℕ → BlockHeader → Fault → Type 0
+BlamesRecord m js h e = IsFaultOfBatch (kinds m.schema) js e × TellsLengths (batch_listed (lists_of h.table)) m.size e
+
 -- why a block of a record is refused: its message, which has the tag 3, or its batch
-abbrev pub RecordReason : Kinds → List ℕ → List ℕ → Option Block → Fault → Type 0
-RecordReason ts js source b e = IsSomeAnd b (λ x. MessageReason (block_message 3 NegativeFooterLength UnexpectedNegativeInteger source x) (IsFaultOfBatch ts js) e)
+abbrev pub RecordReason : FileMetadata → List ℕ → List ℕ → Option Block → Fault → Type 0
+RecordReason m js source b e =
+    IsSomeAnd b (λ x. MessageReason (block_message 3 NegativeFooterLength UnexpectedNegativeInteger source x) (BlamesRecord m js) e)

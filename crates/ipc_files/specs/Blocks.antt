@@ -108,7 +108,7 @@ placed_message tag negative source p =
 unfoldable pub block_message : ℕ → (numbers negative : OutOfSpecKind) → List ℕ → Block → Result BlockHeader Fault
 block_message tag numbers negative source b = result_and_then (placed_message tag negative source) (ok_or (placed b) (OutOfSpec numbers))
 
--- It is the fault in the message, or one of what the message holds.
-abbrev pub MessageReason : Result BlockHeader Fault → (Fault → Type 0) → Fault → Type 0
-MessageReason (Ok h) P e = P e
+-- It is the fault in the message, or one of what the message holds, whose header is known then.
+abbrev pub MessageReason : Result BlockHeader Fault → (BlockHeader → Fault → Type 0) → Fault → Type 0
+MessageReason (Ok h) P e = P h e
 MessageReason (Err f) P e = e ≡ f

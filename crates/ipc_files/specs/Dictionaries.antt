@@ -17,8 +17,10 @@ use Rattle.ipc_model.specs.Files.{BlockHeader, FileMetadata, block_header, dicti
 use Rattle.ipc_laws.specs.Agreement.{AreAlike}
 use Rattle.ipc_files.specs.Batches.{block_metadata}
 use Rattle.ipc_files.specs.Blocks.{IsFrameFault, IsHeaderFault, MessageReason, block_message}
-use Rattle.ipc_read.specs.DictionaryBatches.{IsDictionaryFault, dictionary_head, values_listed}
+use Rattle.ipc_read.specs.DictionaryBatches.{BlamesDictionary, IsDictionaryFault, dictionary_head, values_listed, values_lists}
 use Rattle.ipc_read.specs.HeldChunks.{values_empty, HoldsValues}
+use Rattle.ipc_read.specs.Refusals.{TellsLengths}
+use Rattle.ipc_read.specs.Sizes.{batch_listed}
 
 -- the dictionary batch in the header of a message, which has to be one
 abbrev pub needed_dictionary : MessageHeaderRef → Result Spot Fault
@@ -37,15 +39,20 @@ IsDictionaryBlockFault e =
     (e ≡ OutOfSpec UnexpectedNegativeInteger) ⊎ (IsFrameFault NegativeFooterLength e ⊎ (IsHeaderFault e
     ⊎ ((e ≡ OutOfSpec UnexpectedMessageType) ⊎ IsDictionaryFault e)))
 
+-- Which fault the dictionary batch in this header can have, in a file: an id that no field has is named, and buffers that are together longer than
+-- the file are told by both lengths.
+abbrev pub BlamesValues : FileMetadata → BlockHeader → Fault → Type 0
+BlamesValues m h e = BlamesDictionary m.schema h.table e × TellsLengths (batch_listed (values_lists h.table)) m.size e
+
 -- why a block of a dictionary is refused: its message, which has the tag 2, or its batch
-abbrev pub DictionaryReason : List ℕ → Block → Fault → Type 0
-DictionaryReason source b e = MessageReason (block_message 2 UnexpectedNegativeInteger NegativeFooterLength source b) IsDictionaryFault e
+abbrev pub DictionaryReason : FileMetadata → List ℕ → Block → Fault → Type 0
+DictionaryReason m source b e = MessageReason (block_message 2 UnexpectedNegativeInteger NegativeFooterLength source b) (BlamesValues m) e
 
 -- Why some blocks are refused: the first one whose dictionary has no meaning.
 abbrev pub DictionariesReason : FileMetadata → List ℕ → Dictionaries → List Block → Fault → Type 0
 DictionariesReason m source known [] e = ⊥
 DictionariesReason m source known (b ∷ bs) e =
-    MatchOption (dictionaries_at m known source b) (DictionaryReason source b e) (λ after. DictionariesReason m source after bs e)
+    MatchOption (dictionaries_at m known source b) (DictionaryReason m source b e) (λ after. DictionariesReason m source after bs e)
 
 -- ---- how many bytes are needed
 

@@ -16,8 +16,8 @@ ghost use Rattle.ipc_flat_columns.specs.Bodies.{known_dictionaries};
 ghost use Rattle.ipc_read.specs.Chunks.{chunk_seen};
 ghost use Rattle.ipc_read.specs.Columns.{ArePrepared};
 ghost use Rattle.ipc_read.specs.HeldChunks.{HoldChosen};
-ghost use Rattle.ipc_read.specs.Refusals.{IsFaultOfBatch};
-ghost use Rattle.ipc_read.specs.Sizes.{chosen_listed};
+ghost use Rattle.ipc_read.specs.Refusals.{IsFaultOfBatch, TellsLengths};
+ghost use Rattle.ipc_read.specs.Sizes.{batch_listed, chosen_listed};
 
 use crate::read::file::block::{open_message, place_of, read_metadata};
 use crate::read::file::metadata::FileMetadata;
@@ -58,6 +58,7 @@ fn read_record<R: Reads + Seeks>(
     ensures many { IfOk result (λ chunk. length chunk ≡ length (chosen (option_copied projection.entry) (length metadata.now.schema.fields.items))) }
     ensures only { let js = chosen (option_copied projection.entry) (length metadata.now.schema.fields.items) in
         IfErr result (λ e. OwnFault e (IsFaultOfBatch (kinds (file_seen metadata.now).schema) js e)) }
+    ensures lengths { IfErr result (TellsLengths (batch_listed (lists_of batch.entry)) metadata.now.size) }
     ensures monotone { R.failures reader.old ≤ R.failures reader.new }
     ensures failed { OnIo result (Rises (R.failures reader.old) (R.failures reader.new)) }
     ensures told { UnlessIo result (R.failures reader.new ≡ R.failures reader.old) }
@@ -138,7 +139,7 @@ pub fn read_batch<R: Reads + Seeks>(
     ensures numbers { option_and_then placed (slice_get metadata.now.blocks.items index) ≡ None → result ≡ Err (OutOfSpec NegativeFooterLength) }
     ensures reason { IsTrue R.known → let m = file_seen metadata.now in
         let js = chosen (option_copied projection.entry) (length metadata.now.schema.fields.items) in
-        IfErr result (λ e. OwnFault e (RecordReason (kinds m.schema) js (R.memory reader.old).whole (slice_get metadata.now.blocks.items index) e)) }
+        IfErr result (λ e. OwnFault e (RecordReason m js (R.memory reader.old).whole (slice_get metadata.now.blocks.items index) e)) }
     ensures memory { IsTrue R.known → GivesPart chunk_seen result
         (file_chunk (file_seen metadata.now) (known_dictionaries dictionaries.now) (R.memory reader.old).whole
         (option_copied projection.entry) limit index) }

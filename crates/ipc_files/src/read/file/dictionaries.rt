@@ -11,7 +11,9 @@ ghost use Rattle.ipc_files.specs.Dictionaries.{DictionariesReason, DictionaryRea
 ghost use Rattle.ipc_files.specs.Footers.{file_seen};
 ghost use Rattle.ipc_flat_columns.specs.Bodies.{array_under, known_dictionaries};
 ghost use Rattle.ipc_read.specs.HeldChunks.{HoldsValues};
-ghost use Rattle.ipc_read.specs.DictionaryBatches.{IsDictionaryFault, values_listed};
+ghost use Rattle.ipc_read.specs.DictionaryBatches.{BlamesDictionary, IsDictionaryFault, values_listed, values_lists};
+ghost use Rattle.ipc_read.specs.Refusals.{TellsLengths};
+ghost use Rattle.ipc_read.specs.Sizes.{batch_listed};
 
 use crate::read::file::block::{open_message, place_of, read_metadata};
 use crate::read::file::metadata::FileMetadata;
@@ -46,6 +48,8 @@ fn read_values<R: Reads + Seeks>(
     scratch: &mut Vec<u8>,
 ) -> Result<(), Fault>
     ensures only { IfErr result (λ e. OwnFault e (IsDictionaryFault e)) }
+    ensures blames { IfErr result (λ e. OwnFault e (BlamesDictionary (file_seen metadata.now).schema batch.entry e)) }
+    ensures lengths { IfErr result (TellsLengths (batch_listed (values_lists batch.entry)) metadata.now.size) }
     ensures monotone { R.failures reader.old ≤ R.failures reader.new }
     ensures failed { OnIo result (Rises (R.failures reader.old) (R.failures reader.new)) }
     ensures told { UnlessIo result (R.failures reader.new ≡ R.failures reader.old) }
@@ -93,7 +97,7 @@ fn read_dictionary_block<R: Reads + Seeks>(
         (λ id. array_under dictionaries.old id) (λ id. array_under dictionaries.new id)) }
     ensures message { IsTrue R.known → OnOk result (block_metadata (R.memory reader.old).whole (Some block.now) ≡ Some message_scratch.new.items) }
     ensures numbers { placed block.now ≡ None → result ≡ Err (OutOfSpec UnexpectedNegativeInteger) }
-    ensures reason { IsTrue R.known → IfErr result (λ e. OwnFault e (DictionaryReason (R.memory reader.old).whole block.now e)) }
+    ensures reason { IsTrue R.known → IfErr result (λ e. OwnFault e (DictionaryReason (file_seen metadata.now) (R.memory reader.old).whole block.now e)) }
     ensures memory { IsTrue R.known → GivesKnown (λ _. known_dictionaries dictionaries.new) result
         (dictionaries_at (file_seen metadata.now) (known_dictionaries dictionaries.old) (R.memory reader.old).whole block.now) }
     ensures idle { data_scratch.new ≡ data_scratch.old }

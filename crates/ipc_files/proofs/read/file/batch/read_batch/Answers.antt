@@ -3,13 +3,15 @@ use Rattle.std.proofs.lemmas.Option.{slice_get_read}
 use Rattle.std.specs.Prelude.{vec_len}
 use Rattle.std.specs.Option.{option_copied}
 use Rattle.ipc_devices.specs.declared.fault.OutOfSpecKind.TheVariants.{NegativeFooterLength, UnexpectedNegativeInteger}
-use Rattle.ipc_model.specs.Batches.{chosen, kinds}
+use Rattle.ipc_model.specs.Batches.{chosen, kinds, lists_of}
 use Rattle.ipc_model.specs.Files.{block_header}
 use Rattle.ipc_flat_columns.specs.Bodies.{known_dictionaries}
+use Rattle.ipc_files.specs.Batches.{BlamesRecord}
 use Rattle.ipc_files.specs.Blocks.{message_seen, place_seen}
 use Rattle.ipc_files.specs.Footers.{file_seen}
-use Rattle.ipc_read.specs.Refusals.{IsFaultOfBatch}
-use Rattle.ipc_files.proofs.BlockFaults.{ill-made, in-batch, no-message, other-kind, record-kind, unplaced}
+use Rattle.ipc_read.specs.Refusals.{IsFaultOfBatch, TellsLengths}
+use Rattle.ipc_read.specs.Sizes.{batch_listed}
+use Rattle.ipc_files.proofs.BlockFaults.{and-tells, ill-made, in-batch, no-message, other-kind, record-kind, unplaced}
 use Rattle.ipc_read.proofs.Refusals.{own_any}
 use Rattle.ipc_files.proofs.BlockRecords.{refused-record-place, refused-record-message, refused-record-header, refused-record-kind, read-record, has-place, message-read, on-ok}
 use Rattle.ipc_files.proofs.read.file.batch.read_batch.Goals as goal
@@ -86,7 +88,7 @@ returns-in_err-place-clause-reason g c = λ k.
     let e = c.in_err-place.field-0.0 in
     let is : c.from_residual.result ≡ Err e = search rules in
     rw is (unplaced 3 NegativeFooterLength UnexpectedNegativeInteger (g.R.Failures.memory c.args.reader.now).whole
-    (slice_get_read c.args.metadata.now.blocks.items (vec_len c.args.metadata.now.blocks) c.args.index c.index-block.result.now (search rules) c.requires.index c.index-block.ensures) (IsFaultOfBatch (kinds (file_seen c.args.metadata.now).schema) (chosen (option_copied c.args.projection) (length c.args.metadata.now.schema.fields.items)))
+    (slice_get_read c.args.metadata.now.blocks.items (vec_len c.args.metadata.now.blocks) c.args.index c.index-block.result.now (search rules) c.requires.index c.index-block.ensures) (BlamesRecord (file_seen c.args.metadata.now) (chosen (option_copied c.args.projection) (length c.args.metadata.now.schema.fields.items)))
     e c.in_err-place.ensures.place c.in_err-place.ensures.only)
 
 pub returns-in_err-read_metadata-clause-reason : goal.returns-in_err-read_metadata-clause-reason
@@ -94,7 +96,7 @@ returns-in_err-read_metadata-clause-reason g c = λ k.
     let e = c.in_err-read_metadata.field-0.0 in
     let is : c.from_residual-in_err-read_metadata.result ≡ Err e = search rules in
     rw is (no-message 3 NegativeFooterLength UnexpectedNegativeInteger (g.R.Failures.memory c.args.reader.now).whole
-    (slice_get_read c.args.metadata.now.blocks.items (vec_len c.args.metadata.now.blocks) c.args.index c.index-block.result.now (search rules) c.requires.index c.index-block.ensures) (IsFaultOfBatch (kinds (file_seen c.args.metadata.now).schema) (chosen (option_copied c.args.projection) (length c.args.metadata.now.schema.fields.items)))
+    (slice_get_read c.args.metadata.now.blocks.items (vec_len c.args.metadata.now.blocks) c.args.index c.index-block.result.now (search rules) c.requires.index c.index-block.ensures) (BlamesRecord (file_seen c.args.metadata.now) (chosen (option_copied c.args.projection) (length c.args.metadata.now.schema.fields.items)))
     (place_seen c.in_ok-place.place) c.in_ok-place.ensures.place e (c.in_err-read_metadata.ensures.memory k) (c.in_err-read_metadata.ensures.reason k))
 
 pub returns-in_err-message-clause-reason : goal.returns-in_err-message-clause-reason
@@ -102,7 +104,7 @@ returns-in_err-message-clause-reason g c = λ k.
     let e = c.in_err-message.field-0.0 in
     let is : c.from_residual-in_err-message.result ≡ Err e = search rules in
     rw is (ill-made 3 NegativeFooterLength UnexpectedNegativeInteger (g.R.Failures.memory c.args.reader.now).whole
-    (slice_get_read c.args.metadata.now.blocks.items (vec_len c.args.metadata.now.blocks) c.args.index c.index-block.result.now (search rules) c.requires.index c.index-block.ensures) (IsFaultOfBatch (kinds (file_seen c.args.metadata.now).schema) (chosen (option_copied c.args.projection) (length c.args.metadata.now.schema.fields.items)))
+    (slice_get_read c.args.metadata.now.blocks.items (vec_len c.args.metadata.now.blocks) c.args.index c.index-block.result.now (search rules) c.requires.index c.index-block.ensures) (BlamesRecord (file_seen c.args.metadata.now) (chosen (option_copied c.args.projection) (length c.args.metadata.now.schema.fields.items)))
     (place_seen c.in_ok-place.place) c.in_ok-place.ensures.place c.read_metadata.new.metadata.items (c.in_ok-read_metadata.ensures.memory k) e
     (rw c.deref.ensures.value at c.in_err-message.ensures.exact))
 
@@ -111,13 +113,15 @@ returns-in_err-batch-clause-reason g c = λ k.
     let e = c.in_err-batch.field-0.0 in
     let is : c.from_residual-in_err-batch.result ≡ Err e = search rules in
     rw is (other-kind 3 NegativeFooterLength UnexpectedNegativeInteger (g.R.Failures.memory c.args.reader.now).whole
-    (slice_get_read c.args.metadata.now.blocks.items (vec_len c.args.metadata.now.blocks) c.args.index c.index-block.result.now (search rules) c.requires.index c.index-block.ensures) (IsFaultOfBatch (kinds (file_seen c.args.metadata.now).schema) (chosen (option_copied c.args.projection) (length c.args.metadata.now.schema.fields.items)))
+    (slice_get_read c.args.metadata.now.blocks.items (vec_len c.args.metadata.now.blocks) c.args.index c.index-block.result.now (search rules) c.requires.index c.index-block.ensures) (BlamesRecord (file_seen c.args.metadata.now) (chosen (option_copied c.args.projection) (length c.args.metadata.now.schema.fields.items)))
     (place_seen c.in_ok-place.place) c.in_ok-place.ensures.place c.read_metadata.new.metadata.items (c.in_ok-read_metadata.ensures.memory k) (message_seen c.in_ok-message.message)
     (rw c.deref.ensures.value at c.in_ok-message.ensures.exact) e (record-kind c.in_ok-message.message (Err e) c.in_err-batch.ensures))
 
 pub returns-clause-reason : goal.returns-clause-reason
 returns-clause-reason g c = λ k.
     in-batch 3 NegativeFooterLength UnexpectedNegativeInteger (g.R.Failures.memory c.args.reader.now).whole
-    (slice_get_read c.args.metadata.now.blocks.items (vec_len c.args.metadata.now.blocks) c.args.index c.index-block.result.now (search rules) c.requires.index c.index-block.ensures) (IsFaultOfBatch (kinds (file_seen c.args.metadata.now).schema) (chosen (option_copied c.args.projection) (length c.args.metadata.now.schema.fields.items)))
+    (slice_get_read c.args.metadata.now.blocks.items (vec_len c.args.metadata.now.blocks) c.args.index c.index-block.result.now (search rules) c.requires.index c.index-block.ensures) (BlamesRecord (file_seen c.args.metadata.now) (chosen (option_copied c.args.projection) (length c.args.metadata.now.schema.fields.items)))
     (place_seen c.in_ok-place.place) c.in_ok-place.ensures.place c.read_metadata.new.metadata.items (c.in_ok-read_metadata.ensures.memory k) (message_seen c.in_ok-message.message)
-    (rw c.deref.ensures.value at c.in_ok-message.ensures.exact) c.read_record.result (record-kind c.in_ok-message.message (Ok c.in_ok-batch.batch) c.in_ok-batch.ensures) c.read_record.ensures.only
+    (rw c.deref.ensures.value at c.in_ok-message.ensures.exact) c.read_record.result (record-kind c.in_ok-message.message (Ok c.in_ok-batch.batch) c.in_ok-batch.ensures)
+    (and-tells c.read_record.result (IsFaultOfBatch (kinds (file_seen c.args.metadata.now).schema) (chosen (option_copied c.args.projection) (length c.args.metadata.now.schema.fields.items)))
+    (TellsLengths (batch_listed (lists_of c.in_ok-batch.batch)) c.args.metadata.now.size) c.read_record.ensures.only c.read_record.ensures.lengths)

@@ -3,9 +3,13 @@ use Rattle.ipc_devices.specs.declared.fault.OutOfSpecKind.TheVariants.{NegativeF
 use Rattle.ipc_model.specs.Files.{block_header}
 use Rattle.ipc_flat_columns.specs.Bodies.{known_dictionaries}
 use Rattle.ipc_files.specs.Blocks.{message_seen, place_seen}
-use Rattle.ipc_read.specs.DictionaryBatches.{IsDictionaryFault}
+use Rattle.ipc_files.specs.Dictionaries.{BlamesValues}
+use Rattle.ipc_files.specs.Footers.{file_seen}
+use Rattle.ipc_read.specs.DictionaryBatches.{BlamesDictionary, values_lists}
+use Rattle.ipc_read.specs.Refusals.{TellsLengths}
+use Rattle.ipc_read.specs.Sizes.{batch_listed}
 use Rattle.ipc_files.proofs.BlockDictionaries.{refused-dictionary-place, refused-dictionary-message, refused-dictionary-header, refused-dictionary-kind, read-dictionary}
-use Rattle.ipc_files.proofs.BlockFaults.{dictionary-kind, ill-made, in-batch, no-message, other-kind, unplaced}
+use Rattle.ipc_files.proofs.BlockFaults.{and-tells, dictionary-kind, ill-made, in-batch, no-message, other-kind, unplaced}
 use Rattle.ipc_read.proofs.Refusals.{own_any}
 use Rattle.ipc_files.proofs.BlockRecords.{message-read}
 use Rattle.ipc_files.proofs.read.file.dictionaries.read_dictionary_block.Goals as goal
@@ -64,21 +68,21 @@ pub returns-in_err-place-clause-reason : goal.returns-in_err-place-clause-reason
 returns-in_err-place-clause-reason g c = λ k.
     let e = c.in_err-place.field-0.0 in
     let is : c.from_residual.result ≡ Err e = search rules in
-    rw is (unplaced 2 UnexpectedNegativeInteger NegativeFooterLength (g.R.Failures.memory c.args.reader.now).whole {o = Some c.args.block.now} {b = c.args.block.now} refl IsDictionaryFault
+    rw is (unplaced 2 UnexpectedNegativeInteger NegativeFooterLength (g.R.Failures.memory c.args.reader.now).whole {o = Some c.args.block.now} {b = c.args.block.now} refl (BlamesValues (file_seen c.args.metadata.now))
     e c.in_err-place.ensures.place c.in_err-place.ensures.only)
 
 pub returns-in_err-read_metadata-clause-reason : goal.returns-in_err-read_metadata-clause-reason
 returns-in_err-read_metadata-clause-reason g c = λ k.
     let e = c.in_err-read_metadata.field-0.0 in
     let is : c.from_residual-in_err-read_metadata.result ≡ Err e = search rules in
-    rw is (no-message 2 UnexpectedNegativeInteger NegativeFooterLength (g.R.Failures.memory c.args.reader.now).whole {o = Some c.args.block.now} {b = c.args.block.now} refl IsDictionaryFault
+    rw is (no-message 2 UnexpectedNegativeInteger NegativeFooterLength (g.R.Failures.memory c.args.reader.now).whole {o = Some c.args.block.now} {b = c.args.block.now} refl (BlamesValues (file_seen c.args.metadata.now))
     (place_seen c.in_ok-place.place) c.in_ok-place.ensures.place e (c.in_err-read_metadata.ensures.memory k) (c.in_err-read_metadata.ensures.reason k))
 
 pub returns-in_err-message-clause-reason : goal.returns-in_err-message-clause-reason
 returns-in_err-message-clause-reason g c = λ k.
     let e = c.in_err-message.field-0.0 in
     let is : c.from_residual-in_err-message.result ≡ Err e = search rules in
-    rw is (ill-made 2 UnexpectedNegativeInteger NegativeFooterLength (g.R.Failures.memory c.args.reader.now).whole {o = Some c.args.block.now} {b = c.args.block.now} refl IsDictionaryFault
+    rw is (ill-made 2 UnexpectedNegativeInteger NegativeFooterLength (g.R.Failures.memory c.args.reader.now).whole {o = Some c.args.block.now} {b = c.args.block.now} refl (BlamesValues (file_seen c.args.metadata.now))
     (place_seen c.in_ok-place.place) c.in_ok-place.ensures.place c.read_metadata.new.metadata.items (c.in_ok-read_metadata.ensures.memory k) e
     (rw c.deref.ensures.value at c.in_err-message.ensures.exact))
 
@@ -86,7 +90,7 @@ pub returns-in_err-batch-clause-reason : goal.returns-in_err-batch-clause-reason
 returns-in_err-batch-clause-reason g c = λ k.
     let e = c.in_err-batch.field-0.0 in
     let is : c.from_residual-in_err-batch.result ≡ Err e = search rules in
-    rw is (other-kind 2 UnexpectedNegativeInteger NegativeFooterLength (g.R.Failures.memory c.args.reader.now).whole {o = Some c.args.block.now} {b = c.args.block.now} refl IsDictionaryFault
+    rw is (other-kind 2 UnexpectedNegativeInteger NegativeFooterLength (g.R.Failures.memory c.args.reader.now).whole {o = Some c.args.block.now} {b = c.args.block.now} refl (BlamesValues (file_seen c.args.metadata.now))
     (place_seen c.in_ok-place.place) c.in_ok-place.ensures.place c.read_metadata.new.metadata.items (c.in_ok-read_metadata.ensures.memory k)
     (message_seen c.in_ok-message.message) (rw c.deref.ensures.value at c.in_ok-message.ensures.exact) e (dictionary-kind c.in_ok-message.message (Err e) c.in_err-batch.ensures))
 
@@ -94,7 +98,9 @@ pub returns-in_err-read_values-clause-reason : goal.returns-in_err-read_values-c
 returns-in_err-read_values-clause-reason g c = λ k.
     let e = c.in_err-read_values.field-0.0 in
     let is : c.from_residual-in_err-read_values.result ≡ Err e = search rules in
-    rw is (in-batch 2 UnexpectedNegativeInteger NegativeFooterLength (g.R.Failures.memory c.args.reader.now).whole {o = Some c.args.block.now} {b = c.args.block.now} refl IsDictionaryFault
+    rw is (in-batch 2 UnexpectedNegativeInteger NegativeFooterLength (g.R.Failures.memory c.args.reader.now).whole {o = Some c.args.block.now} {b = c.args.block.now} refl (BlamesValues (file_seen c.args.metadata.now))
     (place_seen c.in_ok-place.place) c.in_ok-place.ensures.place c.read_metadata.new.metadata.items (c.in_ok-read_metadata.ensures.memory k)
     (message_seen c.in_ok-message.message) (rw c.deref.ensures.value at c.in_ok-message.ensures.exact) {X = Unit {0}} (Err e)
-    (dictionary-kind c.in_ok-message.message (Ok c.in_ok-batch.batch) c.in_ok-batch.ensures) c.in_err-read_values.ensures.only)
+    (dictionary-kind c.in_ok-message.message (Ok c.in_ok-batch.batch) c.in_ok-batch.ensures)
+    (and-tells {X = Unit {0}} (Err e) (BlamesDictionary (file_seen c.args.metadata.now).schema c.in_ok-batch.batch) (TellsLengths (batch_listed (values_lists c.in_ok-batch.batch)) c.args.metadata.now.size)
+    c.in_err-read_values.ensures.blames c.in_err-read_values.ensures.lengths))
