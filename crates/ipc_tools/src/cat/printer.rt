@@ -26,10 +26,14 @@ impl<'a, W: Writes> Printer<'a, W> {
         }
     }
 
-    /// Adds these bytes. `Io` where sending fails, `Memory` where they can't be kept.
+    /// Adds these bytes: many at once are sent without being kept. `Io` where sending fails, `Memory` where they can't be kept.
     pub fn put(&mut self, bytes: &[u8]) -> Result<(), Fault>
         ensures { IfErr result (λ e. OwnFault e ⊥) }
     {
+        if KEPT <= bytes.len() {
+            self.send()?;
+            return write_all(&mut *self.out, bytes);
+        }
         self.kept.extend_from_slice(bytes)?;
         if KEPT <= self.kept.len() {
             self.send()?;
@@ -68,15 +72,22 @@ pub fn put_text<W: Writes>(printer: &mut Printer<W>, text: &[u8]) -> Result<(), 
     ensures { IfErr result (λ e. OwnFault e ⊥) }
 {
     printer.put(b"\"")?;
-    for byte in text {
-        if *byte < 0x20 || *byte == 0x7f || *byte == b'"' || *byte == b'\\' {
+    let mut start = 0;
+    for (at, byte) in text.iter().enumerate() {
+        if is_escaped(*byte) {
+            printer.put(&text[start..at])?;
             printer.put(b"\\x")?;
             printer.put_byte(*byte)?;
-        } else {
-            printer.put(&[*byte])?;
+            start = at + 1;
         }
     }
+    printer.put(&text[start..])?;
     printer.put(b"\"")
+}
+
+// Whether a byte of a text is printed as `\x` and two digits.
+fn is_escaped(byte: u8) -> bool {
+    byte < 0x20 || byte == 0x7f || byte == b'"' || byte == b'\\'
 }
 
 // The lower case digit of a number below 16.

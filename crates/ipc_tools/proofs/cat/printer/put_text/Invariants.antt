@@ -1,0 +1,6 @@
+use Rattle.std.proofs.Common.{◌≤◌}
+use Rattle.ipc_tools.proofs.cat.printer.put_text.Given as goal
+
+-- The bytes from `start` on are still to be printed.
+abbrev pub invariant-loop-at : goal.invariant-loop-at
+invariant-loop-at g l = l.start ≤ l.at
