@@ -21,7 +21,7 @@ use Rattle.ipc_readers.specs.Streams.{IsUnread, head_of, projection_of}
 use Rattle.ipc_readers.specs.declared.read.stream.metadata.StreamMetadata.{StreamMetadata}
 use Rattle.ipc_readers.specs.declared.read.stream.reader.StreamReader.{StreamReader}
 use Rattle.ipc_round_trip.proofs.Streams.{chosen_ahead, ends_marked, ends_waiting, head_is, no_head, seen_stream, stream_or}
-use Rattle.ipc_round_trip.specs.Choosing.{ChosenFinishedLaw, ChosenOpenLaw, ChosenReadableLaw, IsReadableBy, NamesOthers, chosen_from, chosen_stream_of}
+use Rattle.ipc_round_trip.specs.Choosing.{ChosenFinishedLaw, ChosenOpenLaw, ChosenOpenReadableLaw, ChosenReadableLaw, IsReadableBy, NamesOthers, chosen_from, chosen_stream_of}
 use Rattle.ipc_round_trip.specs.Reading.{RefusesAhead}
 
 -- ---- what is read
@@ -125,6 +125,14 @@ chosen_readable p bytes head chunks is h = record {
   head = head;
   meant = (by_columns p (ending head chunks marked)).meant;
   stream = stream_pruned p bytes (ending head chunks marked) is h.stream (λ e. cc);
+  sound = λ e. cc;
+}
+
+pub chosen_open_readable : ChosenOpenReadableLaw
+chosen_open_readable p bytes head known chunks is h = record {
+  head = head;
+  meant = (by_columns p (ending head chunks (waits known []))).meant;
+  stream = stream_pruned p bytes (ending head chunks (waits known [])) is h.stream (λ e. cc);
   sound = λ e. cc;
 }
 

@@ -46,7 +46,7 @@ use Rattle.ipc_write.specs.declared.calls.StreamCall.{StreamCall}
 use Rattle.ipc_write.specs.declared.stream.WriterState.{WriterState}
 use Rattle.ipc_write.specs.declared.stream.WriterState.TheVariants.{Failed, Finished, New, Started}
 use Rattle.ipc_write.proofs.CallLists.{made_order, made_run}
-use Rattle.ipc_round_trip.specs.RoundTrip.{EndsStream, FinishedLaw, OpenLaw, ReadableLaw, RefusesEnd, RefusesRoundTrip, RunsOverMemory, RunsToStream, vector}
+use Rattle.ipc_round_trip.specs.RoundTrip.{EndsStream, FinishedLaw, OpenLaw, OpenReadableLaw, ReadableLaw, RefusesEnd, RefusesRoundTrip, RunsOverMemory, RunsToStream, vector}
 use Rattle.ipc_round_trip.specs.declared.read.WholeStream.{WholeStream}
 
 -- a stream that is there
@@ -258,6 +258,9 @@ finished_law bytes head chunks s w h =
 
 pub readable_law : ReadableLaw
 readable_law bytes head chunks w = record { head = head; meant = _; stream = w.stream.stream; sound = λ e. cc }
+
+pub open_readable : OpenReadableLaw
+open_readable bytes head known chunks w = record { head = head; meant = _; stream = w.stream; sound = λ e. cc }
 
 pub open_law : OpenLaw
 open_law bytes head known chunks s w h =

@@ -66,6 +66,11 @@ abbrev pub ChosenReadableLaw : Type 0
 ChosenReadableLaw = (p : Option (List ℕ)) (bytes : List ℕ) (head : Head) (chunks : List Chunk) → IsProjection p (count (kinds head.schema))
     → IsFinished bytes head chunks → IsReadableBy p bytes
 
+-- and so can one that was written and not ended, whatever is known at its end
+abbrev pub ChosenOpenReadableLaw : Type 0
+ChosenOpenReadableLaw = (p : Option (List ℕ)) (bytes : List ℕ) (head : Head) (known : Known) (chunks : List Chunk) → IsProjection p (count (kinds head.schema))
+    → IsStarted bytes head known chunks → IsReadableBy p bytes
+
 -- one that was written and not ended reads back by them too, whatever is known at its end, and waits
 abbrev pub ChosenOpenLaw : Type 0
 ChosenOpenLaw = (p : Option (List ℕ)) (bytes : List ℕ) (head : Head) (known : Known) (chunks : List Chunk) (s : WholeStream)

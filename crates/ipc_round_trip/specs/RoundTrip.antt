@@ -41,6 +41,10 @@ FinishedLaw = (bytes : List ℕ) (head : Head) (chunks : List Chunk) (s : WholeS
 abbrev pub ReadableLaw : Type 0
 ReadableLaw = (bytes : List ℕ) (head : Head) (chunks : List Chunk) → HasEnded bytes head chunks → IsReadable bytes
 
+-- and so can one that was written and not ended, whatever is known at its end
+abbrev pub OpenReadableLaw : Type 0
+OpenReadableLaw = (bytes : List ℕ) (head : Head) (known : Known) (chunks : List Chunk) → IsStarted bytes head known chunks → IsReadable bytes
+
 -- one that was written and not ended reads back, whatever is known at its end, and waits
 abbrev pub OpenLaw : Type 0
 OpenLaw = (bytes : List ℕ) (head : Head) (known : Known) (chunks : List Chunk) (s : WholeStream) → IsStarted bytes head known chunks → IsWhole bytes s

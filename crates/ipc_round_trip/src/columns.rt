@@ -1,5 +1,5 @@
 //! Reads some columns of whole streams.
-ghost use Rattle.ipc_round_trip.specs.Choosing.{ChosenFinishedLaw, ChosenOpenLaw, ChosenReadableLaw, ReadsColumns};
+ghost use Rattle.ipc_round_trip.specs.Choosing.{ChosenFinishedLaw, ChosenOpenLaw, ChosenOpenReadableLaw, ChosenReadableLaw, ReadsColumns};
 
 use crate::read::{WholeStream, read_chunks};
 use ipc_devices::{Fault, MemFile};
@@ -36,9 +36,10 @@ pub fn read_stream_columns(
 }
 
 /// What is read of some columns of a stream that was written, each named once, has the head that its writer's bytes mean, and of each
-/// of its chunks these columns, in the order in which they are asked for; it ends where it was ended. Such a stream can be read by them.
+/// of its chunks these columns, in the order in which they are asked for; it ends where it was ended, or waits. Such a stream can be read by them.
 pub fn columns_read_back()
     ensures finished { ChosenFinishedLaw }
     ensures readable { ChosenReadableLaw }
+    ensures open_readable { ChosenOpenReadableLaw }
     ensures open { ChosenOpenLaw }
 {}

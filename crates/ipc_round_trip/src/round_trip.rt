@@ -7,7 +7,7 @@ ghost use Rattle.ipc_schema_write.specs.WriterAnswers.{written_head_as};
 ghost use Rattle.ipc_write.specs.Calls.{ended_as};
 ghost use Rattle.ipc_write.specs.Writers.{chosen_ids, order_of, seen};
 ghost use Rattle.ipc_write.specs.declared.stream.WriterState.TheVariants.{Finished, Started};
-ghost use Rattle.ipc_round_trip.specs.RoundTrip.{ComesBack, EndsStream, FinishedLaw, OpenLaw, ReadableLaw, RefusesEnd, RefusesRoundTrip, RunsToStream};
+ghost use Rattle.ipc_round_trip.specs.RoundTrip.{ComesBack, EndsStream, FinishedLaw, OpenLaw, OpenReadableLaw, ReadableLaw, RefusesEnd, RefusesRoundTrip, RunsToStream};
 
 use crate::read::{WholeStream, read_stream};
 use ipc_base::ipc::IpcField;
@@ -71,9 +71,10 @@ pub fn round_trip(
 }
 
 /// What is read of a stream that was written has the head and the chunks that its writer's bytes mean, and
-/// ends where it was ended. Such a stream can be read.
+/// ends where it was ended, or waits. Such a stream can be read.
 pub fn reads_back()
     ensures finished { FinishedLaw }
     ensures readable { ReadableLaw }
+    ensures open_readable { OpenReadableLaw }
     ensures open { OpenLaw }
 {}
