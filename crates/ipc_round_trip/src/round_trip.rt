@@ -44,8 +44,8 @@ fn ended(mut writer: StreamWriter<Vec<u8>>) -> Result<Vec<u8>, Fault>
 /// the chunks of the writes that were Ok.
 ///
 /// Faults: `State(NotStarted)` where no `start` was Ok, `State(Failed)` where a call answered `Io`, `Io`
-/// where the end can't be written, both of which come only where the memory that is written to was refused
-/// its growth; `Memory`. What was written is never refused where it is read.
+/// where the end can't be written; `Memory`. Over memory a call answers `Io` only where its growth was refused. What was written is
+/// never refused where it is read.
 pub fn round_trip(
     alloc: Global,
     schema: &Schema,

@@ -47,7 +47,7 @@ pub fn path_of(words: &[String]) -> Option<&str>
 ///
 /// Each class but `no memory` and `input or output failed` tells a fault that names a condition which holds: of what `input` gave, or, where
 /// it is in memory, of `file`, as they are read by the columns, and up to the limit, that the words name. Positions are judged where the
-/// schema could be read, and nothing was printed then. So what was shown whole, with status 0, can be read.
+/// schema could be read, and before anything is printed (which rows test: no contract says what is printed). So what was shown whole, with status 0, can be read.
 pub fn run<R: Reads, F: Reads + Seeks + Drop, O: Writes, E: Writes>(
     alloc: Global,
     words: &[String],

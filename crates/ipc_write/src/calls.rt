@@ -21,7 +21,7 @@ use std::alloc::{AllocError, Global};
 pub enum StreamCall<'a> {
     /// `start`, with the ids that are handed in, or else with ids by default.
     Start,
-    /// `write`, with the ids of the start.
+    /// `write`, without ids, so that those of the start count.
     Write(&'a Chunk<AnyArray>),
     /// `finish`.
     Finish,

@@ -23,7 +23,7 @@ use std::alloc::Global;
 pub enum Outcome {
     Done,
 
-    /// The positions of columns repeat, or aren't in the schema. Nothing was printed.
+    /// The positions of columns repeat, or aren't in the schema.
     WrongWords,
 }
 

@@ -71,6 +71,7 @@ fn put_list<W: Writes>(
     requires { place + len ≤ len_of (layout_of child.now) }
     ensures { IfErr result (λ e. OwnFault e ⊥) }
 {
+    // So many slots there are: none behind `place + len` is asked for.
     let _slots = child.len();
     printer.put(b"[")?;
     for index in 0..len {
