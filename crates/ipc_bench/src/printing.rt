@@ -1,9 +1,9 @@
-//! What `ipcat` does where a device fails that it prints to.
+//! What `ipcat` and `ipconvert` do where a device fails that they print to.
 
 use crate::fixtures::room;
 use crate::rough::{Way, bytes_of, make_rough};
 use arrow2_ipc::io::ipc::fault::{Fault, MemFile};
-use ipc_tools::cat::run;
+use ipc_tools::{cat, convert};
 use std::alloc::Global;
 
 // What a run answers, and what it printed.
@@ -14,14 +14,14 @@ struct Printed {
     err: Vec<u8>,
 }
 
-// A run by one word, on an empty input.
+// A run of `ipcat` by one word, on an empty input.
 fn print(alloc: Global, word: &str, out: Way, err: Way) -> Result<Printed, Fault> {
     let words = vec![in alloc; word.to_string(alloc)?]?;
     let mut input = MemFile::new([].as_slice());
     let no_file: Option<MemFile<&[u8]>> = None;
     let mut out = make_rough(room(alloc)?, out);
     let mut err = make_rough(room(alloc)?, err);
-    let status = run(alloc, &words, &mut input, no_file, &mut out, &mut err);
+    let status = cat::run(alloc, &words, &mut input, no_file, &mut out, &mut err);
     Ok(Printed {
         status,
         out: bytes_of(out),
@@ -50,5 +50,33 @@ fn a_failure_of_the_output_is_told_and_one_of_the_errors_passed_over(
     assert!(rt; printed.out.is_empty() && printed.err.is_empty());
     let printed = print(alloc, "nothing", SOUND, BROKEN)?;
     assert_eq!(rt; printed.status, 2);
+    Ok(())
+}
+
+// A run of `ipconvert` of an empty input to this target.
+fn convert_to(alloc: Global, target: &str, err: Way) -> Result<Printed, Fault> {
+    let words = vec![in alloc; "-".to_string(alloc)?, target.to_string(alloc)?]?;
+    let mut input = MemFile::new([].as_slice());
+    let no_file: Option<MemFile<Vec<u8>>> = None;
+    let mut out = room(alloc)?;
+    let mut err = make_rough(room(alloc)?, err);
+    let status = convert::run(alloc, &words, &mut input, no_file, &mut out, &mut err);
+    Ok(Printed {
+        status,
+        out,
+        err: bytes_of(err),
+    })
+}
+
+#[test]
+fn ipconvert_passes_over_a_failure_of_the_errors(rt: HostRuntime) -> Result<(), Fault> {
+    const BROKEN: Way = Way::Fails(1);
+    let alloc = rt.alloc();
+    let printed = convert_to(alloc, "stream", BROKEN)?;
+    assert_eq!(rt; printed.status, 1);
+    assert!(rt; printed.out.is_empty() && printed.err.is_empty());
+    let printed = convert_to(alloc, "nothing", BROKEN)?;
+    assert_eq!(rt; printed.status, 2);
+    assert!(rt; printed.out.is_empty() && printed.err.is_empty());
     Ok(())
 }
