@@ -16,8 +16,8 @@ use Rattle.ipc_model.specs.Kinds.{Kinds}
 use Rattle.ipc_model.specs.Schemas.{given}
 use Rattle.ipc_files.specs.Blocks.{IsFrameFault, IsHeaderFault, MessageReason, block_message}
 use Rattle.ipc_read.specs.HeldChunks.{HoldChosen}
-use Rattle.ipc_read.specs.Refusals.{IsFaultOfBatch, TellsLengths}
-use Rattle.ipc_read.specs.Sizes.{batch_listed, chosen_listed}
+use Rattle.ipc_read.specs.Refusals.{IsFaultOfBatch, TellsBatch}
+use Rattle.ipc_read.specs.Sizes.{chosen_listed}
 
 -- the record batch in the header of a message, which has to be one
 abbrev pub needed_record : MessageHeaderRef → Result Spot Fault
@@ -59,9 +59,9 @@ IsRecordFault ts js e =
     (e ≡ OutOfSpec NegativeFooterLength) ⊎ (IsFrameFault UnexpectedNegativeInteger e ⊎ (IsHeaderFault e
     ⊎ ((e ≡ OutOfSpec UnexpectedMessageType) ⊎ IsFaultOfBatch ts js e)))
 
--- Which fault the record batch in this header can have, in a file. Buffers that are together longer than the file are told by both lengths.
+-- Which fault the record batch in this header can have, in a file. What a fault says of the lists of the batch is so in its table.
 abbrev pub BlamesRecord : FileMetadata → List ℕ → BlockHeader → Fault → Type 0
-BlamesRecord m js h e = IsFaultOfBatch (kinds m.schema) js e × TellsLengths (batch_listed (lists_of h.table)) m.size e
+BlamesRecord m js h e = IsFaultOfBatch (kinds m.schema) js e × TellsBatch m.schema h.extra h.table m.size e
 
 -- why a block of a record is refused: its message, which has the tag 3, or its batch
 abbrev pub RecordReason : FileMetadata → List ℕ → List ℕ → Option Block → Fault → Type 0

@@ -17,10 +17,8 @@ use Rattle.ipc_model.specs.Files.{BlockHeader, FileMetadata, block_header, dicti
 use Rattle.ipc_laws.specs.Agreement.{AreAlike}
 use Rattle.ipc_files.specs.Batches.{block_metadata}
 use Rattle.ipc_files.specs.Blocks.{IsFrameFault, IsHeaderFault, MessageReason, block_message}
-use Rattle.ipc_read.specs.DictionaryBatches.{BlamesDictionary, IsDictionaryFault, dictionary_head, values_listed, values_lists}
+use Rattle.ipc_read.specs.DictionaryBatches.{BlamesDictionary, IsDictionaryFault, dictionary_head, values_listed, TellsValues}
 use Rattle.ipc_read.specs.HeldChunks.{values_empty, HoldsValues}
-use Rattle.ipc_read.specs.Refusals.{TellsLengths}
-use Rattle.ipc_read.specs.Sizes.{batch_listed}
 
 -- the dictionary batch in the header of a message, which has to be one
 abbrev pub needed_dictionary : MessageHeaderRef → Result Spot Fault
@@ -39,10 +37,10 @@ IsDictionaryBlockFault e =
     (e ≡ OutOfSpec UnexpectedNegativeInteger) ⊎ (IsFrameFault NegativeFooterLength e ⊎ (IsHeaderFault e
     ⊎ ((e ≡ OutOfSpec UnexpectedMessageType) ⊎ IsDictionaryFault e)))
 
--- Which fault the dictionary batch in this header can have, in a file: an id that no field has is named, and buffers that are together longer than
--- the file are told by both lengths.
+-- Which fault the dictionary batch in this header can have, in a file: an id that no field has is named, and what a fault says of the lists of its
+-- values is so in their table.
 abbrev pub BlamesValues : FileMetadata → BlockHeader → Fault → Type 0
-BlamesValues m h e = BlamesDictionary m.schema h.table e × TellsLengths (batch_listed (values_lists h.table)) m.size e
+BlamesValues m h e = BlamesDictionary m.schema h.table e × TellsValues m.schema h.extra h.table m.size e
 
 -- why a block of a dictionary is refused: its message, which has the tag 2, or its batch
 abbrev pub DictionaryReason : FileMetadata → List ℕ → Block → Fault → Type 0

@@ -1,6 +1,7 @@
 -- What is known after a dictionary batch.
 use Rattle.std.proofs.Common.{◌≡◌, refl, ℕ, ℤ, Bool, true, false, [], ◌∷◌, Option, None, Some, IsSome, IfSome, Result, Ok, Err, sym, ap, subst, ◌∙◌, inl, inr}
 use Rattle.std.specs.Option.{option_and_then}
+use Rattle.lower.specs.Counts.{nodes, buffers}
 use Rattle.lower.specs.Normal.{norm}
 use Rattle.lower_arrays.specs.AnyLayouts.{layout_of}
 use Rattle.lower_arrays.specs.Layouts.{type_of}
@@ -8,8 +9,9 @@ use Rattle.lower_arrays.specs.Slots.{slots}
 use Rattle.lower_arrays.specs.declared.array.AnyArray.{AnyArray}
 use Rattle.ipc_devices.specs.Faults.{OwnFault}
 use Rattle.ipc_devices.specs.declared.fault.Fault.{Fault}
-use Rattle.ipc_devices.specs.declared.fault.Fault.TheVariants.{OutOfSpec}
-use Rattle.ipc_devices.specs.declared.fault.OutOfSpecKind.TheVariants.{InvalidId, InvalidBuffersLength}
+use Rattle.ipc_devices.specs.declared.fault.Fault.TheVariants.{OutOfSpec, NotYetImplemented, Memory}
+use Rattle.ipc_devices.specs.declared.fault.Nyi.TheVariants.{Compressed}
+use Rattle.ipc_devices.specs.declared.fault.OutOfSpecKind.TheVariants.{InvalidId, InvalidBuffersLength, MissingMessageBuffers, MissingMessageNodes, ExpectedBuffer, InvalidFlatbufferBuffers, InvalidFlatbufferNodes, InvalidFlatbufferCompression}
 use Rattle.ipc_devices.specs.declared.fault.TableFault.{TableFault}
 use Rattle.ipc_views.specs.Spot.{Spot}
 use Rattle.ipc_model.specs.Batches.{Schema, kinds, Body, lists_of, record_meaning, Place, places, place_of, values_schema, with_values, values_meaning, batch_meaning, dictionary_meaning}
@@ -23,9 +25,9 @@ use Rattle.ipc_laws.specs.Agreement.{KnowAlike}
 use Rattle.ipc_read.proofs.Meanings.{some_is, some_listed}
 use Rattle.ipc_read.proofs.Refusals.{claims_through, claims_own, own_any}
 use Rattle.ipc_read.specs.Chunks.{HasMeaning}
-use Rattle.ipc_read.specs.DictionaryBatches.{GivesColumn, whole_head, dictionary_head, place_listed, head_listed, head_lists, values_listed, values_lists, GivesDictionary, BlamesDictionary, BlamesHead, BlamesPlace, IsHeadFault, IsValuesFault, IsDictionaryFault}
-use Rattle.ipc_read.specs.Refusals.{TellsLengths}
-use Rattle.ipc_read.specs.Sizes.{batch_listed, chosen_listed}
+use Rattle.ipc_read.specs.DictionaryBatches.{GivesColumn, whole_head, dictionary_head, place_listed, head_listed, values_listed, GivesDictionary, BlamesDictionary, BlamesHead, BlamesPlace, IsHeadFault, IsValuesFault, IsDictionaryFault, TellsHead, TellsPlace, TellsValues}
+use Rattle.ipc_read.specs.Refusals.{TellsLists}
+use Rattle.ipc_read.specs.Sizes.{chosen_listed}
 
 -- ---- faults
 
@@ -45,11 +47,6 @@ values_in_dictionary t e h = claims_own e (IsValuesFault t e) (IsDictionaryFault
 pub unplaced_in_dictionary : (id : ℤ) → IsDictionaryFault (OutOfSpec (InvalidId id))
 unplaced_in_dictionary id = inr (inr tt)
 
--- a fault of the head tells no lengths
-pub head_tells : (total size : ℕ) (e : Fault) → OwnFault e (IsHeadFault e) → TellsLengths total size e
-head_tells total size (OutOfSpec (InvalidBuffersLength n m)) h = absurd h
-head_tells total size _ h = tt
-
 headless : (schema : Schema) (o : Option (ℤ × Spot)) (e : Fault) → IsHeadFault e → (IsSome o → ⊥) → BlamesHead schema o e
 headless schema None e f none = f
 headless schema (Some h) e f none = absurd (none refl)
@@ -59,14 +56,43 @@ head_blames schema t e h denied =
     claims_own e (IsHeadFault e) (BlamesDictionary schema t e)
     (λ f. claims_through e (IsSome (dictionary_head t) → ⊥) (BlamesDictionary schema t e) (headless schema (dictionary_head t) e f) denied) h
 
-pub ruleset dictionary_faults = (head_in_dictionary, values_in_dictionary, unplaced_in_dictionary, head_tells, head_blames)
+-- ---- what has to be so of the values
+
+place_tells : (extra : ℕ) (v : Spot) (size : ℕ) (o : Option Place) (e : Fault) → ((n k : ℕ) → TellsLists v size n k e) → TellsPlace extra v size o e
+place_tells extra v size None e each = tt
+place_tells extra v size (Some p) e each = each (nodes p.type) (buffers extra p.type)
+
+head_of_tells : (schema : Schema) (extra size : ℕ) (o : Option (ℤ × Spot)) (e : Fault) → ((v : Spot) (n k : ℕ) → TellsLists v size n k e) → TellsHead schema extra size o e
+head_of_tells schema extra size None e each = tt
+head_of_tells schema extra size (Some h) e each = place_tells extra h.1 size (place_of (places schema.fields schema.ids) h.0) e (each h.1)
+
+-- a fault that says nothing of any lists
+pub any_tells : (schema : Schema) (extra : ℕ) (t : Spot) (size : ℕ) (e : Fault) → ((v : Spot) (n k : ℕ) → TellsLists v size n k e) → TellsValues schema extra t size e
+any_tells schema extra t size e each = head_of_tells schema extra size (dictionary_head t) e each
+
+of_head : (v : Spot) (size n k : ℕ) (e : Fault) → OwnFault e (IsHeadFault e) → TellsLists v size n k e
+of_head v size n k (OutOfSpec (InvalidFlatbufferCompression e)) h = absurd h
+of_head v size n k (NotYetImplemented Compressed) h = absurd h
+of_head v size n k (OutOfSpec (InvalidFlatbufferBuffers e)) h = absurd h
+of_head v size n k (OutOfSpec MissingMessageBuffers) h = absurd h
+of_head v size n k (OutOfSpec ExpectedBuffer) h = absurd h
+of_head v size n k (OutOfSpec (InvalidFlatbufferNodes e)) h = absurd h
+of_head v size n k (OutOfSpec MissingMessageNodes) h = absurd h
+of_head v size n k (OutOfSpec (InvalidBuffersLength l m)) h = absurd h
+of_head v size n k _ h = tt
+
+pub head_tells : (schema : Schema) (extra : ℕ) (t : Spot) (size : ℕ) (e : Fault) → OwnFault e (IsHeadFault e) → TellsValues schema extra t size e
+head_tells schema extra t size e h = any_tells schema extra t size e (λ v n k. of_head v size n k e h)
+
+pub unplaced_tells : (schema : Schema) (extra : ℕ) (t : Spot) (size : ℕ) (id : ℤ) → TellsValues schema extra t size (OutOfSpec (InvalidId id))
+unplaced_tells schema extra t size id = any_tells schema extra t size (OutOfSpec (InvalidId id)) (λ v n k. tt)
+
+pub memory_tells : (schema : Schema) (extra : ℕ) (t : Spot) (size : ℕ) → TellsValues schema extra t size Memory
+memory_tells schema extra t size = any_tells schema extra t size Memory (λ v n k. tt)
+
+pub ruleset dictionary_faults = (head_in_dictionary, values_in_dictionary, unplaced_in_dictionary, head_blames, head_tells, unplaced_tells, memory_tells)
 
 -- ---- faults behind the head
-
--- the lengths that are told are those of the values
-pub values_told : (t : Spot) (id : ℤ) (v : Spot) (size : ℕ) (e : Fault) → dictionary_head t ≡ Some (id, v) → TellsLengths (batch_listed (lists_of v)) size e
-    → TellsLengths (batch_listed (values_lists t)) size e
-values_told t id v size e headed h = subst (λ (o : Option (ℤ × Spot)). TellsLengths (batch_listed (head_lists o)) size e) (sym headed) h
 
 module _ (schema : Schema) (t : Spot) (id : ℤ) (v : Spot) (headed : dictionary_head t ≡ Some (id, v)) where
   by_place : (o : Option Place) (e : Fault) → place_of (places schema.fields schema.ids) id ≡ o → BlamesPlace id o e → BlamesDictionary schema t e
@@ -79,6 +105,12 @@ module _ (schema : Schema) (t : Spot) (id : ℤ) (v : Spot) (headed : dictionary
   pub values_blame : (p : Place) (e : Fault) → place_of (places schema.fields schema.ids) id ≡ Some p → OwnFault e (IsValuesFault (kind_of p.type None p.ids) e)
       → OwnFault e (BlamesDictionary schema t e)
   values_blame p e placed h = claims_through e (IsValuesFault (kind_of p.type None p.ids) e) (BlamesDictionary schema t e) (by_place (Some p) e placed) h
+
+  -- what is said of the lists is said of those of the values
+  pub values_told : (p : Place) (extra size : ℕ) (e : Fault) → place_of (places schema.fields schema.ids) id ≡ Some p → TellsLists v size (nodes p.type) (buffers extra p.type) e
+      → TellsValues schema extra t size e
+  values_told p extra size e placed h =
+      subst (λ (o : Option (ℤ × Spot)). TellsHead schema extra size o e) (sym headed) (subst (λ (o : Option Place). TellsPlace extra v size o e) (sym placed) h)
 
 -- ---- the meaning, by the head of the batch
 

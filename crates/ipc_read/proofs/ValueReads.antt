@@ -23,7 +23,7 @@ use Rattle.ipc_flat_columns.specs.declared.read.body.Body.{Body as Read}
 use Rattle.ipc_devices.specs.Device.{Memory}
 use Rattle.ipc_read.proofs.Listed.{given_total}
 use Rattle.ipc_read.proofs.Meanings.{IsListed, any_rows, some_is, equal_rows, fetched_meaning, judged}
-use Rattle.ipc_read.proofs.Refusals.{claims_through, entries_in_list, entries_tell, listed_tell, values_tell}
+use Rattle.ipc_read.proofs.Refusals.{claims_through, counts_tell, entries_in_list, lengths_tell, values_tell}
 use Rattle.ipc_read.specs.Chunks.{HasMeaning}
 use Rattle.ipc_read.specs.DictionaryBatches.{GivesColumn, IsValuesFault}
 use Rattle.ipc_read.specs.Refusals.{IsEntriesFault, IsListFault}
@@ -40,7 +40,7 @@ entries_in_values t e h = list_in_values t e (entries_in_list e h)
 pub column_in_values : (t : Kind) (e : Fault) → OwnFault e (IsFaultOf t e) → OwnFault e (IsValuesFault t e)
 column_in_values t e h = claims_through e (IsFaultOf t e) (IsValuesFault t e) (λ f. inr f) h
 
-pub ruleset values_faults = (list_in_values, entries_in_values, column_in_values, entries_tell, values_tell, listed_tell)
+pub ruleset values_faults = (list_in_values, entries_in_values, column_in_values, lengths_tell, counts_tell, values_tell)
 
 -- ---- the column
 

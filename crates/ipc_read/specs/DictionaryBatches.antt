@@ -3,6 +3,7 @@
 use Rattle.std.specs.Prelude.{◌≡◌, ◌⊎◌, ℕ, ℤ, Bool, false, [], ◌∷◌, Option, None, Some, IsSome, IfSome, IsTrue, Result, Ok}
 use Rattle.std.specs.Option.{option_map}
 use Rattle.std.specs.Ordering.{int_eq}
+use Rattle.lower.specs.Counts.{nodes, buffers}
 use Rattle.lower.specs.Normal.{norm}
 use Rattle.lower.specs.TypeTrees.{TypeTree}
 use Rattle.lower_types.specs.declared.Endianness.{Endianness}
@@ -17,14 +18,14 @@ use Rattle.ipc_devices.specs.declared.fault.OutOfSpecKind.TheVariants.{InvalidFl
 use Rattle.ipc_devices.specs.declared.fault.TableFault.{TableFault}
 use Rattle.ipc_views.specs.MessageSlots.{dictionary_batch_id, dictionary_batch_is_delta, dictionary_batch_data}
 use Rattle.ipc_views.specs.Spot.{Spot}
-use Rattle.ipc_model.specs.Batches.{Schema, kinds, Body, Lists, lists_of, record_meaning, Place, places, place_of, values_schema, dictionary_meaning}
+use Rattle.ipc_model.specs.Batches.{Schema, kinds, Body, lists_of, record_meaning, Place, places, place_of, values_schema, dictionary_meaning}
 use Rattle.ipc_model.specs.Entries.{Dictionary, Dictionaries, dictionary_at}
 use Rattle.ipc_model.specs.Kinds.{Kind}
 use Rattle.ipc_model.specs.TypeKinds.{kind_of}
 use Rattle.ipc_flat_columns.specs.Refusals.{IsFaultOf, IsColumnFault}
 use Rattle.ipc_laws.specs.Agreement.{KnowAlike}
 use Rattle.ipc_read.specs.Chunks.{column_seen, HasMeaning}
-use Rattle.ipc_read.specs.Refusals.{IsListFault}
+use Rattle.ipc_read.specs.Refusals.{IsListFault, TellsLists}
 use Rattle.ipc_read.specs.Sizes.{chosen_listed}
 
 -- ---- the values
@@ -44,14 +45,6 @@ whole_head _ _ _ = None
 
 abbrev pub dictionary_head : Spot → Option (ℤ × Spot)
 dictionary_head t = whole_head (dictionary_batch_id t) (dictionary_batch_is_delta t) (dictionary_batch_data t)
-
--- what the batch of a dictionary's values lists
-abbrev pub head_lists : Option (ℤ × Spot) → Option Lists
-head_lists None = None
-head_lists (Some h) = lists_of h.1
-
-abbrev pub values_lists : Spot → Option Lists
-values_lists t = head_lists (dictionary_head t)
 
 -- how many bytes the buffers of the values of a place list together: none where there is no place
 abbrev pub place_listed : ℕ → Endianness → Spot → Option Place → ℕ
@@ -113,6 +106,19 @@ BlamesHead schema (Some h) e = BlamesPlace h.0 (place_of (places schema.fields s
 -- where one has it, of the values, which are of the type of that field.
 abbrev pub BlamesDictionary : Schema → Spot → Fault → Type 0
 BlamesDictionary schema t e = BlamesHead schema (dictionary_head t) e
+
+-- What a fault of the values says of the table of their batch, where they are those of a place: their column takes what its type does.
+abbrev pub TellsPlace : (extra : ℕ) → (values : Spot) → (size : ℕ) → Option Place → Fault → Type 0
+TellsPlace extra values size None e = Unit {0}
+TellsPlace extra values size (Some p) e = TellsLists values size (nodes p.type) (buffers extra p.type) e
+
+abbrev pub TellsHead : Schema → (extra size : ℕ) → Option (ℤ × Spot) → Fault → Type 0
+TellsHead schema extra size None e = Unit {0}
+TellsHead schema extra size (Some h) e = TellsPlace extra h.1 size (place_of (places schema.fields schema.ids) h.0) e
+
+-- What a fault of a dictionary batch, whose body is so long, says of the batch of its values, if it has a head and its id a place.
+abbrev pub TellsValues : Schema → (extra : ℕ) → Spot → (size : ℕ) → Fault → Type 0
+TellsValues schema extra t size e = TellsHead schema extra size (dictionary_head t) e
 
 -- of any dictionary batch: an id that no field has is told as one that no dictionary of a column has
 abbrev pub IsDictionaryFault : Fault → Type 0

@@ -1,13 +1,19 @@
--- Which faults of the input's reads of a batch can answer.
-use Rattle.std.specs.Prelude.{◌≡◌, ◌⊎◌, ◌-◌, ◌<◌, ◌^◌, ℕ, List, [], ◌∷◌, min}
+-- Which faults of the input's reads of a batch can answer, and what has to be so where they do.
+-- (Arrow columnar format, "RecordBatch message".)
+use Rattle.std.specs.Prelude.{◌≡◌, ◌⊎◌, ◌-◌, ◌<◌, ◌^◌, ℕ, List, [], ◌∷◌, length, min, Option, None, IsSome, IsSomeAnd, Result, Ok, Err, IsOkAnd}
+use Rattle.lower.specs.Counts.{fields_nodes, fields_buffers}
 use Rattle.ipc_devices.specs.declared.fault.Fault.{Fault}
 use Rattle.ipc_devices.specs.declared.fault.Fault.TheVariants.{OutOfSpec, NotYetImplemented, Argument}
 use Rattle.ipc_devices.specs.declared.fault.ArgFault.TheVariants.{UnequalRows}
 use Rattle.ipc_devices.specs.declared.fault.Nyi.TheVariants.{Compressed}
 use Rattle.ipc_devices.specs.declared.fault.OutOfSpecKind.TheVariants.{NegativeFooterLength, InvalidBuffersLength, MissingMessageBuffers, MissingMessageNodes, ExpectedBuffer, InvalidFlatbufferBuffers, InvalidFlatbufferNodes, InvalidFlatbufferCompression}
-use Rattle.ipc_model.specs.Batches.{kind_at}
+use Rattle.ipc_devices.specs.declared.fault.TableFault.{TableFault}
+use Rattle.ipc_views.specs.MessageSlots.{record_batch_buffers, record_batch_compression, record_batch_nodes}
+use Rattle.ipc_views.specs.Spot.{Spot}
+use Rattle.ipc_model.specs.Batches.{Schema, kind_at, lists_of}
 use Rattle.ipc_model.specs.Kinds.{Kinds}
 use Rattle.ipc_flat_columns.specs.Refusals.{IsFaultOf}
+use Rattle.ipc_read.specs.Sizes.{batch_listed}
 
 -- of the entries of a batch: they are ill-made, absent, too few or compressed, or one has a length below 0
 abbrev pub IsEntriesFault : Fault → Type 0
@@ -26,11 +32,6 @@ abbrev pub IsListFault : Fault → Type 0
 IsListFault (OutOfSpec (InvalidBuffersLength _ _)) = Unit {0}
 IsListFault e = IsEntriesFault e
 
--- Buffers that are together longer than their body are told by both lengths: by that of the buffers as far as 64 bits can say it.
-abbrev pub TellsLengths : (total size : ℕ) → Fault → Type 0
-TellsLengths total size (OutOfSpec (InvalidBuffersLength n m)) = (size < total) × (n ≡ min total (2 ^ 64 - 1)) × (m ≡ size)
-TellsLengths total size _ = Unit {0}
-
 -- of one of some columns
 abbrev pub IsFaultOfSome : Kinds → List ℕ → Fault → Type 0
 IsFaultOfSome ts [] e = ⊥
@@ -39,3 +40,44 @@ IsFaultOfSome ts (j ∷ js) e = IsFaultOf (kind_at ts j) e ⊎ IsFaultOfSome ts 
 -- of a batch: of what it lists, of a column that is chosen, columns of unequal lengths
 abbrev pub IsFaultOfBatch : Kinds → List ℕ → Fault → Type 0
 IsFaultOfBatch ts js e = IsListFault e ⊎ (IsFaultOfSome ts js e ⊎ (e ≡ Argument UnequalRows))
+
+-- ---- what has to be so
+
+-- Why the lengths of buffers are refused: one is below 0; or they are together longer than the body, and both lengths are told, that of the
+-- buffers as far as 64 bits can say it.
+abbrev pub TellsLengths : (total size : ℕ) → Fault → Type 0
+TellsLengths total size (OutOfSpec NegativeFooterLength) = Unit {0}
+TellsLengths total size (OutOfSpec (InvalidBuffersLength n m)) = (size < total) × (n ≡ min total (2 ^ 64 - 1)) × (m ≡ size)
+TellsLengths total size _ = ⊥
+
+-- Why so many nodes and buffers are refused: more of either are needed.
+abbrev pub TellsCounts : (nodes buffers needed_nodes needed_buffers : ℕ) → Fault → Type 0
+TellsCounts nodes buffers needed_nodes needed_buffers (OutOfSpec MissingMessageNodes) = nodes < needed_nodes
+TellsCounts nodes buffers needed_nodes needed_buffers (OutOfSpec ExpectedBuffer) = buffers < needed_buffers
+TellsCounts nodes buffers needed_nodes needed_buffers _ = ⊥
+
+-- a list of a batch is there, and shorter than that
+abbrev pub IsShorter : {X : Type 0} → Result (Option (List X)) TableFault → ℕ → Type 0
+IsShorter r n = IsOkAnd r (λ list. IsSomeAnd list (λ xs. length xs < n))
+
+-- What a fault of the lists of a batch says of its table t, where the columns of all fields take so many nodes and buffers: that a slot is
+-- ill-made, and how; that the buffers are compressed; that a list is absent, or shorter than that; or that the buffers are together longer
+-- than the body. Of other faults it says nothing.
+abbrev pub TellsLists : (t : Spot) → (size nodes buffers : ℕ) → Fault → Type 0
+TellsLists t size nodes buffers (OutOfSpec (InvalidFlatbufferCompression e)) = record_batch_compression t ≡ Err e
+TellsLists t size nodes buffers (NotYetImplemented Compressed) = IsOkAnd (record_batch_compression t) (λ o. IsSome o)
+TellsLists t size nodes buffers (OutOfSpec (InvalidFlatbufferBuffers e)) = record_batch_buffers t ≡ Err e
+TellsLists t size nodes buffers (OutOfSpec MissingMessageBuffers) = record_batch_buffers t ≡ Ok None
+TellsLists t size nodes buffers (OutOfSpec ExpectedBuffer) = IsShorter (record_batch_buffers t) buffers
+TellsLists t size nodes buffers (OutOfSpec (InvalidFlatbufferNodes e)) = record_batch_nodes t ≡ Err e
+TellsLists t size nodes buffers (OutOfSpec MissingMessageNodes) = (record_batch_nodes t ≡ Ok None) ⊎ IsShorter (record_batch_nodes t) nodes
+TellsLists t size nodes buffers (OutOfSpec (InvalidBuffersLength n m)) = TellsLengths (batch_listed (lists_of t)) size (OutOfSpec (InvalidBuffersLength n m))
+TellsLists t size nodes buffers _ = Unit {0}
+
+-- the same, whatever columns there are, and however long the body is
+pub record TellsTable (t : Spot) (e : Fault) : Type 0 where
+  pub each : (size nodes buffers : ℕ) → TellsLists t size nodes buffers e
+
+-- the same of a batch of these fields
+abbrev pub TellsBatch : Schema → (extra : ℕ) → Spot → (size : ℕ) → Fault → Type 0
+TellsBatch schema extra t size e = TellsLists t size (fields_nodes schema.fields) (fields_buffers extra schema.fields) e

@@ -15,15 +15,15 @@ use Rattle.ipc_views.specs.Spot.{Spot}
 use Rattle.ipc_views.specs.Unions.{header_parts}
 use Rattle.ipc_views.specs.declared.message.MessageHeaderRef.{MessageHeaderRef}
 use Rattle.ipc_views.specs.declared.message.MessageHeaderRef.TheVariants as headers
-use Rattle.ipc_model.specs.Batches.{Schema, Body, Chunk, chosen, batch, record_meaning, dictionary_meaning, extra_of, lists_of}
+use Rattle.ipc_model.specs.Batches.{Schema, Body, Chunk, chosen, batch, record_meaning, dictionary_meaning, extra_of}
 use Rattle.ipc_model.specs.Entries.{Dictionaries}
 use Rattle.ipc_model.specs.Kinds.{count}
 use Rattle.ipc_model.specs.TypeKinds.{kinds_of}
 use Rattle.ipc_model.specs.Streams.{Header, Known, done, faulty, whole, with_chunk, with_dictionaries, most_dictionaries}
+use Rattle.ipc_read.proofs.DictionaryMeanings.{any_tells}
 use Rattle.ipc_read.proofs.Refusals.{claims_through}
-use Rattle.ipc_read.specs.DictionaryBatches.{BlamesDictionary, GivesDictionary, values_lists}
-use Rattle.ipc_read.specs.Refusals.{IsFaultOfBatch, TellsLengths}
-use Rattle.ipc_read.specs.Sizes.{batch_listed}
+use Rattle.ipc_read.specs.DictionaryBatches.{BlamesDictionary, GivesDictionary, TellsValues}
+use Rattle.ipc_read.specs.Refusals.{IsFaultOfBatch, TellsBatch}
 use Rattle.ipc_read.specs.Chunks.{chunk_seen, GivesBatch}
 use Rattle.ipc_readers.specs.ChosenStreams.{Request, chosen_body}
 use Rattle.ipc_readers.proofs.Knowing.{AlsoGives, alike_then, dictionary_alike, no_dictionary_alike, record_alike, same_values}
@@ -132,18 +132,18 @@ module _ (fs : FieldTrees) (ms : Pairs) (is : IdTrees) (o : Endianness) (version
     holds,
   )
 
-  record_blames : (e' : Fault) → TellsLengths (batch_listed (lists_of t)) n e' → IsFaultOfBatch (kinds_of fs is) (chosen p (count (kinds_of fs is))) e'
+  record_blames : (e' : Fault) → TellsBatch (bare fs is o) (extra_of version) t n e' → IsFaultOfBatch (kinds_of fs is) (chosen p (count (kinds_of fs is))) e'
       → BlamesBody (asks fs ms is o version p) s.count (header 3 t n) xs e'
   record_blames e' told fault = record {
     record_batch = λ q. inl fault;
     dictionary_batch = λ q. absurd (omega (arith, q));
     other = λ q r. absurd (r refl);
     cut = λ short q. absurd (omega (arith, long, short));
-    record_lengths = λ q. told;
-    dictionary_lengths = λ q. absurd (omega (arith, q));
+    record_lists = λ q. told;
+    dictionary_lists = λ q. absurd (omega (arith, q));
   }
 
-  record_refused : (e' : Fault) → OwnFault e' (IsFaultOfBatch (kinds_of fs is) (chosen p (count (kinds_of fs is))) e') → TellsLengths (batch_listed (lists_of t)) n e'
+  record_refused : (e' : Fault) → OwnFault e' (IsFaultOfBatch (kinds_of fs is) (chosen p (count (kinds_of fs is))) e') → TellsBatch (bare fs is o) (extra_of version) t n e'
       → OwnFault e' (record_meaning (bare fs is o) (extra_of version) k.dictionaries (first bytes n) t p None ≡ None) → (l : Known)
       → ReadsBody (asks fs ms is o version p) s (header 3 t n) xs (Err e') l (drop n xs)
   record_refused e' only told none l =
@@ -166,18 +166,18 @@ module _ (fs : FieldTrees) (ms : Pairs) (is : IdTrees) (o : Endianness) (version
         tt,
       )
 
-  values_blame : (e' : Fault) → TellsLengths (batch_listed (values_lists t)) n e' → BlamesDictionary (bare fs is o) t e'
+  values_blame : (e' : Fault) → TellsValues (bare fs is o) (extra_of version) t n e' → BlamesDictionary (bare fs is o) t e'
       → BlamesBody (asks fs ms is o version p) s.count (header 2 t n) xs e'
   values_blame e' told fault = record {
     record_batch = λ q. absurd (omega (arith, q));
     dictionary_batch = λ q. inl fault;
     other = λ q r. absurd (q refl);
     cut = λ short q. absurd (omega (arith, long, short));
-    record_lengths = λ q. absurd (omega (arith, q));
-    dictionary_lengths = λ q. told;
+    record_lists = λ q. absurd (omega (arith, q));
+    dictionary_lists = λ q. told;
   }
 
-  values_refused : (e' : Fault) → k.count < most_dictionaries → OwnFault e' (BlamesDictionary (bare fs is o) t e') → TellsLengths (batch_listed (values_lists t)) n e'
+  values_refused : (e' : Fault) → k.count < most_dictionaries → OwnFault e' (BlamesDictionary (bare fs is o) t e') → TellsValues (bare fs is o) (extra_of version) t n e'
       → OwnFault e' (dictionary_meaning (bare fs is o) (extra_of version) k.dictionaries (first bytes n) t ≡ None) → (l : Known)
       → ReadsBody (asks fs ms is o version p) s (header 2 t n) xs (Err e') l (drop n xs)
   values_refused e' few blames told none l =
@@ -192,7 +192,7 @@ module _ (fs : FieldTrees) (ms : Pairs) (is : IdTrees) (o : Endianness) (version
 -- what the answer of a record batch says, of a body with bytes behind it
 record_answer : (fs : FieldTrees) (ms : Pairs) (is : IdTrees) (o : Endianness) (version : MetadataVersion) (p : Option (List ℕ)) (k : Known) (t : Spot) (n : ℕ) (xs bytes : List ℕ)
     → n ≤ length xs → bytes ≡ take n xs → (r : Result (List AnyArray) Fault) (l : Known) → OnOk r ((l.dictionaries ≡ k.dictionaries) × (l.count ≡ 0))
-    → IfErr r (λ e. OwnFault e (IsFaultOfBatch (kinds_of fs is) (chosen p (count (kinds_of fs is))) e)) → IfErr r (TellsLengths (batch_listed (lists_of t)) n)
+    → IfErr r (λ e. OwnFault e (IsFaultOfBatch (kinds_of fs is) (chosen p (count (kinds_of fs is))) e)) → IfErr r (TellsBatch (bare fs is o) (extra_of version) t n)
     → IfOk r (HoldsRecord (asks fs ms is o version p) t) → GivesBatch (bare fs is o) (extra_of version) k.dictionaries (first bytes n) t p None r
     → GivesBody (asks fs ms is o version p) k (header 3 t n) xs (of_record r) l (drop n xs)
 record_answer fs ms is o version p k t n xs bytes long e (Ok chunk) l next only told holds read = record {
@@ -207,7 +207,7 @@ record_answer fs ms is o version p k t n xs bytes long e (Err e') l next only to
 
 dictionary_answer : (fs : FieldTrees) (ms : Pairs) (is : IdTrees) (o : Endianness) (version : MetadataVersion) (p : Option (List ℕ)) (k : Known) (t : Spot) (n : ℕ) (xs bytes : List ℕ)
     → n ≤ length xs → bytes ≡ take n xs → (r : Result Unit Fault) (l : Known) → k.count < most_dictionaries → OnOk r (l.count ≡ k.count + 1)
-    → IfErr r (λ e. OwnFault e (BlamesDictionary (bare fs is o) t e)) → IfErr r (TellsLengths (batch_listed (values_lists t)) n)
+    → IfErr r (λ e. OwnFault e (BlamesDictionary (bare fs is o) t e)) → IfErr r (TellsValues (bare fs is o) (extra_of version) t n)
     → GivesDictionary (bare fs is o) (extra_of version) k.dictionaries (first bytes n) t r l.dictionaries
     → GivesBody (asks fs ms is o version p) k (header 2 t n) xs (of_dictionary r) l (drop n xs)
 dictionary_answer fs ms is o version p k t n xs bytes long e (Ok u) l few next blames told read = record {
@@ -234,7 +234,7 @@ held h k tag t body r l given = record {
 
 pub columns_give : (fs : FieldTrees) (ms : Pairs) (is : IdTrees) (o : Endianness) (version : MetadataVersion) (p : Option (List ℕ)) (k : Known) (t : Spot) (body : List ℕ) (r : Result (List AnyArray) Fault) (l : Known)
     → OnOk r ((l.dictionaries ≡ k.dictionaries) × (l.count ≡ 0))
-    → IfErr r (λ e. OwnFault e (IsFaultOfBatch (kinds_of fs is) (chosen p (count (kinds_of fs is))) e)) → IfErr r (TellsLengths (batch_listed (lists_of t)) (length body))
+    → IfErr r (λ e. OwnFault e (IsFaultOfBatch (kinds_of fs is) (chosen p (count (kinds_of fs is))) e)) → IfErr r (TellsBatch (bare fs is o) (extra_of version) t (length body))
     → IfOk r (HoldsRecord (asks fs ms is o version p) t) → GivesBatch (bare fs is o) (extra_of version) k.dictionaries (first body (length body)) t p None r
     → GivesHeld (asks fs ms is o version p) k 3 t body (of_record r) l
 columns_give fs ms is o version p k t body r l next only told holds read =
@@ -243,7 +243,7 @@ columns_give fs ms is o version p k t body r l next only told holds read =
 
 pub values_give : (fs : FieldTrees) (ms : Pairs) (is : IdTrees) (o : Endianness) (version : MetadataVersion) (p : Option (List ℕ)) (k : Known) (t : Spot) (body : List ℕ) (r : Result Unit Fault) (l : Known)
     → k.count < most_dictionaries → OnOk r (l.count ≡ k.count + 1) → IfErr r (λ e. OwnFault e (BlamesDictionary (bare fs is o) t e))
-    → IfErr r (TellsLengths (batch_listed (values_lists t)) (length body)) → GivesDictionary (bare fs is o) (extra_of version) k.dictionaries (first body (length body)) t r l.dictionaries
+    → IfErr r (TellsValues (bare fs is o) (extra_of version) t (length body)) → GivesDictionary (bare fs is o) (extra_of version) k.dictionaries (first body (length body)) t r l.dictionaries
     → GivesHeld (asks fs ms is o version p) k 2 t body (of_dictionary r) l
 values_give fs ms is o version p k t body r l few next blames told read =
     held (asks fs ms is o version p) k 2 t body (of_dictionary r) l
@@ -269,9 +269,12 @@ outside m n denied = elim (cases_lt n m) [
   | inr p ↦ absurd (denied p)
 ]
 
--- an end tells no lengths
-ended_tells : (total size : ℕ) (e : Fault) → e ≡ Faults.Ended → TellsLengths total size e
-ended_tells total size e is = subst (λ (x : Fault). TellsLengths total size x) (sym is) tt
+-- an end says nothing of the lists
+record_ended : (schema : Schema) (extra : ℕ) (t : Spot) (size : ℕ) (e : Fault) → e ≡ Faults.Ended → TellsBatch schema extra t size e
+record_ended schema extra t size e is = subst (TellsBatch schema extra t size) (sym is) tt
+
+dictionary_ended : (schema : Schema) (extra : ℕ) (t : Spot) (size : ℕ) (e : Fault) → e ≡ Faults.Ended → TellsValues schema extra t size e
+dictionary_ended schema extra t size e is = subst (TellsValues schema extra t size) (sym is) (any_tells schema extra t size Faults.Ended (λ v n k. tt))
 
 -- a body that isn't there, of a record or a dictionary
 pub cut_body : (h : Request) (s : Known) (m : Header) (xs : List ℕ) (e : Fault) → (m.tag ≡ 3) ⊎ (m.tag ≡ 2) → OwnFault e ((e ≡ Faults.Ended) × (m.body ≤ length xs → ⊥))
@@ -288,8 +291,8 @@ cut_body h s m xs e kind cut =
           | inr two ↦ absurd (q two)
         ];
         cut = λ short q. c.0;
-        record_lengths = λ q. ended_tells (batch_listed (lists_of m.table)) m.body e c.0;
-        dictionary_lengths = λ q. ended_tells (batch_listed (values_lists m.table)) m.body e c.0;
+        record_lists = λ q. record_ended h.head.schema (extra_of h.head.version) m.table m.body e c.0;
+        dictionary_lists = λ q. dictionary_ended h.head.schema (extra_of h.head.version) m.table m.body e c.0;
       },
     )) cut
 
@@ -310,8 +313,8 @@ no_batch h n m xs no_dictionary no_record = record {
     | inl three ↦ absurd (no_record three)
     | inr two ↦ absurd (no_dictionary two)
   ];
-  record_lengths = λ q. tt;
-  dictionary_lengths = λ q. tt;
+  record_lists = λ q. absurd (no_record q);
+  dictionary_lists = λ q. absurd (no_dictionary q);
 }
 
 -- a message that is neither a record nor a dictionary
@@ -346,8 +349,8 @@ full_refused h k t full = record {
             dictionary_batch = λ q. inr (inr (refl, there));
             other = λ q r. absurd (q refl);
             cut = λ short q. let few = q.room refl in absurd (omega (arith, few, there));
-            record_lengths = λ q. tt;
-            dictionary_lengths = λ q. tt;
+            record_lists = λ q. absurd (omega (arith, q));
+            dictionary_lists = λ q. any_tells h.head.schema (extra_of h.head.version) t n Faults.TooManyDictionaries (λ v a b. tt);
           },
         );
   };

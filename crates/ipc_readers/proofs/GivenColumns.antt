@@ -22,8 +22,7 @@ use Rattle.ipc_read.proofs.AskedSums.{held_in_order}
 use Rattle.ipc_read.proofs.Fields.{field_count}
 use Rattle.ipc_read.specs.Chunks.{GivesBatch}
 use Rattle.ipc_read.specs.HeldChunks.{HoldChosen}
-use Rattle.ipc_read.specs.Refusals.{IsFaultOfBatch, TellsLengths}
-use Rattle.ipc_read.specs.Sizes.{batch_listed}
+use Rattle.ipc_read.specs.Refusals.{IsFaultOfBatch, TellsBatch}
 use Rattle.ipc_readers.proofs.AskedBatches.{given_in_order, refused_in_order}
 use Rattle.ipc_readers.proofs.Bodies.{asks, bare, batch_faults, columns_give, first}
 use Rattle.ipc_readers.specs.ChosenStreams.{Request}
@@ -61,7 +60,7 @@ module _ (c : Option ChosenColumns) (ds : List Field) (ms : Pairs) (is : IdTrees
         columns_give (fields_view ds) ms is o version (asked_by c) k t body (Ok given) (record { dictionaries = k.dictionaries; count = 0 }) (refl, refl) tt tt (asked_holds t read given many moved holds)
         (given_in_order c (bare (fields_view ds) is o) (extra_of version) k.dictionaries (first body (length body)) t read given same many moved g)
 
-    pub refused_columns : (e : Fault) → Blames e → TellsLengths (batch_listed (lists_of t)) (length body) e
+    pub refused_columns : (e : Fault) → Blames e → TellsBatch (bare (fields_view ds) is o) (extra_of version) t (length body) e
         → GivesBatch (bare (fields_view ds) is o) (extra_of version) k.dictionaries (first body (length body)) t (rising_by c) None (Err e)
         → GivesHeld (asks (fields_view ds) ms is o version (asked_by c)) k 3 t body (Err e) k
     refused_columns e only told g =

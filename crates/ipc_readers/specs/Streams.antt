@@ -23,10 +23,9 @@ use Rattle.ipc_model.specs.Streams.{Head, Header, Known, header_of, more, done, 
 use Rattle.ipc_projections.specs.ChosenColumns.{asked_by, shown_by}
 use Rattle.ipc_projections.specs.declared.read.chosen.ChosenColumns.{ChosenColumns}
 use Rattle.ipc_read.specs.Chunks.{chunk_seen, order_of}
-use Rattle.ipc_read.specs.DictionaryBatches.{values_lists}
+use Rattle.ipc_read.specs.DictionaryBatches.{TellsValues}
 use Rattle.ipc_read.specs.HeldChunks.{HoldChosen}
-use Rattle.ipc_read.specs.Refusals.{TellsLengths}
-use Rattle.ipc_read.specs.Sizes.{batch_listed}
+use Rattle.ipc_read.specs.Refusals.{TellsBatch}
 use Rattle.ipc_readers.specs.ChosenStreams.{Request, chosen_body, chosen_item, chosen_meaning}
 use Rattle.ipc_readers.specs.Frames.{begun_bytes, due, frame_fault}
 use Rattle.ipc_readers.specs.Messages.{opened}
@@ -164,15 +163,15 @@ pub record IsAdmitted (n tag : ℕ) : Type 0 where
   pub room : tag ≡ 2 → n < most_dictionaries
 
 -- Which faults of the input's a message with this header can have in a stream of which h is asked, n dictionary messages behind the last
--- record, if the header is well made. Where its body may be read, and what is ahead is less than that, it is told as ended. Buffers that
--- are together longer than the body are told by both lengths.
+-- record, if the header is well made. Where its body may be read, and what is ahead is less than that, it is told as ended. What a fault
+-- says of the lists of a batch is so in its table.
 pub record BlamesBody (h : Request) (n : ℕ) (m : Header) (ahead : List ℕ) (e : Fault) : Type 0 where
   pub record_batch : m.tag ≡ 3 → IsRecordFault h e
   pub dictionary_batch : m.tag ≡ 2 → IsDictionaryMessageFault h.head.schema n m.table e
   pub other : m.tag ≢ 2 → m.tag ≢ 3 → e ≡ OutOfSpec UnexpectedMessageType
   pub cut : length ahead < m.body → IsAdmitted n m.tag → e ≡ Ended
-  pub record_lengths : m.tag ≡ 3 → TellsLengths (batch_listed (lists_of m.table)) m.body e
-  pub dictionary_lengths : m.tag ≡ 2 → TellsLengths (batch_listed (values_lists m.table)) m.body e
+  pub record_lists : m.tag ≡ 3 → TellsBatch h.head.schema (extra_of h.head.version) m.table m.body e
+  pub dictionary_lists : m.tag ≡ 2 → TellsValues h.head.schema (extra_of h.head.version) m.table m.body e
 
 abbrev pub BlamesOpened : Request → ℕ → Result Header Fault → (ahead : List ℕ) → Fault → Type 0
 BlamesOpened h n (Ok m) ahead e = BlamesBody h n m ahead e

@@ -3,6 +3,8 @@ ghost use Rattle.std.specs.Prelude.{◌≡◌, ◌+◌, ◌≤◌, ◌<◌, ◌^
 ghost use Rattle.std.specs.Option.{option_copied};
 ghost use Rattle.ipc_devices.specs.Device.{Rises};
 ghost use Rattle.ipc_devices.specs.Faults.{OnIo, UnlessIo, OwnFault, Answers};
+ghost use Rattle.ipc_devices.specs.declared.fault.Fault.TheVariants.{OutOfSpec};
+ghost use Rattle.ipc_devices.specs.declared.fault.OutOfSpecKind.TheVariants.{NegativeFooterLength};
 ghost use Rattle.lower.specs.Counts.{nodes, fields_nodes, buffers, fields_buffers};
 ghost use Rattle.lower.specs.TypeViews.{type_view, fields_view};
 ghost use Rattle.lower_arrays.specs.AnyLayouts.{layout_of};
@@ -17,8 +19,8 @@ ghost use Rattle.ipc_flat_columns.specs.Steps.{Step};
 ghost use Rattle.ipc_read.specs.Chunks.{GivesBatch, batch_schema, chunk_seen, order_of};
 ghost use Rattle.ipc_read.specs.Columns.{ArePrepared, AreColumns, HasColumns, IsChosen, columns_listed};
 ghost use Rattle.ipc_read.specs.HeldChunks.{columns_most, arrays_held, HoldChosen};
-ghost use Rattle.ipc_read.specs.Refusals.{IsEntriesFault, IsListFault, IsFaultOfSome, IsFaultOfBatch, TellsLengths};
-ghost use Rattle.ipc_read.specs.Sizes.{AreSizes, total_of, batch_listed, chosen_listed};
+ghost use Rattle.ipc_read.specs.Refusals.{IsEntriesFault, IsListFault, IsFaultOfSome, IsFaultOfBatch, TellsBatch, TellsCounts, TellsLengths, TellsTable};
+ghost use Rattle.ipc_read.specs.Sizes.{AreSizes, total_of, chosen_listed};
 
 use crate::read::Dictionaries;
 use ipc_base::chunk::Chunk;
@@ -39,10 +41,11 @@ use std::alloc::Global;
 use std::snapshot::Snapshot;
 
 // The entries of a batch, which isn't compressed.
-#[tactic(auto, unfolding(ipc_model::specs::Batches::lists_of), using(crate::proofs::NodeLengths::node_lengths))]
+#[tactic(auto, unfolding(ipc_model::specs::Batches::lists_of), using(crate::proofs::NodeLengths::node_lengths, crate::proofs::Refusals::table_faults))]
 pub(crate) fn entries_of<'a>(batch: &RecordBatchRef<'a>) -> Result<(Nodes<'a>, Buffers<'a>), Fault>
     ensures own { OnIo result ⊥ }
     ensures only { IfErr result (λ e. OwnFault e (IsEntriesFault e)) }
+    ensures tells { IfErr result (TellsTable batch.now) }
     ensures small { IfOk result (λ r. AreSmall r.0) }
     ensures exact { Answers result (IsSome (lists_of batch.now)) (λ r. lists_of batch.now ≡ Some (record { nodes = r.0; buffers = r.1 })) }
 {
@@ -64,10 +67,9 @@ pub(crate) fn entries_of<'a>(batch: &RecordBatchRef<'a>) -> Result<(Nodes<'a>, B
 }
 
 // How many bytes the buffers list together.
-#[tactic(auto, using(crate::proofs::Refusals::negative_entries))]
 fn listed_bytes(buffers: &Buffers) -> Result<u128, Fault>
     ensures own { OnIo result ⊥ }
-    ensures only { IfErr result (λ e. OwnFault e (IsEntriesFault e)) }
+    ensures only { IfErr result (λ e. e ≡ OutOfSpec NegativeFooterLength) }
     ensures exact { Answers result (AreSizes buffers.now) (λ n. n ≡ total_of buffers.now) }
 {
     let mut total = 0;
@@ -82,7 +84,7 @@ fn listed_bytes(buffers: &Buffers) -> Result<u128, Fault>
 pub(crate) fn check_lengths(buffers: &Buffers, file_size: u64) -> Result<(), Fault>
     ensures own { OnIo result ⊥ }
     ensures only { IfErr result (λ e. OwnFault e (IsListFault e)) }
-    ensures lengths { IfErr result (TellsLengths (total_of buffers.now) file_size) }
+    ensures tells { IfErr result (TellsLengths (total_of buffers.now) file_size) }
     ensures exact { Answers result (AreSizes buffers.now × (total_of buffers.now ≤ file_size)) (λ _. Unit {0}) }
 {
     let total = listed_bytes(buffers)?;
@@ -100,6 +102,7 @@ fn check_counts(nodes: usize, buffers: usize, fields: &[Field], extra: usize) ->
     requires { extra ≤ 1 }
     ensures own { OnIo result ⊥ }
     ensures only { IfErr result (λ e. OwnFault e (IsEntriesFault e)) }
+    ensures tells { let fs = fields_view fields.now in IfErr result (TellsCounts nodes buffers (fields_nodes fs) (fields_buffers extra fs)) }
     ensures exact { let fs = fields_view fields.now in Answers result ((fields_nodes fs ≤ nodes) × (fields_buffers extra fs ≤ buffers)) (λ _. Unit {0}) }
 {
     match count_all_nodes(fields) {
@@ -265,7 +268,7 @@ pub fn read_record_batch<R: Reads + Seeks>(
     ensures many { IfOk result (λ xs. length xs ≡ length (chosen (option_copied projection.entry) (length fields.now))) }
     ensures only { let js = chosen (option_copied projection.entry) (length fields.now) in
         IfErr result (λ e. OwnFault e (IsFaultOfBatch (kinds (batch_schema fields.now ipc_schema.now)) js e)) }
-    ensures lengths { IfErr result (TellsLengths (batch_listed (lists_of batch.entry)) file_size) }
+    ensures lists { IfErr result (TellsBatch (batch_schema fields.now ipc_schema.now) (extra_of version) batch.entry file_size) }
     ensures monotone { R.failures reader.old ≤ R.failures reader.new }
     ensures failed { OnIo result (Rises (R.failures reader.old) (R.failures reader.new)) }
     ensures told { UnlessIo result (R.failures reader.new ≡ R.failures reader.old) }

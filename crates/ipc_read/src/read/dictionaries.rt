@@ -10,10 +10,10 @@ ghost use Rattle.ipc_model.specs.Batches.{kinds, extra_of, lists_of, own_place, 
 ghost use Rattle.ipc_model.specs.TypeKinds.{kind_of};
 ghost use Rattle.ipc_flat_columns.specs.Bodies.{array_under, known_dictionaries};
 ghost use Rattle.ipc_read.specs.Chunks.{batch_schema, order_of};
-ghost use Rattle.ipc_read.specs.DictionaryBatches.{GivesColumn, GivesDictionary, PutsValues, dictionary_head, values_listed, values_lists, BlamesDictionary, IsHeadFault, IsValuesFault, IsDictionaryFault};
+ghost use Rattle.ipc_read.specs.DictionaryBatches.{GivesColumn, GivesDictionary, PutsValues, dictionary_head, values_listed, BlamesDictionary, IsHeadFault, IsValuesFault, IsDictionaryFault, TellsValues};
 ghost use Rattle.ipc_read.specs.HeldChunks.{HoldChosen, HoldsValues};
-ghost use Rattle.ipc_read.specs.Refusals.{IsEntriesFault, TellsLengths};
-ghost use Rattle.ipc_read.specs.Sizes.{batch_listed, chosen_listed};
+ghost use Rattle.ipc_read.specs.Refusals.{IsEntriesFault, TellsCounts, TellsLists};
+ghost use Rattle.ipc_read.specs.Sizes.{chosen_listed};
 
 use crate::read::Dictionaries;
 use crate::read::common::{byte_order, check_lengths, count_extra, entries_of};
@@ -101,6 +101,7 @@ fn check_column(
     requires { extra ≤ 1 }
     ensures own { OnIo result ⊥ }
     ensures only { IfErr result (λ e. OwnFault e (IsEntriesFault e)) }
+    ensures tells { let t = type_view data_type.now in IfErr result (TellsCounts node_count buffer_count (nodes t) (buffers extra t)) }
     ensures exact { let t = type_view data_type.now in Answers result ((nodes t ≤ node_count) × (buffers extra t ≤ buffer_count)) (λ _. Unit {0}) }
 {
     match count_nodes(data_type) {
@@ -129,7 +130,7 @@ fn read_values<R: Reads + Seeks>(
     file_size: u64,
 ) -> Result<AnyArray, Fault>
     ensures only { IfErr result (λ e. OwnFault e (IsValuesFault (kind_of (type_view value_type.now) None (all_ids_view ids.now)) e)) }
-    ensures lengths { IfErr result (TellsLengths (batch_listed (lists_of batch.entry)) file_size) }
+    ensures lists { let t = type_view value_type.now in IfErr result (TellsLists batch.entry file_size (nodes t) (buffers (extra_of version) t)) }
     ensures monotone { R.failures reader.old ≤ R.failures reader.new }
     ensures failed { OnIo result (Rises (R.failures reader.old) (R.failures reader.new)) }
     ensures told { UnlessIo result (R.failures reader.new ≡ R.failures reader.old) }
@@ -212,7 +213,7 @@ pub fn read_dictionary<R: Reads + Seeks>(
 ) -> Result<(), Fault>
     ensures only { IfErr result (λ e. OwnFault e (IsDictionaryFault e)) }
     ensures blames { IfErr result (λ e. OwnFault e (BlamesDictionary (batch_schema fields.now ipc_schema.now) batch.entry e)) }
-    ensures lengths { IfErr result (TellsLengths (batch_listed (values_lists batch.entry)) file_size) }
+    ensures lists { IfErr result (TellsValues (batch_schema fields.now ipc_schema.now) (extra_of version) batch.entry file_size) }
     ensures monotone { R.failures reader.old ≤ R.failures reader.new }
     ensures failed { OnIo result (Rises (R.failures reader.old) (R.failures reader.new)) }
     ensures told { UnlessIo result (R.failures reader.new ≡ R.failures reader.old) }

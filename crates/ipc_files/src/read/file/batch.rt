@@ -16,8 +16,8 @@ ghost use Rattle.ipc_flat_columns.specs.Bodies.{known_dictionaries};
 ghost use Rattle.ipc_read.specs.Chunks.{chunk_seen};
 ghost use Rattle.ipc_read.specs.Columns.{ArePrepared};
 ghost use Rattle.ipc_read.specs.HeldChunks.{HoldChosen};
-ghost use Rattle.ipc_read.specs.Refusals.{IsFaultOfBatch, TellsLengths};
-ghost use Rattle.ipc_read.specs.Sizes.{batch_listed, chosen_listed};
+ghost use Rattle.ipc_read.specs.Refusals.{IsFaultOfBatch, TellsBatch};
+ghost use Rattle.ipc_read.specs.Sizes.{chosen_listed};
 
 use crate::read::file::block::{open_message, place_of, read_metadata};
 use crate::read::file::metadata::FileMetadata;
@@ -58,7 +58,7 @@ fn read_record<R: Reads + Seeks>(
     ensures many { IfOk result (λ chunk. length chunk ≡ length (chosen (option_copied projection.entry) (length metadata.now.schema.fields.items))) }
     ensures only { let js = chosen (option_copied projection.entry) (length metadata.now.schema.fields.items) in
         IfErr result (λ e. OwnFault e (IsFaultOfBatch (kinds (file_seen metadata.now).schema) js e)) }
-    ensures lengths { IfErr result (TellsLengths (batch_listed (lists_of batch.entry)) metadata.now.size) }
+    ensures lists { IfErr result (TellsBatch (file_seen metadata.now).schema (extra_of version) batch.entry metadata.now.size) }
     ensures monotone { R.failures reader.old ≤ R.failures reader.new }
     ensures failed { OnIo result (Rises (R.failures reader.old) (R.failures reader.new)) }
     ensures told { UnlessIo result (R.failures reader.new ≡ R.failures reader.old) }

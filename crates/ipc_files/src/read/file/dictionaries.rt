@@ -11,9 +11,7 @@ ghost use Rattle.ipc_files.specs.Dictionaries.{DictionariesReason, DictionaryRea
 ghost use Rattle.ipc_files.specs.Footers.{file_seen};
 ghost use Rattle.ipc_flat_columns.specs.Bodies.{array_under, known_dictionaries};
 ghost use Rattle.ipc_read.specs.HeldChunks.{HoldsValues};
-ghost use Rattle.ipc_read.specs.DictionaryBatches.{BlamesDictionary, IsDictionaryFault, values_listed, values_lists};
-ghost use Rattle.ipc_read.specs.Refusals.{TellsLengths};
-ghost use Rattle.ipc_read.specs.Sizes.{batch_listed};
+ghost use Rattle.ipc_read.specs.DictionaryBatches.{BlamesDictionary, IsDictionaryFault, TellsValues, values_listed};
 
 use crate::read::file::block::{open_message, place_of, read_metadata};
 use crate::read::file::metadata::FileMetadata;
@@ -49,7 +47,7 @@ fn read_values<R: Reads + Seeks>(
 ) -> Result<(), Fault>
     ensures only { IfErr result (λ e. OwnFault e (IsDictionaryFault e)) }
     ensures blames { IfErr result (λ e. OwnFault e (BlamesDictionary (file_seen metadata.now).schema batch.entry e)) }
-    ensures lengths { IfErr result (TellsLengths (batch_listed (values_lists batch.entry)) metadata.now.size) }
+    ensures lists { IfErr result (TellsValues (file_seen metadata.now).schema (extra_of version) batch.entry metadata.now.size) }
     ensures monotone { R.failures reader.old ≤ R.failures reader.new }
     ensures failed { OnIo result (Rises (R.failures reader.old) (R.failures reader.new)) }
     ensures told { UnlessIo result (R.failures reader.new ≡ R.failures reader.old) }

@@ -23,6 +23,8 @@ use Rattle.ipc_read.proofs.KnownArrays.{have_meaning, dictionaries_are, chunk_ha
 use Rattle.ipc_read.proofs.HeldLists.{held_total, chunk_holds}
 use Rattle.ipc_read.proofs.Listed.{given_total}
 use Rattle.ipc_read.proofs.Meanings.{listed_of, refused, judged, gives_batch}
+use Rattle.ipc_read.proofs.Refusals.{counts_tell, lengths_tell}
+use Rattle.ipc_read.specs.Refusals.{TellsCounts}
 use Rattle.ipc_read.proofs.read.common.read_record_batch.Goals as goal
 
 pub returns-in_err-nodes-clause-memory : goal.returns-in_err-nodes-clause-memory
@@ -144,6 +146,35 @@ returns-clause-memory g c = λ k.
           (subst (λ (s : Entries). AreColumns s vs (fields_view fs) (kinds_of (fields_view fs) (all_ids_view c.as_slice-ids.result.now)) limit js ys) same read.1));
     })
     c.try_new.ensures.ok c.try_new.ensures.value
+
+pub returns-in_err-nodes-clause-lists : goal.returns-in_err-nodes-clause-lists
+returns-in_err-nodes-clause-lists g c =
+    let fault = c.in_err-nodes.field-0.0 in
+    let e : c.from_residual.result ≡ Err fault = search rules in
+    let fs = fields_view c.args.fields.now in
+    rw e (c.in_err-nodes.ensures.tells.each c.args.file_size (fields_nodes fs) (fields_buffers (extra_of c.args.version) fs))
+
+pub returns-in_err-check_lengths-clause-lists : goal.returns-in_err-check_lengths-clause-lists
+returns-in_err-check_lengths-clause-lists g c =
+    let fault = c.in_err-check_lengths.field-0.0 in
+    let e : c.from_residual-in_err-check_lengths.result ≡ Err fault = search rules in
+    let lists : Lists = record { nodes = c.in_ok-nodes.nodes; buffers = c.in_ok-nodes.buffers } in
+    let fs = fields_view c.args.fields.now in
+    rw e (lengths_tell c.args.batch lists c.in_ok-nodes.ensures.exact.1 c.args.file_size (fields_nodes fs) (fields_buffers (extra_of c.args.version) fs) fault c.in_err-check_lengths.ensures.tells)
+
+pub returns-in_err-check_counts-clause-lists : goal.returns-in_err-check_counts-clause-lists
+returns-in_err-check_counts-clause-lists g c =
+    let fault = c.in_err-check_counts.field-0.0 in
+    let e : c.from_residual-in_err-check_counts.result ≡ Err fault = search rules in
+    let lists : Lists = record { nodes = c.in_ok-nodes.nodes; buffers = c.in_ok-nodes.buffers } in
+    let fs = fields_view c.args.fields.now in
+    let noded : c.len.result ≡ length lists.nodes = search rules in
+    let listed : c.len-2.result ≡ length lists.buffers = search rules in
+    let told : TellsCounts (length lists.nodes) (length lists.buffers) (fields_nodes fs) (fields_buffers (extra_of c.args.version) fs) fault =
+    subst (λ (x : ℕ). TellsCounts (length lists.nodes) (length lists.buffers) (fields_nodes fs) (fields_buffers x fs) fault) c.count_extra-extra.ensures.extra
+    (subst (λ (k : ℕ). TellsCounts (length lists.nodes) k (fields_nodes fs) (fields_buffers c.count_extra-extra.result fs) fault) listed
+    (subst (λ (n : ℕ). TellsCounts n c.len-2.result (fields_nodes fs) (fields_buffers c.count_extra-extra.result fs) fault) noded c.in_err-check_counts.ensures.tells)) in
+    rw e (counts_tell c.args.batch lists c.in_ok-nodes.ensures.exact.1 c.args.file_size (fields_nodes fs) (fields_buffers (extra_of c.args.version) fs) fault told)
 
 pub read_columns-requires-clause-room : goal.read_columns-requires-clause-room
 read_columns-requires-clause-room g c =

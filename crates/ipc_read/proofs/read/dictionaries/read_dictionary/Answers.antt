@@ -86,11 +86,24 @@ returns-in_err-values-clause-blames g c =
     c.in-Some.ensures) in
     rw e (values_blame schema c.args.batch id v headed p fault placed c.in_err-values.ensures.only)
 
-pub returns-in_err-values-clause-lengths : goal.returns-in_err-values-clause-lengths
-returns-in_err-values-clause-lengths g c =
+pub returns-in_err-values-clause-lists : goal.returns-in_err-values-clause-lists
+returns-in_err-values-clause-lists g c =
     let fault = c.in_err-values.field-0.0 in
     let e : c.from_residual-in_err-values.result ≡ Err fault = search rules in
-    rw e (values_told c.args.batch c.in_ok-id.id c.in_ok-id.values c.args.file_size fault c.in_ok-id.ensures.exact.1 c.in_err-values.ensures.lengths)
+    let schema : Schema = batch_schema c.args.fields.now c.args.ipc_schema.now in
+    let id = c.in_ok-id.id in
+    let v = c.in_ok-id.values in
+    let headed : dictionary_head c.args.batch ≡ Some (id, v) = c.in_ok-id.ensures.exact.1 in
+    let ids_are : c.as_slice-schema_ids.result.now ≡ c.args.ipc_schema.now.fields.items = search rules in
+    let same_id : to_z w64 (of_z w64 id) ≡ id = search rules in
+    let u = type_view c.in-Some.value_type.now in
+    let is = all_ids_view c.in-Some.ids.now in
+    let p : Place = record { id = Some id; type = u; ids = is } in
+    let placed : place_of (places schema.fields schema.ids) id ≡ Some p =
+    subst (λ (j : ℤ). place_of (places (fields_view c.args.fields.now) (all_ids_view c.args.ipc_schema.now.fields.items)) j ≡ Some (record { id = Some j; type = u; ids = is })) same_id
+    (subst (λ (l : List IpcField). place_of (places (fields_view c.args.fields.now) (all_ids_view l)) (to_z w64 (of_z w64 id)) ≡ Some (record { id = Some (to_z w64 (of_z w64 id)); type = u; ids = is })) ids_are
+    c.in-Some.ensures) in
+    rw e (values_told schema c.args.batch id v headed p (extra_of c.args.version) c.args.file_size fault placed c.in_err-values.ensures.lists)
 
 pub returns-in_err-values-clause-memory : goal.returns-in_err-values-clause-memory
 returns-in_err-values-clause-memory g c = λ k.

@@ -17,6 +17,8 @@ use Rattle.ipc_read.specs.Sizes.{AreSizes, total_of}
 use Rattle.ipc_read.proofs.Batches.{same_entries}
 use Rattle.ipc_read.proofs.HeldLists.{column_held}
 use Rattle.ipc_read.proofs.Meanings.{listed_of}
+use Rattle.ipc_read.proofs.Refusals.{counts_tell, lengths_tell}
+use Rattle.ipc_read.specs.Refusals.{TellsCounts}
 use Rattle.ipc_read.proofs.ValueReads.{schema_of, column_refused, column_judged, column_given, values_given}
 use Rattle.ipc_read.proofs.read.dictionaries.read_values.Goals as goal
 
@@ -67,6 +69,35 @@ returns-in_err-check_column-clause-memory g c = λ k.
     (λ h.
     let j = (column_judged extra ds body c.args.batch u is order lists c.in_ok-nodes.ensures.exact.1 h).0 in
     (omega (arith, j.nodes, node_counts u None is), omega (arith, j.buffers, buffer_counts extra u None is, fronted))))
+
+pub returns-in_err-nodes-clause-lists : goal.returns-in_err-nodes-clause-lists
+returns-in_err-nodes-clause-lists g c =
+    let fault = c.in_err-nodes.field-0.0 in
+    let e : c.from_residual.result ≡ Err fault = search rules in
+    let u = type_view c.args.value_type.now in
+    rw e (c.in_err-nodes.ensures.tells.each c.args.file_size (nodes u) (buffers (extra_of c.args.version) u))
+
+pub returns-in_err-check_lengths-clause-lists : goal.returns-in_err-check_lengths-clause-lists
+returns-in_err-check_lengths-clause-lists g c =
+    let fault = c.in_err-check_lengths.field-0.0 in
+    let e : c.from_residual-in_err-check_lengths.result ≡ Err fault = search rules in
+    let lists : Lists = record { nodes = c.in_ok-nodes.nodes; buffers = c.in_ok-nodes.buffers } in
+    let u = type_view c.args.value_type.now in
+    rw e (lengths_tell c.args.batch lists c.in_ok-nodes.ensures.exact.1 c.args.file_size (nodes u) (buffers (extra_of c.args.version) u) fault c.in_err-check_lengths.ensures.tells)
+
+pub returns-in_err-check_column-clause-lists : goal.returns-in_err-check_column-clause-lists
+returns-in_err-check_column-clause-lists g c =
+    let fault = c.in_err-check_column.field-0.0 in
+    let e : c.from_residual-in_err-check_column.result ≡ Err fault = search rules in
+    let lists : Lists = record { nodes = c.in_ok-nodes.nodes; buffers = c.in_ok-nodes.buffers } in
+    let u = type_view c.args.value_type.now in
+    let noded : c.len.result ≡ length lists.nodes = search rules in
+    let listed : c.len-2.result ≡ length lists.buffers = search rules in
+    let told : TellsCounts (length lists.nodes) (length lists.buffers) (nodes u) (buffers (extra_of c.args.version) u) fault =
+    subst (λ (x : ℕ). TellsCounts (length lists.nodes) (length lists.buffers) (nodes u) (buffers x u) fault) c.count_extra-extra.ensures.extra
+    (subst (λ (k : ℕ). TellsCounts (length lists.nodes) k (nodes u) (buffers c.count_extra-extra.result u) fault) listed
+    (subst (λ (n : ℕ). TellsCounts n c.len-2.result (nodes u) (buffers c.count_extra-extra.result u) fault) noded c.in_err-check_column.ensures.tells)) in
+    rw e (counts_tell c.args.batch lists c.in_ok-nodes.ensures.exact.1 c.args.file_size (nodes u) (buffers (extra_of c.args.version) u) fault told)
 
 pub read-requires-clause-room : goal.read-requires-clause-room
 read-requires-clause-room g c =

@@ -7,7 +7,7 @@ use Rattle.ipc_devices.specs.Faults.{OwnFault}
 use Rattle.ipc_devices.specs.declared.fault.Fault.{Fault}
 use Rattle.ipc_model.specs.Batches.{extra_of}
 use Rattle.ipc_read.specs.Chunks.{batch_schema, order_of}
-use Rattle.ipc_read.specs.DictionaryBatches.{BlamesDictionary, GivesDictionary}
+use Rattle.ipc_read.specs.DictionaryBatches.{BlamesDictionary, GivesDictionary, TellsValues}
 use Rattle.ipc_readers.proofs.Bodies.{values_give}
 use Rattle.ipc_projections.specs.ChosenColumns.{asked_by}
 use Rattle.ipc_readers.specs.Streams.{known_in}
@@ -47,7 +47,9 @@ returns-in_err-read_dictionary-clause-memory c =
     let given : Read c.deref.result.now bytes = c.in_err-read_dictionary.ensures.memory refl in
     let Blames : List Field → Type 0 = λ ds. OwnFault fault (BlamesDictionary (batch_schema ds m.ipc_schema) c.args.batch fault) in
     let blamed : Blames c.deref.result.now = c.in_err-read_dictionary.ensures.blames in
+    let Tells : List Field → Type 0 = λ ds. TellsValues (batch_schema ds m.ipc_schema) (extra_of m.version) c.args.batch (length body) fault in
+    let told : Tells c.deref.result.now = c.in_err-read_dictionary.ensures.lists in
     rw e (values_give (fields_view fs) (pairs_of m.schema.metadata.entries) (all_ids_view m.ipc_schema.fields.items) (order_of m.ipc_schema.is_little_endian) m.version (asked_by old.projection) (known_in old)
     c.args.batch body r (record { dictionaries = after; count = old.count }) c.requires tt
-    (subst (λ ds. Blames ds) fields_are blamed) c.in_err-read_dictionary.ensures.lengths
+    (subst (λ ds. Blames ds) fields_are blamed) (subst (λ ds. Tells ds) fields_are told)
     (subst (λ bs. Read fs bs) bytes_are (subst (λ ds. Read ds bytes) fields_are given)))
