@@ -1,6 +1,6 @@
 //! Schemas: `{"fields": [FIELD, ..], "metadata": {..}, "ids": [ID, ..], "order": "big"}`, of which all but the fields may be left
 //! out. Where there are no ids, they are those by default. `"version": "V5"` is that of
-//! the message that it stands in.
+//! the message that it stands in, and `"visits": 3` how many tables of fields were opened in reading it.
 //!
 //! An id is `{"id": 7, "children": [ID, ..]}`, where either may be left out.
 
@@ -29,6 +29,10 @@ pub fn put_wanted_schema(alloc: Global, out: &mut Text, value: &Value) -> Result
     if let Some(version) = value.get("version") {
         out.put(" ");
         out.put(text(Some(version), "version")?);
+    }
+    if let Some(visits) = value.get("visits") {
+        out.put(" ");
+        out.json(visits);
     }
     Ok(())
 }

@@ -1,6 +1,6 @@
 //! Schema messages. `"schema_of": BYTES` reads one, and gives a schema. `"schema_bytes_of"` writes a schema and gives the bytes;
-//! `"schema_back_of"` reads them again and gives a schema, `"weight_of"` gives what the tables of a schema weigh. `"visits_of": BYTES` gives
-//! how many tables of fields are opened in reading a schema: `{"visits": 3}`, and `{"fault": FAULT, "visits": 3}` where it is refused.
+//! `"schema_back_of"` reads them again and gives a schema, `"weight_of"` gives what the tables of a schema weigh. `"visits_of": BYTES` reads one too,
+//! and gives the schema with `"visits": 3`, how many tables of fields are opened for it, or `{"fault": FAULT, "visits": 3}` where it is refused.
 //!
 //! And schemas alone: `"normal_of"` gives the normal form of one, `"is_normal"` whether it is its own normal form;
 //! `"are_same_schemas": [SCHEMA, SCHEMA]` whether a clone of the first and the second are the same.
@@ -28,20 +28,24 @@ fn put_message(alloc: Global, out: &mut Text, message: &[u8]) -> Result<(), Trou
     Ok(())
 }
 
-/// How many tables of fields are opened in reading a message, and why it is refused, where it is.
+/// The schema that a message means, or why it is refused, and how many tables of fields are opened in reading it.
 pub fn visits_of(alloc: Global, out: &mut Text, value: &Value) -> Result<(), Trouble> {
     let message = bytes(alloc, value)?;
     let mut visits = 0;
-    let read = deserialize_schema_counted(alloc, &message, &mut visits);
-    out.put("{");
-    if let Err(fault) = read {
-        out.put("\"fault\":");
-        out.shown(&fault);
-        out.put(",");
+    match deserialize_schema_counted(alloc, &message, &mut visits) {
+        Ok((schema, ids)) => {
+            put_schema(out, &schema, &ids);
+            out.put(" ");
+            out.show(&visits);
+        }
+        Err(fault) => {
+            out.put("{\"fault\":");
+            out.shown(&fault);
+            out.put(",\"visits\":");
+            out.show(&visits);
+            out.put("}");
+        }
     }
-    out.put("\"visits\":");
-    out.show(&visits);
-    out.put("}");
     Ok(())
 }
 
