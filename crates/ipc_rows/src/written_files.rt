@@ -2,7 +2,7 @@
 //! `"started": true` the writer is made started. With `"room": 100` it writes to a device that takes so many bytes, and fails then.
 //!
 //! A call is `"start"`, `{"write": [ARRAY, ..]}`, beside whose columns ids may stand, `{"pairs": {"k": "v"}}`, which has the footer say these pairs,
-//! or `"finish"`.
+//! or `"finish"`; or `"schema"`, which answers the schema of the writer, as Rust shows it.
 
 use crate::arrays::arrays;
 use crate::bytes::put_zeros;
@@ -74,13 +74,16 @@ fn make_calls<W: Writes + Drop>(
     answers.put("[");
     for call in items(value.get("calls"), "calls")? {
         answers.comma();
-        put_answer(answers, make_call(alloc, writer, call))?;
+        match call.as_str() {
+            Some("schema") => answers.shown(writer.schema()),
+            _ => put_answer(answers, make_call(alloc, writer, call))?,
+        }
     }
     answers.put("]");
     Ok(())
 }
 
-// The calls without arguments.
+// The calls without arguments that may be refused.
 #[derive(Clone, Copy)]
 enum PlainCall {
     Start,

@@ -1,11 +1,11 @@
 //! Files, block by block. `"items_of": FILE` with `"calls": 2`, and columns that are chosen as in `projections.rt`, makes so many calls of `next` of a reader of
 //! the file, and gives `{"columns": ["x: Int32", ..], "items": [[ITEM, FINISHED], ..]}`: the columns that it says it gives, and what each call answers, which is a
-//! chunk, null or a fault, and whether the reader is finished then.
+//! chunk, null or a fault, and whether the reader is finished then. With `"device": true` there is `"bytes": HEX` too, what the reader hands back behind these calls.
 
 use crate::calls::streams::put_columns;
 use crate::chunks::put_chunk;
 use crate::files::file;
-use crate::json::count;
+use crate::json::{count, is_set};
 use crate::projections::{chosen, limit};
 use crate::text::Text;
 use crate::trouble::Trouble;
@@ -45,7 +45,12 @@ pub fn items_of(alloc: Global, out: &mut Text, value: &Value) -> Result<(), Trou
         out.comma();
         put_item(out, &mut reader, &fields);
     }
-    out.put("]}");
+    out.put("]");
+    if is_set(value, "device") {
+        out.put(",\"bytes\":");
+        out.hex(reader.into_inner().into_inner());
+    }
+    out.put("}");
     Ok(())
 }
 
