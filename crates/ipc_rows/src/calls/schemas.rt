@@ -1,6 +1,7 @@
 //! Schema messages. `"schema_of": BYTES` reads one, and gives a schema. `"schema_bytes_of"` writes a schema and gives the bytes;
-//! `"schema_back_of"` reads them again and gives a schema, `"weight_of"` gives what the tables of a schema weigh. `"visits_of": BYTES` reads one too,
-//! and gives the schema with `"visits": 3`, how many tables of fields are opened for it, or `{"fault": FAULT, "visits": 3}` where it is refused.
+//! `"schema_back_of"` reads them again and gives a schema, `"weight_of"` gives what the tables of a schema weigh, and with `"pairs": {"k": "v"}` what
+//! a file's schema and these pairs of its footer do. `"visits_of": BYTES` reads one too, and gives the schema with `"visits": 3`, how many tables of fields are
+//! opened for it, or `{"fault": FAULT, "visits": 3}` where it is refused.
 //!
 //! And schemas alone: `"normal_of"` gives the normal form of one, `"is_normal"` whether it is its own normal form;
 //! `"are_same_schemas": [SCHEMA, SCHEMA]` whether a clone of the first and the second are the same.
@@ -10,6 +11,8 @@ use crate::json::both;
 use crate::schemas::{ids_of, is_little_endian, put_schema, put_schema_of_row, schema};
 use crate::text::Text;
 use crate::trouble::Trouble;
+use crate::types::texts;
+use ipc_footers::weights::weigh_file;
 use ipc_schema::read::schema::{deserialize_schema, deserialize_schema_counted};
 use ipc_schema_write::schema::{schema_to_bytes, schema_to_bytes_as, serialize_schema};
 use ipc_schema_write::weights::weigh_schema;
@@ -90,14 +93,20 @@ pub fn are_same_schemas(alloc: Global, value: &Value) -> Result<bool, Trouble> {
     Ok(is_same_schema(&first, &second))
 }
 
-/// What the tables of a schema weigh, or null where 64 bits don't hold it.
+/// What the tables of a schema weigh, or a file's schema and pairs; null where 64 bits don't hold it.
 pub fn weight_of(alloc: Global, out: &mut Text, value: &Value) -> Result<(), Trouble> {
-    let schema = schema(alloc, value)?;
-    let ids = ids_of(alloc, value, &schema.fields)?;
-    let tables = serialize_schema(alloc, &schema, &ids, true)?;
-    match weigh_schema(&tables) {
+    match weighed(alloc, value)? {
         None => out.put("null"),
         Some(weight) => out.show(&weight),
     }
     Ok(())
+}
+
+fn weighed(alloc: Global, value: &Value) -> Result<Option<u64>, Trouble> {
+    let schema = schema(alloc, value)?;
+    if value.get("pairs").is_some() {
+        return Ok(weigh_file(&schema, &texts(alloc, value, "pairs")?));
+    }
+    let ids = ids_of(alloc, value, &schema.fields)?;
+    Ok(weigh_schema(&serialize_schema(alloc, &schema, &ids, true)?))
 }
