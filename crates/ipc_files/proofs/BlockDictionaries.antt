@@ -1,5 +1,5 @@
 -- The dictionary batch at a block.
-use Rattle.std.proofs.Common.{◌≡◌, ℕ, List, [], drop, Option, None, Some, Result, Ok, Err, refl, sym, ap, subst, ◌∙◌}
+use Rattle.std.proofs.Common.{◌≡◌, ℕ, ℤ, List, [], drop, Option, None, Some, Result, Ok, Err, IfErr, refl, sym, ap, subst, ◌∙◌}
 use Rattle.lower.specs.declared.datatypes.Field.{Field}
 use Rattle.ipc_devices.specs.Faults.{OwnFault}
 use Rattle.ipc_devices.specs.declared.fault.Fault.{Fault}
@@ -19,10 +19,14 @@ use Rattle.ipc_files.specs.Blocks.{message_seen, place_seen, stated_metadata}
 use Rattle.ipc_files.specs.Dictionaries.{GivesKnown, needed_dictionary}
 use Rattle.ipc_files.specs.Footers.{file_seen}
 use Rattle.ipc_read.specs.Chunks.{batch_schema}
-use Rattle.ipc_read.specs.DictionaryBatches.{GivesDictionary}
+use Rattle.ipc_read.specs.DictionaryBatches.{BlamesDictionary, BlamesHead, GivesDictionary, TellsHead, TellsValues, dictionary_head}
 use Rattle.ipc_files.proofs.BlockMeanings.{at-block, refused-place, refused-message, refused-header, opened-is}
 use Rattle.ipc_files.proofs.KnownAlike.{gives-known}
 use Rattle.ipc_read.proofs.Refusals.{claims_through}
+
+if_err : {X : Type 0} (r : Result X Fault) {P Q : Fault → Type 0} → ((e : Fault) → P e → Q e) → IfErr r P → IfErr r Q
+if_err (Ok x) f h = tt
+if_err (Err e) f h = f e h
 
 -- the metadata of a schema say nothing of a dictionary
 same-dictionary : (s : Schema) (extra : ℕ) (known : Dictionaries) (b : Body) (t : Spot)
@@ -38,6 +42,24 @@ dictionary-given {X} m extra known after b t fs r same h =
     subst (λ (o : Option Dictionaries). GivesKnown (λ (x : X). after) r o)
     (ap (λ (f : List Field). dictionary_meaning (batch_schema f m.ipc_schema) extra known b t) same ∙ same-dictionary (file_seen m).schema extra known b t)
     (gives-known r _ after h)
+
+-- nor of what is at fault in it
+same-head : (s : Schema) (o : Option (ℤ × Spot)) (e : Fault) → BlamesHead (record { fields = s.fields; metadata = []; ids = s.ids; order = s.order }) o e → BlamesHead s o e
+same-head s None e f = f
+same-head s (Some h) e f = f
+
+same-lists : (s : Schema) (extra size : ℕ) (o : Option (ℤ × Spot)) (e : Fault) → TellsHead (record { fields = s.fields; metadata = []; ids = s.ids; order = s.order }) extra size o e
+    → TellsHead s extra size o e
+same-lists s extra size None e f = f
+same-lists s extra size (Some h) e f = f
+
+module _ {X : Type 0} (m : FileMetadata) (t : Spot) (fs : List Field) (r : Result X Fault) (same : fs ≡ m.schema.fields.items) where
+  pub dictionary-blames : IfErr r (λ e. OwnFault e (BlamesDictionary (batch_schema fs m.ipc_schema) t e)) → IfErr r (λ e. OwnFault e (BlamesDictionary (file_seen m).schema t e))
+  dictionary-blames h = if_err r (λ e. claims_through e _ _ (same-head (file_seen m).schema (dictionary_head t) e)) (subst (λ (f : List Field). IfErr r (λ e. OwnFault e (BlamesDictionary (batch_schema f m.ipc_schema) t e))) same h)
+
+  pub dictionary-tells : (extra size : ℕ) → IfErr r (TellsValues (batch_schema fs m.ipc_schema) extra t size) → IfErr r (TellsValues (file_seen m).schema extra t size)
+  dictionary-tells extra size h =
+      if_err r (same-lists (file_seen m).schema extra size (dictionary_head t)) (subst (λ (f : List Field). IfErr r (TellsValues (batch_schema f m.ipc_schema) extra t size)) same h)
 
 module _ (m : FileMetadata) (known : Dictionaries) (source : List ℕ) where
   abbrev dictionary-at : Placed → BlockHeader → Option Dictionaries

@@ -11,14 +11,16 @@ use Rattle.ipc_views.specs.Unions.{header_parts}
 use Rattle.ipc_views.specs.declared.file.Block.{Block}
 use Rattle.ipc_views.specs.declared.message.MessageHeaderRef.{MessageHeaderRef}
 use Rattle.ipc_views.specs.declared.message.MessageHeaderRef.TheVariants as headers
-use Rattle.ipc_model.specs.Batches.{extra_of}
-use Rattle.ipc_model.specs.Files.{Placed, BlockHeader, placed}
+use Rattle.ipc_model.specs.Batches.{extra_of, kinds}
+use Rattle.ipc_model.specs.Files.{Placed, BlockHeader, FileMetadata, placed}
 use Rattle.ipc_model.specs.Frame.{frame}
 use Rattle.ipc_files.specs.declared.read.file.block.BlockMessage.{BlockMessage}
-use Rattle.ipc_files.specs.Batches.{needed_record}
+use Rattle.ipc_files.specs.Batches.{BlamesRecord, needed_record}
 use Rattle.ipc_read.specs.Headers.{answered_as}
 use Rattle.ipc_files.specs.Blocks.{MessageReason, block_message, frame_fault, message_seen, needed_kind, opened_message, placed_message, prefix_of, result_and_then, stated_metadata}
-use Rattle.ipc_files.specs.Dictionaries.{needed_dictionary}
+use Rattle.ipc_files.specs.Dictionaries.{BlamesValues, needed_dictionary}
+use Rattle.ipc_read.specs.DictionaryBatches.{BlamesDictionary, TellsValues}
+use Rattle.ipc_read.specs.Refusals.{IsFaultOfBatch, TellsBatch}
 use Rattle.ipc_read.proofs.Refusals.{claims_own, claims_through, own_any}
 
 -- ---- a message that isn't there
@@ -62,6 +64,21 @@ record-kind x r is = record-tag x.header (extra_of x.version) ∙ ap (answered_a
 
 pub dictionary-kind : (x : BlockMessage) (r : Result Spot Fault) → r ≡ needed_dictionary x.header → needed_kind 2 (message_seen x) ≡ answered_as (λ (t : Spot). message_seen x) r
 dictionary-kind x r is = dictionary-tag x.header (extra_of x.version) ∙ ap (answered_as (λ (t : Spot). message_seen x)) (sym is)
+
+-- the table of the header that it has to be
+record-table : (u : MessageHeaderRef) (t : Spot) → Ok t ≡ needed_record u → t ≡ (header_parts u).1
+record-table (headers.Schema s) t is = absurd cc
+record-table (headers.DictionaryBatch s) t is = absurd cc
+record-table (headers.RecordBatch s) t is = cc
+record-table (headers.Tensor s) t is = absurd cc
+record-table (headers.SparseTensor s) t is = absurd cc
+
+dictionary-table : (u : MessageHeaderRef) (t : Spot) → Ok t ≡ needed_dictionary u → t ≡ (header_parts u).1
+dictionary-table (headers.Schema s) t is = absurd cc
+dictionary-table (headers.DictionaryBatch s) t is = cc
+dictionary-table (headers.RecordBatch s) t is = absurd cc
+dictionary-table (headers.Tensor s) t is = absurd cc
+dictionary-table (headers.SparseTensor s) t is = absurd cc
 
 -- ---- the message at a block
 
@@ -116,6 +133,19 @@ module _ (tag : ℕ) (numbers negative : OutOfSpecKind) (source : List ℕ) {o :
 -- ---- the batch at a block
 
 -- a fault of it, and what it tells
-pub and-tells : {X : Type 0} (r : Result X Fault) (P Q : Fault → Type 0) → IfErr r (λ e. OwnFault e (P e)) → IfErr r Q → IfErr r (λ e. OwnFault e (P e × Q e))
+and-tells : {X : Type 0} (r : Result X Fault) (P Q : Fault → Type 0) → IfErr r (λ e. OwnFault e (P e)) → IfErr r Q → IfErr r (λ e. OwnFault e (P e × Q e))
 and-tells (Ok x) P Q why told = tt
 and-tells (Err e) P Q why told = claims_through e (P e) (P e × Q e) (λ is. (is, told)) why
+
+module _ {X : Type 0} (m : FileMetadata) (x : BlockMessage) (t : Spot) (r : Result X Fault) where
+  pub blames-record : (js : List ℕ) → Ok t ≡ needed_record x.header → IfErr r (λ e. OwnFault e (IsFaultOfBatch (kinds m.schema) js e)) → IfErr r (TellsBatch m.schema (extra_of x.version) t m.size)
+      → IfErr r (λ e. OwnFault e (BlamesRecord m js (message_seen x) e))
+  blames-record js is why told =
+      let Tells : Spot → Fault → Type 0 = λ s e. TellsBatch m.schema (extra_of x.version) s m.size e in
+      subst (λ (s : Spot). IfErr r (λ e. OwnFault e (IsFaultOfBatch (kinds m.schema) js e × Tells s e))) (record-table x.header t is) (and-tells r (IsFaultOfBatch (kinds m.schema) js) (Tells t) why told)
+
+  pub blames-values : Ok t ≡ needed_dictionary x.header → IfErr r (λ e. OwnFault e (BlamesDictionary m.schema t e)) → IfErr r (TellsValues m.schema (extra_of x.version) t m.size)
+      → IfErr r (λ e. OwnFault e (BlamesValues m (message_seen x) e))
+  blames-values is why told =
+      let Tells : Spot → Fault → Type 0 = λ s e. TellsValues m.schema (extra_of x.version) s m.size e in
+      subst (λ (s : Spot). IfErr r (λ e. OwnFault e (BlamesDictionary m.schema s e × Tells s e))) (dictionary-table x.header t is) (and-tells r (BlamesDictionary m.schema t) (Tells t) why told)

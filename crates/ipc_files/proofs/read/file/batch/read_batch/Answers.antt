@@ -3,14 +3,13 @@ use Rattle.std.proofs.lemmas.Option.{slice_get_read}
 use Rattle.std.specs.Prelude.{vec_len}
 use Rattle.std.specs.Option.{option_copied}
 use Rattle.ipc_devices.specs.declared.fault.OutOfSpecKind.TheVariants.{NegativeFooterLength, UnexpectedNegativeInteger}
-use Rattle.ipc_model.specs.Batches.{chosen, extra_of, kinds}
+use Rattle.ipc_model.specs.Batches.{chosen}
 use Rattle.ipc_model.specs.Files.{block_header}
 use Rattle.ipc_flat_columns.specs.Bodies.{known_dictionaries}
 use Rattle.ipc_files.specs.Batches.{BlamesRecord}
 use Rattle.ipc_files.specs.Blocks.{message_seen, place_seen}
 use Rattle.ipc_files.specs.Footers.{file_seen}
-use Rattle.ipc_read.specs.Refusals.{IsFaultOfBatch, TellsBatch}
-use Rattle.ipc_files.proofs.BlockFaults.{and-tells, ill-made, in-batch, no-message, other-kind, record-kind, unplaced}
+use Rattle.ipc_files.proofs.BlockFaults.{blames-record, ill-made, in-batch, no-message, other-kind, record-kind, unplaced}
 use Rattle.ipc_read.proofs.Refusals.{own_any}
 use Rattle.ipc_files.proofs.BlockRecords.{refused-record-place, refused-record-message, refused-record-header, refused-record-kind, read-record, has-place, message-read, on-ok}
 use Rattle.ipc_files.proofs.read.file.batch.read_batch.Goals as goal
@@ -122,5 +121,5 @@ returns-clause-reason g c = λ k.
     (slice_get_read c.args.metadata.now.blocks.items (vec_len c.args.metadata.now.blocks) c.args.index c.index-block.result.now (search rules) c.requires.index c.index-block.ensures) (BlamesRecord (file_seen c.args.metadata.now) (chosen (option_copied c.args.projection) (length c.args.metadata.now.schema.fields.items)))
     (place_seen c.in_ok-place.place) c.in_ok-place.ensures.place c.read_metadata.new.metadata.items (c.in_ok-read_metadata.ensures.memory k) (message_seen c.in_ok-message.message)
     (rw c.deref.ensures.value at c.in_ok-message.ensures.exact) c.read_record.result (record-kind c.in_ok-message.message (Ok c.in_ok-batch.batch) c.in_ok-batch.ensures)
-    (and-tells c.read_record.result (IsFaultOfBatch (kinds (file_seen c.args.metadata.now).schema) (chosen (option_copied c.args.projection) (length c.args.metadata.now.schema.fields.items)))
-    (TellsBatch (file_seen c.args.metadata.now).schema (extra_of c.in_ok-message.message.version) c.in_ok-batch.batch c.args.metadata.now.size) c.read_record.ensures.only c.read_record.ensures.lists)
+    (blames-record (file_seen c.args.metadata.now) c.in_ok-message.message c.in_ok-batch.batch c.read_record.result (chosen (option_copied c.args.projection) (length c.args.metadata.now.schema.fields.items))
+    c.in_ok-batch.ensures c.read_record.ensures.only c.read_record.ensures.lists)

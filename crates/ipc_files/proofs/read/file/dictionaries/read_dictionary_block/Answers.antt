@@ -1,14 +1,12 @@
 use Rattle.std.proofs.Common.{rules, ◌≡◌, ◌∙◌, [], ◌∷◌, Some, Ok, Err, refl, sym, ap}
 use Rattle.ipc_devices.specs.declared.fault.OutOfSpecKind.TheVariants.{NegativeFooterLength, UnexpectedNegativeInteger}
-use Rattle.ipc_model.specs.Batches.{extra_of}
 use Rattle.ipc_model.specs.Files.{block_header}
 use Rattle.ipc_flat_columns.specs.Bodies.{known_dictionaries}
 use Rattle.ipc_files.specs.Blocks.{message_seen, place_seen}
 use Rattle.ipc_files.specs.Dictionaries.{BlamesValues}
 use Rattle.ipc_files.specs.Footers.{file_seen}
-use Rattle.ipc_read.specs.DictionaryBatches.{BlamesDictionary, TellsValues}
 use Rattle.ipc_files.proofs.BlockDictionaries.{refused-dictionary-place, refused-dictionary-message, refused-dictionary-header, refused-dictionary-kind, read-dictionary}
-use Rattle.ipc_files.proofs.BlockFaults.{and-tells, dictionary-kind, ill-made, in-batch, no-message, other-kind, unplaced}
+use Rattle.ipc_files.proofs.BlockFaults.{blames-values, dictionary-kind, ill-made, in-batch, no-message, other-kind, unplaced}
 use Rattle.ipc_read.proofs.Refusals.{own_any}
 use Rattle.ipc_files.proofs.BlockRecords.{message-read}
 use Rattle.ipc_files.proofs.read.file.dictionaries.read_dictionary_block.Goals as goal
@@ -101,5 +99,5 @@ returns-in_err-read_values-clause-reason g c = λ k.
     (place_seen c.in_ok-place.place) c.in_ok-place.ensures.place c.read_metadata.new.metadata.items (c.in_ok-read_metadata.ensures.memory k)
     (message_seen c.in_ok-message.message) (rw c.deref.ensures.value at c.in_ok-message.ensures.exact) {X = Unit {0}} (Err e)
     (dictionary-kind c.in_ok-message.message (Ok c.in_ok-batch.batch) c.in_ok-batch.ensures)
-    (and-tells {X = Unit {0}} (Err e) (BlamesDictionary (file_seen c.args.metadata.now).schema c.in_ok-batch.batch) (TellsValues (file_seen c.args.metadata.now).schema (extra_of c.in_ok-message.message.version) c.in_ok-batch.batch c.args.metadata.now.size)
+    (blames-values {X = Unit {0}} (file_seen c.args.metadata.now) c.in_ok-message.message c.in_ok-batch.batch (Err e) c.in_ok-batch.ensures
     c.in_err-read_values.ensures.blames c.in_err-read_values.ensures.lists))
