@@ -9,8 +9,8 @@ use std::alloc::Global;
 
 // What a walk tells where the first call of its device fails, where the second does, and on; what is told again isn't said again, and in the last one
 // none fails. Writers answer `Io` once, and then `State(Failed)`; what went out is a first part. A reader of a stream answers a fault once, and
-// then None; one of a file that of the dictionaries so, and where a block can't be read the next still come. A session keeps the old chunks.
-const FAILING: [(&str, Walk, &[&str]); 7] = [
+// then None; one of a file that of the dictionaries so, and where a block can't be read the next still come. What appends keeps the old chunks.
+const FAILING: [(&str, Walk, &[&str]); 8] = [
     (
         "a stream is written",
         Walk::WriteStream,
@@ -68,6 +68,11 @@ const FAILING: [(&str, Walk, &[&str]); 7] = [
             "ooxi1=ababa.",
             "ooxo0=ababa.",
         ],
+    ),
+    (
+        "a file is gone on with by words",
+        Walk::AppendByWords,
+        &["i1=ababa.", "o0=ababa."],
     ),
     (
         "messages are sent by themselves",
@@ -143,7 +148,7 @@ fn a_device_moves_a_byte_a_call(rt: HostRuntime) -> Result<(), Fault> {
 
 // What a walk tells on a sound device, and then what else it may tell where an allocation is refused: a writer's call is made again, a reader of
 // a stream ends, one of a file goes on with the next block, and a session goes on with the next chunk. No memory is taken at the end.
-const REFUSED: [(&str, Walk, &[&str]); 7] = [
+const REFUSED: [(&str, Walk, &[&str]); 8] = [
     ("a stream is written", Walk::WriteStream, &["oooooddd0="]),
     ("a file is written", Walk::WriteFile, &["oooxoooodddd0="]),
     (
@@ -177,6 +182,11 @@ const REFUSED: [(&str, Walk, &[&str]); 7] = [
             "oomo0=ababa.",
             "ooxm0=ababa.",
         ],
+    ),
+    (
+        "a file is gone on with by words",
+        Walk::AppendByWords,
+        &["o0=ababa.", "m0=ababa."],
     ),
     (
         "messages are sent by themselves",

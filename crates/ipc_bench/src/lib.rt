@@ -6,6 +6,8 @@
 #[cfg(test)]
 mod alone;
 #[cfg(test)]
+mod appended;
+#[cfg(test)]
 mod asked;
 #[cfg(test)]
 mod barred;

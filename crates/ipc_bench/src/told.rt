@@ -29,9 +29,9 @@ impl Told {
     }
 
     /// Tells an answer: `o` where it is Ok.
-    pub fn put_answer(&mut self, answer: &Result<(), Fault>) {
+    pub fn put_answer<X>(&mut self, answer: &Result<X, Fault>) {
         self.put(match answer {
-            Ok(()) => 'o',
+            Ok(_) => 'o',
             Err(fault) => letter(fault),
         });
     }

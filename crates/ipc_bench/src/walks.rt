@@ -1,20 +1,20 @@
 //! Streams and files that are written, read and appended to on a device that isn't sound, told by letters. A writer's call that was
 //! refused memory is made again.
 
-use crate::alone;
-use crate::fixtures::{end_of, room, roomy};
+use crate::fixtures::room;
 use crate::keyed::{Keyed, make_keyed};
 use crate::rough::{Rough, Way, bytes_of, make_rough};
 use crate::told::{Told, letter};
+use crate::{alone, appended};
 use arrow2_ipc::array::AnyArray;
 use arrow2_ipc::chunk::Chunk;
 use arrow2_ipc::datatypes::Metadata;
-use arrow2_ipc::io::ipc::fault::{Failures, Fault, MemFile, Reads, Watched, Writes};
+use arrow2_ipc::io::ipc::fault::{Failures, Fault, Reads, Watched, Writes};
 use arrow2_ipc::io::ipc::read::{
     FileMetadata, FileReader, StreamReader, StreamState, read_batch, read_file_dictionaries,
     read_file_metadata, read_stream_metadata,
 };
-use arrow2_ipc::io::ipc::write::{FileWriter, StreamWriter, WriteOptions, append_session};
+use arrow2_ipc::io::ipc::write::{FileWriter, StreamWriter, WriteOptions};
 use ipc_file_write::calls as file_calls;
 use ipc_write::calls as stream_calls;
 use ipc_write::calls::StreamCall;
@@ -28,6 +28,7 @@ pub enum Walk {
     ReadStream,
     ReadFile,
     Append,
+    AppendByWords,
     SendAlone,
     ReadAlone,
 }
@@ -63,7 +64,8 @@ pub fn tell(alloc: Global, ready: &Ready, walk: Walk, way: Way) -> Result<Told, 
         Walk::WriteFile => write_file(alloc, ready, way),
         Walk::ReadStream => read_stream(alloc, ready, way),
         Walk::ReadFile => read_file(alloc, ready, way),
-        Walk::Append => append(alloc, ready, way),
+        Walk::Append => appended::by_session(alloc, &ready.keyed, &ready.file, way),
+        Walk::AppendByWords => appended::by_words(alloc, &ready.keyed, &ready.file, way),
         Walk::SendAlone => alone::send(alloc, way),
         Walk::ReadAlone => alone::read(alloc, &ready.keyed, &ready.file, way),
     }
@@ -244,49 +246,4 @@ fn read_file(alloc: Global, ready: &Ready, way: Way) -> Result<Told, Fault> {
     }
     told.put_failures(device.failures());
     Ok(told)
-}
-
-// A session that goes on with the file by the chunks `a`, `b` and `c`.
-fn append(alloc: Global, ready: &Ready, way: Way) -> Result<Told, Fault> {
-    let mut told = Told::new();
-    let mut device = make_rough(roomy(alloc, &ready.file)?, way);
-    match append_session(alloc, &mut device, &ready.keyed.chunks) {
-        Ok(session) => {
-            for answer in &session.answers {
-                told.put_answer(answer);
-            }
-            told.put_answer(&session.end);
-        }
-        Err(fault) => told.put(letter(&fault)),
-    }
-    told.put_failures(device.failures());
-    put_kept(alloc, ready, &bytes_of(device), &mut told)?;
-    Ok(told)
-}
-
-// Whether a file is no shorter than it was, and has the same bytes up to the end of its last block.
-fn is_kept(old: &[u8], new: &[u8], metadata: &FileMetadata) -> bool {
-    let Some(last) = metadata.blocks.last() else {
-        return false;
-    };
-    let place = end_of(last);
-    match (old.get(..place), new.get(..place)) {
-        (Some(was), Some(is)) => was == is && old.len() <= new.len(),
-        _ => false,
-    }
-}
-
-// Tells whether a file is as it was before the place where writing went on, `=`, and which chunks the metadata give that were read before.
-fn put_kept(alloc: Global, ready: &Ready, new: &[u8], told: &mut Told) -> Result<(), Fault> {
-    let metadata = read_file_metadata(alloc, &mut MemFile::new(ready.file.as_slice()))?;
-    let is_kept = is_kept(&ready.file, new, &metadata);
-    told.put(if is_kept { '=' } else { '!' });
-    let mut reader = FileReader::new(alloc, MemFile::new(new), metadata, None, None)?;
-    for _ in 0..6 {
-        told.put(match reader.next().transpose()? {
-            Some(chunk) => ready.keyed.letter(&chunk),
-            None => '.',
-        });
-    }
-    Ok(())
 }

@@ -1,0 +1,97 @@
+//! Files that are appended to on a device that isn't sound, by a session and by the words of `ipconvert`, told by letters.
+
+use crate::fixtures::{end_of, room, roomy};
+use crate::keyed::Keyed;
+use crate::rough::{Way, bytes_of, make_rough};
+use crate::told::Told;
+use arrow2_ipc::io::ipc::fault::{Failures, Fault, MemFile};
+use arrow2_ipc::io::ipc::read::{FileMetadata, FileReader, read_file_metadata};
+use arrow2_ipc::io::ipc::write::{Session, append_session};
+use ipc_tools::convert::run;
+use std::alloc::Global;
+
+fn put_session<W: Drop>(answer: &Result<Session<W>, Fault>, told: &mut Told) {
+    let Ok(session) = answer else {
+        told.put_answer(answer);
+        return;
+    };
+    for answer in &session.answers {
+        told.put_answer(answer);
+    }
+    told.put_answer(&session.end);
+}
+
+/// A session that goes on with the file by the chunks `a`, `b` and `c`.
+pub fn by_session(alloc: Global, keyed: &Keyed, file: &[u8], way: Way) -> Result<Told, Fault> {
+    let mut told = Told::new();
+    let mut device = make_rough(roomy(alloc, file)?, way);
+    put_session(
+        &append_session(alloc, &mut device, &keyed.chunks),
+        &mut told,
+    );
+    told.put_failures(device.failures());
+    put_kept(alloc, keyed, file, &bytes_of(device), &mut told)?;
+    Ok(told)
+}
+
+// What `ipconvert` answers and tells: `o` where all went well, `i` where a device failed, `m` where memory was refused, else `x`.
+fn run_letter(status: u8, told: &[u8]) -> char {
+    if status == 0 && told.is_empty() {
+        'o'
+    } else if status == 1 && told == b"ipconvert: input or output failed\n".as_slice() {
+        'i'
+    } else if status == 1 && told == b"ipconvert: no memory\n".as_slice() {
+        'm'
+    } else {
+        'x'
+    }
+}
+
+/// The words `append p`, where the stream at the input is that of the file's own chunks.
+pub fn by_words(alloc: Global, keyed: &Keyed, file: &[u8], way: Way) -> Result<Told, Fault> {
+    let words = vec![in alloc; "append".to_string(alloc)?, "p".to_string(alloc)?]?;
+    let mut input = MemFile::new(file.get(8..).unwrap_or(&[]));
+    let mut device = make_rough(roomy(alloc, file)?, way);
+    let mut out = Vec::new(alloc);
+    let mut err = room(alloc)?;
+    let opened = Some(&mut device);
+    let status = run(alloc, &words, &mut input, opened, &mut out, &mut err);
+    let mut told = Told::new();
+    told.put(run_letter(status, &err));
+    told.put_failures(device.failures());
+    put_kept(alloc, keyed, file, &bytes_of(device), &mut told)?;
+    Ok(told)
+}
+
+// Whether a file is no shorter than it was, and has the same bytes up to the end of its last block.
+fn is_kept(old: &[u8], new: &[u8], metadata: &FileMetadata) -> bool {
+    let Some(last) = metadata.blocks.last() else {
+        return false;
+    };
+    let place = end_of(last);
+    match (old.get(..place), new.get(..place)) {
+        (Some(was), Some(is)) => was == is && old.len() <= new.len(),
+        _ => false,
+    }
+}
+
+// Tells whether a file is as it was before the place where writing went on, `=`, and which chunks the metadata give that were read before.
+fn put_kept(
+    alloc: Global,
+    keyed: &Keyed,
+    file: &[u8],
+    new: &[u8],
+    told: &mut Told,
+) -> Result<(), Fault> {
+    let metadata = read_file_metadata(alloc, &mut MemFile::new(file))?;
+    let is_kept = is_kept(file, new, &metadata);
+    told.put(if is_kept { '=' } else { '!' });
+    let mut reader = FileReader::new(alloc, MemFile::new(new), metadata, None, None)?;
+    for _ in 0..6 {
+        told.put(match reader.next().transpose()? {
+            Some(chunk) => keyed.letter(&chunk),
+            None => '.',
+        });
+    }
+    Ok(())
+}
