@@ -3,7 +3,7 @@
 use crate::fixtures::make_example;
 use arrow2_ipc::datatypes::Metadata;
 use arrow2_ipc::io::ipc::IpcField;
-use arrow2_ipc::io::ipc::fault::{Fault, MemFile};
+use arrow2_ipc::io::ipc::fault::{Fault, MemFile, Watched};
 use arrow2_ipc::io::ipc::read::{FileReader, StreamState, read_file_metadata};
 use arrow2_ipc::io::ipc::write::{
     EncodedData, FileWriter, StreamWriter, WriteOptions, WriterState, create_file,
@@ -73,6 +73,7 @@ fn what_is_empty_and_what_is_there(rt: HostRuntime) -> Result<(), Fault> {
     assert!(rt; id.fields.is_empty() && id.dictionary_id.is_none());
     let writer = StreamWriter::new(alloc, Vec::new(alloc), WriteOptions::default());
     assert!(rt; writer.state() == WriterState::New && writer.into_inner().is_empty());
+    assert_eq!(rt; Watched::new(7).into_inner(), 7);
     assert!(rt; StreamState::Waiting.is_waiting());
     let state = StreamState::Some(make_example(alloc)?.chunk);
     assert!(rt; !state.is_waiting());

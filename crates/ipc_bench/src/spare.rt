@@ -35,8 +35,8 @@ fn file(alloc: Global, example: &Example) -> Result<Vec<u8>, Fault> {
     }
 }
 
-// Whether a reader was made, has a schema of two columns, and has ended once it was asked.
-fn is_ended_stream(reader: Result<StreamReader<MemFile<&[u8]>>, Fault>) -> bool {
+// Whether a reader of these bytes was made, has a schema of two columns, has ended once it was asked, and hands on what it read from.
+fn is_ended_stream(reader: Result<StreamReader<MemFile<&[u8]>>, Fault>, bytes: &[u8]) -> bool {
     match reader {
         Ok(mut reader) => {
             reader.next().is_none()
@@ -44,6 +44,7 @@ fn is_ended_stream(reader: Result<StreamReader<MemFile<&[u8]>>, Fault>) -> bool 
                 && reader.next().is_none()
                 && reader.schema().fields.len() == 2
                 && reader.metadata().schema.fields.len() == 2
+                && reader.into_inner().into_inner() == bytes
         }
         Err(_) => false,
     }
@@ -55,17 +56,20 @@ fn a_reader_of_a_stream_takes_no_memory_of_its_own(rt: HostRuntime) -> Result<()
     let bytes = stream(alloc, &make_example(alloc)?)?;
     let mut input = MemFile::new(bytes.as_slice());
     let metadata = read_stream_metadata(alloc, &mut input)?;
-    assert!(rt; is_ended_stream(StreamReader::new(alloc, input, metadata, None)));
+    let reader = StreamReader::new(alloc, input, metadata, None);
+    assert!(rt; is_ended_stream(reader, &bytes));
     Ok(())
 }
 
 // The same of a reader of a file without blocks, which has a limit.
-fn is_ended_file(reader: Result<FileReader<MemFile<&[u8]>>, Fault>) -> bool {
+fn is_ended_file(reader: Result<FileReader<MemFile<&[u8]>>, Fault>, bytes: &[u8]) -> bool {
     match reader {
         Ok(mut reader) => {
-            reader.next().is_none()
+            reader.is_finished()
+                && reader.next().is_none()
                 && reader.schema().fields.len() == 2
                 && reader.metadata().dictionary_blocks().is_empty()
+                && reader.into_inner().into_inner() == bytes
         }
         Err(_) => false,
     }
@@ -77,14 +81,17 @@ fn a_reader_of_a_file_takes_no_memory_of_its_own(rt: HostRuntime) -> Result<(), 
     let bytes = file(alloc, &make_example(alloc)?)?;
     let mut input = MemFile::new(bytes.as_slice());
     let metadata = read_file_metadata(alloc, &mut input)?;
-    assert!(rt; is_ended_file(FileReader::new(alloc, input, metadata, None, Some(3))));
+    let reader = FileReader::new(alloc, input, metadata, None, Some(3));
+    assert!(rt; is_ended_file(reader, &bytes));
     Ok(())
 }
 
-// Whether a writer was made, and takes pairs before it starts.
+// Whether a writer was made, has a schema of two columns, and takes pairs before it starts.
 fn takes_pairs(writer: Result<FileWriter<Vec<u8>>, Fault>, pairs: Metadata) -> bool {
     match writer {
-        Ok(mut writer) => writer.set_custom_metadata(pairs).is_ok(),
+        Ok(mut writer) => {
+            writer.schema().fields.len() == 2 && writer.set_custom_metadata(pairs).is_ok()
+        }
         Err(_) => false,
     }
 }
@@ -126,13 +133,22 @@ fn are_plain(arrays: &[AnyArray]) -> bool {
     equal_rows(arrays) && arrays.len() == 2
 }
 
+// Whether a record shows its columns, and no ids.
+fn shows_plain(record: &Record<'_>) -> bool {
+    record.fields().is_none() && are_plain(record.columns().arrays())
+}
+
 // Whether a chunk shows its columns, and so does a record of it.
 fn is_shown(chunk: &Chunk<AnyArray>) -> bool {
-    let record = Record::borrowed(chunk, None);
-    record.fields().is_none()
-        && are_plain(record.columns().arrays())
-        && chunk.len() == 2
-        && !chunk.is_empty()
+    shows_plain(&Record::borrowed(chunk, None)) && chunk.len() == 2 && !chunk.is_empty()
+}
+
+// Whether a chunk is made, whose columns are those that are handed in.
+fn makes_plain(arrays: Vec<AnyArray>) -> bool {
+    match Chunk::try_new(arrays) {
+        Ok(chunk) => are_plain(&chunk.into_arrays()),
+        Err(_) => false,
+    }
 }
 
 #[test]
@@ -144,6 +160,16 @@ fn tests_take_no_memory(rt: HostRuntime) -> Result<(), Fault> {
     assert_eq!(rt; chosen(), 2);
     assert!(rt; is_reordering(&HashMap::new(alloc), 0));
     assert!(rt; is_shown(&example.chunk));
-    assert!(rt; are_plain(&Chunk::try_new(example.chunk.into_arrays())?.into_arrays()));
+    assert!(rt; makes_plain(example.chunk.into_arrays()));
+    Ok(())
+}
+
+#[test]
+fn records_take_no_memory(rt: HostRuntime) -> Result<(), Fault> {
+    let alloc = rt.alloc();
+    let owned = make_example(alloc)?.chunk;
+    let made = make_example(alloc)?.chunk;
+    assert!(rt; shows_plain(&Record::owned(owned, None)));
+    assert!(rt; shows_plain(&Record::from(made)));
     Ok(())
 }
