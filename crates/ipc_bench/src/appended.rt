@@ -1,6 +1,8 @@
-//! Files that are appended to on a device that isn't sound, by a session and by the words of `ipconvert`, told by letters.
+//! Files that are appended to on a device that isn't sound, by a session and by the words of `ipconvert`, and on one in memory that can't
+//! grow: told by letters.
 
 use crate::fixtures::{end_of, room, roomy};
+use crate::full::Full;
 use crate::keyed::Keyed;
 use crate::rough::{Way, bytes_of, make_rough};
 use crate::told::Told;
@@ -31,6 +33,20 @@ pub fn by_session(alloc: Global, keyed: &Keyed, file: &[u8], way: Way) -> Result
     );
     told.put_failures(device.failures());
     put_kept(alloc, keyed, file, &bytes_of(device), &mut told)?;
+    Ok(told)
+}
+
+/// The same session on the file in memory.
+pub fn in_memory(alloc: Global, keyed: &Keyed, file: &[u8], way: Way) -> Result<Told, Fault> {
+    let mut told = Told::new();
+    let mut device = Full::new(MemFile::new(Vec::from_slice(alloc, file)?), way);
+    put_session(
+        &append_session(alloc, &mut device, &keyed.chunks),
+        &mut told,
+    );
+    told.put_failures(device.failures());
+    let bytes = device.into_inner().into_inner();
+    put_kept(alloc, keyed, file, &bytes, &mut told)?;
     Ok(told)
 }
 

@@ -9,8 +9,9 @@ use std::alloc::Global;
 
 // What a walk tells where the first call of its device fails, where the second does, and on; what is told again isn't said again, and in the last one
 // none fails. Writers answer `Io` once, and then `State(Failed)`; what went out is a first part. A reader of a stream answers a fault once, and
-// then None; one of a file that of the dictionaries so, and where a block can't be read the next still come. What appends keeps the old chunks.
-const FAILING: [(&str, Walk, &[&str]); 8] = [
+// then None; one of a file that of the dictionaries so, and where a block can't be read the next still come. What appends keeps the old chunks, and
+// memory that can't grow fails without counting it.
+const FAILING: [(&str, Walk, &[&str]); 9] = [
     (
         "a stream is written",
         Walk::WriteStream,
@@ -66,6 +67,16 @@ const FAILING: [(&str, Walk, &[&str]); 8] = [
             "ifff1=ababa.",
             "oiff1=ababa.",
             "ooxi1=ababa.",
+            "ooxo0=ababa.",
+        ],
+    ),
+    (
+        "a file in memory that can't grow is gone on with",
+        Walk::AppendInMemory,
+        &[
+            "ifff0=ababa.",
+            "oiff0=ababa.",
+            "ooxi0=ababa.",
             "ooxo0=ababa.",
         ],
     ),
@@ -147,8 +158,9 @@ fn a_device_moves_a_byte_a_call(rt: HostRuntime) -> Result<(), Fault> {
 }
 
 // What a walk tells on a sound device, and then what else it may tell where an allocation is refused: a writer's call is made again, a reader of
-// a stream ends, one of a file goes on with the next block, and a session goes on with the next chunk. No memory is taken at the end.
-const REFUSED: [(&str, Walk, &[&str]); 8] = [
+// a stream ends, one of a file goes on with the next block, and a session goes on with the next chunk, unless it was the growth of the device
+// itself. No memory is taken at the end.
+const REFUSED: [(&str, Walk, &[&str]); 9] = [
     ("a stream is written", Walk::WriteStream, &["oooooddd0="]),
     ("a file is written", Walk::WriteFile, &["oooxoooodddd0="]),
     (
@@ -181,6 +193,21 @@ const REFUSED: [(&str, Walk, &[&str]); 8] = [
             "omxo0=ababa.",
             "oomo0=ababa.",
             "ooxm0=ababa.",
+        ],
+    ),
+    (
+        "a file in memory is gone on with",
+        Walk::AppendInMemory,
+        &[
+            "ooxo0=ababa.",
+            "m0=ababa.",
+            "moxo0=ababa.",
+            "omxo0=ababa.",
+            "oomo0=ababa.",
+            "ooxm0=ababa.",
+            "ifff0=ababa.",
+            "oiff0=ababa.",
+            "ooxi0=ababa.",
         ],
     ),
     (

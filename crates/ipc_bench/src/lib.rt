@@ -28,6 +28,8 @@ mod files;
 #[cfg(test)]
 mod fixtures;
 #[cfg(test)]
+mod full;
+#[cfg(test)]
 mod handed;
 #[cfg(test)]
 mod keyed;

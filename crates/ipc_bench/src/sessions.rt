@@ -6,7 +6,7 @@ use crate::told::Told;
 use arrow2_ipc::array::AnyArray;
 use arrow2_ipc::chunk::Chunk;
 use arrow2_ipc::datatypes::{Metadata, Schema};
-use arrow2_ipc::io::ipc::fault::Fault;
+use arrow2_ipc::io::ipc::fault::{Fault, StateFault};
 use arrow2_ipc::io::ipc::read::{read_file, read_stream};
 use arrow2_ipc::io::ipc::write::{
     FileWriter, WriteOptions, WrittenSessions, write_chunks, write_sessions,
@@ -51,9 +51,11 @@ fn tell(alloc: Global, keyed: &Keyed, made: &WrittenSessions) -> Result<Told, Fa
 fn a_file_of_four_sessions(rt: HostRuntime) -> Result<(), Fault> {
     let alloc = rt.alloc();
     let keyed = make_keyed(alloc)?;
-    let Ok(made) = write(alloc, keyed.schema.clone()?) else {
-        // (where the file's own memory is refused its growth, a device's fault is answered)
-        return Err(Fault::Memory);
+    let made = match write(alloc, keyed.schema.clone()?) {
+        Ok(made) => made,
+        // (a chunk's write was refused the growth of the file's own memory and answered `Io`, and then the end is refused so)
+        Err(Fault::State(StateFault::Failed)) => return Err(Fault::Memory),
+        Err(fault) => return Err(fault),
     };
     assert!(rt; tell(alloc, &keyed, &made)?.is("oox,,o,aaba,aaba"));
     Ok(())
