@@ -1,14 +1,16 @@
-//! Files that are appended to on a device that isn't sound, by a session and by the words of `ipconvert`, and on one in memory that can't
-//! grow: told by letters.
+//! Files that are appended to on a device that isn't sound, by a session, by sessions and by the words of `ipconvert`, and on one in memory
+//! that can't grow: told by letters.
 
 use crate::fixtures::{end_of, room, roomy};
 use crate::full::Full;
-use crate::keyed::Keyed;
+use crate::keyed::{Keyed, make_chunk, make_keyed};
 use crate::rough::{Way, bytes_of, make_rough};
 use crate::told::Told;
+use arrow2_ipc::array::AnyArray;
+use arrow2_ipc::chunk::Chunk;
 use arrow2_ipc::io::ipc::fault::{Failures, Fault, MemFile};
 use arrow2_ipc::io::ipc::read::{FileMetadata, FileReader, read_file_metadata};
-use arrow2_ipc::io::ipc::write::{Session, append_session};
+use arrow2_ipc::io::ipc::write::{Session, append_session, run_sessions};
 use ipc_tools::convert::run;
 use std::alloc::Global;
 
@@ -47,6 +49,24 @@ pub fn in_memory(alloc: Global, keyed: &Keyed, file: &[u8], way: Way) -> Result<
     told.put_failures(device.failures());
     let bytes = device.into_inner().into_inner();
     put_kept(alloc, keyed, file, &bytes, &mut told)?;
+    Ok(told)
+}
+
+// The chunks `a`, `b` and `c`, and then `a`.
+fn make_sessions(alloc: Global) -> Result<Vec<Vec<Chunk<AnyArray>>>, Fault> {
+    let first = Vec::from_array(alloc, make_keyed(alloc)?.chunks)?;
+    let second = vec![in alloc; make_chunk(alloc, &[1, 0], &[5, 6])?]?;
+    Ok(vec![in alloc; first, second]?)
+}
+
+/// Two sessions by one call.
+pub fn by_sessions(alloc: Global, keyed: &Keyed, file: &[u8], way: Way) -> Result<Told, Fault> {
+    let mut told = Told::new();
+    let sessions = make_sessions(alloc)?;
+    let mut device = make_rough(roomy(alloc, file)?, way);
+    told.put_answer(&run_sessions(alloc, &mut device, &sessions));
+    told.put_failures(device.failures());
+    put_kept(alloc, keyed, file, &bytes_of(device), &mut told)?;
     Ok(told)
 }
 

@@ -9,9 +9,9 @@ use std::alloc::Global;
 
 // What a walk tells where the first call of its device fails, where the second does, and on; what is told again isn't said again, and in the last one
 // none fails. Writers answer `Io` once, and then `State(Failed)`; what went out is a first part. A reader of a stream answers a fault once, and
-// then None; one of a file that of the dictionaries so, and where a block can't be read the next still come. What appends keeps the old chunks, and
-// memory that can't grow fails without counting it.
-const FAILING: [(&str, Walk, &[&str]); 9] = [
+// then None; one of a file that of the dictionaries so, and where a block can't be read the next still come. What appends keeps the old chunks: of
+// sessions by one call the end of the first that fails is answered, and memory that can't grow fails without counting it.
+const FAILING: [(&str, Walk, &[&str]); 11] = [
     (
         "a stream is written",
         Walk::WriteStream,
@@ -39,6 +39,7 @@ const FAILING: [(&str, Walk, &[&str]); 9] = [
             "oooxoooodddd0=",
         ],
     ),
+    ("a writer is made started", Walk::BeginFile, &["i1<", "o0<"]),
     (
         "a stream is read",
         Walk::ReadStream,
@@ -78,6 +79,18 @@ const FAILING: [(&str, Walk, &[&str]); 9] = [
             "oiff0=ababa.",
             "ooxi0=ababa.",
             "ooxo0=ababa.",
+        ],
+    ),
+    (
+        "a file is gone on with twice",
+        Walk::AppendTwice,
+        &[
+            "i1=ababa.",
+            "f1=ababa.",
+            "i1=ababa.",
+            "f1=ababa.",
+            "i1=ababa.",
+            "o0=ababa.",
         ],
     ),
     (
@@ -160,9 +173,10 @@ fn a_device_moves_a_byte_a_call(rt: HostRuntime) -> Result<(), Fault> {
 // What a walk tells on a sound device, and then what else it may tell where an allocation is refused: a writer's call is made again, a reader of
 // a stream ends, one of a file goes on with the next block, and a session goes on with the next chunk, unless it was the growth of the device
 // itself. No memory is taken at the end.
-const REFUSED: [(&str, Walk, &[&str]); 9] = [
+const REFUSED: [(&str, Walk, &[&str]); 11] = [
     ("a stream is written", Walk::WriteStream, &["oooooddd0="]),
     ("a file is written", Walk::WriteFile, &["oooxoooodddd0="]),
+    ("a writer is made started", Walk::BeginFile, &["o0<", "m0<"]),
     (
         "a stream is read",
         Walk::ReadStream,
@@ -209,6 +223,11 @@ const REFUSED: [(&str, Walk, &[&str]); 9] = [
             "oiff0=ababa.",
             "ooxi0=ababa.",
         ],
+    ),
+    (
+        "a file is gone on with twice",
+        Walk::AppendTwice,
+        &["o0=ababa.", "m0=ababa."],
     ),
     (
         "a file is gone on with by words",

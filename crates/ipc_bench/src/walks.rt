@@ -27,8 +27,10 @@ pub enum Walk {
     WriteFile,
     ReadStream,
     ReadFile,
+    BeginFile,
     Append,
     AppendInMemory,
+    AppendTwice,
     AppendByWords,
     SendAlone,
     ReadAlone,
@@ -65,8 +67,10 @@ pub fn tell(alloc: Global, ready: &Ready, walk: Walk, way: Way) -> Result<Told, 
         Walk::WriteFile => write_file(alloc, ready, way),
         Walk::ReadStream => read_stream(alloc, ready, way),
         Walk::ReadFile => read_file(alloc, ready, way),
+        Walk::BeginFile => begin_file(alloc, ready, way),
         Walk::Append => appended::by_session(alloc, &ready.keyed, &ready.file, way),
         Walk::AppendInMemory => appended::in_memory(alloc, &ready.keyed, &ready.file, way),
+        Walk::AppendTwice => appended::by_sessions(alloc, &ready.keyed, &ready.file, way),
         Walk::AppendByWords => appended::by_words(alloc, &ready.keyed, &ready.file, way),
         Walk::SendAlone => alone::send(alloc, way),
         Walk::ReadAlone => alone::read(alloc, &ready.keyed, &ready.file, way),
@@ -144,6 +148,18 @@ fn write_file(alloc: Global, ready: &Ready, way: Way) -> Result<Told, Fault> {
     put_file(&mut writer, &ready.keyed, &mut told);
     told.put_answer(&writer.set_custom_metadata(Metadata::new(alloc)));
     put_device(writer.into_inner(), &ready.file, &mut told);
+    Ok(told)
+}
+
+// A writer that is made started.
+fn begin_file(alloc: Global, ready: &Ready, way: Way) -> Result<Told, Fault> {
+    let mut told = Told::new();
+    let mut device = make_rough(room(alloc)?, way);
+    let schema = ready.keyed.schema.clone()?;
+    let made = FileWriter::try_new(alloc, &mut device, schema, None, ready.options);
+    told.put_answer(&made);
+    drop(made);
+    put_device(device, &ready.file, &mut told);
     Ok(told)
 }
 
