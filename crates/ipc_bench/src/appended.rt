@@ -5,7 +5,7 @@ use crate::fixtures::{end_of, room, roomy};
 use crate::full::Full;
 use crate::keyed::{Keyed, make_chunk, make_keyed};
 use crate::rough::{Way, bytes_of, make_rough};
-use crate::told::Told;
+use crate::told::{Told, letter};
 use arrow2_ipc::array::AnyArray;
 use arrow2_ipc::chunk::Chunk;
 use arrow2_ipc::io::ipc::fault::{Failures, Fault, MemFile};
@@ -15,14 +15,15 @@ use ipc_tools::convert::run;
 use std::alloc::Global;
 
 fn put_session<W: Drop>(answer: &Result<Session<W>, Fault>, told: &mut Told) {
-    let Ok(session) = answer else {
-        told.put_answer(answer);
-        return;
-    };
-    for answer in &session.answers {
-        told.put_answer(answer);
+    match answer {
+        Ok(session) => {
+            for answer in &session.answers {
+                told.put_answer(answer);
+            }
+            told.put_answer(&session.end);
+        }
+        Err(fault) => told.put(letter(fault)),
     }
-    told.put_answer(&session.end);
 }
 
 /// A session that goes on with the file by the chunks `a`, `b` and `c`.
@@ -64,7 +65,10 @@ pub fn by_sessions(alloc: Global, keyed: &Keyed, file: &[u8], way: Way) -> Resul
     let mut told = Told::new();
     let sessions = make_sessions(alloc)?;
     let mut device = make_rough(roomy(alloc, file)?, way);
-    told.put_answer(&run_sessions(alloc, &mut device, &sessions));
+    told.put(match run_sessions(alloc, &mut device, &sessions) {
+        Ok(_) => 'o',
+        Err(fault) => letter(&fault),
+    });
     told.put_failures(device.failures());
     put_kept(alloc, keyed, file, &bytes_of(device), &mut told)?;
     Ok(told)

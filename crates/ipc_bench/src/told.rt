@@ -29,9 +29,9 @@ impl Told {
     }
 
     /// Tells an answer: `o` where it is Ok.
-    pub fn put_answer<X>(&mut self, answer: &Result<X, Fault>) {
+    pub fn put_answer(&mut self, answer: &Result<(), Fault>) {
         self.put(match answer {
-            Ok(_) => 'o',
+            Ok(()) => 'o',
             Err(fault) => letter(fault),
         });
     }
