@@ -156,11 +156,12 @@ fn begin_file(alloc: Global, ready: &Ready, way: Way) -> Result<Told, Fault> {
     let mut told = Told::new();
     let mut device = make_rough(room(alloc)?, way);
     let schema = ready.keyed.schema.clone()?;
-    let made = FileWriter::try_new(alloc, &mut device, schema, None, ready.options);
-    told.put(match made {
-        Ok(_) => 'o',
-        Err(fault) => letter(&fault),
-    });
+    told.put(
+        match FileWriter::try_new(alloc, &mut device, schema, None, ready.options) {
+            Ok(_) => 'o',
+            Err(fault) => letter(&fault),
+        },
+    );
     put_device(device, &ready.file, &mut told);
     Ok(told)
 }
