@@ -61,8 +61,8 @@ fn add_piece<R: Reads>(reader: &mut R, bytes: &mut Vec<u8>, count: usize) -> Res
     Ok(())
 }
 
-// Takes memory for more bytes where there is none left: for three times as many as have come. So what has come is seldom moved, and a
-// stated length alone takes no memory.
+// Takes memory for more bytes where there is none left: for three times as many as have come, or for a piece. So what has come is seldom moved,
+// and a stated length alone takes no more than a piece.
 fn make_room(bytes: &mut Vec<u8>, piece: usize, left: usize) -> Result<(), AllocError>
     ensures { bytes.new.items ≡ bytes.old.items }
 {

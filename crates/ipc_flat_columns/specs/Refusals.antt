@@ -28,8 +28,7 @@ IsBitsFault (OutOfSpec NegativeFooterLength) = Unit {0}
 IsBitsFault (OutOfSpec (InvalidBitmap _ _)) = Unit {0}
 IsBitsFault _ = ⊥
 
--- of a column: those, a fixed size of 0, a dictionary that isn't known or has values of another type, a form that isn't carried, parts that break a rule of
--- their array
+-- of a column: those, a fixed size of 0, a dictionary that isn't known or has values of another type, floats, parts that break a rule of their array
 abbrev pub IsColumnFault : Fault → Type 0
 IsColumnFault Ended = Unit {0}
 IsColumnFault (OutOfSpec NegativeFooterLength) = Unit {0}
