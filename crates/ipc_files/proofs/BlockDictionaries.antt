@@ -44,9 +44,9 @@ dictionary-given {X} m extra known after b t fs r same h =
     (gives-known r _ after h)
 
 -- nor of what is at fault in it
-same-head : (s : Schema) (o : Option (ℤ × Spot)) (e : Fault) → BlamesHead (record { fields = s.fields; metadata = []; ids = s.ids; order = s.order }) o e → BlamesHead s o e
-same-head s None e f = f
-same-head s (Some h) e f = f
+same-head : (s : Schema) (t : Spot) (o : Option (ℤ × Spot)) (e : Fault) → BlamesHead (record { fields = s.fields; metadata = []; ids = s.ids; order = s.order }) t o e → BlamesHead s t o e
+same-head s t None e f = f
+same-head s t (Some h) e f = f
 
 same-lists : (s : Schema) (extra size : ℕ) (o : Option (ℤ × Spot)) (e : Fault) → TellsHead (record { fields = s.fields; metadata = []; ids = s.ids; order = s.order }) extra size o e
     → TellsHead s extra size o e
@@ -55,7 +55,7 @@ same-lists s extra size (Some h) e f = f
 
 module _ {X : Type 0} (m : FileMetadata) (t : Spot) (fs : List Field) (r : Result X Fault) (same : fs ≡ m.schema.fields.items) where
   pub dictionary-blames : IfErr r (λ e. OwnFault e (BlamesDictionary (batch_schema fs m.ipc_schema) t e)) → IfErr r (λ e. OwnFault e (BlamesDictionary (file_seen m).schema t e))
-  dictionary-blames h = if_err r (λ e. claims_through e _ _ (same-head (file_seen m).schema (dictionary_head t) e)) (subst (λ (f : List Field). IfErr r (λ e. OwnFault e (BlamesDictionary (batch_schema f m.ipc_schema) t e))) same h)
+  dictionary-blames h = if_err r (λ e. claims_through e _ _ (same-head (file_seen m).schema t (dictionary_head t) e)) (subst (λ (f : List Field). IfErr r (λ e. OwnFault e (BlamesDictionary (batch_schema f m.ipc_schema) t e))) same h)
 
   pub dictionary-tells : (extra size : ℕ) → IfErr r (TellsValues (batch_schema fs m.ipc_schema) extra t size) → IfErr r (TellsValues (file_seen m).schema extra t size)
   dictionary-tells extra size h =

@@ -25,7 +25,7 @@ use Rattle.ipc_laws.specs.Agreement.{KnowAlike}
 use Rattle.ipc_read.proofs.Meanings.{some_is, some_listed}
 use Rattle.ipc_read.proofs.Refusals.{claims_through, claims_own, own_any}
 use Rattle.ipc_read.specs.Chunks.{HasMeaning}
-use Rattle.ipc_read.specs.DictionaryBatches.{GivesColumn, whole_head, dictionary_head, place_listed, head_listed, values_listed, GivesDictionary, BlamesDictionary, BlamesHead, BlamesPlace, IsHeadFault, IsValuesFault, IsDictionaryFault, TellsHead, TellsPlace, TellsValues}
+use Rattle.ipc_read.specs.DictionaryBatches.{GivesColumn, whole_head, dictionary_head, place_listed, head_listed, values_listed, GivesDictionary, BlamesDictionary, BlamesHead, BlamesPlace, IsHeadFault, IsValuesFault, IsDictionaryFault, RefusesHead, TellsHead, TellsPlace, TellsValues}
 use Rattle.ipc_read.specs.Refusals.{TellsLists}
 use Rattle.ipc_read.specs.Sizes.{chosen_listed}
 
@@ -47,14 +47,13 @@ values_in_dictionary t e h = claims_own e (IsValuesFault t e) (IsDictionaryFault
 pub unplaced_in_dictionary : (id : ℤ) → IsDictionaryFault (OutOfSpec (InvalidId id))
 unplaced_in_dictionary id = inr (inr tt)
 
-headless : (schema : Schema) (o : Option (ℤ × Spot)) (e : Fault) → IsHeadFault e → (IsSome o → ⊥) → BlamesHead schema o e
-headless schema None e f none = f
-headless schema (Some h) e f none = absurd (none refl)
+headless : (schema : Schema) (t : Spot) (o : Option (ℤ × Spot)) (e : Fault) → RefusesHead t e → (IsSome o → ⊥) → BlamesHead schema t o e
+headless schema t None e f none = f
+headless schema t (Some h) e f none = absurd (none refl)
 
-pub head_blames : (schema : Schema) (t : Spot) (e : Fault) → OwnFault e (IsHeadFault e) → OwnFault e (IsSome (dictionary_head t) → ⊥) → OwnFault e (BlamesDictionary schema t e)
-head_blames schema t e h denied =
-    claims_own e (IsHeadFault e) (BlamesDictionary schema t e)
-    (λ f. claims_through e (IsSome (dictionary_head t) → ⊥) (BlamesDictionary schema t e) (headless schema (dictionary_head t) e f) denied) h
+pub head_blames : (schema : Schema) (t : Spot) (e : Fault) → RefusesHead t e → OwnFault e (IsSome (dictionary_head t) → ⊥) → OwnFault e (BlamesDictionary schema t e)
+head_blames schema t e f denied =
+    claims_through e (IsSome (dictionary_head t) → ⊥) (BlamesDictionary schema t e) (headless schema t (dictionary_head t) e f) denied
 
 -- ---- what has to be so of the values
 
@@ -97,7 +96,7 @@ pub ruleset dictionary_faults = (head_in_dictionary, values_in_dictionary, unpla
 module _ (schema : Schema) (t : Spot) (id : ℤ) (v : Spot) (headed : dictionary_head t ≡ Some (id, v)) where
   by_place : (o : Option Place) (e : Fault) → place_of (places schema.fields schema.ids) id ≡ o → BlamesPlace id o e → BlamesDictionary schema t e
   by_place o e placed f =
-      subst (λ (h : Option (ℤ × Spot)). BlamesHead schema h e) (sym headed) (subst (λ (q : Option Place). BlamesPlace id q e) (sym placed) f)
+      subst (λ (h : Option (ℤ × Spot)). BlamesHead schema t h e) (sym headed) (subst (λ (q : Option Place). BlamesPlace id q e) (sym placed) f)
 
   pub unplaced_blames : place_of (places schema.fields schema.ids) id ≡ None → BlamesDictionary schema t (OutOfSpec (InvalidId id))
   unplaced_blames none = by_place None (OutOfSpec (InvalidId id)) none refl

@@ -1,6 +1,6 @@
 -- What a dictionary batch is read to.
 -- (Arrow columnar format, "Dictionary messages".)
-use Rattle.std.specs.Prelude.{◌≡◌, ◌⊎◌, ℕ, ℤ, Bool, false, [], ◌∷◌, Option, None, Some, IsSome, IfSome, IsTrue, Result, Ok}
+use Rattle.std.specs.Prelude.{◌≡◌, ◌⊎◌, ℕ, ℤ, Bool, true, false, [], ◌∷◌, Option, None, Some, IsSome, IfSome, IsTrue, Result, Ok, Err}
 use Rattle.std.specs.Option.{option_map}
 use Rattle.std.specs.Ordering.{int_eq}
 use Rattle.lower.specs.Counts.{nodes, buffers}
@@ -93,19 +93,28 @@ IsHeadFault (OutOfSpec MissingData) = Unit {0}
 IsHeadFault (NotYetImplemented Delta) = Unit {0}
 IsHeadFault _ = ⊥
 
+-- What such a fault says of the batch: which slot is ill-made, and how; that its values are to follow others; or that there are none.
+abbrev pub RefusesHead : Spot → Fault → Type 0
+RefusesHead t (OutOfSpec (InvalidFlatbufferIsDelta e)) = dictionary_batch_is_delta t ≡ Err e
+RefusesHead t (NotYetImplemented Delta) = dictionary_batch_is_delta t ≡ Ok true
+RefusesHead t (OutOfSpec (InvalidFlatbufferId e)) = dictionary_batch_id t ≡ Err e
+RefusesHead t (OutOfSpec (InvalidFlatbufferData e)) = dictionary_batch_data t ≡ Err e
+RefusesHead t (OutOfSpec MissingData) = dictionary_batch_data t ≡ Ok None
+RefusesHead t _ = ⊥
+
 -- Whose fault it is where the id of a batch is that of a place: that no field has it, or of the values there.
 abbrev pub BlamesPlace : ℤ → Option Place → Fault → Type 0
 BlamesPlace id None e = e ≡ OutOfSpec (InvalidId id)
 BlamesPlace id (Some p) e = IsValuesFault (kind_of p.type None p.ids) e
 
-abbrev pub BlamesHead : Schema → Option (ℤ × Spot) → Fault → Type 0
-BlamesHead schema None e = IsHeadFault e
-BlamesHead schema (Some h) e = BlamesPlace h.0 (place_of (places schema.fields schema.ids) h.0) e
+abbrev pub BlamesHead : Schema → Spot → Option (ℤ × Spot) → Fault → Type 0
+BlamesHead schema t None e = RefusesHead t e
+BlamesHead schema t (Some h) e = BlamesPlace h.0 (place_of (places schema.fields schema.ids) h.0) e
 
--- Which fault this dictionary batch can have: of what it says of itself; where that is well made, that no field has its id, which is named then; and
--- where one has it, of the values, which are of the type of that field.
+-- Which fault this dictionary batch can have: of what it says of itself, and that is so; where that is well made, that no field has its id, which is
+-- named then; and where one has it, of the values, which are of the type of that field.
 abbrev pub BlamesDictionary : Schema → Spot → Fault → Type 0
-BlamesDictionary schema t e = BlamesHead schema (dictionary_head t) e
+BlamesDictionary schema t e = BlamesHead schema t (dictionary_head t) e
 
 -- What a fault of the values says of the table of their batch, where they are those of a place: their column takes what its type does.
 abbrev pub TellsPlace : (extra : ℕ) → (values : Spot) → (size : ℕ) → Option Place → Fault → Type 0

@@ -10,7 +10,7 @@ ghost use Rattle.ipc_model.specs.Batches.{kinds, extra_of, lists_of, own_place, 
 ghost use Rattle.ipc_model.specs.TypeKinds.{kind_of};
 ghost use Rattle.ipc_flat_columns.specs.Bodies.{array_under, known_dictionaries};
 ghost use Rattle.ipc_read.specs.Chunks.{batch_schema, order_of};
-ghost use Rattle.ipc_read.specs.DictionaryBatches.{GivesColumn, GivesDictionary, PutsValues, dictionary_head, values_listed, BlamesDictionary, IsHeadFault, IsValuesFault, IsDictionaryFault, TellsValues};
+ghost use Rattle.ipc_read.specs.DictionaryBatches.{GivesColumn, GivesDictionary, PutsValues, dictionary_head, values_listed, BlamesDictionary, IsHeadFault, IsValuesFault, IsDictionaryFault, RefusesHead, TellsValues};
 ghost use Rattle.ipc_read.specs.HeldChunks.{HoldChosen, HoldsValues};
 ghost use Rattle.ipc_read.specs.Refusals.{IsEntriesFault, TellsCounts, TellsLists};
 ghost use Rattle.ipc_read.specs.Sizes.{chosen_listed};
@@ -166,6 +166,7 @@ fn read_values<R: Reads + Seeks>(
 fn head_of<'a>(batch: &DictionaryBatchRef<'a>) -> Result<(i64, RecordBatchRef<'a>), Fault>
     ensures own { OnIo result ⊥ }
     ensures only { IfErr result (λ e. OwnFault e (IsHeadFault e)) }
+    ensures tells { IfErr result (RefusesHead batch.now) }
     ensures exact { Answers result (IsSome (dictionary_head batch.now)) (λ r. dictionary_head batch.now ≡ Some (r.0, r.1)) }
 {
     match batch.is_delta() {
