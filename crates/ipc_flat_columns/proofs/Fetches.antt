@@ -51,7 +51,7 @@ entry_fetched q base len w (pos o) (pos l) r z h some a =
 abbrev pub entry : List Buffer → ℕ → Buffer
 entry xs i = get_or xs i (record { offset = pos 0; length = pos 0 })
 
-part_is :
+pub part_is :
     {R : Type 0} (memory : R → Memory) (b : Body R) (i : ℕ) → i < length b.buffers
     → buffer (entries memory b) i ≡ part_at (source memory b) b.base (entry b.buffers i)
 unfolding entries

@@ -1,6 +1,7 @@
 pub mod Pieces
 pub mod Fetches
 pub mod Refusals
+pub mod Reasons
 pub mod Heads
 pub mod FlatLevels
 pub mod OffsetLists

@@ -6,10 +6,10 @@ use Rattle.ipc_devices.specs.declared.fault.Fault.TheVariants.{Ended, OutOfSpec,
 use Rattle.ipc_devices.specs.declared.fault.Nyi.TheVariants.{Float}
 use Rattle.ipc_devices.specs.declared.fault.OutOfSpecKind.TheVariants.{NegativeFooterLength, InvalidBuffer, InvalidBitmap}
 use Rattle.ipc_model.specs.Kinds.{Kind, null_kind, boolean_kind, number_kind, float_kind, fixed_binary_kind, binary_kind, utf8_kind, list_kind, map_kind, fixed_list_kind, struct_kind, union_kind, dictionary_kind, extension_kind}
-use Rattle.ipc_flat_columns.specs.Refusals.{IsBufferFault, IsColumnFault, IsFaultOf}
+use Rattle.ipc_flat_columns.specs.Refusals.{IsBufferFault, IsColumnFault, IsFaultOf, IsRuleFault}
 
 -- a claim of a fault by which another one holds
-claims_through : (e : Fault) (P Q : Type 0) → (P → Q) → OwnFault e P → OwnFault e Q
+pub claims_through : (e : Fault) (P Q : Type 0) → (P → Q) → OwnFault e P → OwnFault e Q
 claims_through (OutOfSpec k) P Q f h = f h
 claims_through Ended P Q f h = f h
 claims_through (NotYetImplemented n) P Q f h = f h
@@ -80,8 +80,24 @@ kind_in_column (extension_kind t) e h = kind_in_column t e h
 pub kind_column : (t : Kind) (e : Fault) → OwnFault e (IsFaultOf t e) → OwnFault e (IsColumnFault e)
 kind_column t e h = claims_through e (IsFaultOf t e) (IsColumnFault e) (kind_in_column t e) h
 
+-- a broken rule is a fault of a column, and says nothing of the entries
+rule_in_column : (e : Fault) → IsRuleFault e → IsColumnFault e
+rule_in_column (Lower e) h = tt
+rule_in_column (OutOfSpec k) h = absurd h
+rule_in_column Ended h = absurd h
+rule_in_column (NotYetImplemented n) h = absurd h
+rule_in_column (Schema s) h = absurd h
+rule_in_column (Argument a) h = absurd h
+rule_in_column (State s) h = absurd h
+rule_in_column TooManyDictionaries h = absurd h
+rule_in_column (Io e) h = absurd h
+rule_in_column Memory h = absurd h
+
+pub rule_column : (e : Fault) → OwnFault e (IsRuleFault e) → OwnFault e (IsColumnFault e)
+rule_column e h = claims_through e (IsRuleFault e) (IsColumnFault e) (rule_in_column e) h
+
 -- equal kinds have the same faults
 pub same_kind : (t u : Kind) (e : Fault) → t ≡ u → OwnFault e (IsFaultOf t e) → OwnFault e (IsFaultOf u e)
 same_kind t u e q h = subst (λ z. OwnFault e (IsFaultOf z e)) q h
 
-pub ruleset child_faults = (buffer_column, kind_column)
+pub ruleset child_faults = (buffer_column, kind_column, rule_column)

@@ -1,12 +1,13 @@
--- Which faults of the input's reading a column can answer.
-use Rattle.std.specs.Prelude.{◌≡◌, ◌⊎◌, ℕ, ℤ, pos, Option, Some, None, IsSome}
+-- Which faults of the input's reading a column can answer, and what has to be so where it does.
+use Rattle.std.specs.Prelude.{◌≡◌, ◌⊎◌, ◌*◌, ◌<◌, ℕ, ℤ, pos, Bool, length, Option, Some, None, IsSome, IsTrue}
 use Rattle.ipc_devices.specs.declared.fault.Fault.{Fault}
 use Rattle.ipc_devices.specs.declared.fault.Fault.TheVariants.{Ended, OutOfSpec, NotYetImplemented, Lower}
 use Rattle.ipc_devices.specs.declared.fault.Nyi.TheVariants.{Float}
 use Rattle.ipc_devices.specs.declared.fault.OutOfSpecKind.TheVariants.{NegativeFooterLength, InvalidBuffer, InvalidBitmap, InvalidDataType, InvalidId, InvalidIdDataType}
+use Rattle.ipc_views.specs.declared.message.FieldNode.{FieldNode}
 use Rattle.lower.specs.TypeTrees.{TypeTree}
 use Rattle.ipc_model.specs.Columns.{values_type}
-use Rattle.ipc_model.specs.Entries.{Entries}
+use Rattle.ipc_model.specs.Entries.{Entries, Part, IsSize, size, node, buffer}
 use Rattle.ipc_model.specs.Kinds.{Kind, number_kind, float_kind, extension_kind}
 
 -- of buffers and nodes: a length or an offset below 0, bytes that are needed and aren't listed or aren't there
@@ -41,6 +42,11 @@ IsColumnFault (NotYetImplemented Float) = Unit {0}
 IsColumnFault (Lower e) = Unit {0}
 IsColumnFault _ = ⊥
 
+-- of parts that are read: they break a rule of their array
+abbrev pub IsRuleFault : Fault → Type 0
+IsRuleFault (Lower e) = Unit {0}
+IsRuleFault _ = ⊥
+
 -- of a column of a kind: numbers have no rule of their own, and floats are refused by their name
 abbrev pub IsFaultOf : Kind → Fault → Type 0
 IsFaultOf (number_kind f) e = IsBufferFault e
@@ -54,3 +60,28 @@ abbrev pub RefusesValues : Entries → Option ℤ → TypeTree → Fault → Typ
 RefusesValues s id t (OutOfSpec (InvalidId i)) = (values_type s id ≡ None) × ((id ≡ Some i) ⊎ ((id ≡ None) × (i ≡ pos 0)))
 RefusesValues s id t (OutOfSpec (InvalidIdDataType i)) = (id ≡ Some i) × IsSome (values_type s id) × (values_type s id ≡ Some t → ⊥)
 RefusesValues s id t _ = ⊥
+
+-- ---- what has to be so
+
+-- a node of the batch, and a buffer that it lists, for which P holds
+pub record SomeNode (s : Entries) (P : FieldNode → Type 0) : Type 0 where
+  pub index : ℕ
+  pub inside : index < length s.nodes
+  pub is : P (node s index)
+
+pub record SomeBuffer (s : Entries) (P : Part → Type 0) : Type 0 where
+  pub index : ℕ
+  pub inside : index < length s.parts
+  pub is : P (buffer s index)
+
+-- What a fault of a column says of the batch: that a node has a length below 0, or a buffer an offset or a length; that a buffer lists so many bytes or bits, and
+-- more are needed; that one lists more bytes than are there, where those of the device are known; that no dictionary is known under the id, or no id is given;
+-- that one is. Of other faults it says nothing.
+abbrev pub TellsEntries : (known : Bool) → Entries → Fault → Type 0
+TellsEntries known s (OutOfSpec NegativeFooterLength) = SomeNode s (λ n. IsSize n.length → ⊥) ⊎ SomeBuffer s (λ p. (IsSize p.offset × IsSize p.length) → ⊥)
+TellsEntries known s (OutOfSpec (InvalidBuffer _ _ needed n)) = (n < needed) × SomeBuffer s (λ p. size p.length ≡ n)
+TellsEntries known s (OutOfSpec (InvalidBitmap count n)) = (n < count) × SomeBuffer s (λ p. size p.length * 8 ≡ n)
+TellsEntries known s Ended = IsTrue known → SomeBuffer s (λ p. length p.bytes < size p.length)
+TellsEntries known s (OutOfSpec (InvalidId id)) = (id ≡ pos 0) ⊎ (values_type s (Some id) ≡ None)
+TellsEntries known s (OutOfSpec (InvalidIdDataType id)) = IsSome (values_type s (Some id))
+TellsEntries known s _ = Unit {0}

@@ -12,7 +12,7 @@ ghost use Rattle.ipc_flat_columns.specs.Bodies.{KeepsBytes, HasRoom, entries, kn
 ghost use Rattle.ipc_flat_columns.specs.FlatKinds.{IsFlat, flat_kind};
 ghost use Rattle.ipc_flat_columns.specs.HeldListed.{HoldsListed};
 ghost use Rattle.ipc_flat_columns.specs.Kinds.{IsBehind, listed_in};
-ghost use Rattle.ipc_flat_columns.specs.Refusals.{IsFaultOf};
+ghost use Rattle.ipc_flat_columns.specs.Refusals.{IsFaultOf, TellsEntries};
 ghost use Rattle.ipc_flat_columns.specs.Steps.{Step};
 
 use crate::read::array::binary::read_binary;
@@ -45,6 +45,7 @@ pub fn read_flat<R: Reads + Seeks>(
     requires room { let t = flat_kind physical_type (byte_size (type_view data_type.now)) in HasRoom body.now place (nodes t) (buffers body.now.extra t) }
     requires stands { KeepsBytes R.still R.memory reader.old body.now }
     ensures only { let t = flat_kind physical_type (byte_size (type_view data_type.now)) in IfErr result (λ e. OwnFault e (IsFaultOf t e)) }
+    ensures tells { IfErr result (λ e. OwnFault e (TellsEntries R.known (entries R.memory body.now) e)) }
     ensures step { let t = flat_kind physical_type (byte_size (type_view data_type.now)) in
         Step R.still R.memory R.failures R.given body.now (listed_in (entries R.memory body.now) body.now.extra t place.buffer) reader.old result reader.new }
     ensures held { let t = flat_kind physical_type (byte_size (type_view data_type.now)) in

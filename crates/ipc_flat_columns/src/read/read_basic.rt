@@ -8,7 +8,7 @@ ghost use Rattle.ipc_devices.specs.declared.fault.OutOfSpecKind.TheVariants.{Neg
 ghost use Rattle.lower_types.specs.Numbers.{values_of, unsigned_in};
 ghost use Rattle.ipc_model.specs.Entries.{IsSize, size, listed, bytes, Need, limited, rows, node, bytes_for};
 ghost use Rattle.ipc_flat_columns.specs.Bodies.{KeepsBytes, entries, HasRoom};
-ghost use Rattle.ipc_flat_columns.specs.Refusals.{IsBufferFault, IsBitsFault, IsColumnFault, TellsShort};
+ghost use Rattle.ipc_flat_columns.specs.Refusals.{IsBufferFault, IsBitsFault, IsColumnFault, TellsEntries, TellsShort};
 ghost use Rattle.ipc_flat_columns.specs.Steps.{Step};
 ghost use Rattle.lower_flat.specs.Validities.{ValidityFits};
 ghost use Rattle.ipc_model.specs.Columns.{Begins, is_omitted, Offsets};
@@ -311,6 +311,7 @@ pub fn fetch_numbers<T: NativeType, R: Reads + Seeks>(
     requires inside { index < length body.now.buffers }
     requires stands { KeepsBytes R.still R.memory reader.old body.now }
     ensures only { IfErr result (λ e. OwnFault e (IsBufferFault e)) }
+    ensures tells { IfErr result (λ e. OwnFault e (TellsEntries R.known (entries R.memory body.now) e)) }
     ensures step { Step R.still R.memory R.failures R.given body.now (listed (entries R.memory body.now) index) reader.old result reader.new }
     ensures needed { R.given reader.new ≤ R.given reader.old + T.width * count }
     ensures count { IfOk result (λ v. vec_len v ≡ count) }
@@ -345,6 +346,7 @@ pub fn fetch_bytes<R: Reads + Seeks>(
     requires inside { index < length body.now.buffers }
     requires stands { KeepsBytes R.still R.memory reader.old body.now }
     ensures only { IfErr result (λ e. OwnFault e (IsBufferFault e)) }
+    ensures tells { IfErr result (λ e. OwnFault e (TellsEntries R.known (entries R.memory body.now) e)) }
     ensures step { Step R.still R.memory R.failures R.given body.now (listed (entries R.memory body.now) index) reader.old result reader.new }
     ensures needed { R.given reader.new ≤ R.given reader.old + count }
     ensures count { IfOk result (λ v. length v.items ≡ count) }
@@ -379,6 +381,7 @@ pub fn fetch_pieces<R: Reads + Seeks>(
     requires inside { index < length body.now.buffers }
     requires stands { KeepsBytes R.still R.memory reader.old body.now }
     ensures only { IfErr result (λ e. OwnFault e (IsBufferFault e)) }
+    ensures tells { IfErr result (λ e. OwnFault e (TellsEntries R.known (entries R.memory body.now) e)) }
     ensures step { Step R.still R.memory R.failures R.given body.now (listed (entries R.memory body.now) index) reader.old result reader.new }
     ensures needed { R.given reader.new ≤ R.given reader.old + width * count }
     ensures count { IfOk result (λ v. length v.items ≡ width * count) }
@@ -444,6 +447,7 @@ pub fn read_node<R: Failures>(
 ) -> Result<Node, Fault>
     requires inside { index < length body.now.nodes }
     ensures only { IfErr result (λ e. OwnFault e (IsBufferFault e)) }
+    ensures tells { IfErr result (λ e. OwnFault e (TellsEntries R.known (entries R.memory body.now) e)) }
     ensures negative { IfErr result (λ e. e ≡ OutOfSpec NegativeFooterLength) }
     ensures own { OnIo result ⊥ }
     ensures small { IfOk result (λ n. n.rows < 2 ^ 63) }
@@ -466,6 +470,7 @@ fn check_bits<R: Failures>(body: &Body<R>, index: usize, count: usize) -> Result
     requires small { count < 2 ^ 63 }
     ensures own { OnIo result ⊥ }
     ensures only { IfErr result (λ e. OwnFault e (IsBufferFault e)) }
+    ensures tells { IfErr result (λ e. OwnFault e (TellsEntries R.known (entries R.memory body.now) e)) }
     ensures named { IfErr result IsBitsFault }
     ensures refused { IfErr result (λ e. OwnFault e (Need (entries R.memory body.now) index (bytes_for count) → ⊥)) }
 {
@@ -498,6 +503,7 @@ pub fn read_bits<R: Reads + Seeks>(
     requires small { count < 2 ^ 63 }
     requires stands { KeepsBytes R.still R.memory reader.old body.now }
     ensures only { IfErr result (λ e. OwnFault e (IsBufferFault e)) }
+    ensures tells { IfErr result (λ e. OwnFault e (TellsEntries R.known (entries R.memory body.now) e)) }
     ensures step { Step R.still R.memory R.failures R.given body.now (listed (entries R.memory body.now) index) reader.old result reader.new }
     ensures count { IfOk result (λ bits. length bits ≡ count) }
     ensures held { IfOk result (λ bits. bytes_of_bits (length bits) ≤ listed (entries R.memory body.now) index) }
@@ -526,6 +532,7 @@ pub fn read_head<R: Reads + Seeks>(
     requires room { HasRoom body.now place 1 1 }
     requires stands { KeepsBytes R.still R.memory reader.old body.now }
     ensures only { IfErr result (λ e. OwnFault e (IsBufferFault e)) }
+    ensures tells { IfErr result (λ e. OwnFault e (TellsEntries R.known (entries R.memory body.now) e)) }
     ensures step { Step R.still R.memory R.failures R.given body.now (listed (entries R.memory body.now) place.buffer) reader.old result reader.new }
     ensures untouched { size (node (entries R.memory body.now) place.node).null_count ≡ 0 → reader.new ≡ reader.old }
     ensures small { IfOk result (λ h. h.rows < 2 ^ 63) }
@@ -622,6 +629,7 @@ fn check_offset<R: Failures>(body: &Body<R>, index: usize) -> Result<(), Fault>
     requires inside { index < length body.now.buffers }
     ensures own { OnIo result ⊥ }
     ensures only { IfErr result (λ e. OwnFault e (IsColumnFault e)) }
+    ensures tells { IfErr result (λ e. OwnFault e (TellsEntries R.known (entries R.memory body.now) e)) }
     ensures negative { IfErr result (λ e. e ≡ OutOfSpec NegativeFooterLength) }
     ensures exact { Answers result (Need (entries R.memory body.now) index 0) (λ _. Unit {0}) }
 {
@@ -646,6 +654,7 @@ pub fn read_offsets<O: StoredOffset, R: Reads + Seeks>(
     requires small { count < 2 ^ 63 }
     requires stands { KeepsBytes R.still R.memory reader.old body.now }
     ensures only { IfErr result (λ e. OwnFault e (IsColumnFault e)) }
+    ensures tells { IfErr result (λ e. OwnFault e (TellsEntries R.known (entries R.memory body.now) e)) }
     ensures step { Step R.still R.memory R.failures R.given body.now (listed (entries R.memory body.now) index) reader.old result reader.new }
     ensures count { IfOk result (λ o. length o ≡ count + 1) }
     ensures held { IfOk result (λ o. HoldsOffsets (entries R.memory body.now) O.form index O.primitive o) }

@@ -21,7 +21,7 @@ ghost use Rattle.ipc_flat_columns.specs.Bodies.{KeepsBytes, HasRoom, entries, kn
 ghost use Rattle.ipc_flat_columns.specs.HeldListed.{HoldsListed, keys_held};
 ghost use Rattle.ipc_flat_columns.specs.KeyLevels.{keys_at};
 ghost use Rattle.ipc_flat_columns.specs.Kinds.{IsBehind, listed_in};
-ghost use Rattle.ipc_flat_columns.specs.Refusals.{IsBufferFault, IsColumnFault, RefusesValues};
+ghost use Rattle.ipc_flat_columns.specs.Refusals.{IsBufferFault, IsColumnFault, IsRuleFault, RefusesValues, TellsEntries};
 ghost use Rattle.ipc_flat_columns.specs.Steps.{Step};
 
 use crate::read::array::primitive::read_primitive;
@@ -40,7 +40,7 @@ use std::rc::Rc;
 /// `InvalidId` where none are known under it, or there is no id: then the fault names 0. `InvalidIdDataType` where
 /// they don't have this type, both in their normal form. `Memory` where the values have as many owners as can be
 /// counted.
-#[tactic(auto, using(crate::proofs::KnownValues::known_values))]
+#[tactic(auto, using(crate::proofs::KnownValues::known_values, crate::proofs::Reasons::reasons))]
 pub fn shared_values<R: Failures>(
     value_type: &DataType,
     id: Option<i64>,
@@ -48,6 +48,7 @@ pub fn shared_values<R: Failures>(
 ) -> Result<Rc<AnyArray>, Fault>
     ensures own { OnIo result ⊥ }
     ensures only { IfErr result (λ e. OwnFault e (IsColumnFault e)) }
+    ensures tells { IfErr result (λ e. OwnFault e (TellsEntries R.known (entries R.memory body.now) e)) }
     ensures why { IfErr result (λ e. OwnFault e (RefusesValues (entries R.memory body.now) id (norm (type_view value_type.now)) e)) }
     ensures named { IfOk result (λ values. norm (type_of (layout_of values.value)) ≡ norm (type_view value_type.now)) }
     ensures exact { Answers result (values_type (entries R.memory body.now) id ≡ Some (norm (type_view value_type.now)))
@@ -81,6 +82,7 @@ pub fn read_keys<R: Reads + Seeks>(
     requires room { HasRoom body.now place 1 2 }
     requires stands { KeepsBytes R.still R.memory reader.old body.now }
     ensures only { IfErr result (λ e. OwnFault e (IsBufferFault e)) }
+    ensures tells { IfErr result (λ e. OwnFault e (TellsEntries R.known (entries R.memory body.now) e)) }
     ensures step { let s = entries R.memory body.now in
         Step R.still R.memory R.failures R.given body.now (listed s place.buffer + listed s (place.buffer + 1)) reader.old result reader.new }
     ensures held { let s = entries R.memory body.now in IfOk result (λ read. keys_held (keys_seen read) ≤ listed s place.buffer + listed s (place.buffer + 1)) }
@@ -134,7 +136,7 @@ pub fn make_dictionary(
     values: Rc<AnyArray>,
 ) -> Result<AnyArray, Fault>
     ensures own { OnIo result ⊥ }
-    ensures only { IfErr result (λ e. OwnFault e (IsColumnFault e)) }
+    ensures only { IfErr result (λ e. OwnFault e (IsRuleFault e)) }
     ensures exact { let u = type_view own.now in let c = layout_of values.value in
         Answers result (DictionaryRules u (keys_seen keys) (type_of c) (len_of c))
         (λ array. layout_of array ≡ dictionary_layout (dictionary_seen u (keys_seen keys) c)) }
@@ -150,6 +152,7 @@ pub fn make_dictionary(
 ///
 /// `InvalidId` and `InvalidIdDataType` as [`shared_values`] says, the faults of [`read_primitive`], and
 /// `DictionaryKey` where a key that isn't null names no value. `Io` and `Memory` come too, and no other.
+#[tactic(auto, using(crate::proofs::Reasons::reasons))]
 pub fn read_dictionary<R: Reads + Seeks>(
     alloc: Global,
     keys: IntegerType,
@@ -166,6 +169,7 @@ pub fn read_dictionary<R: Reads + Seeks>(
     requires room { HasRoom body.now place 1 2 }
     requires stands { KeepsBytes R.still R.memory reader.old body.now }
     ensures only { IfErr result (λ e. OwnFault e (IsColumnFault e)) }
+    ensures tells { IfErr result (λ e. OwnFault e (TellsEntries R.known (entries R.memory body.now) e)) }
     ensures step { let t = dictionary_kind (key_form keys) id (norm (type_view value_type.now)) in
         Step R.still R.memory R.failures R.given body.now (listed_in (entries R.memory body.now) body.now.extra t place.buffer) reader.old result reader.new }
     ensures next { IfOk result (λ r. IsBehind body.now.extra (dictionary_kind (key_form keys) id (norm (type_view value_type.now))) place r.1) }

@@ -9,7 +9,7 @@ ghost use Rattle.ipc_model.specs.Kinds.{null_kind};
 ghost use Rattle.ipc_model.specs.Columns.{IsWell};
 ghost use Rattle.ipc_model.specs.ReadArrays.{array_at};
 ghost use Rattle.ipc_flat_columns.specs.Bodies.{HasRoom, entries, known};
-ghost use Rattle.ipc_flat_columns.specs.Refusals.{IsColumnFault};
+ghost use Rattle.ipc_flat_columns.specs.Refusals.{IsColumnFault, TellsEntries};
 
 use crate::read::body::{Body, Place};
 use crate::read::read_basic::read_node;
@@ -32,6 +32,7 @@ pub fn read_null<R: Failures>(
     requires lies { physical (type_view data_type.now) ≡ Null }
     requires room { HasRoom body.now place 1 0 }
     ensures only { IfErr result (λ e. OwnFault e (IsColumnFault e)) }
+    ensures tells { IfErr result (λ e. OwnFault e (TellsEntries R.known (entries R.memory body.now) e)) }
     ensures own { OnIo result ⊥ }
     ensures exact { let s = entries R.memory body.now in
         Answers result (IsWell s null_kind place.node place.buffer limit)

@@ -13,7 +13,7 @@ ghost use Rattle.ipc_model.specs.ReadArrays.{array_at};
 ghost use Rattle.ipc_flat_columns.specs.Bodies.{KeepsBytes, HasRoom, entries, known};
 ghost use Rattle.ipc_flat_columns.specs.HeldListed.{HoldsListed};
 ghost use Rattle.ipc_flat_columns.specs.FlatKinds.{IsExact};
-ghost use Rattle.ipc_flat_columns.specs.Refusals.{IsBufferFault};
+ghost use Rattle.ipc_flat_columns.specs.Refusals.{IsBufferFault, TellsEntries};
 ghost use Rattle.ipc_flat_columns.specs.Steps.{Step};
 
 use crate::read::body::{Body, Place};
@@ -45,6 +45,7 @@ pub fn read_primitive<T: NativeType, R: Reads + Seeks>(
     requires room { HasRoom body.now place 1 2 }
     requires stands { KeepsBytes R.still R.memory reader.old body.now }
     ensures only { IfErr result (λ e. OwnFault e (IsBufferFault e)) }
+    ensures tells { IfErr result (λ e. OwnFault e (TellsEntries R.known (entries R.memory body.now) e)) }
     ensures step { let s = entries R.memory body.now in
         Step R.still R.memory R.failures R.given body.now (listed s place.buffer + listed s (place.buffer + 1)) reader.old result reader.new }
     ensures held { IfOk result (λ array. HoldsListed (entries R.memory body.now) body.now.extra (number_kind T.primitive) place.buffer (primitive_layout T.primitive T.number array)) }
@@ -77,6 +78,7 @@ pub fn read_any_primitive<R: Reads + Seeks>(
     requires room { HasRoom body.now place 1 2 }
     requires stands { KeepsBytes R.still R.memory reader.old body.now }
     ensures only { IfErr result (λ e. OwnFault e (IsBufferFault e)) }
+    ensures tells { IfErr result (λ e. OwnFault e (TellsEntries R.known (entries R.memory body.now) e)) }
     ensures step { let s = entries R.memory body.now in
         Step R.still R.memory R.failures R.given body.now (listed s place.buffer + listed s (place.buffer + 1)) reader.old result reader.new }
     ensures held { IfOk result (λ array. HoldsListed (entries R.memory body.now) body.now.extra (number_kind primitive) place.buffer (any_primitive_layout array)) }

@@ -11,7 +11,7 @@ ghost use Rattle.ipc_model.specs.Columns.{IsWell};
 ghost use Rattle.ipc_model.specs.ReadArrays.{array_at};
 ghost use Rattle.ipc_flat_columns.specs.Bodies.{KeepsBytes, HasRoom, entries, known};
 ghost use Rattle.ipc_flat_columns.specs.HeldListed.{HoldsListed};
-ghost use Rattle.ipc_flat_columns.specs.Refusals.{IsColumnFault};
+ghost use Rattle.ipc_flat_columns.specs.Refusals.{IsColumnFault, TellsEntries};
 ghost use Rattle.ipc_flat_columns.specs.Steps.{Step};
 
 use crate::read::body::{Body, Place};
@@ -44,6 +44,7 @@ pub fn read_utf8<O: StoredOffset, R: Reads + Seeks>(
     requires room { HasRoom body.now place 1 3 }
     requires stands { KeepsBytes R.still R.memory reader.old body.now }
     ensures only { IfErr result (λ e. OwnFault e (IsColumnFault e)) }
+    ensures tells { IfErr result (λ e. OwnFault e (TellsEntries R.known (entries R.memory body.now) e)) }
     ensures step { let s = entries R.memory body.now in
         Step R.still R.memory R.failures R.given body.now
         (listed s place.buffer + listed s (place.buffer + 1) + listed s (place.buffer + 1 + 1)) reader.old result reader.new }
