@@ -20,7 +20,7 @@ ghost use Rattle.ipc_flat_columns.specs.FlatKinds.{IsPlain};
 ghost use Rattle.ipc_flat_columns.specs.HeldListed.{HoldsListed, HoldAllListed};
 ghost use Rattle.ipc_flat_columns.specs.Kinds.{IsStored, IsBehind, AllFollow, form_of, listed_in, all_listed};
 ghost use Rattle.ipc_columns.specs.ReadColumns.{IsColumn};
-ghost use Rattle.ipc_flat_columns.specs.Refusals.{IsColumnFault, IsFaultOf};
+ghost use Rattle.ipc_flat_columns.specs.Refusals.{IsColumnFault, IsFaultOf, TellsEntries};
 ghost use Rattle.ipc_flat_columns.specs.Steps.{Step};
 
 use crate::read::array::fixed_size_list::{make_fixed_size_list, times_limit};
@@ -59,6 +59,7 @@ fn read_plain<R: Reads + Seeks>(
     requires room { let t = kind_of (type_view data_type.now) id (all_ids_view ids.now) in HasRoom body.now place (nodes t) (buffers body.now.extra t) }
     requires stands { KeepsBytes R.still R.memory reader.old body.now }
     ensures only { let t = kind_of (type_view data_type.now) id (all_ids_view ids.now) in IfErr result (λ e. OwnFault e (IsFaultOf t e)) }
+    ensures tells { IfErr result (λ e. OwnFault e (TellsEntries R.known (entries R.memory body.now) e)) }
     ensures step { let t = kind_of (type_view data_type.now) id (all_ids_view ids.now) in
         Step R.still R.memory R.failures R.given body.now (listed_in (entries R.memory body.now) body.now.extra t place.buffer) reader.old result reader.new }
     ensures next { IfOk result (λ r. IsBehind body.now.extra (kind_of (type_view data_type.now) id (all_ids_view ids.now)) place r.1) }
@@ -93,6 +94,7 @@ fn read_as<R: Reads + Seeks>(
     requires room { let t = kind_of (type_view data_type.now) id (all_ids_view ids.now) in HasRoom body.now place (nodes t) (buffers body.now.extra t) }
     requires stands { KeepsBytes R.still R.memory reader.old body.now }
     ensures only { let t = kind_of (type_view data_type.now) id (all_ids_view ids.now) in IfErr result (λ e. OwnFault e (IsFaultOf t e)) }
+    ensures tells { IfErr result (λ e. OwnFault e (TellsEntries R.known (entries R.memory body.now) e)) }
     ensures step { let t = kind_of (type_view data_type.now) id (all_ids_view ids.now) in
         Step R.still R.memory R.failures R.given body.now (listed_in (entries R.memory body.now) body.now.extra t place.buffer) reader.old result reader.new }
     ensures next { IfOk result (λ r. IsBehind body.now.extra (kind_of (type_view data_type.now) id (all_ids_view ids.now)) place r.1) }
@@ -134,7 +136,7 @@ fn read_as<R: Reads + Seeks>(
 
 // The column of lists at a place, and the place behind it.
 #[cycle(columns)]
-#[tactic(auto, using(crate::proofs::ColumnLevels::columns, ipc_flat_columns::proofs::Refusals::child_faults))]
+#[tactic(auto, using(crate::proofs::ColumnLevels::columns, ipc_flat_columns::proofs::Refusals::child_faults, ipc_flat_columns::proofs::Reasons::reasons))]
 fn read_list<R: Reads + Seeks>(
     alloc: Global,
     field: &Field,
@@ -152,6 +154,7 @@ fn read_list<R: Reads + Seeks>(
         HasRoom body.now place (nodes t) (buffers body.now.extra t) }
     requires stands { KeepsBytes R.still R.memory reader.old body.now }
     ensures only { IfErr result (λ e. OwnFault e (IsColumnFault e)) }
+    ensures tells { IfErr result (λ e. OwnFault e (TellsEntries R.known (entries R.memory body.now) e)) }
     ensures step { let t = list_kind (form_of is_large) (field_kind (field_view field.now) (first_ids (all_ids_view ids.now))) in
         Step R.still R.memory R.failures R.given body.now (listed_in (entries R.memory body.now) body.now.extra t place.buffer) reader.old result reader.new }
     ensures next { IfOk result (λ r. IsBehind body.now.extra (list_kind (form_of is_large) (field_kind (field_view field.now) (first_ids (all_ids_view ids.now)))) place r.1) }
@@ -185,7 +188,7 @@ fn read_list<R: Reads + Seeks>(
 
 // The column of lists of a fixed size from a place on, and the place behind it.
 #[cycle(columns)]
-#[tactic(auto, using(crate::proofs::ColumnLevels::columns, ipc_flat_columns::proofs::Refusals::child_faults))]
+#[tactic(auto, using(crate::proofs::ColumnLevels::columns, ipc_flat_columns::proofs::Refusals::child_faults, ipc_flat_columns::proofs::Reasons::reasons))]
 fn read_fixed_size_list<R: Reads + Seeks>(
     alloc: Global,
     field: &Field,
@@ -203,6 +206,7 @@ fn read_fixed_size_list<R: Reads + Seeks>(
     requires room { let t = fixed_list_kind size (field_kind (field_view field.now) (first_ids (all_ids_view ids.now))) in HasRoom body.now start (nodes t) (buffers body.now.extra t) }
     requires stands { KeepsBytes R.still R.memory reader.old body.now }
     ensures only { IfErr result (λ e. OwnFault e (IsColumnFault e)) }
+    ensures tells { IfErr result (λ e. OwnFault e (TellsEntries R.known (entries R.memory body.now) e)) }
     ensures step { let t = fixed_list_kind size (field_kind (field_view field.now) (first_ids (all_ids_view ids.now))) in
         Step R.still R.memory R.failures R.given body.now (listed_in (entries R.memory body.now) body.now.extra t start.buffer) reader.old result reader.new }
     ensures next { IfOk result (λ r. IsBehind body.now.extra (fixed_list_kind size (field_kind (field_view field.now) (first_ids (all_ids_view ids.now)))) start r.1) }
@@ -239,7 +243,7 @@ fn read_fixed_size_list<R: Reads + Seeks>(
 
 // The column of maps from a place on, and the place behind it.
 #[cycle(columns)]
-#[tactic(auto, using(crate::proofs::ColumnLevels::columns, ipc_flat_columns::proofs::Refusals::child_faults))]
+#[tactic(auto, using(crate::proofs::ColumnLevels::columns, ipc_flat_columns::proofs::Refusals::child_faults, ipc_flat_columns::proofs::Reasons::reasons))]
 fn read_map<R: Reads + Seeks>(
     alloc: Global,
     field: &Field,
@@ -255,6 +259,7 @@ fn read_map<R: Reads + Seeks>(
     requires room { let t = map_kind (field_kind (field_view field.now) (first_ids (all_ids_view ids.now))) in HasRoom body.now start (nodes t) (buffers body.now.extra t) }
     requires stands { KeepsBytes R.still R.memory reader.old body.now }
     ensures only { IfErr result (λ e. OwnFault e (IsColumnFault e)) }
+    ensures tells { IfErr result (λ e. OwnFault e (TellsEntries R.known (entries R.memory body.now) e)) }
     ensures step { let t = map_kind (field_kind (field_view field.now) (first_ids (all_ids_view ids.now))) in
         Step R.still R.memory R.failures R.given body.now (listed_in (entries R.memory body.now) body.now.extra t start.buffer) reader.old result reader.new }
     ensures next { IfOk result (λ r. IsBehind body.now.extra (map_kind (field_kind (field_view field.now) (first_ids (all_ids_view ids.now)))) start r.1) }
@@ -288,7 +293,7 @@ fn read_map<R: Reads + Seeks>(
 
 // The column of structs at a place, and the place behind it.
 #[cycle(columns)]
-#[tactic(auto, using(crate::proofs::ColumnLevels::columns, ipc_flat_columns::proofs::Refusals::child_faults))]
+#[tactic(auto, using(crate::proofs::ColumnLevels::columns, ipc_flat_columns::proofs::Refusals::child_faults, ipc_flat_columns::proofs::Reasons::reasons))]
 fn read_struct<R: Reads + Seeks>(
     alloc: Global,
     fields: &[Field],
@@ -304,6 +309,7 @@ fn read_struct<R: Reads + Seeks>(
     requires room { let t = struct_kind (kinds_of (fields_view fields.now) (all_ids_view ids.now)) in HasRoom body.now place (nodes t) (buffers body.now.extra t) }
     requires stands { KeepsBytes R.still R.memory reader.old body.now }
     ensures only { IfErr result (λ e. OwnFault e (IsColumnFault e)) }
+    ensures tells { IfErr result (λ e. OwnFault e (TellsEntries R.known (entries R.memory body.now) e)) }
     ensures step { let t = struct_kind (kinds_of (fields_view fields.now) (all_ids_view ids.now)) in
         Step R.still R.memory R.failures R.given body.now (listed_in (entries R.memory body.now) body.now.extra t place.buffer) reader.old result reader.new }
     ensures next { IfOk result (λ r. IsBehind body.now.extra (struct_kind (kinds_of (fields_view fields.now) (all_ids_view ids.now))) place r.1) }
@@ -325,7 +331,7 @@ fn read_struct<R: Reads + Seeks>(
 
 // The columns of some fields, one behind the other from a place on, each of so many slots, and the place behind them.
 #[cycle(columns)]
-#[tactic(auto, using(crate::proofs::ColumnLevels::columns, ipc_flat_columns::proofs::Refusals::child_faults))]
+#[tactic(auto, using(crate::proofs::ColumnLevels::columns, ipc_flat_columns::proofs::Refusals::child_faults, ipc_flat_columns::proofs::Reasons::reasons))]
 fn read_fields<R: Reads + Seeks>(
     alloc: Global,
     fields: &[Field],
@@ -339,6 +345,7 @@ fn read_fields<R: Reads + Seeks>(
     requires room { let ts = kinds_of (fields_view fields.now) (all_ids_view ids.now) in HasRoom body.now start (all_nodes ts) (all_buffers body.now.extra ts) }
     requires stands { KeepsBytes R.still R.memory reader.old body.now }
     ensures only { IfErr result (λ e. OwnFault e (IsColumnFault e)) }
+    ensures tells { IfErr result (λ e. OwnFault e (TellsEntries R.known (entries R.memory body.now) e)) }
     ensures step { let ts = kinds_of (fields_view fields.now) (all_ids_view ids.now) in
         Step R.still R.memory R.failures R.given body.now (all_listed (entries R.memory body.now) body.now.extra ts start.buffer) reader.old result reader.new }
     ensures next { IfOk result (λ r. AllFollow body.now.extra (kinds_of (fields_view fields.now) (all_ids_view ids.now)) start r.1) }
@@ -377,7 +384,7 @@ fn read_fields<R: Reads + Seeks>(
 // The column of a union at a place, and the place behind it: before the children stand the types, and of a dense
 // union the offsets.
 #[cycle(columns)]
-#[tactic(auto, using(crate::proofs::ColumnLevels::columns, ipc_flat_columns::proofs::Refusals::child_faults, crate::proofs::UnionReads::union_types_first))]
+#[tactic(auto, using(crate::proofs::ColumnLevels::columns, ipc_flat_columns::proofs::Refusals::child_faults, ipc_flat_columns::proofs::Reasons::reasons, crate::proofs::UnionReads::union_types_first))]
 fn read_union<R: Reads + Seeks>(
     alloc: Global,
     fields: &[Field],
@@ -397,6 +404,7 @@ fn read_union<R: Reads + Seeks>(
     requires room { let t = union_kind mode (ids_of type_ids.now) (kinds_of (fields_view fields.now) (all_ids_view ids.now)) in HasRoom body.now place (nodes t) (buffers body.now.extra t) }
     requires stands { KeepsBytes R.still R.memory reader.old body.now }
     ensures only { IfErr result (λ e. OwnFault e (IsColumnFault e)) }
+    ensures tells { IfErr result (λ e. OwnFault e (TellsEntries R.known (entries R.memory body.now) e)) }
     ensures step { let t = union_kind mode (ids_of type_ids.now) (kinds_of (fields_view fields.now) (all_ids_view ids.now)) in
         Step R.still R.memory R.failures R.given body.now (listed_in (entries R.memory body.now) body.now.extra t place.buffer) reader.old result reader.new }
     ensures next { IfOk result (λ r. IsBehind body.now.extra (union_kind mode (ids_of type_ids.now) (kinds_of (fields_view fields.now) (all_ids_view ids.now))) place r.1) }
@@ -437,7 +445,7 @@ fn read_union<R: Reads + Seeks>(
 
 // The columns of some fields, one behind the other from a place on, each as a whole, and the place behind them.
 #[cycle(columns)]
-#[tactic(auto, using(crate::proofs::ColumnLevels::columns, ipc_flat_columns::proofs::Refusals::child_faults))]
+#[tactic(auto, using(crate::proofs::ColumnLevels::columns, ipc_flat_columns::proofs::Refusals::child_faults, ipc_flat_columns::proofs::Reasons::reasons))]
 fn read_whole_fields<R: Reads + Seeks>(
     alloc: Global,
     fields: &[Field],
@@ -449,6 +457,7 @@ fn read_whole_fields<R: Reads + Seeks>(
     requires room { let ts = kinds_of (fields_view fields.now) (all_ids_view ids.now) in HasRoom body.now start (all_nodes ts) (all_buffers body.now.extra ts) }
     requires stands { KeepsBytes R.still R.memory reader.old body.now }
     ensures only { IfErr result (λ e. OwnFault e (IsColumnFault e)) }
+    ensures tells { IfErr result (λ e. OwnFault e (TellsEntries R.known (entries R.memory body.now) e)) }
     ensures step { let ts = kinds_of (fields_view fields.now) (all_ids_view ids.now) in
         Step R.still R.memory R.failures R.given body.now (all_listed (entries R.memory body.now) body.now.extra ts start.buffer) reader.old result reader.new }
     ensures next { IfOk result (λ r. AllFollow body.now.extra (kinds_of (fields_view fields.now) (all_ids_view ids.now)) start r.1) }
@@ -507,6 +516,7 @@ pub fn read<R: Reads + Seeks>(
     requires room { let t = kind_of (type_view data_type.now) id (all_ids_view ids.now) in HasRoom body.now place (nodes t) (buffers body.now.extra t) }
     requires stands { KeepsBytes R.still R.memory reader.old body.now }
     ensures only { let t = kind_of (type_view data_type.now) id (all_ids_view ids.now) in IfErr result (λ e. OwnFault e (IsFaultOf t e)) }
+    ensures tells { IfErr result (λ e. OwnFault e (TellsEntries R.known (entries R.memory body.now) e)) }
     ensures step { let t = kind_of (type_view data_type.now) id (all_ids_view ids.now) in
         Step R.still R.memory R.failures R.given body.now (listed_in (entries R.memory body.now) body.now.extra t place.buffer) reader.old result reader.new }
     ensures next { IfOk result (λ r. IsBehind body.now.extra (kind_of (type_view data_type.now) id (all_ids_view ids.now)) place r.1) }

@@ -11,7 +11,7 @@ ghost use Rattle.lower_arrays.specs.Layouts.{len_of, type_of};
 ghost use Rattle.lower_arrays.specs.AnyLayouts.{layout_of};
 ghost use Rattle.ipc_columns.specs.FixedLevels.{sized_layout};
 ghost use Rattle.ipc_flat_columns.specs.Limits.{IsTimes};
-ghost use Rattle.ipc_flat_columns.specs.Refusals.{IsColumnFault};
+ghost use Rattle.ipc_flat_columns.specs.Refusals.{IsRuleFault};
 
 use ipc_devices::fault::Fault;
 use ipc_flat_columns::read::read_basic::Head;
@@ -46,7 +46,7 @@ pub fn make_fixed_size_list(
     requires some { 0 < size }
     requires fits { ValidityFits head.validity head.rows }
     ensures own { OnIo result ⊥ }
-    ensures only { IfErr result (λ e. OwnFault e (IsColumnFault e)) }
+    ensures only { IfErr result (λ e. OwnFault e (IsRuleFault e)) }
     ensures exact { let u = type_view own.now in let c = layout_of child in
         Answers result (FieldTypes (child_fields u) (type_of c ∷ []) × (len_of c ≡ head.rows * size))
         (λ array. layout_of array ≡ sized_layout u head.rows size head.validity c) }

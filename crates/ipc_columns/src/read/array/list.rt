@@ -18,7 +18,7 @@ ghost use Rattle.lower_arrays.specs.Held.{validity_held};
 ghost use Rattle.ipc_flat_columns.specs.HeldListed.{HoldsOffsets};
 ghost use Rattle.ipc_flat_columns.specs.Kinds.{form_of};
 ghost use Rattle.ipc_columns.specs.ListHeads.{AreLists, AreListsAt};
-ghost use Rattle.ipc_flat_columns.specs.Refusals.{IsColumnFault};
+ghost use Rattle.ipc_flat_columns.specs.Refusals.{IsColumnFault, IsRuleFault, TellsEntries};
 ghost use Rattle.ipc_flat_columns.specs.Steps.{Step};
 
 use ipc_devices::fault::Fault;
@@ -61,6 +61,7 @@ pub fn read_list_head<R: Reads + Seeks>(
     requires room { HasRoom body.now place 1 2 }
     requires stands { KeepsBytes R.still R.memory reader.old body.now }
     ensures only { IfErr result (λ e. OwnFault e (IsColumnFault e)) }
+    ensures tells { IfErr result (λ e. OwnFault e (TellsEntries R.known (entries R.memory body.now) e)) }
     ensures step { let s = entries R.memory body.now in
         Step R.still R.memory R.failures R.given body.now (listed s place.buffer + listed s (place.buffer + 1)) reader.old result reader.new }
     ensures width { IfOk result (λ h. list_width h.offsets ≡ offset_type (form_of is_large)) }
@@ -103,7 +104,7 @@ pub fn make_list(
     requires lies { physical (type_view own.now) ≡ list_with (list_width head.offsets) }
     requires made { AreLists (list_places head.offsets) head.validity head.last }
     ensures own { OnIo result ⊥ }
-    ensures only { IfErr result (λ e. OwnFault e (IsColumnFault e)) }
+    ensures only { IfErr result (λ e. OwnFault e (IsRuleFault e)) }
     ensures exact { let u = type_view own.now in
         Answers result (FieldTypes (child_fields u) (type_of (layout_of child) ∷ []) × (len_of (layout_of child) ≡ head.last))
         (λ array. layout_of array ≡ list_layout (list_seen u (list_width head.offsets) (list_places head.offsets) (layout_of child) head.validity)) }

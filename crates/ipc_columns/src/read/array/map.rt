@@ -16,7 +16,7 @@ ghost use Rattle.lower_arrays.specs.Held.{validity_held};
 ghost use Rattle.lower_types.specs.declared.PrimitiveType.TheVariants.{Int32};
 ghost use Rattle.ipc_flat_columns.specs.HeldListed.{HoldsOffsets};
 ghost use Rattle.ipc_columns.specs.ListHeads.{AreLists, AreListsAt};
-ghost use Rattle.ipc_flat_columns.specs.Refusals.{IsColumnFault};
+ghost use Rattle.ipc_flat_columns.specs.Refusals.{IsColumnFault, IsRuleFault, TellsEntries};
 ghost use Rattle.ipc_flat_columns.specs.Steps.{Step};
 
 use ipc_devices::fault::Fault;
@@ -59,6 +59,7 @@ pub fn read_map_head<R: Reads + Seeks>(
     requires room { HasRoom body.now place 1 2 }
     requires stands { KeepsBytes R.still R.memory reader.old body.now }
     ensures only { IfErr result (λ e. OwnFault e (IsColumnFault e)) }
+    ensures tells { IfErr result (λ e. OwnFault e (TellsEntries R.known (entries R.memory body.now) e)) }
     ensures step { let s = entries R.memory body.now in
         Step R.still R.memory R.failures R.given body.now (listed s place.buffer + listed s (place.buffer + 1)) reader.old result reader.new }
     ensures made { IfOk result (λ h. AreLists h.offsets h.validity h.last) }
@@ -91,7 +92,7 @@ pub fn make_map(
     requires lies { physical (type_view own.now) ≡ Map }
     requires made { AreLists head.offsets head.validity head.last }
     ensures own { OnIo result ⊥ }
-    ensures only { IfErr result (λ e. OwnFault e (IsColumnFault e)) }
+    ensures only { IfErr result (λ e. OwnFault e (IsRuleFault e)) }
     ensures exact { let u = type_view own.now in let c = layout_of child in
         Answers result (IsPair (type_of c) × FieldTypes (child_fields u) (type_of c ∷ []) × (len_of c ≡ head.last))
         (λ array. layout_of array ≡ map_layout (map_seen u head.offsets c head.validity)) }

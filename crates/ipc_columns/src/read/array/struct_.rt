@@ -9,7 +9,7 @@ ghost use Rattle.lower_arrays.specs.Layouts.{layouts};
 ghost use Rattle.lower_arrays.specs.Children.{child_fields, ChildTypes, HasChild, AllHave};
 ghost use Rattle.lower_arrays.specs.AnyLayouts.{layout_of};
 ghost use Rattle.ipc_columns.specs.StructLevels.{records_layout};
-ghost use Rattle.ipc_flat_columns.specs.Refusals.{IsColumnFault};
+ghost use Rattle.ipc_flat_columns.specs.Refusals.{IsRuleFault};
 
 use ipc_devices::fault::Fault;
 use ipc_flat_columns::read::read_basic::Head;
@@ -25,7 +25,7 @@ pub fn make_struct(own: &DataType, head: Head, columns: Vec<AnyArray>) -> Result
     requires lies { physical (type_view own.now) ≡ Struct }
     requires fits { ValidityFits head.validity head.rows }
     ensures own { OnIo result ⊥ }
-    ensures only { IfErr result (λ e. OwnFault e (IsColumnFault e)) }
+    ensures only { IfErr result (λ e. OwnFault e (IsRuleFault e)) }
     ensures exact { let u = type_view own.now in let cs = map layout_of columns.items in
         Answers result (HasChild (layouts cs) × ChildTypes (child_fields u) (layouts cs) × AllHave head.rows (layouts cs))
         (λ array. layout_of array ≡ records_layout u head.rows head.validity cs) }

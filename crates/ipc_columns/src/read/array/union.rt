@@ -11,7 +11,7 @@ ghost use Rattle.lower_arrays.specs.AnyLayouts.{layout_of};
 ghost use Rattle.ipc_model.specs.Entries.{IsSize, node, listed, Need, rows};
 ghost use Rattle.ipc_model.specs.ReadArrays.{integers_of};
 ghost use Rattle.ipc_flat_columns.specs.Bodies.{KeepsBytes, HasRoom, entries};
-ghost use Rattle.ipc_flat_columns.specs.Refusals.{IsBufferFault, IsColumnFault};
+ghost use Rattle.ipc_flat_columns.specs.Refusals.{IsBufferFault, IsRuleFault, TellsEntries};
 ghost use Rattle.ipc_flat_columns.specs.Steps.{Step};
 
 use ipc_devices::fault::Fault;
@@ -34,6 +34,7 @@ fn fetch_types<R: Reads + Seeks>(
     requires inside { index < length body.now.buffers }
     requires stands { KeepsBytes R.still R.memory reader.old body.now }
     ensures only { IfErr result (λ e. OwnFault e (IsBufferFault e)) }
+    ensures tells { IfErr result (λ e. OwnFault e (TellsEntries R.known (entries R.memory body.now) e)) }
     ensures step { Step R.still R.memory R.failures R.given body.now (listed (entries R.memory body.now) index) reader.old result reader.new }
     ensures count { IfOk result (λ types. length types ≡ count) }
     ensures held { IfOk result (λ types. length types ≤ listed (entries R.memory body.now) index) }
@@ -56,6 +57,7 @@ pub fn read_places<R: Reads + Seeks>(
     requires inside { index < length body.now.buffers }
     requires stands { KeepsBytes R.still R.memory reader.old body.now }
     ensures only { IfErr result (λ e. OwnFault e (IsBufferFault e)) }
+    ensures tells { IfErr result (λ e. OwnFault e (TellsEntries R.known (entries R.memory body.now) e)) }
     ensures step { Step R.still R.memory R.failures R.given body.now (listed (entries R.memory body.now) index) reader.old result reader.new }
     ensures count { IfOk result (λ places. length places ≡ count) }
     ensures held { IfOk result (λ places. 4 * length places ≤ listed (entries R.memory body.now) index) }
@@ -82,6 +84,7 @@ pub fn read_types<R: Reads + Seeks>(
     requires room { HasRoom body.now place 1 (1 + body.now.extra) }
     requires stands { KeepsBytes R.still R.memory reader.old body.now }
     ensures only { IfErr result (λ e. OwnFault e (IsBufferFault e)) }
+    ensures tells { IfErr result (λ e. OwnFault e (TellsEntries R.known (entries R.memory body.now) e)) }
     ensures step { Step R.still R.memory R.failures R.given body.now (listed (entries R.memory body.now) (place.buffer + body.now.extra)) reader.old result reader.new }
     ensures held { IfOk result (λ types. length types ≤ listed (entries R.memory body.now) (place.buffer + body.now.extra)) }
     ensures memory { IsTrue R.known → let s = entries R.memory body.now in
@@ -108,7 +111,7 @@ pub fn make_union(
     columns: Vec<AnyArray>,
 ) -> Result<AnyArray, Fault>
     ensures own { OnIo result ⊥ }
-    ensures only { IfErr result (λ e. OwnFault e (IsColumnFault e)) }
+    ensures only { IfErr result (λ e. OwnFault e (IsRuleFault e)) }
     ensures exact { let u = type_view own.now in let cs = map layout_of columns.items in
         Answers result (ChoicesFit u (union_ids u) types offsets (layouts cs))
         (λ array. layout_of array ≡ union_layout (union_seen u types cs offsets)) }
