@@ -1,6 +1,8 @@
 pub mod NodeLengths
 pub mod SizeLemmas
 pub mod Refusals
+pub mod Reasons
+pub mod ValueReasons
 pub mod Steps
 pub mod Chosen
 pub mod ColumnLists

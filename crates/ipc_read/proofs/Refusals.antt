@@ -15,8 +15,8 @@ use Rattle.ipc_model.specs.Batches.{Lists, both_lists, kind_at, lists_of}
 use Rattle.ipc_model.specs.Kinds.{Kind, Kinds}
 use Rattle.ipc_flat_columns.proofs.Refusals.{kind_column}
 use Rattle.ipc_flat_columns.specs.Refusals.{IsColumnFault, IsFaultOf}
-use Rattle.ipc_read.specs.Refusals.{IsEntriesFault, IsListFault, IsFaultOfSome, IsFaultOfBatch, IsShorter, TellsCounts, TellsLengths, TellsLists, TellsTable}
-use Rattle.ipc_read.specs.Sizes.{batch_listed, total_of}
+use Rattle.ipc_read.specs.Refusals.{IsEntriesFault, IsListFault, IsFaultOfSome, IsFaultOfBatch, IsShorter, TellsCounts, TellsLengths, TellsLonger, TellsLists, TellsTable}
+use Rattle.ipc_read.specs.Sizes.{AreSizes, batch_listed}
 
 -- a claim of a fault by which another one holds
 pub claims_through : (e : Fault) (P Q : Type 0) → (P → Q) → OwnFault e P → OwnFault e Q
@@ -80,8 +80,8 @@ unequal_in_batch ts js e q = own_any e (IsFaultOfBatch ts js e) (inr (inr q))
 
 -- ---- what has to be so
 
-pub negative_lengths : (total size : ℕ) (e : Fault) → e ≡ OutOfSpec NegativeFooterLength → TellsLengths total size e
-negative_lengths total size e q = subst (TellsLengths total size) (sym q) tt
+pub negative_lengths : (bs : List Buffer) (size : ℕ) (e : Fault) → e ≡ OutOfSpec NegativeFooterLength → OwnFault e (AreSizes bs → ⊥) → TellsLengths bs size e
+negative_lengths bs size e q d = subst (TellsLengths bs size) (sym q) (subst (λ x. OwnFault x (AreSizes bs → ⊥)) q d)
 
 -- ---- of the table alone
 
@@ -126,9 +126,9 @@ module _ (t : Spot) (lists : Lists) (listed : lists_of t ≡ Some lists) where
   there = both_there (record_batch_compression t) (record_batch_nodes t) (record_batch_buffers t) lists listed
 
   module _ (size nodes buffers : ℕ) where
-    pub lengths_tell : (e : Fault) → TellsLengths (total_of lists.buffers) size e → TellsLists t size nodes buffers e
+    pub lengths_tell : (e : Fault) → TellsLengths lists.buffers size e → TellsLists t size nodes buffers e
     lengths_tell (OutOfSpec (InvalidBuffersLength n m)) h =
-        subst (λ (o : Option Lists). TellsLengths (batch_listed o) size (OutOfSpec (InvalidBuffersLength n m))) (sym listed) h
+        subst (λ (o : Option Lists). TellsLonger (batch_listed o) size n m) (sym listed) h
     lengths_tell (OutOfSpec NegativeFooterLength) h = tt
     lengths_tell _ h = absurd h
 

@@ -25,7 +25,7 @@ use Rattle.ipc_model.specs.TypeKinds.{kind_of}
 use Rattle.ipc_flat_columns.specs.Refusals.{IsFaultOf, IsColumnFault}
 use Rattle.ipc_laws.specs.Agreement.{KnowAlike}
 use Rattle.ipc_read.specs.Chunks.{column_seen, HasMeaning}
-use Rattle.ipc_read.specs.Refusals.{IsListFault, TellsLists}
+use Rattle.ipc_read.specs.Refusals.{IsListFault, TellsColumns, TellsLists}
 use Rattle.ipc_read.specs.Sizes.{chosen_listed}
 
 -- ---- the values
@@ -128,6 +128,11 @@ TellsHead schema extra size (Some h) e = TellsPlace extra h.1 size (place_of (pl
 -- What a fault of a dictionary batch, whose body is so long, says of the batch of its values, if it has a head and its id a place.
 abbrev pub TellsValues : Schema → (extra : ℕ) → Spot → (size : ℕ) → Fault → Type 0
 TellsValues schema extra t size e = TellsHead schema extra size (dictionary_head t) e
+
+-- The same of the entries that it lists, and of the dictionaries that are known.
+abbrev pub TellsOfValues : (known : Bool) → Schema → (extra : ℕ) → Dictionaries → Body → Spot → Fault → Type 0
+TellsOfValues known schema extra ds b t e =
+    IfSome (dictionary_head t) (λ h. IfSome (place_of (places schema.fields schema.ids) h.0) (λ _. TellsColumns known schema.order extra ds b h.1 e))
 
 -- of any dictionary batch: an id that no field has is told as one that no dictionary of a column has
 abbrev pub IsDictionaryFault : Fault → Type 0

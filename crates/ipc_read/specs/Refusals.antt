@@ -1,7 +1,9 @@
 -- Which faults of the input's reads of a batch can answer, and what has to be so where they do.
 -- (Arrow columnar format, "RecordBatch message".)
-use Rattle.std.specs.Prelude.{◌≡◌, ◌⊎◌, ◌-◌, ◌<◌, ◌^◌, ℕ, List, [], ◌∷◌, length, min, Option, None, IsSome, IsSomeAnd, Result, Ok, Err, IsOkAnd}
+use Rattle.std.specs.Prelude.{◌≡◌, ◌⊎◌, ◌-◌, ◌<◌, ◌^◌, ℕ, Bool, List, [], ◌∷◌, length, min, Option, None, IsSome, IfSome, IsSomeAnd, Result, Ok, Err, IsOkAnd}
 use Rattle.lower.specs.Counts.{fields_nodes, fields_buffers}
+use Rattle.lower_types.specs.declared.Endianness.{Endianness}
+use Rattle.ipc_devices.specs.Faults.{OwnFault}
 use Rattle.ipc_devices.specs.declared.fault.Fault.{Fault}
 use Rattle.ipc_devices.specs.declared.fault.Fault.TheVariants.{OutOfSpec, NotYetImplemented, Argument}
 use Rattle.ipc_devices.specs.declared.fault.ArgFault.TheVariants.{UnequalRows}
@@ -10,10 +12,12 @@ use Rattle.ipc_devices.specs.declared.fault.OutOfSpecKind.TheVariants.{NegativeF
 use Rattle.ipc_devices.specs.declared.fault.TableFault.{TableFault}
 use Rattle.ipc_views.specs.MessageSlots.{record_batch_buffers, record_batch_compression, record_batch_nodes}
 use Rattle.ipc_views.specs.Spot.{Spot}
-use Rattle.ipc_model.specs.Batches.{Schema, kind_at, lists_of}
+use Rattle.ipc_views.specs.declared.schema.Buffer.{Buffer}
+use Rattle.ipc_model.specs.Batches.{Schema, Body, kind_at, lists_of, entries_of}
+use Rattle.ipc_model.specs.Entries.{Dictionaries}
 use Rattle.ipc_model.specs.Kinds.{Kinds}
-use Rattle.ipc_flat_columns.specs.Refusals.{IsFaultOf}
-use Rattle.ipc_read.specs.Sizes.{batch_listed}
+use Rattle.ipc_flat_columns.specs.Refusals.{IsFaultOf, TellsEntries}
+use Rattle.ipc_read.specs.Sizes.{AreSizes, total_of, batch_listed}
 
 -- of the entries of a batch: they are ill-made, absent, too few or compressed, or one has a length below 0
 abbrev pub IsEntriesFault : Fault → Type 0
@@ -43,12 +47,15 @@ IsFaultOfBatch ts js e = IsListFault e ⊎ (IsFaultOfSome ts js e ⊎ (e ≡ Arg
 
 -- ---- what has to be so
 
--- Why the lengths of buffers are refused: one is below 0; or they are together longer than the body, and both lengths are told, that of the
--- buffers as far as 64 bits can say it.
-abbrev pub TellsLengths : (total size : ℕ) → Fault → Type 0
-TellsLengths total size (OutOfSpec NegativeFooterLength) = Unit {0}
-TellsLengths total size (OutOfSpec (InvalidBuffersLength n m)) = (size < total) × (n ≡ min total (2 ^ 64 - 1)) × (m ≡ size)
-TellsLengths total size _ = ⊥
+-- so much is more than a body of this size, and both are told, the first as far as 64 bits can say it
+abbrev pub TellsLonger : (total size : ℕ) → (n m : ℕ) → Type 0
+TellsLonger total size n m = (size < total) × (n ≡ min total (2 ^ 64 - 1)) × (m ≡ size)
+
+-- Why the lengths of buffers are refused: one is below 0; or they are together longer than the body.
+abbrev pub TellsLengths : List Buffer → (size : ℕ) → Fault → Type 0
+TellsLengths bs size (OutOfSpec NegativeFooterLength) = AreSizes bs → ⊥
+TellsLengths bs size (OutOfSpec (InvalidBuffersLength n m)) = TellsLonger (total_of bs) size n m
+TellsLengths bs size _ = ⊥
 
 -- Why so many nodes and buffers are refused: more of either are needed.
 abbrev pub TellsCounts : (nodes buffers needed_nodes needed_buffers : ℕ) → Fault → Type 0
@@ -71,7 +78,7 @@ TellsLists t size nodes buffers (OutOfSpec MissingMessageBuffers) = record_batch
 TellsLists t size nodes buffers (OutOfSpec ExpectedBuffer) = IsShorter (record_batch_buffers t) buffers
 TellsLists t size nodes buffers (OutOfSpec (InvalidFlatbufferNodes e)) = record_batch_nodes t ≡ Err e
 TellsLists t size nodes buffers (OutOfSpec MissingMessageNodes) = (record_batch_nodes t ≡ Ok None) ⊎ IsShorter (record_batch_nodes t) nodes
-TellsLists t size nodes buffers (OutOfSpec (InvalidBuffersLength n m)) = TellsLengths (batch_listed (lists_of t)) size (OutOfSpec (InvalidBuffersLength n m))
+TellsLists t size nodes buffers (OutOfSpec (InvalidBuffersLength n m)) = TellsLonger (batch_listed (lists_of t)) size n m
 TellsLists t size nodes buffers _ = Unit {0}
 
 -- the same, whatever columns there are, and however long the body is
@@ -81,3 +88,7 @@ pub record TellsTable (t : Spot) (e : Fault) : Type 0 where
 -- the same of a batch of these fields
 abbrev pub TellsBatch : Schema → (extra : ℕ) → Spot → (size : ℕ) → Fault → Type 0
 TellsBatch schema extra t size e = TellsLists t size (fields_nodes schema.fields) (fields_buffers extra schema.fields) e
+
+-- What a fault says of the entries of a batch, where it lists them, and of the dictionaries that are known.
+abbrev pub TellsColumns : (known : Bool) → Endianness → (extra : ℕ) → Dictionaries → Body → Spot → Fault → Type 0
+TellsColumns known order extra ds b t e = IfSome (lists_of t) (λ lists. OwnFault e (TellsEntries known (entries_of lists b order extra ds) e))

@@ -14,12 +14,13 @@ ghost use Rattle.ipc_model.specs.Kinds.{all_nodes, all_buffers};
 ghost use Rattle.ipc_model.specs.ReadChunks.{HaveMeaning};
 ghost use Rattle.ipc_model.specs.TypeKinds.{kinds_of};
 ghost use Rattle.ipc_flat_columns.specs.Limits.{AreSmall};
+ghost use Rattle.ipc_flat_columns.specs.Refusals.{TellsEntries};
 ghost use Rattle.ipc_flat_columns.specs.Bodies.{KeepsBytes, HasRoom, entries, known, known_dictionaries};
 ghost use Rattle.ipc_flat_columns.specs.Steps.{Step};
 ghost use Rattle.ipc_read.specs.Chunks.{GivesBatch, batch_schema, chunk_seen, order_of};
 ghost use Rattle.ipc_read.specs.Columns.{ArePrepared, AreColumns, HasColumns, IsChosen, columns_listed};
 ghost use Rattle.ipc_read.specs.HeldChunks.{columns_most, arrays_held, HoldChosen};
-ghost use Rattle.ipc_read.specs.Refusals.{IsEntriesFault, IsListFault, IsFaultOfSome, IsFaultOfBatch, TellsBatch, TellsCounts, TellsLengths, TellsTable};
+ghost use Rattle.ipc_read.specs.Refusals.{IsEntriesFault, IsListFault, IsFaultOfSome, IsFaultOfBatch, TellsBatch, TellsColumns, TellsCounts, TellsLengths, TellsTable};
 ghost use Rattle.ipc_read.specs.Sizes.{AreSizes, total_of, chosen_listed};
 
 use crate::read::Dictionaries;
@@ -84,7 +85,7 @@ fn listed_bytes(buffers: &Buffers) -> Result<u128, Fault>
 pub(crate) fn check_lengths(buffers: &Buffers, file_size: u64) -> Result<(), Fault>
     ensures own { OnIo result ⊥ }
     ensures only { IfErr result (λ e. OwnFault e (IsListFault e)) }
-    ensures tells { IfErr result (TellsLengths (total_of buffers.now) file_size) }
+    ensures tells { IfErr result (TellsLengths buffers.now file_size) }
     ensures exact { Answers result (AreSizes buffers.now × (total_of buffers.now ≤ file_size)) (λ _. Unit {0}) }
 {
     let total = listed_bytes(buffers)?;
@@ -188,6 +189,7 @@ pub fn read_columns<R: Reads + Seeks>(
     ensures many { IfOk result (λ v. length v.items ≡ length (chosen (option_copied projection.entry) (length fields.now))) }
     ensures only { let js = chosen (option_copied projection.entry) (length fields.now) in
         IfErr result (λ e. OwnFault e (IsFaultOfSome (kinds_of (fields_view fields.now) (all_ids_view ids.now)) js e)) }
+    ensures tells { IfErr result (λ e. OwnFault e (TellsEntries R.known (entries R.memory body.now) e)) }
     ensures step { let js = chosen (option_copied projection.entry) (length fields.now) in
         let ts = kinds_of (fields_view fields.now) (all_ids_view ids.now) in
         Step R.still R.memory R.failures R.given body.now (columns_listed (entries R.memory body.now) body.now.extra ts js) reader.old result reader.new }
@@ -249,7 +251,7 @@ pub fn read_columns<R: Reads + Seeks>(
 /// `Memory` come too, and no other. After a fault the reader may stand at any place. The scratch
 /// memory isn't used.
 #[allow(clippy::too_many_arguments)]
-#[tactic(auto, using(crate::proofs::Refusals::batch_faults))]
+#[tactic(auto, using(crate::proofs::Refusals::batch_faults, crate::proofs::Reasons::reasons))]
 pub fn read_record_batch<R: Reads + Seeks>(
     alloc: Global,
     batch: RecordBatchRef,
@@ -269,6 +271,8 @@ pub fn read_record_batch<R: Reads + Seeks>(
     ensures only { let js = chosen (option_copied projection.entry) (length fields.now) in
         IfErr result (λ e. OwnFault e (IsFaultOfBatch (kinds (batch_schema fields.now ipc_schema.now)) js e)) }
     ensures lists { IfErr result (TellsBatch (batch_schema fields.now ipc_schema.now) (extra_of version) batch.entry file_size) }
+    ensures tells { IfErr result (TellsColumns R.known (order_of ipc_schema.now.is_little_endian) (extra_of version) (known_dictionaries dictionaries.now)
+        (record { source = (R.memory reader.old).whole; base = block_offset; size = file_size }) batch.entry) }
     ensures monotone { R.failures reader.old ≤ R.failures reader.new }
     ensures failed { OnIo result (Rises (R.failures reader.old) (R.failures reader.new)) }
     ensures told { UnlessIo result (R.failures reader.new ≡ R.failures reader.old) }

@@ -10,9 +10,9 @@ ghost use Rattle.ipc_model.specs.Batches.{kinds, extra_of, lists_of, own_place, 
 ghost use Rattle.ipc_model.specs.TypeKinds.{kind_of};
 ghost use Rattle.ipc_flat_columns.specs.Bodies.{array_under, known_dictionaries};
 ghost use Rattle.ipc_read.specs.Chunks.{batch_schema, order_of};
-ghost use Rattle.ipc_read.specs.DictionaryBatches.{GivesColumn, GivesDictionary, PutsValues, dictionary_head, values_listed, BlamesDictionary, IsHeadFault, IsValuesFault, IsDictionaryFault, RefusesHead, TellsValues};
+ghost use Rattle.ipc_read.specs.DictionaryBatches.{GivesColumn, GivesDictionary, PutsValues, dictionary_head, values_listed, BlamesDictionary, IsHeadFault, IsValuesFault, IsDictionaryFault, RefusesHead, TellsValues, TellsOfValues};
 ghost use Rattle.ipc_read.specs.HeldChunks.{HoldChosen, HoldsValues};
-ghost use Rattle.ipc_read.specs.Refusals.{IsEntriesFault, TellsCounts, TellsLists};
+ghost use Rattle.ipc_read.specs.Refusals.{IsEntriesFault, TellsColumns, TellsCounts, TellsLists};
 ghost use Rattle.ipc_read.specs.Sizes.{chosen_listed};
 
 use crate::read::Dictionaries;
@@ -116,7 +116,7 @@ fn check_column(
 
 // The values of a dictionary: the one column of their batch, read as a whole.
 #[allow(clippy::too_many_arguments)]
-#[tactic(auto, using(crate::proofs::ValueReads::values_faults))]
+#[tactic(auto, using(crate::proofs::ValueReads::values_faults, crate::proofs::Reasons::reasons))]
 fn read_values<R: Reads + Seeks>(
     alloc: Global,
     batch: RecordBatchRef,
@@ -131,6 +131,8 @@ fn read_values<R: Reads + Seeks>(
 ) -> Result<AnyArray, Fault>
     ensures only { IfErr result (λ e. OwnFault e (IsValuesFault (kind_of (type_view value_type.now) None (all_ids_view ids.now)) e)) }
     ensures lists { let t = type_view value_type.now in IfErr result (TellsLists batch.entry file_size (nodes t) (buffers (extra_of version) t)) }
+    ensures tells { IfErr result (TellsColumns R.known (order_of is_little_endian) (extra_of version) (known_dictionaries dictionaries.now)
+        (record { source = (R.memory reader.old).whole; base = block_offset; size = file_size }) batch.entry) }
     ensures monotone { R.failures reader.old ≤ R.failures reader.new }
     ensures failed { OnIo result (Rises (R.failures reader.old) (R.failures reader.new)) }
     ensures told { UnlessIo result (R.failures reader.new ≡ R.failures reader.old) }
@@ -199,7 +201,7 @@ fn head_of<'a>(batch: &DictionaryBatchRef<'a>) -> Result<(i64, RecordBatchRef<'a
 /// the buffers are together (`u64::MAX` where 64 bits are too few) and with `file_size`. Then `NotYetImplemented(Delta)` where the values are to follow others, `NotYetImplemented(Compressed)`, and those of their column ([`read`]). `Io` and
 /// `Memory` come too, and no other. After a fault the reader may stand at any place. The scratch memory isn't used.
 #[allow(clippy::too_many_arguments)]
-#[tactic(auto, using(crate::proofs::DictionaryMeanings::dictionary_faults))]
+#[tactic(auto, using(crate::proofs::DictionaryMeanings::dictionary_faults, crate::proofs::ValueReasons::value_reasons))]
 pub fn read_dictionary<R: Reads + Seeks>(
     alloc: Global,
     batch: DictionaryBatchRef,
@@ -215,6 +217,8 @@ pub fn read_dictionary<R: Reads + Seeks>(
     ensures only { IfErr result (λ e. OwnFault e (IsDictionaryFault e)) }
     ensures blames { IfErr result (λ e. OwnFault e (BlamesDictionary (batch_schema fields.now ipc_schema.now) batch.entry e)) }
     ensures lists { IfErr result (TellsValues (batch_schema fields.now ipc_schema.now) (extra_of version) batch.entry file_size) }
+    ensures tells { IfErr result (TellsOfValues R.known (batch_schema fields.now ipc_schema.now) (extra_of version) (known_dictionaries dictionaries.old)
+        (record { source = (R.memory reader.old).whole; base = block_offset; size = file_size }) batch.entry) }
     ensures monotone { R.failures reader.old ≤ R.failures reader.new }
     ensures failed { OnIo result (Rises (R.failures reader.old) (R.failures reader.new)) }
     ensures told { UnlessIo result (R.failures reader.new ≡ R.failures reader.old) }

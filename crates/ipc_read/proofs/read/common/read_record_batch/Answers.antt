@@ -23,6 +23,8 @@ use Rattle.ipc_read.proofs.KnownArrays.{have_meaning, dictionaries_are, chunk_ha
 use Rattle.ipc_read.proofs.HeldLists.{held_total, chunk_holds}
 use Rattle.ipc_read.proofs.Listed.{given_total}
 use Rattle.ipc_read.proofs.Meanings.{listed_of, refused, judged, gives_batch}
+use Rattle.ipc_flat_columns.specs.Refusals.{TellsEntries}
+use Rattle.ipc_read.proofs.Reasons.{unlisted_tells, lengths_say, counts_say, entries_tell}
 use Rattle.ipc_read.proofs.Refusals.{counts_tell, lengths_tell}
 use Rattle.ipc_read.specs.Refusals.{TellsCounts}
 use Rattle.ipc_read.proofs.read.common.read_record_batch.Goals as goal
@@ -269,3 +271,43 @@ returns-clause-values g c = λ k.
     let values : AreValues s vs = subst (λ (e : Entries). AreValues e vs) same (values_are g.R.Failures.memory _) in
     chunk_has_meaning ds is js ys c.try_new.result c.try_new.ensures.value
     (have_meaning s vs (fields_view fs) is limit ds (dictionaries_are lists body order extra ds) values js ys has are)
+
+pub returns-in_err-nodes-clause-tells : goal.returns-in_err-nodes-clause-tells
+returns-in_err-nodes-clause-tells g c =
+    let fault = c.in_err-nodes.field-0.0 in
+    let e : c.from_residual.result ≡ Err fault = search rules in
+    let denied : OwnFault fault (IsSome (lists_of c.args.batch) → ⊥) = search rules in
+    rw e (unlisted_tells g.R.Failures.known (order_of c.args.ipc_schema.now.is_little_endian) (extra_of c.args.version) (known_dictionaries c.args.dictionaries.now)
+    (record { source = (g.R.Failures.memory c.args.reader.now).whole; base = c.args.block_offset; size = c.args.file_size }) c.args.batch fault denied)
+
+pub returns-in_err-check_lengths-clause-tells : goal.returns-in_err-check_lengths-clause-tells
+returns-in_err-check_lengths-clause-tells g c =
+    let fault = c.in_err-check_lengths.field-0.0 in
+    let e : c.from_residual-in_err-check_lengths.result ≡ Err fault = search rules in
+    let lists : Lists = record { nodes = c.in_ok-nodes.nodes; buffers = c.in_ok-nodes.buffers } in
+    rw e (lengths_say g.R.Failures.known (order_of c.args.ipc_schema.now.is_little_endian) (extra_of c.args.version) (known_dictionaries c.args.dictionaries.now)
+    (record { source = (g.R.Failures.memory c.args.reader.now).whole; base = c.args.block_offset; size = c.args.file_size }) c.args.batch lists c.in_ok-nodes.ensures.exact.1
+    c.args.file_size fault c.in_err-check_lengths.ensures.tells)
+
+pub returns-in_err-check_counts-clause-tells : goal.returns-in_err-check_counts-clause-tells
+returns-in_err-check_counts-clause-tells g c =
+    let fault = c.in_err-check_counts.field-0.0 in
+    let e : c.from_residual-in_err-check_counts.result ≡ Err fault = search rules in
+    let lists : Lists = record { nodes = c.in_ok-nodes.nodes; buffers = c.in_ok-nodes.buffers } in
+    rw e (counts_say g.R.Failures.known (order_of c.args.ipc_schema.now.is_little_endian) (extra_of c.args.version) (known_dictionaries c.args.dictionaries.now)
+    (record { source = (g.R.Failures.memory c.args.reader.now).whole; base = c.args.block_offset; size = c.args.file_size }) c.args.batch lists c.in_ok-nodes.ensures.exact.1
+    _ _ _ _ fault c.in_err-check_counts.ensures.tells)
+
+pub returns-in_err-columns-clause-tells : goal.returns-in_err-columns-clause-tells
+returns-in_err-columns-clause-tells g c =
+    let ds = known_dictionaries c.args.dictionaries.now in
+    let fault = c.in_err-columns.field-0.0 in
+    let e : c.from_residual-in_err-columns.result ≡ Err fault = search rules in
+    let lists : Lists = record { nodes = c.in_ok-nodes.nodes; buffers = c.in_ok-nodes.buffers } in
+    let body : model.Body = record { source = (g.R.Failures.memory c.args.reader.now).whole; base = c.args.block_offset; size = c.args.file_size } in
+    let order = order_of c.args.ipc_schema.now.is_little_endian in
+    let extra = extra_of c.args.version in
+    let same : entries g.R.Failures.memory _ ≡ entries_of lists body order extra ds =
+    same_entries g.R.Failures.memory _ lists body order extra refl refl (ap (λ r. (g.R.Failures.memory r).whole) c.of.ensures) refl c.byte_order.ensures c.count_extra-extra.ensures.extra in
+    rw e (entries_tell g.R.Failures.known order extra ds body c.args.batch lists c.in_ok-nodes.ensures.exact.1 fault
+    (subst (λ (s : Entries). OwnFault fault (TellsEntries g.R.Failures.known s fault)) same c.in_err-columns.ensures.tells))

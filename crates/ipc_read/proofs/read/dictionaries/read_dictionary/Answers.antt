@@ -23,6 +23,7 @@ use Rattle.ipc_read.specs.DictionaryBatches.{dictionary_head}
 use Rattle.ipc_read.proofs.DictionaryMeanings.{head_there, no_place, values_there, dictionary_given, unplaced_blames, values_blame, values_told}
 use Rattle.ipc_read.proofs.HeldLists.{values_held}
 use Rattle.ipc_read.proofs.KnownDictionaries.{known_put, puts_values}
+use Rattle.ipc_read.proofs.ValueReasons.{headless_tells, unplaced_say, values_say}
 use Rattle.ipc_read.proofs.Refusals.{own_any}
 use Rattle.ipc_read.proofs.read.dictionaries.read_dictionary.Goals as goal
 
@@ -205,3 +206,32 @@ returns-clause-held g c =
     let one = sum_by-cons (λ (y : AnyArray). held (layout_of y)) x [] in
     let e = ap (λ (y : AnyArray). held (layout_of y)) same_value in
     values_held c.args.dictionaries.now c.insert.new.self id shared put schema extra c.args.batch v p headed placed (omega (arith, one, e, c.in_ok-values.ensures.held))
+
+pub returns-in_err-id-clause-tells : goal.returns-in_err-id-clause-tells
+returns-in_err-id-clause-tells g c =
+    let fault = c.in_err-id.field-0.0 in
+    let e : c.from_residual.result ≡ Err fault = search rules in
+    rw e (headless_tells g.R.Failures.known (batch_schema c.args.fields.now c.args.ipc_schema.now) (extra_of c.args.version) (known_dictionaries c.args.dictionaries.now)
+    (record { source = (g.R.Failures.memory c.args.reader.now).whole; base = c.args.block_offset; size = c.args.file_size }) c.args.batch fault c.in_err-id.ensures.tells)
+
+pub returns-in_default-clause-tells : goal.returns-in_default-clause-tells
+returns-in_default-clause-tells g c =
+    let schema : Schema = batch_schema c.args.fields.now c.args.ipc_schema.now in
+    let id = c.in_ok-id.id in
+    let headed : dictionary_head c.args.batch ≡ Some (id, c.in_ok-id.values) = c.in_ok-id.ensures.exact.1 in
+    let ids_are : c.as_slice-schema_ids.result.now ≡ c.args.ipc_schema.now.fields.items = search rules in
+    let same_id : to_z w64 (of_z w64 id) ≡ id = search rules in
+    let none : place_of (places schema.fields schema.ids) id ≡ None =
+    subst (λ (j : ℤ). place_of (places (fields_view c.args.fields.now) (all_ids_view c.args.ipc_schema.now.fields.items)) j ≡ None) same_id
+    (subst (λ (l : List IpcField). place_of (places (fields_view c.args.fields.now) (all_ids_view l)) (to_z w64 (of_z w64 id)) ≡ None) ids_are c.in_default.ensures) in
+    unplaced_say g.R.Failures.known schema (extra_of c.args.version) (known_dictionaries c.args.dictionaries.now)
+    (record { source = (g.R.Failures.memory c.args.reader.now).whole; base = c.args.block_offset; size = c.args.file_size }) c.args.batch c.into.result id c.in_ok-id.values headed none
+
+pub returns-in_err-values-clause-tells : goal.returns-in_err-values-clause-tells
+returns-in_err-values-clause-tells g c =
+    let fault = c.in_err-values.field-0.0 in
+    let e : c.from_residual-in_err-values.result ≡ Err fault = search rules in
+    let headed : dictionary_head c.args.batch ≡ Some (c.in_ok-id.id, c.in_ok-id.values) = c.in_ok-id.ensures.exact.1 in
+    rw e (values_say g.R.Failures.known (batch_schema c.args.fields.now c.args.ipc_schema.now) (extra_of c.args.version) (known_dictionaries c.args.dictionaries.now)
+    (record { source = (g.R.Failures.memory c.args.reader.now).whole; base = c.args.block_offset; size = c.args.file_size }) c.args.batch fault c.in_ok-id.id c.in_ok-id.values headed
+    c.in_err-values.ensures.tells)

@@ -17,6 +17,8 @@ use Rattle.ipc_read.specs.Sizes.{AreSizes, total_of}
 use Rattle.ipc_read.proofs.Batches.{same_entries}
 use Rattle.ipc_read.proofs.HeldLists.{column_held}
 use Rattle.ipc_read.proofs.Meanings.{listed_of}
+use Rattle.ipc_flat_columns.specs.Refusals.{TellsEntries}
+use Rattle.ipc_read.proofs.Reasons.{unlisted_tells, lengths_say, counts_say, entries_tell}
 use Rattle.ipc_read.proofs.Refusals.{counts_tell, lengths_tell}
 use Rattle.ipc_read.specs.Refusals.{TellsCounts}
 use Rattle.ipc_read.proofs.ValueReads.{schema_of, column_refused, column_judged, column_given, values_given}
@@ -203,3 +205,43 @@ returns-clause-held g c =
     same_entries g.R.Failures.memory _ lists body order extra refl refl (ap (λ r. (g.R.Failures.memory r).whole) c.of.ensures) refl c.byte_order.ensures c.count_extra-extra.ensures.extra in
     column_held g.R.Failures.memory _ lists body order extra ds (lists_of c.args.batch) u is c.in_ok-values.values same c.count_extra-extra.ensures.extra c.in_ok-nodes.ensures.exact.1
     c.in_ok-values.ensures.held
+
+pub returns-in_err-nodes-clause-tells : goal.returns-in_err-nodes-clause-tells
+returns-in_err-nodes-clause-tells g c =
+    let fault = c.in_err-nodes.field-0.0 in
+    let e : c.from_residual.result ≡ Err fault = search rules in
+    let denied : OwnFault fault (IsSome (lists_of c.args.batch) → ⊥) = search rules in
+    rw e (unlisted_tells g.R.Failures.known (order_of c.args.is_little_endian) (extra_of c.args.version) (known_dictionaries c.args.dictionaries.now)
+    (record { source = (g.R.Failures.memory c.args.reader.now).whole; base = c.args.block_offset; size = c.args.file_size }) c.args.batch fault denied)
+
+pub returns-in_err-check_lengths-clause-tells : goal.returns-in_err-check_lengths-clause-tells
+returns-in_err-check_lengths-clause-tells g c =
+    let fault = c.in_err-check_lengths.field-0.0 in
+    let e : c.from_residual-in_err-check_lengths.result ≡ Err fault = search rules in
+    let lists : Lists = record { nodes = c.in_ok-nodes.nodes; buffers = c.in_ok-nodes.buffers } in
+    rw e (lengths_say g.R.Failures.known (order_of c.args.is_little_endian) (extra_of c.args.version) (known_dictionaries c.args.dictionaries.now)
+    (record { source = (g.R.Failures.memory c.args.reader.now).whole; base = c.args.block_offset; size = c.args.file_size }) c.args.batch lists c.in_ok-nodes.ensures.exact.1
+    c.args.file_size fault c.in_err-check_lengths.ensures.tells)
+
+pub returns-in_err-check_column-clause-tells : goal.returns-in_err-check_column-clause-tells
+returns-in_err-check_column-clause-tells g c =
+    let fault = c.in_err-check_column.field-0.0 in
+    let e : c.from_residual-in_err-check_column.result ≡ Err fault = search rules in
+    let lists : Lists = record { nodes = c.in_ok-nodes.nodes; buffers = c.in_ok-nodes.buffers } in
+    rw e (counts_say g.R.Failures.known (order_of c.args.is_little_endian) (extra_of c.args.version) (known_dictionaries c.args.dictionaries.now)
+    (record { source = (g.R.Failures.memory c.args.reader.now).whole; base = c.args.block_offset; size = c.args.file_size }) c.args.batch lists c.in_ok-nodes.ensures.exact.1
+    _ _ _ _ fault c.in_err-check_column.ensures.tells)
+
+pub returns-in_err-values-clause-tells : goal.returns-in_err-values-clause-tells
+returns-in_err-values-clause-tells g c =
+    let fault = c.in_err-values.field-0.0 in
+    let e : c.from_residual-in_err-values.result ≡ Err fault = search rules in
+    let lists : Lists = record { nodes = c.in_ok-nodes.nodes; buffers = c.in_ok-nodes.buffers } in
+    let extra = extra_of c.args.version in
+    let order = order_of c.args.is_little_endian in
+    let ds = known_dictionaries c.args.dictionaries.now in
+    let body : model.Body = record { source = (g.R.Failures.memory c.args.reader.now).whole; base = c.args.block_offset; size = c.args.file_size } in
+    let same : entries g.R.Failures.memory _ ≡ entries_of lists body order extra ds =
+    same_entries g.R.Failures.memory _ lists body order extra refl refl (ap (λ r. (g.R.Failures.memory r).whole) c.of.ensures) refl c.byte_order.ensures c.count_extra-extra.ensures.extra in
+    rw e (entries_tell g.R.Failures.known order extra ds body c.args.batch lists c.in_ok-nodes.ensures.exact.1 fault
+    (subst (λ (s : Entries). OwnFault fault (TellsEntries g.R.Failures.known s fault)) same c.in_err-values.ensures.tells))
