@@ -22,10 +22,11 @@ use Rattle.ipc_model.specs.TypeKinds.{kinds_of}
 use Rattle.ipc_model.specs.Streams.{Header, Known, done, faulty, whole, with_chunk, with_dictionaries, most_dictionaries}
 use Rattle.ipc_read.proofs.DictionaryMeanings.{any_tells}
 use Rattle.ipc_read.proofs.Refusals.{claims_through}
-use Rattle.ipc_read.specs.DictionaryBatches.{BlamesDictionary, GivesDictionary, TellsValues}
-use Rattle.ipc_read.specs.Refusals.{IsFaultOfBatch, TellsBatch}
+use Rattle.ipc_read.specs.DictionaryBatches.{BlamesDictionary, GivesDictionary, TellsValues, TellsOfValues}
+use Rattle.ipc_read.specs.Refusals.{IsFaultOfBatch, TellsBatch, TellsColumns}
 use Rattle.ipc_read.specs.Chunks.{chunk_seen, GivesBatch}
 use Rattle.ipc_readers.specs.ChosenStreams.{Request, chosen_body}
+use Rattle.ipc_readers.proofs.Naming.{columns_alike, none_named, values_alike}
 use Rattle.ipc_readers.proofs.Knowing.{AlsoGives, alike_then, dictionary_alike, no_dictionary_alike, record_alike, same_values}
 use Rattle.ipc_readers.specs.Refusals.{IsStreamFault}
 use Rattle.ipc_readers.specs.Streams.{BlamesBody, GivesBody, GivesHeld, HoldsRecord, ReadsBody, RefusesBody, of_dictionary, of_record}
@@ -132,26 +133,33 @@ module _ (fs : FieldTrees) (ms : Pairs) (is : IdTrees) (o : Endianness) (version
     holds,
   )
 
-  record_blames : (e' : Fault) → TellsBatch (bare fs is o) (extra_of version) t n e' → IsFaultOfBatch (kinds_of fs is) (chosen p (count (kinds_of fs is))) e'
-      → BlamesBody (asks fs ms is o version p) s.count (header 3 t n) xs e'
-  record_blames e' told fault = record {
+  record_named : (e' : Fault) → TellsColumns true o (extra_of version) k.dictionaries (first bytes n) t e' → TellsColumns true o (extra_of version) s.dictionaries (whole (take n xs)) t e'
+  record_named e' h =
+      columns_alike true o (extra_of version) s.dictionaries k.dictionaries (whole (take n xs)) at.alike t e'
+      (subst (λ (b : Body). TellsColumns true o (extra_of version) k.dictionaries b t e') (body_is n xs bytes long e) h)
+
+  record_blames : (e' : Fault) → TellsBatch (bare fs is o) (extra_of version) t n e' → TellsColumns true o (extra_of version) k.dictionaries (first bytes n) t e' → IsFaultOfBatch (kinds_of fs is) (chosen p (count (kinds_of fs is))) e'
+      → BlamesBody (asks fs ms is o version p) s (header 3 t n) xs e'
+  record_blames e' told named fault = record {
     record_batch = λ q. inl fault;
     dictionary_batch = λ q. absurd (omega (arith, q));
     other = λ q r. absurd (r refl);
     cut = λ short q. absurd (omega (arith, long, short));
     record_lists = λ q. told;
     dictionary_lists = λ q. absurd (omega (arith, q));
+    record_entries = λ q there. record_named e' named;
+    dictionary_entries = λ q there. absurd (omega (arith, q));
   }
 
   record_refused : (e' : Fault) → OwnFault e' (IsFaultOfBatch (kinds_of fs is) (chosen p (count (kinds_of fs is))) e') → TellsBatch (bare fs is o) (extra_of version) t n e'
-      → OwnFault e' (record_meaning (bare fs is o) (extra_of version) k.dictionaries (first bytes n) t p None ≡ None) → (l : Known)
+      → TellsColumns true o (extra_of version) k.dictionaries (first bytes n) t e' → OwnFault e' (record_meaning (bare fs is o) (extra_of version) k.dictionaries (first bytes n) t p None ≡ None) → (l : Known)
       → ReadsBody (asks fs ms is o version p) s (header 3 t n) xs (Err e') l (drop n xs)
-  record_refused e' only told none l =
-      both_claims e' (chosen_body (asks fs ms is o version p) s (header 3 t n) xs ≡ done faulty) (BlamesBody (asks fs ms is o version p) s.count (header 3 t n) xs e')
+  record_refused e' only told named none l =
+      both_claims e' (chosen_body (asks fs ms is o version p) s (header 3 t n) xs ≡ done faulty) (BlamesBody (asks fs ms is o version p) s (header 3 t n) xs e')
       (claims_through e' (record_meaning (bare fs is o) (extra_of version) k.dictionaries (first bytes n) t p None ≡ None) (chosen_body (asks fs ms is o version p) s (header 3 t n) xs ≡ done faulty)
       (λ means. record_body (asks fs ms is o version p) s t n xs None long (record_is ∙ means)) none)
-      (claims_through e' (IsFaultOfBatch (kinds_of fs is) (chosen p (count (kinds_of fs is))) e') (BlamesBody (asks fs ms is o version p) s.count (header 3 t n) xs e')
-      (record_blames e' told) only)
+      (claims_through e' (IsFaultOfBatch (kinds_of fs is) (chosen p (count (kinds_of fs is))) e') (BlamesBody (asks fs ms is o version p) s (header 3 t n) xs e')
+      (record_blames e' told named) only)
 
   values_read : (l : Known) → k.count < most_dictionaries → l.count ≡ k.count + 1 → AlsoGives (dictionary_meaning (bare fs is o) (extra_of version) k.dictionaries (first bytes n) t) l.dictionaries
       → ReadsBody (asks fs ms is o version p) s (header 2 t n) xs (Ok None) l (drop n xs)
@@ -166,58 +174,66 @@ module _ (fs : FieldTrees) (ms : Pairs) (is : IdTrees) (o : Endianness) (version
         tt,
       )
 
-  values_blame : (e' : Fault) → TellsValues (bare fs is o) (extra_of version) t n e' → BlamesDictionary (bare fs is o) t e'
-      → BlamesBody (asks fs ms is o version p) s.count (header 2 t n) xs e'
-  values_blame e' told fault = record {
+  values_named : (e' : Fault) → TellsOfValues true (bare fs is o) (extra_of version) k.dictionaries (first bytes n) t e'
+      → TellsOfValues true (bare fs is o) (extra_of version) s.dictionaries (whole (take n xs)) t e'
+  values_named e' h =
+      values_alike true (bare fs is o) (extra_of version) s.dictionaries k.dictionaries (whole (take n xs)) at.alike t e'
+      (subst (λ (b : Body). TellsOfValues true (bare fs is o) (extra_of version) k.dictionaries b t e') (body_is n xs bytes long e) h)
+
+  values_blame : (e' : Fault) → TellsValues (bare fs is o) (extra_of version) t n e' → TellsOfValues true (bare fs is o) (extra_of version) k.dictionaries (first bytes n) t e' → BlamesDictionary (bare fs is o) t e'
+      → BlamesBody (asks fs ms is o version p) s (header 2 t n) xs e'
+  values_blame e' told named fault = record {
     record_batch = λ q. absurd (omega (arith, q));
     dictionary_batch = λ q. inl fault;
     other = λ q r. absurd (q refl);
     cut = λ short q. absurd (omega (arith, long, short));
     record_lists = λ q. absurd (omega (arith, q));
     dictionary_lists = λ q. told;
+    record_entries = λ q there. absurd (omega (arith, q));
+    dictionary_entries = λ q there. values_named e' named;
   }
 
   values_refused : (e' : Fault) → k.count < most_dictionaries → OwnFault e' (BlamesDictionary (bare fs is o) t e') → TellsValues (bare fs is o) (extra_of version) t n e'
-      → OwnFault e' (dictionary_meaning (bare fs is o) (extra_of version) k.dictionaries (first bytes n) t ≡ None) → (l : Known)
+      → TellsOfValues true (bare fs is o) (extra_of version) k.dictionaries (first bytes n) t e' → OwnFault e' (dictionary_meaning (bare fs is o) (extra_of version) k.dictionaries (first bytes n) t ≡ None) → (l : Known)
       → ReadsBody (asks fs ms is o version p) s (header 2 t n) xs (Err e') l (drop n xs)
-  values_refused e' few blames told none l =
+  values_refused e' few blames told named none l =
       let h = asks fs ms is o version p in
       let same : s.count ≡ k.count = at.count in
-      both_claims e' (chosen_body h s (header 2 t n) xs ≡ done faulty) (BlamesBody h s.count (header 2 t n) xs e')
+      both_claims e' (chosen_body h s (header 2 t n) xs ≡ done faulty) (BlamesBody h s (header 2 t n) xs e')
       (claims_through e' (dictionary_meaning (bare fs is o) (extra_of version) k.dictionaries (first bytes n) t ≡ None) (chosen_body h s (header 2 t n) xs ≡ done faulty)
       (λ means. dictionary_body h s t n xs None long (omega (arith, same, few))
       (no_dictionary_alike h.head.schema (extra_of version) s.dictionaries k.dictionaries (whole (take n xs)) t at.alike (read_of ∙ means))) none)
-      (claims_through e' (BlamesDictionary (bare fs is o) t e') (BlamesBody h s.count (header 2 t n) xs e') (values_blame e' told) blames)
+      (claims_through e' (BlamesDictionary (bare fs is o) t e') (BlamesBody h s (header 2 t n) xs e') (values_blame e' told named) blames)
 
 -- what the answer of a record batch says, of a body with bytes behind it
 record_answer : (fs : FieldTrees) (ms : Pairs) (is : IdTrees) (o : Endianness) (version : MetadataVersion) (p : Option (List ℕ)) (k : Known) (t : Spot) (n : ℕ) (xs bytes : List ℕ)
     → n ≤ length xs → bytes ≡ take n xs → (r : Result (List AnyArray) Fault) (l : Known) → OnOk r ((l.dictionaries ≡ k.dictionaries) × (l.count ≡ 0))
     → IfErr r (λ e. OwnFault e (IsFaultOfBatch (kinds_of fs is) (chosen p (count (kinds_of fs is))) e)) → IfErr r (TellsBatch (bare fs is o) (extra_of version) t n)
-    → IfOk r (HoldsRecord (asks fs ms is o version p) t) → GivesBatch (bare fs is o) (extra_of version) k.dictionaries (first bytes n) t p None r
+    → IfErr r (TellsColumns true o (extra_of version) k.dictionaries (first bytes n) t) → IfOk r (HoldsRecord (asks fs ms is o version p) t) → GivesBatch (bare fs is o) (extra_of version) k.dictionaries (first bytes n) t p None r
     → GivesBody (asks fs ms is o version p) k (header 3 t n) xs (of_record r) l (drop n xs)
-record_answer fs ms is o version p k t n xs bytes long e (Ok chunk) l next only told holds read = record {
+record_answer fs ms is o version p k t n xs bytes long e (Ok chunk) l next only told named holds read = record {
   each = λ s at. chunk_reads fs ms is o version p k t n xs bytes long e s at chunk l next.0 next.1 read.1 holds;
 }
-record_answer fs ms is o version p k t n xs bytes long e (Err e') l next only told holds read =
+record_answer fs ms is o version p k t n xs bytes long e (Err e') l next only told named holds read =
     let u : Option Chunk = record_meaning (bare fs is o) (extra_of version) k.dictionaries (first bytes n) t p None in
     record {
-      each = λ s at. record_refused fs ms is o version p k t n xs bytes long e s at e' only told
+      each = λ s at. record_refused fs ms is o version p k t n xs bytes long e s at e' only told named
           (claims_through e' (IsSome u → ⊥) (u ≡ None) (none_there u) read) l;
     }
 
 dictionary_answer : (fs : FieldTrees) (ms : Pairs) (is : IdTrees) (o : Endianness) (version : MetadataVersion) (p : Option (List ℕ)) (k : Known) (t : Spot) (n : ℕ) (xs bytes : List ℕ)
     → n ≤ length xs → bytes ≡ take n xs → (r : Result Unit Fault) (l : Known) → k.count < most_dictionaries → OnOk r (l.count ≡ k.count + 1)
     → IfErr r (λ e. OwnFault e (BlamesDictionary (bare fs is o) t e)) → IfErr r (TellsValues (bare fs is o) (extra_of version) t n)
-    → GivesDictionary (bare fs is o) (extra_of version) k.dictionaries (first bytes n) t r l.dictionaries
+    → IfErr r (TellsOfValues true (bare fs is o) (extra_of version) k.dictionaries (first bytes n) t) → GivesDictionary (bare fs is o) (extra_of version) k.dictionaries (first bytes n) t r l.dictionaries
     → GivesBody (asks fs ms is o version p) k (header 2 t n) xs (of_dictionary r) l (drop n xs)
-dictionary_answer fs ms is o version p k t n xs bytes long e (Ok u) l few next blames told read = record {
+dictionary_answer fs ms is o version p k t n xs bytes long e (Ok u) l few next blames told named read = record {
   each = λ s at. values_read fs ms is o version p k t n xs bytes long e s at l few next
       (some_there (dictionary_meaning (bare fs is o) (extra_of version) k.dictionaries (first bytes n) t) l.dictionaries read.0 read.1);
 }
-dictionary_answer fs ms is o version p k t n xs bytes long e (Err e') l few next blames told read =
+dictionary_answer fs ms is o version p k t n xs bytes long e (Err e') l few next blames told named read =
     let u : Option Dictionaries = dictionary_meaning (bare fs is o) (extra_of version) k.dictionaries (first bytes n) t in
     record {
-      each = λ s at. values_refused fs ms is o version p k t n xs bytes long e s at e' few blames told
+      each = λ s at. values_refused fs ms is o version p k t n xs bytes long e s at e' few blames told named
           (claims_through e' (IsSome u → ⊥) (u ≡ None) (none_there u) read) l;
     }
 
@@ -235,19 +251,20 @@ held h k tag t body r l given = record {
 pub columns_give : (fs : FieldTrees) (ms : Pairs) (is : IdTrees) (o : Endianness) (version : MetadataVersion) (p : Option (List ℕ)) (k : Known) (t : Spot) (body : List ℕ) (r : Result (List AnyArray) Fault) (l : Known)
     → OnOk r ((l.dictionaries ≡ k.dictionaries) × (l.count ≡ 0))
     → IfErr r (λ e. OwnFault e (IsFaultOfBatch (kinds_of fs is) (chosen p (count (kinds_of fs is))) e)) → IfErr r (TellsBatch (bare fs is o) (extra_of version) t (length body))
-    → IfOk r (HoldsRecord (asks fs ms is o version p) t) → GivesBatch (bare fs is o) (extra_of version) k.dictionaries (first body (length body)) t p None r
+    → IfErr r (TellsColumns true o (extra_of version) k.dictionaries (first body (length body)) t) → IfOk r (HoldsRecord (asks fs ms is o version p) t) → GivesBatch (bare fs is o) (extra_of version) k.dictionaries (first body (length body)) t p None r
     → GivesHeld (asks fs ms is o version p) k 3 t body (of_record r) l
-columns_give fs ms is o version p k t body r l next only told holds read =
+columns_give fs ms is o version p k t body r l next only told named holds read =
     held (asks fs ms is o version p) k 3 t body (of_record r) l
-    (λ xs long e. record_answer fs ms is o version p k t (length body) xs body long e r l next only told holds read)
+    (λ xs long e. record_answer fs ms is o version p k t (length body) xs body long e r l next only told named holds read)
 
 pub values_give : (fs : FieldTrees) (ms : Pairs) (is : IdTrees) (o : Endianness) (version : MetadataVersion) (p : Option (List ℕ)) (k : Known) (t : Spot) (body : List ℕ) (r : Result Unit Fault) (l : Known)
     → k.count < most_dictionaries → OnOk r (l.count ≡ k.count + 1) → IfErr r (λ e. OwnFault e (BlamesDictionary (bare fs is o) t e))
-    → IfErr r (TellsValues (bare fs is o) (extra_of version) t (length body)) → GivesDictionary (bare fs is o) (extra_of version) k.dictionaries (first body (length body)) t r l.dictionaries
+    → IfErr r (TellsValues (bare fs is o) (extra_of version) t (length body))
+    → IfErr r (TellsOfValues true (bare fs is o) (extra_of version) k.dictionaries (first body (length body)) t) → GivesDictionary (bare fs is o) (extra_of version) k.dictionaries (first body (length body)) t r l.dictionaries
     → GivesHeld (asks fs ms is o version p) k 2 t body (of_dictionary r) l
-values_give fs ms is o version p k t body r l few next blames told read =
+values_give fs ms is o version p k t body r l few next blames told named read =
     held (asks fs ms is o version p) k 2 t body (of_dictionary r) l
-    (λ xs long e. dictionary_answer fs ms is o version p k t (length body) xs body long e r l few next blames told read)
+    (λ xs long e. dictionary_answer fs ms is o version p k t (length body) xs body long e r l few next blames told named read)
 
 -- the faults of a batch are a stream's
 pub batch_faults :
@@ -278,9 +295,9 @@ dictionary_ended schema extra t size e is = subst (TellsValues schema extra t si
 
 -- a body that isn't there, of a record or a dictionary
 pub cut_body : (h : Request) (s : Known) (m : Header) (xs : List ℕ) (e : Fault) → (m.tag ≡ 3) ⊎ (m.tag ≡ 2) → OwnFault e ((e ≡ Faults.Ended) × (m.body ≤ length xs → ⊥))
-    → OwnFault e ((chosen_body h s m xs ≡ done faulty) × BlamesBody h s.count m xs e)
+    → OwnFault e ((chosen_body h s m xs ≡ done faulty) × BlamesBody h s m xs e)
 cut_body h s m xs e kind cut =
-    claims_through e ((e ≡ Faults.Ended) × (m.body ≤ length xs → ⊥)) ((chosen_body h s m xs ≡ done faulty) × BlamesBody h s.count m xs e)
+    claims_through e ((e ≡ Faults.Ended) × (m.body ≤ length xs → ⊥)) ((chosen_body h s m xs ≡ done faulty) × BlamesBody h s m xs e)
     (λ c. (
       short_body h s m xs (outside m.body (length xs) c.1),
       record {
@@ -293,6 +310,8 @@ cut_body h s m xs e kind cut =
         cut = λ short q. c.0;
         record_lists = λ q. record_ended h.head.schema (extra_of h.head.version) m.table m.body e c.0;
         dictionary_lists = λ q. dictionary_ended h.head.schema (extra_of h.head.version) m.table m.body e c.0;
+        record_entries = λ q there. absurd (c.1 there);
+        dictionary_entries = λ q there. absurd (c.1 there);
       },
     )) cut
 
@@ -304,8 +323,8 @@ other_tag : (h : Request) (s : Known) (m : Header) (xs : List ℕ) → (m.tag ==
 unfolding chosen_body
 other_tag h s m xs no_record no_dictionary = rw (no_record, no_dictionary) (either_way (nat_lt (length xs) m.body) (done faulty))
 
-no_batch : (h : Request) (n : ℕ) (m : Header) (xs : List ℕ) → m.tag ≢ 2 → m.tag ≢ 3 → BlamesBody h n m xs (Faults.OutOfSpec UnexpectedMessageType)
-no_batch h n m xs no_dictionary no_record = record {
+no_batch : (h : Request) (s : Known) (m : Header) (xs : List ℕ) → m.tag ≢ 2 → m.tag ≢ 3 → BlamesBody h s m xs (Faults.OutOfSpec UnexpectedMessageType)
+no_batch h s m xs no_dictionary no_record = record {
   record_batch = λ q. absurd (no_record q);
   dictionary_batch = λ q. absurd (no_dictionary q);
   other = λ q r. refl;
@@ -315,21 +334,23 @@ no_batch h n m xs no_dictionary no_record = record {
   ];
   record_lists = λ q. absurd (no_record q);
   dictionary_lists = λ q. absurd (no_dictionary q);
+  record_entries = λ q there. absurd (no_record q);
+  dictionary_entries = λ q there. absurd (no_dictionary q);
 }
 
 -- a message that is neither a record nor a dictionary
 pub other_refused : (h : Request) (k : Known) (x : MessageHeaderRef) → ((t : Spot) → x ≡ headers.DictionaryBatch t → ⊥) → ((t : Spot) → x ≡ headers.RecordBatch t → ⊥)
     → RefusesBody h k (header_parts x).0 (header_parts x).1 (Faults.OutOfSpec UnexpectedMessageType)
 other_refused h k (headers.Schema t) no_dictionary no_record = record {
-  each = λ n xs. record { each = λ s at. (other_tag h s (header 1 t n) xs refl refl, no_batch h s.count (header 1 t n) xs (λ q. omega (arith, q)) (λ q. omega (arith, q))) };
+  each = λ n xs. record { each = λ s at. (other_tag h s (header 1 t n) xs refl refl, no_batch h s (header 1 t n) xs (λ q. omega (arith, q)) (λ q. omega (arith, q))) };
 }
 other_refused h k (headers.DictionaryBatch t) no_dictionary no_record = absurd (no_dictionary t refl)
 other_refused h k (headers.RecordBatch t) no_dictionary no_record = absurd (no_record t refl)
 other_refused h k (headers.Tensor t) no_dictionary no_record = record {
-  each = λ n xs. record { each = λ s at. (other_tag h s (header 4 t n) xs refl refl, no_batch h s.count (header 4 t n) xs (λ q. omega (arith, q)) (λ q. omega (arith, q))) };
+  each = λ n xs. record { each = λ s at. (other_tag h s (header 4 t n) xs refl refl, no_batch h s (header 4 t n) xs (λ q. omega (arith, q)) (λ q. omega (arith, q))) };
 }
 other_refused h k (headers.SparseTensor t) no_dictionary no_record = record {
-  each = λ n xs. record { each = λ s at. (other_tag h s (header 5 t n) xs refl refl, no_batch h s.count (header 5 t n) xs (λ q. omega (arith, q)) (λ q. omega (arith, q))) };
+  each = λ n xs. record { each = λ s at. (other_tag h s (header 5 t n) xs refl refl, no_batch h s (header 5 t n) xs (λ q. omega (arith, q)) (λ q. omega (arith, q))) };
 }
 
 -- one dictionary too many
@@ -351,6 +372,8 @@ full_refused h k t full = record {
             cut = λ short q. let few = q.room refl in absurd (omega (arith, few, there));
             record_lists = λ q. absurd (omega (arith, q));
             dictionary_lists = λ q. any_tells h.head.schema (extra_of h.head.version) t n Faults.TooManyDictionaries (λ v a b. tt);
+            record_entries = λ q there. absurd (omega (arith, q));
+            dictionary_entries = λ q there. none_named true h.head.schema (extra_of h.head.version) s.dictionaries (whole (take n xs)) t Faults.TooManyDictionaries (λ _. tt);
           },
         );
   };

@@ -1,5 +1,5 @@
 -- What was read of the columns of a body, as it is asked for.
-use Rattle.std.proofs.Common.{◌≡◌, ℕ, List, length, Option, None, Some, Ok, Err, refl, sym, subst}
+use Rattle.std.proofs.Common.{true, ◌≡◌, ℕ, List, length, Option, None, Some, Ok, Err, refl, sym, subst}
 use Rattle.lower.specs.TypeTrees.{Pairs}
 use Rattle.lower.specs.TypeViews.{fields_view}
 use Rattle.lower.specs.declared.datatypes.Field.{Field}
@@ -22,7 +22,7 @@ use Rattle.ipc_read.proofs.AskedSums.{held_in_order}
 use Rattle.ipc_read.proofs.Fields.{field_count}
 use Rattle.ipc_read.specs.Chunks.{GivesBatch}
 use Rattle.ipc_read.specs.HeldChunks.{HoldChosen}
-use Rattle.ipc_read.specs.Refusals.{IsFaultOfBatch, TellsBatch}
+use Rattle.ipc_read.specs.Refusals.{IsFaultOfBatch, TellsBatch, TellsColumns}
 use Rattle.ipc_readers.proofs.AskedBatches.{given_in_order, refused_in_order}
 use Rattle.ipc_readers.proofs.Bodies.{asks, bare, batch_faults, columns_give, first}
 use Rattle.ipc_readers.specs.ChosenStreams.{Request}
@@ -57,14 +57,15 @@ module _ (c : Option ChosenColumns) (ds : List Field) (ms : Pairs) (is : IdTrees
         → GivesBatch (bare (fields_view ds) is o) (extra_of version) k.dictionaries (first body (length body)) t (rising_by c) None (Ok read)
         → GivesHeld (asks (fields_view ds) ms is o version (asked_by c)) k 3 t body (Ok (Some given)) (record { dictionaries = k.dictionaries; count = 0 })
     given_columns read given many moved holds g =
-        columns_give (fields_view ds) ms is o version (asked_by c) k t body (Ok given) (record { dictionaries = k.dictionaries; count = 0 }) (refl, refl) tt tt (asked_holds t read given many moved holds)
+        columns_give (fields_view ds) ms is o version (asked_by c) k t body (Ok given) (record { dictionaries = k.dictionaries; count = 0 }) (refl, refl) tt tt tt (asked_holds t read given many moved holds)
         (given_in_order c (bare (fields_view ds) is o) (extra_of version) k.dictionaries (first body (length body)) t read given same many moved g)
 
     pub refused_columns : (e : Fault) → Blames e → TellsBatch (bare (fields_view ds) is o) (extra_of version) t (length body) e
+        → TellsColumns true o (extra_of version) k.dictionaries (first body (length body)) t e
         → GivesBatch (bare (fields_view ds) is o) (extra_of version) k.dictionaries (first body (length body)) t (rising_by c) None (Err e)
         → GivesHeld (asks (fields_view ds) ms is o version (asked_by c)) k 3 t body (Err e) k
-    refused_columns e only told g =
-        columns_give (fields_view ds) ms is o version (asked_by c) k t body (Err e) k tt (asked_faults e only) told tt
+    refused_columns e only told named g =
+        columns_give (fields_view ds) ms is o version (asked_by c) k t body (Err e) k tt (asked_faults e only) told named tt
         (refused_in_order c (bare (fields_view ds) is o) (extra_of version) k.dictionaries (first body (length body)) t e same g)
 
 -- a refusal of memory says nothing of the body

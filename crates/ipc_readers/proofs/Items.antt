@@ -77,11 +77,11 @@ body_is_front h s xs m rest left d q (Ok (Some chunk)) l e f opens none g =
 body_is_front h s xs m rest left d q (Ok None) l e f opens none g =
     (g.0, g.1, body_of h s xs m rest (Some d) e f ∙ g.2 ∙ ap (λ ys. more None g.0 ys) (sym (behind_none q left none)))
 body_is_front h s xs m rest left d q (Err x) l e f opens none g =
-    claims_through x ((chosen_body h s d rest ≡ done faulty) × BlamesBody h s.count d rest x)
-    ((chosen_item h s xs ≡ done faulty) × BlamesFront h s.count xs (frame xs) x)
+    claims_through x ((chosen_body h s d rest ≡ done faulty) × BlamesBody h s d rest x)
+    ((chosen_item h s xs ≡ done faulty) × BlamesFront h s xs (frame xs) x)
     (λ k. (
       body_of h s xs m rest (Some d) e f ∙ k.0,
-      subst (λ (y : Frame). BlamesFront h s.count xs y x) (sym e) (subst (λ (o : Result Header Fault). BlamesOpened h s.count o rest x) (sym opens) k.1),
+      subst (λ (y : Frame). BlamesFront h s xs y x) (sym e) (subst (λ (o : Result Header Fault). BlamesOpened h s o rest x) (sym opens) k.1),
     )) g
 
 body_is_item : (h : Request) (k : Known) (xs m rest left : List ℕ) (d : Header) (q : List ℕ) (r : Result (Option (List AnyArray)) Fault) (l : Known) → frame xs ≡ message m rest
@@ -129,8 +129,8 @@ module _ {S : Type 0} (gives : Gives S) where
         (λ xs v _. record { within = inl v })
         (λ all rest f. record {
           each = λ s at. claims_through e ((frame (p ++ all) ≡ broken) × (e ≡ frame_fault (p ++ all)))
-              ((chosen_item h s (p ++ all) ≡ done faulty) × BlamesFront h s.count (p ++ all) (frame (p ++ all)) e)
-              (λ c. (item_of h s (p ++ all) broken c.0, subst (λ (y : Frame). BlamesFront h s.count (p ++ all) y e) (sym c.0) c.1)) f;
+              ((chosen_item h s (p ++ all) ≡ done faulty) × BlamesFront h s (p ++ all) (frame (p ++ all)) e)
+              (λ c. (item_of h s (p ++ all) broken c.0, subst (λ (y : Frame). BlamesFront h s (p ++ all) y e) (sym c.0) c.1)) f;
         }) g;
   }
 
@@ -146,9 +146,9 @@ module _ {S : Type 0} (gives : Gives S) where
         (λ all rest f.
         let here = is_message (frame (p ++ all)) m q rest f in
         record {
-          each = λ s at. claimed e ((chosen_item h s (p ++ all) ≡ done faulty) × BlamesFront h s.count (p ++ all) (frame (p ++ all)) e) (
+          each = λ s at. claimed e ((chosen_item h s (p ++ all) ≡ done faulty) × BlamesFront h s (p ++ all) (frame (p ++ all)) e) (
             body_of h s (p ++ all) m rest None here none,
-            subst (λ (y : Frame). BlamesFront h s.count (p ++ all) y e) (sym here) (subst (λ (o : Result Header Fault). BlamesOpened h s.count o rest e) (sym opens) refl),
+            subst (λ (y : Frame). BlamesFront h s (p ++ all) y e) (sym here) (subst (λ (o : Result Header Fault). BlamesOpened h s o rest e) (sym opens) refl),
           );
         }) g;
   }

@@ -1,4 +1,5 @@
 pub mod Knowing
+pub mod Naming
 pub mod Openings
 pub mod Sized
 pub mod Prefixes

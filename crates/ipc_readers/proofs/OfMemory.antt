@@ -38,7 +38,7 @@ item_at_failure h s xs l q ys (Ok (fronts.Chunk chunk)) e = absurd (cc e)
 item_at_failure h s xs l q ys (Ok fronts.Dictionary) e = absurd (cc e)
 item_at_failure h s xs l q ys (Ok fronts.Waiting) e = absurd (cc e)
 item_at_failure h s xs l q ys (Ok fronts.Mark) e = absurd (cc e)
-item_at_failure h s xs l q ys (Err x) e = nothing_claimed x ((chosen_item h s xs ≡ done faulty) × BlamesFront h s.count xs (frame xs) x) e
+item_at_failure h s xs l q ys (Err x) e = nothing_claimed x ((chosen_item h s xs ≡ done faulty) × BlamesFront h s xs (frame xs) x) e
 
 pub item_ahead : {S : Type 0} (gives : Gives S) (known : Bool) (memory : S → Memory) → GivesAhead known gives memory → IsTrue known
     → (h : Request) (k l : Known) (p q : List ℕ) (r : Result Found Fault) (a b : S) → ItemGave gives h k p a r l q b

@@ -22,7 +22,7 @@ front_next h s xs (Ok (Some (states.Some chunk))) l begun ys g = (g.0, g.1, chos
 front_next h s xs (Ok (Some states.Waiting)) l begun ys g = (s, g.0, chosen_done h s xs (waits s begun) g.1)
 front_next h s xs (Ok None) l begun ys g = chosen_done h s xs marked g.0
 front_next h s xs (Err e) l begun ys g =
-    claims_through e ((chosen_item h s xs ≡ done faulty) × BlamesFront h s.count xs (frame xs) e) (chosen_meaning h s xs ≡ record { chunks = []; end = faulty })
+    claims_through e ((chosen_item h s xs ≡ done faulty) × BlamesFront h s xs (frame xs) e) (chosen_meaning h s xs ≡ record { chunks = []; end = faulty })
     (λ f. chosen_done h s xs faulty f.0) g
 
 -- a dictionary message at the front changes nothing of what comes

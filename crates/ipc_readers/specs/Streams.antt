@@ -1,6 +1,6 @@
 -- What the calls of a stream's reader do.
 -- (Arrow columnar format, "IPC Streaming Format".)
-use Rattle.std.specs.Prelude.{◌≡◌, ◌≢◌, ◌⊎◌, ℕ, zero, suc, ◌+◌, ◌<◌, ◌≤◌, List, [], ◌∷◌, ◌++◌, length, Option, None, Some, option_map, Result, Ok, Err, IfErr, IfOk, OnErr, map, Bool, true, false, IsTrue}
+use Rattle.std.specs.Prelude.{◌≡◌, ◌≢◌, ◌⊎◌, ℕ, zero, suc, ◌+◌, ◌<◌, ◌≤◌, List, [], ◌∷◌, ◌++◌, length, take, Option, None, Some, option_map, Result, Ok, Err, IfErr, IfOk, OnErr, map, Bool, true, false, IsTrue}
 use Rattle.lower.specs.TypeViews.{fields_view, pairs_of}
 use Rattle.lower.specs.declared.datatypes.schema.Schema as schemas
 use Rattle.lower_arrays.specs.AnyLayouts.{layout_of}
@@ -19,13 +19,13 @@ use Rattle.ipc_model.specs.Batches.{chosen, extra_of, kinds, lists_of}
 use Rattle.ipc_model.specs.Kinds.{count}
 use Rattle.ipc_model.specs.ReadChunks.{HaveMeaning}
 use Rattle.ipc_model.specs.Frame.{Frame, broken, frame, message, mark}
-use Rattle.ipc_model.specs.Streams.{Head, Header, Known, header_of, more, done, faulty, marked, most_dictionaries, with_chunks, nothing_known, waits}
+use Rattle.ipc_model.specs.Streams.{Head, Header, Known, header_of, more, done, faulty, marked, most_dictionaries, with_chunks, nothing_known, waits, whole}
 use Rattle.ipc_projections.specs.ChosenColumns.{asked_by, shown_by}
 use Rattle.ipc_projections.specs.declared.read.chosen.ChosenColumns.{ChosenColumns}
 use Rattle.ipc_read.specs.Chunks.{chunk_seen, order_of}
-use Rattle.ipc_read.specs.DictionaryBatches.{TellsValues}
+use Rattle.ipc_read.specs.DictionaryBatches.{TellsValues, TellsOfValues}
 use Rattle.ipc_read.specs.HeldChunks.{HoldChosen}
-use Rattle.ipc_read.specs.Refusals.{TellsBatch}
+use Rattle.ipc_read.specs.Refusals.{TellsBatch, TellsColumns}
 use Rattle.ipc_readers.specs.ChosenStreams.{Request, chosen_body, chosen_item, chosen_meaning}
 use Rattle.ipc_readers.specs.Frames.{begun_bytes, due, frame_fault}
 use Rattle.ipc_readers.specs.Messages.{opened}
@@ -162,26 +162,31 @@ pub record IsAdmitted (n tag : ℕ) : Type 0 where
   pub kind : (tag ≡ 3) ⊎ (tag ≡ 2)
   pub room : tag ≡ 2 → n < most_dictionaries
 
--- Which faults of the input's a message with this header can have in a stream of which h is asked, n dictionary messages behind the last
--- record, if the header is well made. Where its body may be read, and what is ahead is less than that, it is told as ended. What a fault
--- says of the lists of a batch is so in its table.
-pub record BlamesBody (h : Request) (n : ℕ) (m : Header) (ahead : List ℕ) (e : Fault) : Type 0 where
+-- Which faults of the input's a message with this header can have in a stream of which h is asked, if the header is well made, where s is what
+-- is known and how many dictionary messages came behind the last record. Where its body may be read, and what is ahead is less than that, it is
+-- told as ended. What a fault says of the lists of a batch is so in its table; and where its body is ahead, so is what it says of the entries
+-- there, and of the dictionaries that are known.
+pub record BlamesBody (h : Request) (s : Known) (m : Header) (ahead : List ℕ) (e : Fault) : Type 0 where
   pub record_batch : m.tag ≡ 3 → IsRecordFault h e
-  pub dictionary_batch : m.tag ≡ 2 → IsDictionaryMessageFault h.head.schema n m.table e
+  pub dictionary_batch : m.tag ≡ 2 → IsDictionaryMessageFault h.head.schema s.count m.table e
   pub other : m.tag ≢ 2 → m.tag ≢ 3 → e ≡ OutOfSpec UnexpectedMessageType
-  pub cut : length ahead < m.body → IsAdmitted n m.tag → e ≡ Ended
+  pub cut : length ahead < m.body → IsAdmitted s.count m.tag → e ≡ Ended
   pub record_lists : m.tag ≡ 3 → TellsBatch h.head.schema (extra_of h.head.version) m.table m.body e
   pub dictionary_lists : m.tag ≡ 2 → TellsValues h.head.schema (extra_of h.head.version) m.table m.body e
+  pub record_entries : m.tag ≡ 3 → m.body ≤ length ahead
+      → TellsColumns true h.head.schema.order (extra_of h.head.version) s.dictionaries (whole (take m.body ahead)) m.table e
+  pub dictionary_entries : m.tag ≡ 2 → m.body ≤ length ahead
+      → TellsOfValues true h.head.schema (extra_of h.head.version) s.dictionaries (whole (take m.body ahead)) m.table e
 
-abbrev pub BlamesOpened : Request → ℕ → Result Header Fault → (ahead : List ℕ) → Fault → Type 0
-BlamesOpened h n (Ok m) ahead e = BlamesBody h n m ahead e
-BlamesOpened h n (Err f) ahead e = e ≡ f
+abbrev pub BlamesOpened : Request → Known → Result Header Fault → (ahead : List ℕ) → Fault → Type 0
+BlamesOpened h s (Ok m) ahead e = BlamesBody h s m ahead e
+BlamesOpened h s (Err f) ahead e = e ≡ f
 
 -- Which fault of the input's what stands at the front of xs has: that of the frame, that of its metadata, or one of its kind.
-abbrev pub BlamesFront : Request → ℕ → (xs : List ℕ) → Frame → Fault → Type 0
-BlamesFront h n xs (message metadata behind) e = BlamesOpened h n (opened metadata) behind e
-BlamesFront h n xs broken e = e ≡ frame_fault xs
-BlamesFront h n xs _ e = ⊥
+abbrev pub BlamesFront : Request → Known → (xs : List ℕ) → Frame → Fault → Type 0
+BlamesFront h s xs (message metadata behind) e = BlamesOpened h s (opened metadata) behind e
+BlamesFront h s xs broken e = e ≡ frame_fault xs
+BlamesFront h s xs _ e = ⊥
 
 -- how many dictionary messages came since the last record: none behind a chunk, one more behind a dictionary
 abbrev pub Counted : Option (List AnyArray) → (old new : ℕ) → Type 0
@@ -201,7 +206,7 @@ of_dictionary (Err e) = Err e
 -- what l is; and it holds no more than its message lists. A fault of the input's says that it means nothing, and is one of its kind.
 abbrev pub ReadsBody : Request → (s : Known) → Header → List ℕ → Result (Option (List AnyArray)) Fault → (l : Known) → List ℕ → Type 0
 ReadsBody h s m xs (Ok c) l ys = (t : Known) × AreAt t l × (chosen_body h s m xs ≡ more (option_map chunk_seen c) t ys) × BodyHolds h m.table c
-ReadsBody h s m xs (Err e) l ys = OwnFault e ((chosen_body h s m xs ≡ done faulty) × BlamesBody h s.count m xs e)
+ReadsBody h s m xs (Err e) l ys = OwnFault e ((chosen_body h s m xs ≡ done faulty) × BlamesBody h s m xs e)
 
 -- the same for whoever knows as much as k
 pub record GivesBody (h : Request) (k : Known) (m : Header) (xs : List ℕ) (r : Result (Option (List AnyArray)) Fault) (l : Known) (ys : List ℕ) : Type 0 where
@@ -223,7 +228,7 @@ ReadsItem h s xs (Ok (fronts.Chunk chunk)) l begun ys =
 ReadsItem h s xs (Ok fronts.Dictionary) l begun ys = (t : Known) × AreAt t l × (chosen_item h s xs ≡ more None t ys)
 ReadsItem h s xs (Ok fronts.Waiting) l begun ys = AreAt s l × (chosen_item h s xs ≡ done (waits s begun))
 ReadsItem h s xs (Ok fronts.Mark) l begun ys = (chosen_item h s xs ≡ done marked) × (frame xs ≡ mark ys)
-ReadsItem h s xs (Err e) l begun ys = OwnFault e ((chosen_item h s xs ≡ done faulty) × BlamesFront h s.count xs (frame xs) e)
+ReadsItem h s xs (Err e) l begun ys = OwnFault e ((chosen_item h s xs ≡ done faulty) × BlamesFront h s xs (frame xs) e)
 
 -- the same for whoever knows as much as k
 pub record GivesItem (h : Request) (k : Known) (xs : List ℕ) (r : Result Found Fault) (l : Known) (begun ys : List ℕ) : Type 0 where

@@ -1,4 +1,4 @@
-use Rattle.std.proofs.Common.{rules, ◌≡◌, refl, sym, None, Option, ℕ, List, map, length, subst, Ok, Err}
+use Rattle.std.proofs.Common.{true, rules, ◌≡◌, refl, sym, None, Option, ℕ, List, map, length, subst, Ok, Err}
 use Rattle.std.specs.Option.{option_copied}
 use Rattle.lower.specs.TypeViews.{pairs_of}
 use Rattle.lower.specs.declared.datatypes.Field.{Field}
@@ -13,7 +13,7 @@ use Rattle.ipc_model.specs.ReadChunks.{HaveMeaning}
 use Rattle.ipc_read.specs.Chunks.{GivesBatch, batch_schema, chunk_seen, order_of}
 use Rattle.ipc_read.specs.Columns.{ArePrepared}
 use Rattle.ipc_read.specs.HeldChunks.{HoldChosen}
-use Rattle.ipc_read.specs.Refusals.{IsFaultOfBatch, TellsBatch}
+use Rattle.ipc_read.specs.Refusals.{IsFaultOfBatch, TellsBatch, TellsColumns}
 use Rattle.ipc_read.proofs.AskedColumns.{are_prepared, as_many_read, values_in_order}
 use Rattle.ipc_readers.proofs.GivenColumns.{given_columns, no_memory, refused_columns, stream_faults}
 use Rattle.ipc_projections.specs.ChosenColumns.{rising_by}
@@ -81,10 +81,12 @@ returns-in_err-read-clause-memory c =
     let blamed : Blames (option_copied c.rising.result) c.deref.result.now = c.in_err-read.ensures.only in
     let Tells : List Field → Type 0 = λ ds. TellsBatch (batch_schema ds m.ipc_schema) (extra_of m.version) c.args.batch (length body) fault in
     let told : Tells c.deref.result.now = c.in_err-read.ensures.lists in
+    let Names : List ℕ → Type 0 = λ bs. TellsColumns true (order_of m.ipc_schema.is_little_endian) (extra_of m.version) (known_dictionaries old.dictionaries) (record { source = bs; base = 0; size = length body }) c.args.batch fault in
+    let named : Names bytes = c.in_err-read.ensures.tells in
     rw e (refused_columns old.projection fs (pairs_of m.schema.metadata.entries) is (order_of m.ipc_schema.is_little_endian) m.version c.rising.ensures.same
     (known_in old) c.args.batch body fault
     (subst (λ ds. Blames (rising_by old.projection) ds) fields_are (subst (λ p. Blames p c.deref.result.now) c.rising.ensures.columns blamed))
-    (subst (λ ds. Tells ds) fields_are told) (subst (λ bs. Read (rising_by old.projection) fs bs) bytes_are (subst (λ ds. Read (rising_by old.projection) ds bytes) fields_are (subst (λ p. Read p c.deref.result.now bytes) c.rising.ensures.columns given))))
+    (subst (λ ds. Tells ds) fields_are told) (subst (λ bs. Names bs) bytes_are named) (subst (λ bs. Read (rising_by old.projection) fs bs) bytes_are (subst (λ ds. Read (rising_by old.projection) ds bytes) fields_are (subst (λ p. Read p c.deref.result.now bytes) c.rising.ensures.columns given))))
 
 pub returns-in_err-chunk-clause-memory : goal.returns-in_err-chunk-clause-memory
 returns-in_err-chunk-clause-memory c =

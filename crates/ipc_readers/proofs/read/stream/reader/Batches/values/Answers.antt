@@ -1,4 +1,4 @@
-use Rattle.std.proofs.Common.{rules, ◌≡◌, ◌+◌, refl, ℕ, List, length, subst, Result, Ok, Err}
+use Rattle.std.proofs.Common.{true, rules, ◌≡◌, ◌+◌, refl, ℕ, List, length, subst, Result, Ok, Err}
 use Rattle.lower.specs.TypeViews.{fields_view, pairs_of}
 use Rattle.lower.specs.declared.datatypes.Field.{Field}
 use Rattle.ipc_base.specs.IdTrees.{all_ids_view}
@@ -7,7 +7,7 @@ use Rattle.ipc_devices.specs.Faults.{OwnFault}
 use Rattle.ipc_devices.specs.declared.fault.Fault.{Fault}
 use Rattle.ipc_model.specs.Batches.{extra_of}
 use Rattle.ipc_read.specs.Chunks.{batch_schema, order_of}
-use Rattle.ipc_read.specs.DictionaryBatches.{BlamesDictionary, GivesDictionary, TellsValues}
+use Rattle.ipc_read.specs.DictionaryBatches.{BlamesDictionary, GivesDictionary, TellsValues, TellsOfValues}
 use Rattle.ipc_readers.proofs.Bodies.{values_give}
 use Rattle.ipc_projections.specs.ChosenColumns.{asked_by}
 use Rattle.ipc_readers.specs.Streams.{known_in}
@@ -27,7 +27,7 @@ returns-clause-memory c =
     let Read : List Field → List ℕ → Type 0 = λ ds bs. GivesDictionary (batch_schema ds m.ipc_schema) (extra_of m.version) (known_dictionaries old.dictionaries) (record { source = bs; base = 0; size = length body }) c.args.batch r after in
     let given : Read c.deref.result.now bytes = c.in_ok-read_dictionary.ensures.memory refl in
     values_give (fields_view fs) (pairs_of m.schema.metadata.entries) (all_ids_view m.ipc_schema.fields.items) (order_of m.ipc_schema.is_little_endian) m.version (asked_by old.projection) (known_in old)
-    c.args.batch body r (record { dictionaries = after; count = old.count + 1 }) c.requires refl tt tt
+    c.args.batch body r (record { dictionaries = after; count = old.count + 1 }) c.requires refl tt tt tt
     (subst (λ bs. Read fs bs) bytes_are (subst (λ ds. Read ds bytes) fields_are given))
 
 pub returns-in_err-read_dictionary-clause-memory : goal.returns-in_err-read_dictionary-clause-memory
@@ -49,7 +49,9 @@ returns-in_err-read_dictionary-clause-memory c =
     let blamed : Blames c.deref.result.now = c.in_err-read_dictionary.ensures.blames in
     let Tells : List Field → Type 0 = λ ds. TellsValues (batch_schema ds m.ipc_schema) (extra_of m.version) c.args.batch (length body) fault in
     let told : Tells c.deref.result.now = c.in_err-read_dictionary.ensures.lists in
+    let Names : List Field → List ℕ → Type 0 = λ ds bs. TellsOfValues true (batch_schema ds m.ipc_schema) (extra_of m.version) (known_dictionaries old.dictionaries) (record { source = bs; base = 0; size = length body }) c.args.batch fault in
+    let named : Names c.deref.result.now bytes = c.in_err-read_dictionary.ensures.tells in
     rw e (values_give (fields_view fs) (pairs_of m.schema.metadata.entries) (all_ids_view m.ipc_schema.fields.items) (order_of m.ipc_schema.is_little_endian) m.version (asked_by old.projection) (known_in old)
     c.args.batch body r (record { dictionaries = after; count = old.count }) c.requires tt
-    (subst (λ ds. Blames ds) fields_are blamed) (subst (λ ds. Tells ds) fields_are told)
+    (subst (λ ds. Blames ds) fields_are blamed) (subst (λ ds. Tells ds) fields_are told) (subst (λ bs. Names fs bs) bytes_are (subst (λ ds. Names ds bytes) fields_are named))
     (subst (λ bs. Read fs bs) bytes_are (subst (λ ds. Read ds bytes) fields_are given)))
