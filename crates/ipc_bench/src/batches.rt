@@ -3,7 +3,7 @@
 use crate::fixtures::{int32, refusal};
 use arrow2_ipc::array::{AnyArray, equal};
 use arrow2_ipc::chunk::Chunk;
-use arrow2_ipc::datatypes::{DataType, Field, Metadata};
+use arrow2_ipc::datatypes::{DataType, Field};
 use arrow2_ipc::io::ipc::IpcSchema;
 use arrow2_ipc::io::ipc::fault::{Failures, Fault, OutOfSpecKind, Reads, Watched};
 use arrow2_ipc::io::ipc::format::{
@@ -39,12 +39,7 @@ fn number_columns(alloc: Global, count: u32) -> Result<Columns, Fault> {
 }
 
 fn put_column(alloc: Global, columns: &mut Columns, number: u32) -> Result<(), Fault> {
-    let field = Field {
-        name: String::new(alloc),
-        data_type: DataType::Int32,
-        is_nullable: false,
-        metadata: Metadata::new(alloc),
-    };
+    let field = Field::new(String::new(alloc), DataType::Int32, false);
     columns.fields.push(field)?;
     let node = FieldNode {
         length: 1,

@@ -1,9 +1,8 @@
 //! The documented example: two columns of 32-bit numbers, `x` and `y`, of two rows; and what several tests need.
 
-use arrow2_ipc::array::{AnyArray, AnyPrimitive, PrimitiveArray};
-use arrow2_ipc::buffer::Buffer;
+use arrow2_ipc::array::{AnyArray, Int32Array};
 use arrow2_ipc::chunk::Chunk;
-use arrow2_ipc::datatypes::{DataType, Field, Metadata, Schema};
+use arrow2_ipc::datatypes::{DataType, Field, Schema};
 use arrow2_ipc::io::ipc::fault::Fault;
 use arrow2_ipc::io::ipc::format::Block;
 use std::alloc::Global;
@@ -22,41 +21,20 @@ pub fn make_example(alloc: Global) -> Result<Example, Fault> {
 }
 
 fn schema(alloc: Global) -> Result<Schema, Fault> {
-    let mut fields = Vec::new(alloc);
-    put_field(alloc, &mut fields, "x")?;
-    put_field(alloc, &mut fields, "y")?;
-    Ok(Schema {
-        fields,
-        metadata: Metadata::new(alloc),
-    })
-}
-
-fn put_field(alloc: Global, fields: &mut Vec<Field>, name: &str) -> Result<(), Fault> {
-    let field = Field {
-        name: name.to_string(alloc)?,
-        data_type: DataType::Int32,
-        is_nullable: false,
-        metadata: Metadata::new(alloc),
-    };
-    Ok(fields.push(field)?)
+    let x = Field::new("x".to_string(alloc)?, DataType::Int32, false);
+    let y = Field::new("y".to_string(alloc)?, DataType::Int32, false);
+    Ok(Schema::from(vec![in alloc; x, y]?))
 }
 
 fn chunk(alloc: Global) -> Result<Chunk<AnyArray>, Fault> {
-    let mut columns = Vec::new(alloc);
-    put_column(alloc, &mut columns, &[-1, 1])?;
-    put_column(alloc, &mut columns, &[1, -1])?;
-    Chunk::try_new(columns)
-}
-
-fn put_column(alloc: Global, columns: &mut Vec<AnyArray>, numbers: &[i32]) -> Result<(), Fault> {
-    Ok(columns.push(int32(alloc, numbers)?)?)
+    let x = int32(alloc, &[-1, 1])?;
+    let y = int32(alloc, &[1, -1])?;
+    Chunk::try_new(vec![in alloc; x, y]?)
 }
 
 /// A column of 32-bit numbers.
 pub fn int32(alloc: Global, numbers: &[i32]) -> Result<AnyArray, Fault> {
-    let values = Buffer::new(Vec::from_slice(alloc, numbers)?)?;
-    let array = PrimitiveArray::try_new(DataType::Int32, values, None)?;
-    Ok(AnyArray::Primitive(AnyPrimitive::Int32(array)))
+    Ok(AnyArray::from(Int32Array::from_slice(alloc, numbers)?))
 }
 
 /// Room for all bytes of an example, so that a device over it never grows. It is asked for again where memory was refused.
