@@ -16,7 +16,7 @@ use std::io;
 
 /// Gives pieces of bytes, and answers 0 once at the end of each, as a pipe does whose writer pauses.
 #[derive(Drop)]
-struct Pieces {
+pub struct Pieces {
     piece: MemFile<Vec<u8>>,
     // the last one comes first
     later: Vec<Vec<u8>>,
@@ -25,7 +25,7 @@ struct Pieces {
 
 impl Pieces {
     /// A device that gives these pieces in turn.
-    fn new(alloc: Global, pieces: &[&[u8]]) -> Result<Pieces, AllocError>
+    pub fn new(alloc: Global, pieces: &[&[u8]]) -> Result<Pieces, AllocError>
         ensures { IfOk result (λ device. device.given ≡ 0) }
     {
         let mut later = Vec::new(alloc);

@@ -65,7 +65,7 @@ impl Told {
 }
 
 /// The letter of a fault: `i` where a device failed, `m` where memory was refused; of a writer that is started `s`, that is done `d`, and
-/// whose device failed before `f`; else `x`.
+/// whose device failed before `f`; of a stream with too many dictionaries before a record `t`; else `x`.
 pub fn letter(fault: &Fault) -> char {
     match fault {
         Fault::Io(_) => 'i',
@@ -73,6 +73,7 @@ pub fn letter(fault: &Fault) -> char {
         Fault::State(StateFault::AlreadyStarted) => 's',
         Fault::State(StateFault::Finished) => 'd',
         Fault::State(StateFault::Failed) => 'f',
+        Fault::TooManyDictionaries => 't',
         _ => 'x',
     }
 }
