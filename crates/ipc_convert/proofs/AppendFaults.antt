@@ -2,8 +2,8 @@
 use Rattle.std.proofs.Common.{◌≡◌, ◌⊎◌, ℕ, List, None, Some, Ok, Bool, inl, inr, subst}
 use Rattle.lower.specs.TypeTrees.{FieldTrees, Pairs}
 use Rattle.lower.specs.TypeViews.{schema_view}
+use Rattle.ipc_devices.proofs.Claims.{claimed, claims_through}
 use Rattle.ipc_base.specs.IdTrees.{IdTrees, all_ids_view}
-use Rattle.ipc_devices.proofs.Stops.{claimed}
 use Rattle.ipc_devices.specs.Device.{Memory}
 use Rattle.ipc_devices.specs.Faults.{OwnFault}
 use Rattle.ipc_devices.specs.Gives.{Gives, GivesAhead}
@@ -11,7 +11,6 @@ use Rattle.ipc_devices.specs.declared.fault.ArgFault.TheVariants.{FieldsDiffer}
 use Rattle.ipc_devices.specs.declared.fault.Fault.{Fault}
 use Rattle.ipc_devices.specs.declared.fault.Fault.TheVariants.{Argument}
 use Rattle.ipc_model.specs.Files.{FileMetadata, metadata_of}
-use Rattle.ipc_read.proofs.Refusals.{claims_through}
 use Rattle.ipc_readers.specs.Metadata.{MetadataGave}
 use Rattle.ipc_readers.specs.declared.read.stream.metadata.StreamMetadata.{StreamMetadata}
 use Rattle.ipc_files.specs.Files.{FileReason}

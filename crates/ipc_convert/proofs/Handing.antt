@@ -1,12 +1,12 @@
 -- Chunks that are handed on, one after the other.
 use Rattle.std.proofs.Common.{◌≡◌, ℕ, ◌+◌, ◌-◌, ◌^◌, ◌≤◌, List, [], ◌∷◌, ◌++◌, length, Option, Some, Err, inl, inr, refl, sym, subst, append-nil, length-append, arith}
 use Rattle.lower_arrays.specs.declared.array.AnyArray.{AnyArray}
+use Rattle.ipc_devices.proofs.Claims.{claims_through}
 use Rattle.ipc_devices.specs.Faults.{OnRefused, OwnFault}
 use Rattle.ipc_devices.specs.declared.fault.ArgFault.TheVariants.{TooLarge}
 use Rattle.ipc_devices.specs.declared.fault.Fault.{Fault}
 use Rattle.ipc_devices.specs.declared.fault.Fault.TheVariants.{Argument, Io}
 use Rattle.ipc_model.specs.Batches.{Chunk}
-use Rattle.ipc_read.proofs.Refusals.{claims_through}
 use Rattle.ipc_read.specs.Chunks.{chunk_seen}
 use Rattle.ipc_convert.specs.Chunks.{BreaksAt, Copied, CopiedOne, Handed, HandedOne, MovedInTurn, Moved, Nothing, RefusesAt, StopsCopy, StopsOne, TookWhatCame}
 use Rattle.ipc_convert.specs.declared.chunks.Ending.{Ending}

@@ -1,5 +1,6 @@
 -- A stream that was read to its end, or to where it waits.
 use Rattle.std.proofs.Common.{◌≡◌, ℕ, List, [], ◌∷◌, ◌++◌, Option, None, Some, Result, Ok, Err, Bool, true, false, refl, sym, ap, subst, ◌∙◌, append-nil, append_assoc, zero, suc}
+use Rattle.ipc_devices.proofs.Claims.{claims_through}
 use Rattle.ipc_devices.specs.Device.{Memory}
 use Rattle.ipc_devices.specs.Faults.{OwnFault}
 use Rattle.ipc_devices.specs.Gives.{Stop, going, ended, Follows, Gives, GivesInOrder}
@@ -11,7 +12,6 @@ use Rattle.ipc_model.specs.Frame.{frame, mark}
 use Rattle.ipc_model.specs.Streams.{End, Known, Meant, faulty, marked, meaning, more, nothing_known, waits, with_chunks}
 use Rattle.ipc_model.specs.WholeStreams.{Stream, stream_of}
 use Rattle.ipc_read.specs.Chunks.{chunk_seen}
-use Rattle.ipc_read.proofs.Refusals.{claims_through}
 use Rattle.ipc_readers.proofs.ChosenStreams.{chosen_done, chosen_more, whole_law}
 use Rattle.ipc_readers.proofs.Loops.{same_request}
 use Rattle.ipc_readers.specs.ChosenStreams.{Request, chosen_item, chosen_meaning}

@@ -5,10 +5,10 @@ use Rattle.lower_types.specs.declared.Endianness.{Endianness}
 use Rattle.lower_types.specs.declared.Endianness.TheVariants.{Big, Little}
 use Rattle.lower_arrays.specs.AnyLayouts.{layout_of}
 use Rattle.lower_arrays.specs.declared.array.AnyArray.{AnyArray}
+use Rattle.ipc_devices.proofs.Claims.{claimed}
 use Rattle.ipc_base.specs.IdTrees.{IdTrees}
 use Rattle.ipc_devices.specs.Device.{Memory, before}
 use Rattle.ipc_devices.specs.Faults.{OnRefused, OwnFault}
-use Rattle.ipc_devices.proofs.Stops.{claimed}
 use Rattle.ipc_devices.specs.declared.fault.Fault.{Fault}
 use Rattle.ipc_laws.specs.Messages.{column_written}
 use Rattle.ipc_model.specs.Batches.{Chunk, Schema}

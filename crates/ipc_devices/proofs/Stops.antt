@@ -35,19 +35,6 @@ pub answer_going : (X : Type 0) (r : Result X Fault) → OnIo r ⊥ → AnswerSt
 answer_going X (Ok x) h = refl
 answer_going X (Err e) h = fault_going X e h
 
--- a claim that holds
-pub claimed : (e : Fault) (P : Type 0) → P → OwnFault e P
-claimed (Faults.OutOfSpec k) P p = p
-claimed Faults.Ended P p = p
-claimed (Faults.NotYetImplemented n) P p = p
-claimed (Faults.Schema s) P p = p
-claimed (Faults.Argument a) P p = p
-claimed (Faults.State s) P p = p
-claimed Faults.TooManyDictionaries P p = p
-claimed (Faults.Io e) P p = tt
-claimed Faults.Memory P p = tt
-claimed (Faults.Lower e) P p = p
-
 -- a device that failed leaves no claim of ours
 pub nothing_claimed : (e : Fault) (P : Type 0) → FaultStop e failed → OwnFault e P
 nothing_claimed (Faults.OutOfSpec k) P s = absurd s

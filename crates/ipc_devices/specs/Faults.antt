@@ -27,11 +27,6 @@ OwnFault Memory P = Unit {0}
 OwnFault (Io e) P = Unit {0}
 OwnFault _ P = P
 
--- the same of an answer
-abbrev pub OnOwnFault : {X : Type 0} → Result X Fault → Type 0 → Type 0
-OnOwnFault (Ok x) P = Unit {0}
-OnOwnFault (Err e) P = OwnFault e P
-
 -- The answer is Ok exactly where `well` holds, and is then as `value` says. Memory and the devices tell nothing.
 abbrev pub Answers : {X : Type 0} → Result X Fault → Type 0 → (X → Type 0) → Type 0
 Answers (Ok x) well value = well × value x

@@ -1,5 +1,5 @@
 -- What the reads of a device gave, from one state of it to another.
-use Rattle.std.specs.Prelude.{◌≡◌, ◌⊎◌, ℕ, ◌+◌, ◌<◌, ◌≤◌, min, Bool, IsTrue, List, [], ◌++◌, length, take, Option, Some, None, Result, Ok, Err}
+use Rattle.std.specs.Prelude.{◌≡◌, ◌⊎◌, ℕ, ◌+◌, ◌<◌, ◌≤◌, min, Bool, IsTrue, List, [], ◌++◌, length, take, Result, Ok, Err}
 use Rattle.ipc_devices.specs.Device.{Memory, Rises, after, most}
 use Rattle.ipc_devices.specs.declared.fault.Fault.{Fault}
 use Rattle.ipc_devices.specs.declared.fault.Fault.TheVariants.{Ended, Io}
@@ -68,11 +68,6 @@ pub record ReadGives {S : Type 0} (gives : Gives S) (a : S) (n : ℕ) (buf : Lis
   pub none : n ≡ 0 → 0 < length buf → gives a [] ended b
   pub idle : length buf ≡ 0 → gives a [] going b
 
--- Bytes were shown, and gone past. Where none were, nothing was given.
-abbrev pub PassGives : {S : Type 0} → Gives S → S → Option (List ℕ) → S → Type 0
-PassGives gives a (Some bytes) b = gives a bytes going b
-PassGives gives a None b = gives a [] going b
-
 -- So many bytes were passed, or all where there are fewer.
 abbrev pub SkipGives : {S E : Type 0} → Gives S → S → ℕ → Result Unit E → S → Type 0
 SkipGives gives a count (Ok _) b = (xs : List ℕ)
@@ -118,11 +113,6 @@ StopsBefore gives a count e b = (xs : List ℕ) × (length xs < count) × gives 
 abbrev pub PieceGives : {S : Type 0} → Gives S → S → (held : List ℕ) → ℕ → Result Unit Fault → (held' : List ℕ) → S → Type 0
 PieceGives gives a held count (Ok _) held' b = (xs : List ℕ) × (length xs ≡ count) × (held' ≡ held ++ xs) × gives a xs going b
 PieceGives gives a held count (Err e) held' b = StopsBefore gives a count e b
-
--- So many bytes were given.
-abbrev pub BytesGive : {S : Type 0} → Gives S → S → ℕ → Result (List ℕ) Fault → S → Type 0
-BytesGive gives a count (Ok bytes) b = (length bytes ≡ count) × gives a bytes going b
-BytesGive gives a count (Err e) b = StopsBefore gives a count e b
 
 abbrev pub IntoGives : {S : Type 0} → Gives S → S → ℕ → Result Unit Fault → List ℕ → S → Type 0
 IntoGives gives a count (Ok _) bytes b = (length bytes ≡ count) × gives a bytes going b

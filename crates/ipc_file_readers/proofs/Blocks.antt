@@ -4,6 +4,7 @@ use Rattle.std.specs.Prelude.{slice_get, option_map, is_some}
 use Rattle.std.specs.HashMap.{HashMap}
 use Rattle.std.specs.declared.rc.Rc.{Rc}
 use Rattle.lower_arrays.specs.declared.array.AnyArray.{AnyArray}
+use Rattle.ipc_devices.proofs.Claims.{claims_through}
 use Rattle.ipc_devices.specs.Faults.{OnIo, UnlessIo, OwnFault}
 use Rattle.ipc_devices.specs.declared.fault.Fault.{Fault}
 use Rattle.ipc_devices.specs.declared.fault.Fault.TheVariants as faults
@@ -23,7 +24,6 @@ use Rattle.ipc_read.specs.Chunks.{chunk_seen}
 use Rattle.ipc_files.specs.Batches.{HoldBatch, IsRecordFault, RecordReason, block_metadata, needed_bytes}
 use Rattle.ipc_files.specs.Footers.{GivesPart, file_seen}
 use Rattle.ipc_files.specs.declared.read.file.metadata.FileMetadata.{FileMetadata}
-use Rattle.ipc_read.proofs.Refusals.{claims_through}
 use Rattle.ipc_file_readers.proofs.AskedFaults.{bytes_asked, fault_asked, held_asked, many_asked, reason_asked}
 use Rattle.ipc_file_readers.proofs.Chunks.{chunk_alike, given_in_order, refused_in_order}
 use Rattle.ipc_file_readers.specs.Readers.{AreKnown, HoldValues, values_in}

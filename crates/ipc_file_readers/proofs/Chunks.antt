@@ -5,6 +5,7 @@ use Rattle.std.specs.Prelude.{slice_get}
 use Rattle.std.specs.List.Sorted.{IsPermutation}
 use Rattle.std.proofs.lemmas.List.{length-map}
 use Rattle.lower_arrays.specs.declared.array.AnyArray.{AnyArray}
+use Rattle.ipc_devices.proofs.Claims.{claims_through}
 use Rattle.ipc_devices.specs.Faults.{OwnFault}
 use Rattle.ipc_devices.specs.declared.fault.Fault.{Fault}
 use Rattle.ipc_views.specs.declared.file.Block.{Block}
@@ -21,7 +22,6 @@ use Rattle.ipc_projections.specs.declared.read.chosen.ChosenColumns.{ChosenColum
 use Rattle.ipc_projections.proofs.AskedOrder.{asked_images, asked_record_law, given_as_asked, then_asked}
 use Rattle.ipc_read.specs.Chunks.{chunk_seen, column_seen}
 use Rattle.ipc_files.specs.Footers.{GivesPart}
-use Rattle.ipc_read.proofs.Refusals.{claims_through}
 
 given_same : {X : Type 0} (o : Option X) (f g : X → Option Chunk) → ((x : X) → f x ≡ g x) → given o f ≡ given o g
 given_same None f g h = refl

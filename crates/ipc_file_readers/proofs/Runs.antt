@@ -3,13 +3,13 @@ use Rattle.std.proofs.Common.{◌≡◌, ◌⊎◌, ℕ, zero, suc, ◌+◌, ◌
 use Rattle.std.specs.Prelude.{vec_len}
 use Rattle.std.proofs.lemmas.Bool.{cases_Bool}
 use Rattle.lower_arrays.specs.declared.array.AnyArray.{AnyArray}
+use Rattle.ipc_devices.proofs.Claims.{claims_through}
 use Rattle.ipc_devices.specs.Device.{Memory}
 use Rattle.ipc_devices.specs.declared.fault.Fault.{Fault}
 use Rattle.ipc_model.specs.Entries.{Dictionaries, Limit}
 use Rattle.ipc_model.specs.Files.{FileMetadata as Meaning, file_dictionaries}
 use Rattle.ipc_laws.specs.Agreement.{AreAlike, KnowAlike}
 use Rattle.ipc_files.specs.Footers.{file_seen}
-use Rattle.ipc_read.proofs.Refusals.{claims_through}
 use Rattle.ipc_file_readers.specs.Readers.{Answer, AreKnown, NextStep, WasNext, WereRefused, asked_of, block_of, blocks_left, device_of, file_of, is_over, known_of, metadata_of, remaining_of}
 use Rattle.ipc_file_readers.specs.Runs.{AreItems, AreNone, Calls, HoldsDictionaries, IsToldOnce, ItemsLaw, OverLaw, ToldOnceLaw}
 use Rattle.ipc_file_readers.specs.declared.read.reader.state.FileReader.{FileReader}

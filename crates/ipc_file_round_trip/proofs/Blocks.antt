@@ -6,6 +6,7 @@ use Rattle.std.proofs.Math.Numerals.{add-one}
 use Rattle.lower_arrays.specs.AnyLayouts.{layout_of}
 use Rattle.lower_arrays.specs.Layouts.{len_of}
 use Rattle.lower_arrays.specs.declared.array.AnyArray.{AnyArray}
+use Rattle.ipc_devices.proofs.Claims.{claims_through}
 use Rattle.ipc_devices.specs.Faults.{OwnFault}
 use Rattle.ipc_devices.specs.declared.fault.Fault.{Fault}
 use Rattle.ipc_views.specs.declared.file.Block.{Block}
@@ -17,7 +18,6 @@ use Rattle.ipc_model.specs.Kinds.{count}
 use Rattle.ipc_model.specs.Schemas.{given}
 use Rattle.ipc_read.specs.Chunks.{chunk_seen}
 use Rattle.ipc_read.proofs.Meanings.{length-slots_from}
-use Rattle.ipc_read.proofs.Refusals.{claims_through}
 use Rattle.ipc_file_readers.proofs.Rows.{block_pruned}
 use Rattle.ipc_file_readers.specs.Readers.{less, rows_given}
 use Rattle.ipc_file_readers.specs.Runs.{AreItems}

@@ -3,6 +3,7 @@ use Rattle.std.proofs.Common.{◌≡◌, ℕ, List, length, Option, None, Some, 
 use Rattle.std.specs.Borrow.{Bor}
 use Rattle.std.specs.Option.{option_map}
 use Rattle.lower.specs.TypeViews.{pairs_of, schema_view}
+use Rattle.ipc_devices.proofs.Claims.{claims_own, claims_through}
 use Rattle.ipc_base.specs.IdTrees.{all_ids_view, ipc_schema_view}
 use Rattle.ipc_devices.specs.Device.{Rises}
 use Rattle.ipc_devices.specs.Faults.{OnIo, OwnFault}
@@ -14,7 +15,6 @@ use Rattle.ipc_model.specs.Files.{FileMetadata as Meaning, metadata_of, or_no_bl
 use Rattle.ipc_model.specs.Kinds.{count}
 use Rattle.ipc_model.specs.Schemas.{given}
 use Rattle.ipc_read.proofs.Fields.{field_count}
-use Rattle.ipc_read.proofs.Refusals.{claims_own, claims_through}
 use Rattle.ipc_read.specs.Chunks.{order_of}
 use Rattle.ipc_readers.proofs.OfMemory.{no_failure}
 use Rattle.ipc_files.specs.Files.{FileReason}

@@ -3,6 +3,7 @@ use Rattle.std.proofs.Common.{◌≡◌, ℕ, ◌+◌, ◌<◌, ◌≤◌, List,
 use Rattle.std.specs.Option.{option_map}
 use Rattle.std.specs.Prelude.{slice_get, vec_len}
 use Rattle.lower_arrays.specs.declared.array.AnyArray.{AnyArray}
+use Rattle.ipc_devices.proofs.Claims.{claims_through}
 use Rattle.ipc_base.specs.IdTrees.{all_ids_view}
 use Rattle.ipc_devices.specs.Device.{Memory}
 use Rattle.ipc_devices.specs.Faults.{OwnFault}
@@ -14,7 +15,6 @@ use Rattle.ipc_model.specs.Files.{FileMetadata as Meaning, all_of, chunk_at, chu
 use Rattle.ipc_model.specs.Kinds.{count}
 use Rattle.ipc_model.specs.Schemas.{given as given_then}
 use Rattle.ipc_read.proofs.Fields.{field_count}
-use Rattle.ipc_read.proofs.Refusals.{claims_through}
 use Rattle.ipc_files.specs.Footers.{file_seen}
 use Rattle.ipc_files.specs.declared.read.file.metadata.FileMetadata.{FileMetadata}
 use Rattle.ipc_file_readers.proofs.Rows.{rows_law}

@@ -2,6 +2,7 @@
 use Rattle.std.proofs.Common.{◌≡◌, ℕ, suc, ◌+◌, ◌-◌, ◌<◌, ◌≤◌, List, [], ◌∷◌, ◌++◌, length, drop, Bool, true, false, IsTrue, nat_le, Option, None, Some, MatchOption, Ok, Err, refl, sym, ap, ◌∙◌, subst, arith, inl, inr, length-drop}
 use Rattle.std.specs.Prelude.{slice_get, vec_len}
 use Rattle.lower_arrays.specs.declared.array.AnyArray.{AnyArray}
+use Rattle.ipc_devices.proofs.Claims.{claims_own, claims_through}
 use Rattle.ipc_base.specs.IdTrees.{all_ids_view}
 use Rattle.ipc_devices.specs.Device.{Memory}
 use Rattle.ipc_devices.specs.Faults.{OwnFault}
@@ -13,7 +14,6 @@ use Rattle.ipc_model.specs.Files.{FileMetadata as Meaning, chunk_at, file_dictio
 use Rattle.ipc_model.specs.Kinds.{count}
 use Rattle.ipc_laws.specs.Agreement.{AreAlike, KnowAlike}
 use Rattle.ipc_read.proofs.Fields.{field_count}
-use Rattle.ipc_read.proofs.Refusals.{claims_own, claims_through}
 use Rattle.ipc_read.specs.Chunks.{chunk_seen}
 use Rattle.ipc_files.specs.Batches.{RecordReason}
 use Rattle.ipc_files.specs.Dictionaries.{DictionariesReason}

@@ -2,13 +2,13 @@
 use Rattle.std.proofs.Common.{◌≡◌, ℕ, List, None, Err, sym, ◌∙◌}
 use Rattle.lower.specs.TypeTrees.{FieldTrees, Pairs}
 use Rattle.lower_types.specs.declared.Endianness.{Endianness}
+use Rattle.ipc_devices.proofs.Claims.{claims_through}
 use Rattle.ipc_base.specs.IdTrees.{IdTrees}
 use Rattle.ipc_devices.specs.Faults.{OnIo, OwnFault}
 use Rattle.ipc_devices.specs.declared.fault.Fault.{Fault}
 use Rattle.ipc_devices.specs.declared.fault.Fault.TheVariants as faults
 use Rattle.ipc_model.specs.Batches.{Chunk}
 use Rattle.ipc_write.specs.declared.calls.StreamCall.{StreamCall}
-use Rattle.ipc_read.proofs.Refusals.{claims_through}
 use Rattle.ipc_file_write.specs.Calls.{IsWrittenFile}
 use Rattle.ipc_file_write.specs.WrittenFiles.{RefusesWholeFile}
 use Rattle.ipc_file_round_trip.proofs.ReadBack.{whole_law}

@@ -1,6 +1,7 @@
 -- The dictionary batch at a block.
 use Rattle.std.proofs.Common.{◌≡◌, ℕ, ℤ, List, [], drop, Option, None, Some, Result, Ok, Err, IfErr, refl, sym, ap, subst, ◌∙◌}
 use Rattle.lower.specs.declared.datatypes.Field.{Field}
+use Rattle.ipc_devices.proofs.Claims.{claims_through}
 use Rattle.ipc_devices.specs.Faults.{OwnFault}
 use Rattle.ipc_devices.specs.declared.fault.Fault.{Fault}
 use Rattle.ipc_views.specs.Spot.{Spot}
@@ -22,7 +23,6 @@ use Rattle.ipc_read.specs.Chunks.{batch_schema}
 use Rattle.ipc_read.specs.DictionaryBatches.{BlamesDictionary, BlamesHead, GivesDictionary, TellsHead, TellsValues, dictionary_head}
 use Rattle.ipc_files.proofs.BlockMeanings.{at-block, refused-place, refused-message, refused-header, opened-is}
 use Rattle.ipc_files.proofs.KnownAlike.{gives-known}
-use Rattle.ipc_read.proofs.Refusals.{claims_through}
 
 if_err : {X : Type 0} (r : Result X Fault) {P Q : Fault → Type 0} → ((e : Fault) → P e → Q e) → IfErr r P → IfErr r Q
 if_err (Ok x) f h = tt

@@ -2,6 +2,7 @@
 use Rattle.std.proofs.Common.{◌≡◌, ℕ, ◌<◌, ◌≤◌, ◌^◌, List, drop, Option, None, Some, Result, Ok, Err, IfErr, refl, sym, ap, subst, ◌∙◌}
 use Rattle.std.proofs.lemmas.Bool.{le-ltb, lt-ltb}
 use Rattle.std.specs.Option.{IsSomeAnd, ok_or}
+use Rattle.ipc_devices.proofs.Claims.{claimed, claims_own, claims_through}
 use Rattle.ipc_devices.specs.Faults.{OwnFault}
 use Rattle.ipc_devices.specs.declared.fault.Fault.{Fault}
 use Rattle.ipc_devices.specs.declared.fault.Fault.TheVariants.{Ended, OutOfSpec}
@@ -21,7 +22,6 @@ use Rattle.ipc_files.specs.Blocks.{MessageReason, block_message, frame_fault, me
 use Rattle.ipc_files.specs.Dictionaries.{BlamesValues, needed_dictionary}
 use Rattle.ipc_read.specs.DictionaryBatches.{BlamesDictionary, TellsValues}
 use Rattle.ipc_read.specs.Refusals.{IsFaultOfBatch, TellsBatch}
-use Rattle.ipc_read.proofs.Refusals.{claims_own, claims_through, own_any}
 
 -- ---- a message that isn't there
 
@@ -115,14 +115,14 @@ module _ (tag : ℕ) (numbers negative : OutOfSpecKind) (source : List ℕ) {o :
 
     module _ (metadata : List ℕ) (framed : stated_metadata (frame (drop p.message source)) ≡ Some metadata) where
       pub ill-made : (e : Fault) → Err e ≡ opened_message metadata → OwnFault e (Reason o e)
-      ill-made e is = own_any e (Reason o e) (in-message e (stated-is (Some metadata) framed ∙ ap (result_and_then (needed_kind tag)) (sym is)))
+      ill-made e is = claimed e (Reason o e) (in-message e (stated-is (Some metadata) framed ∙ ap (result_and_then (needed_kind tag)) (sym is)))
 
       module _ (h : BlockHeader) (opened : Ok h ≡ opened_message metadata) where
         kind-is : header-at ≡ needed_kind tag h
         kind-is = stated-is (Some metadata) framed ∙ ap (result_and_then (needed_kind tag)) (sym opened)
 
         pub other-kind : (e : Fault) → needed_kind tag h ≡ Err e → OwnFault e (Reason o e)
-        other-kind e is = own_any e (Reason o e) (in-message e (kind-is ∙ is))
+        other-kind e is = claimed e (Reason o e) (in-message e (kind-is ∙ is))
 
         pub in-batch : {X : Type 0} (r : Result X Fault) → needed_kind tag h ≡ Ok h → IfErr r (λ e. OwnFault e (P h e)) → IfErr r (λ e. OwnFault e (Reason o e))
         in-batch (Ok x) is why = tt

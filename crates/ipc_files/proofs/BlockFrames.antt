@@ -1,12 +1,12 @@
 -- What a prefix states, and the metadata behind it.
 use Rattle.std.proofs.Common.{◌≡◌, ◌≢◌, ℕ, ◌<◌, ◌≤◌, ◌^◌, ◌==◌, nat_lt, true, false, Bool, cond, List, length, take, drop, None, Some, Result, Ok, Err, OnOk, refl, sym, ap, ◌∙◌, arith, inl, inr, eq-eqb}
 use Rattle.std.proofs.lemmas.Bool.{cases_lt, eqb-true, ne_eqb, le-ltb, lt-ltb}
+use Rattle.ipc_devices.proofs.Claims.{claims_through}
 use Rattle.ipc_devices.specs.Device.{Memory, GoesTo, after}
 use Rattle.ipc_devices.specs.Faults.{OwnFault, Answers}
 use Rattle.ipc_devices.specs.declared.fault.Fault.{Fault}
 use Rattle.ipc_model.specs.Frame.{Frame, message, mark, broken, frame, marked, sized, word}
 use Rattle.ipc_model.proofs.Frames.{frame_newer, marked_is}
-use Rattle.ipc_read.proofs.Refusals.{claims_through}
 use Rattle.ipc_files.specs.Blocks.{GivesPrefix, prefix_of, stated_metadata}
 use Rattle.ipc_files.specs.Footers.{GivesPart}
 

@@ -1,5 +1,6 @@
 -- An opened message is what the metadata mean.
 use Rattle.std.proofs.Common.{◌≡◌, ℕ, List, [], Option, Some, None, Result, Ok, Err, refl}
+use Rattle.ipc_devices.proofs.Claims.{claimed, claims_through}
 use Rattle.ipc_devices.specs.Faults.{OwnFault}
 use Rattle.ipc_devices.specs.declared.fault.Fault.{Fault}
 use Rattle.ipc_devices.specs.declared.fault.Fault.TheVariants.{OutOfSpec}
@@ -14,7 +15,6 @@ use Rattle.ipc_model.specs.Files.{BlockHeader, block_header}
 use Rattle.ipc_model.specs.Schemas.{made, present, given}
 use Rattle.ipc_files.specs.declared.read.file.block.BlockMessage.{BlockMessage}
 use Rattle.ipc_read.specs.Headers.{LacksHeader, answered_as, needed_header}
-use Rattle.ipc_read.proofs.Refusals.{claims_through, own_any}
 use Rattle.ipc_files.specs.Blocks.{IsHeaderFault, message_seen, opened_message, opened_table, stated_version, with_header}
 use Rattle.ipc_files.specs.Footers.{GivesPart}
 
@@ -42,7 +42,7 @@ found-header metadata = found-table (root_at metadata)
 
 gives : (result : Result BlockMessage Fault) (h : Option BlockHeader) (o : Result BlockHeader Fault) → answered_as message_seen result ≡ o → h ≡ found o → GivesPart message_seen result h
 gives (Ok m) h o e f = rw (← e) at f
-gives (Err x) h o e f = own_any x _ (rw (← e) at f)
+gives (Err x) h o e f = claimed x _ (rw (← e) at f)
 
 pub gives-message : (metadata : List ℕ) (result : Result BlockMessage Fault) → answered_as message_seen result ≡ opened_message metadata → GivesPart message_seen result (block_header metadata)
 gives-message metadata result e = gives result (block_header metadata) (opened_message metadata) e (found-header metadata)

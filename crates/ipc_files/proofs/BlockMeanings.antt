@@ -1,5 +1,6 @@
 -- What the message at a block means, by its place, its metadata and its header.
 use Rattle.std.proofs.Common.{◌≡◌, ℕ, List, drop, Option, None, Some, Result, Ok, Err, IsSome, refl, sym, ap, ◌∙◌}
+use Rattle.ipc_devices.proofs.Claims.{claims_through}
 use Rattle.ipc_devices.specs.Faults.{OwnFault, Answers}
 use Rattle.ipc_devices.specs.declared.fault.Fault.{Fault}
 use Rattle.ipc_views.specs.declared.file.Block.{Block}
@@ -9,7 +10,6 @@ use Rattle.ipc_model.specs.Schemas.{given}
 use Rattle.ipc_files.specs.Blocks.{stated_metadata}
 use Rattle.ipc_files.specs.Footers.{GivesPart}
 use Rattle.ipc_files.proofs.BlockHeaders.{no-header}
-use Rattle.ipc_read.proofs.Refusals.{claims_through}
 
 module _ {X : Type 0} where
   -- what is read of a block, by its message

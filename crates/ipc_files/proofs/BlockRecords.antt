@@ -4,6 +4,7 @@ use Rattle.std.specs.Prelude.{slice_get}
 use Rattle.std.specs.Option.{option_and_then}
 use Rattle.lower.specs.declared.datatypes.Field.{Field}
 use Rattle.lower_arrays.specs.declared.array.AnyArray.{AnyArray}
+use Rattle.ipc_devices.proofs.Claims.{claims_through}
 use Rattle.ipc_devices.specs.Faults.{OwnFault}
 use Rattle.ipc_devices.specs.declared.fault.Fault.{Fault}
 use Rattle.ipc_views.specs.Spot.{Spot}
@@ -25,7 +26,6 @@ use Rattle.ipc_files.specs.Footers.{GivesPart, file_seen}
 use Rattle.ipc_read.specs.Chunks.{GivesBatch, batch_schema, chunk_seen}
 use Rattle.ipc_files.proofs.BlockHeaders.{no-header}
 use Rattle.ipc_files.proofs.BlockMeanings.{at-block, refused-place, refused-message, refused-header, opened-is, gives-part}
-use Rattle.ipc_read.proofs.Refusals.{claims_through}
 
 -- the metadata of a schema say nothing of a batch
 same-meaning : (s : Schema) (extra : ℕ) (known : Dictionaries) (b : Body) (t : Spot) (projection : Option (List ℕ)) (limit : Limit)

@@ -2,6 +2,7 @@
 use Rattle.std.proofs.Common.{◌≡◌, ℕ, suc, ◌+◌, ◌<◌, List, [], ◌∷◌, length, drop, get_or, add-one, Option, None, Some, refl, sym, subst}
 use Rattle.std.proofs.Math.Seq.{drop-cons}
 use Rattle.std.specs.Prelude.{MatchOption}
+use Rattle.ipc_devices.proofs.Claims.{claims_own, claims_through}
 use Rattle.ipc_devices.specs.Faults.{OwnFault}
 use Rattle.ipc_devices.specs.declared.fault.Fault.{Fault}
 use Rattle.ipc_views.specs.declared.file.Block.{Block}
@@ -10,7 +11,6 @@ use Rattle.ipc_model.specs.Entries.{Dictionaries}
 use Rattle.ipc_model.specs.Files.{FileMetadata, dictionaries_at}
 use Rattle.ipc_files.specs.Dictionaries.{DictionariesReason, DictionaryReason}
 use Rattle.ipc_files.proofs.KnownAlike.{alike-back, block-alike}
-use Rattle.ipc_read.proofs.Refusals.{claims_own, claims_through}
 
 match-alike : (o p : Option Dictionaries) (P : Type 0) (F : Dictionaries → Type 0) → AreAlike o p → ((ds es : Dictionaries) → KnowAlike ds es → F ds → F es)
     → MatchOption o P F → MatchOption p P F

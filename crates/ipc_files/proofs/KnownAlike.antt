@@ -2,6 +2,7 @@
 use Rattle.std.proofs.Common.{◌≡◌, ℕ, suc, ◌+◌, ◌<◌, ◌≤◌, List, [], length, drop, get_or, add-one, ◌∷◌, Option, None, Some, IsSome, IfSome, Result, Ok, Err, refl, sym, ap, subst, ◌∙◌, cond, Bool, true, false, nat_eq}
 use Rattle.std.proofs.Math.Seq.{drop-cons}
 use Rattle.std.proofs.lemmas.List.{drop_all}
+use Rattle.ipc_devices.proofs.Claims.{claims_through}
 use Rattle.ipc_devices.specs.Faults.{OwnFault, Answers}
 use Rattle.ipc_devices.specs.declared.fault.Fault.{Fault}
 use Rattle.ipc_views.specs.declared.file.Block.{Block}
@@ -12,7 +13,6 @@ use Rattle.ipc_model.specs.Entries.{Dictionaries}
 use Rattle.ipc_model.specs.Files.{FileMetadata, BlockHeader, placed, metadata_at, block_header, body_at, dictionaries_at, dictionaries_after, all_of}
 use Rattle.ipc_model.specs.Schemas.{given}
 use Rattle.ipc_files.specs.Dictionaries.{GivesKnown}
-use Rattle.ipc_read.proofs.Refusals.{claims_through}
 
 pub alike-self : (o : Option Dictionaries) → AreAlike o o
 alike-self None = tt

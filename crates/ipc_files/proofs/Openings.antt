@@ -1,6 +1,7 @@
 -- A file in memory, read from where it begins.
 use Rattle.std.proofs.Common.{◌≡◌, ℕ, ◌+◌, ◌-◌, ◌≤◌, List, length, take, drop, Option, Result, Ok, Err, None, sym, ap, ◌∙◌, subst, arith}
 use Rattle.std.proofs.lemmas.List.{length-drop}
+use Rattle.ipc_devices.proofs.Claims.{claims_through}
 use Rattle.ipc_devices.specs.Device.{Memory, after}
 use Rattle.ipc_devices.specs.Faults.{OwnFault}
 use Rattle.ipc_devices.specs.declared.fault.Fault.{Fault}
@@ -10,7 +11,6 @@ use Rattle.ipc_model.specs.Schemas.{made, given}
 use Rattle.ipc_files.specs.declared.read.file.metadata.FileMetadata.{FileMetadata}
 use Rattle.ipc_files.specs.Files.{GivesTail, footer_length, metadata_from}
 use Rattle.ipc_files.specs.Footers.{GivesPart, file_seen}
-use Rattle.ipc_read.proofs.Refusals.{claims_through}
 use Rattle.ipc_files.proofs.Tails.{beginning_law, metadata-is, other-head, other-tail}
 
 pub from-place : (m m' : Memory) → m' ≡ m → after m' ≡ drop m.place m.whole

@@ -4,6 +4,7 @@ use Rattle.std.specs.Int.{w32, from_le_bytes}
 use Rattle.std.proofs.lemmas.Bool.{true≢false}
 use Rattle.std.proofs.lemmas.List.{take_all, take-take, length-drop}
 use Rattle.std.proofs.lemmas.Slice.Eq.{bytes_eq-Decides}
+use Rattle.ipc_devices.proofs.Claims.{claimed}
 use Rattle.ipc_devices.specs.Device.{Memory, after}
 use Rattle.ipc_devices.specs.Faults.{OwnFault}
 use Rattle.ipc_devices.specs.declared.fault.Fault.{Fault}
@@ -13,11 +14,6 @@ use Rattle.ipc_views.specs.Tables.{root_at}
 use Rattle.ipc_model.specs.Files.{last, magic}
 use Rattle.ipc_files.specs.Files.{FileReason, TailReason, feather, footer_length}
 use Rattle.ipc_files.specs.Footers.{RootFault}
-
-pub own_of : (e : Fault) (P : Type 0) → P → OwnFault e P
-own_of faults.Memory P p = tt
-own_of (faults.Io e) P p = tt
-own_of _ P p = p
 
 -- a tail that states no length
 no_length : (a b : Bool) (n : ℕ) (e : Fault) → (if a then (if b then Ok n else Err (faults.OutOfSpec NegativeFooterLength)) else Err (faults.OutOfSpec InvalidFooter)) ≡ Err e
@@ -53,4 +49,4 @@ pub footer_reason : {X : Type 0} (r : Result X Fault) (start : ℕ) (whole foote
     → footer ≡ take n (last (n + 10) whole) → IfErr r (λ e. RootFault e (root_at footer)) → IfErr r (λ e. OwnFault e (FileReason start whole e))
 footer_reason (Ok x) start whole footer n fits stated same h = tt
 footer_reason (Err e) start whole footer n fits stated same h =
-    own_of e (FileReason start whole e) (inr (inr (n, fits, stated, subst (λ (xs : List ℕ). RootFault e (root_at xs)) same h)))
+    claimed e (FileReason start whole e) (inr (inr (n, fits, stated, subst (λ (xs : List ℕ). RootFault e (root_at xs)) same h)))

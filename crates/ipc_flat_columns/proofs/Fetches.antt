@@ -2,27 +2,14 @@
 use Rattle.std.proofs.Common.{◌≡◌, ℕ, ◌+◌, ◌<◌, ◌≤◌, ℤ, pos, negsuc, List, [], Result, Ok, Err, IfErr, sym, subst, arith, take, drop, get_or, length}
 use Rattle.std.proofs.lemmas.List.{take-take, length-take, get_or-map}
 use Rattle.std.specs.Result.{IsErr, IsErrAnd}
+use Rattle.ipc_devices.proofs.Claims.{denies_through}
 use Rattle.ipc_devices.specs.Device.{Memory}
 use Rattle.ipc_devices.specs.Faults.{OwnFault, Answers}
 use Rattle.ipc_devices.specs.declared.fault.Fault.{Fault}
-use Rattle.ipc_devices.specs.declared.fault.Fault.TheVariants as Faults
 use Rattle.ipc_views.specs.declared.schema.Buffer.{Buffer}
 use Rattle.ipc_model.specs.Entries.{IsSize, size, Part, bytes_from, part_at, buffer, bytes, Need}
 use Rattle.ipc_flat_columns.specs.Bodies.{source, entries}
 use Rattle.ipc_flat_columns.specs.declared.read.body.Body.{Body}
-
--- what a fault denies it denies of each fact from which that follows
-pub denies_through : (e : Fault) (P Q : Type 0) → (Q → P) → OwnFault e (P → ⊥) → OwnFault e (Q → ⊥)
-denies_through (Faults.OutOfSpec k) P Q f d = λ x. d (f x)
-denies_through Faults.Ended P Q f d = λ x. d (f x)
-denies_through (Faults.NotYetImplemented n) P Q f d = λ x. d (f x)
-denies_through (Faults.Schema s) P Q f d = λ x. d (f x)
-denies_through (Faults.Argument a) P Q f d = λ x. d (f x)
-denies_through (Faults.State s) P Q f d = λ x. d (f x)
-denies_through Faults.TooManyDictionaries P Q f d = λ x. d (f x)
-denies_through (Faults.Io e) P Q f d = tt
-denies_through Faults.Memory P Q f d = tt
-denies_through (Faults.Lower e) P Q f d = λ x. d (f x)
 
 -- the same answer for facts that follow from each other
 pub answers_through :

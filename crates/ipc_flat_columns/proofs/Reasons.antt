@@ -5,6 +5,7 @@ use Rattle.std.proofs.lemmas.List.{length-map}
 use Rattle.std.proofs.lemmas.Option.{get_or_from_slice_get}
 use Rattle.std.specs.Prelude.{slice_get}
 use Rattle.lower.specs.TypeTrees.{TypeTree}
+use Rattle.ipc_devices.proofs.Claims.{claims_through}
 use Rattle.ipc_devices.specs.Device as device
 use Rattle.ipc_devices.specs.Faults.{OwnFault, Answers}
 use Rattle.ipc_devices.specs.declared.fault.Fault.{Fault}
@@ -18,7 +19,6 @@ use Rattle.ipc_flat_columns.specs.Refusals.{IsRuleFault, RefusesValues, SomeNode
 use Rattle.ipc_flat_columns.specs.Bodies.{source, entries}
 use Rattle.ipc_flat_columns.specs.declared.read.body.Body.{Body}
 use Rattle.ipc_flat_columns.proofs.Fetches.{entry, part_is}
-use Rattle.ipc_flat_columns.proofs.Refusals.{claims_through}
 
 module _ (known : Bool) (s : Entries) where
   rule_says : (e : Fault) → IsRuleFault e → TellsEntries known s e

@@ -1,5 +1,6 @@
 -- The faults of a part are faults of a column.
 use Rattle.std.proofs.Common.{◌≡◌, sym, subst}
+use Rattle.ipc_devices.proofs.Claims.{claims_through}
 use Rattle.ipc_devices.specs.Faults.{OwnFault}
 use Rattle.ipc_devices.specs.declared.fault.Fault.{Fault}
 use Rattle.ipc_devices.specs.declared.fault.Fault.TheVariants.{Ended, OutOfSpec, NotYetImplemented, Schema, Argument, State, TooManyDictionaries, Io, Memory, Lower}
@@ -7,19 +8,6 @@ use Rattle.ipc_devices.specs.declared.fault.Nyi.TheVariants.{Float}
 use Rattle.ipc_devices.specs.declared.fault.OutOfSpecKind.TheVariants.{NegativeFooterLength, InvalidBuffer, InvalidBitmap}
 use Rattle.ipc_model.specs.Kinds.{Kind, null_kind, boolean_kind, number_kind, float_kind, fixed_binary_kind, binary_kind, utf8_kind, list_kind, map_kind, fixed_list_kind, struct_kind, union_kind, dictionary_kind, extension_kind}
 use Rattle.ipc_flat_columns.specs.Refusals.{IsBufferFault, IsColumnFault, IsFaultOf, IsRuleFault}
-
--- a claim of a fault by which another one holds
-pub claims_through : (e : Fault) (P Q : Type 0) → (P → Q) → OwnFault e P → OwnFault e Q
-claims_through (OutOfSpec k) P Q f h = f h
-claims_through Ended P Q f h = f h
-claims_through (NotYetImplemented n) P Q f h = f h
-claims_through (Schema s) P Q f h = f h
-claims_through (Argument a) P Q f h = f h
-claims_through (State s) P Q f h = f h
-claims_through TooManyDictionaries P Q f h = f h
-claims_through (Io e) P Q f h = tt
-claims_through Memory P Q f h = tt
-claims_through (Lower e) P Q f h = f h
 
 pub ended_buffer : (e : Fault) → OwnFault e (e ≡ Ended) → OwnFault e (IsBufferFault e)
 ended_buffer e h = claims_through e (e ≡ Ended) (IsBufferFault e) (λ q. subst IsBufferFault (sym q) tt) h

@@ -210,11 +210,6 @@ single_with s x = (single s x.0, more_ids x.1 no_ids)
 abbrev pub group_with : Group → ReadAll → ReadType
 group_with g x = (group g x.0, x.1)
 
--- a type that has no child here: what follows is tried in its place
-abbrev pub or_else : {A : Type 0} → Option A → Option A → Option A
-or_else None o = o
-or_else (Some x) o = Some x
-
 abbrev pub is_single_tag : ℕ → Bool
 is_single_tag tag = if nat_eq tag 12 then true else if nat_eq tag 16 then true else if nat_eq tag 17 then true else nat_eq tag 21
 

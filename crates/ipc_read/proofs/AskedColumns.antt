@@ -5,6 +5,7 @@ use Rattle.std.proofs.lemmas.List.Sorted.{Contains-permutation, IsPermutation-sy
 use Rattle.std.proofs.lemmas.Option.{get_or_from_slice_get, slice_get_read, slice_get_within}
 use Rattle.lower_arrays.specs.AnyLayouts.{layout_of}
 use Rattle.lower_arrays.specs.declared.array.AnyArray.{AnyArray}
+use Rattle.ipc_devices.proofs.Claims.{claims_through}
 use Rattle.ipc_base.specs.IdTrees.{IdTrees}
 use Rattle.ipc_flat_columns.specs.Refusals.{IsFaultOf}
 use Rattle.ipc_devices.specs.Faults.{OwnFault}
@@ -19,7 +20,6 @@ use Rattle.ipc_projections.specs.ChosenColumns.{AreAsMany, AreOrdered, AreShuffl
 use Rattle.ipc_projections.specs.declared.read.chosen.ChosenColumns.{ChosenColumns}
 use Rattle.ipc_read.specs.Chunks.{chunk_seen, column_seen}
 use Rattle.ipc_read.specs.Refusals.{IsFaultOfBatch, IsFaultOfSome}
-use Rattle.ipc_read.proofs.Refusals.{claims_through}
 use Rattle.ipc_read.specs.Columns.{ArePrepared}
 
 -- where a column stands in another order

@@ -7,6 +7,7 @@ use Rattle.lower_arrays.specs.AnyLayouts.{layout_of}
 use Rattle.lower_arrays.specs.Layouts.{type_of}
 use Rattle.lower_arrays.specs.Slots.{slots}
 use Rattle.lower_arrays.specs.declared.array.AnyArray.{AnyArray}
+use Rattle.ipc_devices.proofs.Claims.{claimed, claims_own, claims_through}
 use Rattle.ipc_devices.specs.Faults.{OwnFault}
 use Rattle.ipc_devices.specs.declared.fault.Fault.{Fault}
 use Rattle.ipc_devices.specs.declared.fault.Fault.TheVariants.{OutOfSpec, NotYetImplemented, Memory}
@@ -23,7 +24,6 @@ use Rattle.ipc_flat_columns.specs.Bodies.{dictionary_of}
 use Rattle.ipc_flat_columns.specs.Refusals.{IsFaultOf, IsColumnFault}
 use Rattle.ipc_laws.specs.Agreement.{KnowAlike}
 use Rattle.ipc_read.proofs.Meanings.{some_is, some_listed}
-use Rattle.ipc_read.proofs.Refusals.{claims_through, claims_own, own_any}
 use Rattle.ipc_read.specs.Chunks.{HasMeaning}
 use Rattle.ipc_read.specs.DictionaryBatches.{GivesColumn, whole_head, dictionary_head, place_listed, head_listed, values_listed, GivesDictionary, BlamesDictionary, BlamesHead, BlamesPlace, IsHeadFault, IsValuesFault, IsDictionaryFault, RefusesHead, TellsHead, TellsPlace, TellsValues}
 use Rattle.ipc_read.specs.Refusals.{TellsLists}
@@ -36,8 +36,8 @@ head_in_dictionary e h = claims_through e (IsHeadFault e) (IsDictionaryFault e) 
 
 values_are : (t : Kind) (e : Fault) → IsValuesFault t e → OwnFault e (IsDictionaryFault e)
 values_are t e h = elim h [
-  | inl f ↦ own_any e (IsDictionaryFault e) (inr (inl f))
-  | inr f ↦ claims_through e (IsColumnFault e) (IsDictionaryFault e) (λ c. inr (inr c)) (kind_column t e (own_any e (IsFaultOf t e) f))
+  | inl f ↦ claimed e (IsDictionaryFault e) (inr (inl f))
+  | inr f ↦ claims_through e (IsColumnFault e) (IsDictionaryFault e) (λ c. inr (inr c)) (kind_column t e (claimed e (IsFaultOf t e) f))
 ]
 
 pub values_in_dictionary : (t : Kind) (e : Fault) → OwnFault e (IsValuesFault t e) → OwnFault e (IsDictionaryFault e)

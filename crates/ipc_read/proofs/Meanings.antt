@@ -9,6 +9,7 @@ use Rattle.lower_arrays.specs.AnyLayouts.{layout_of}
 use Rattle.lower_arrays.specs.Layouts.{Layout, len_of}
 use Rattle.lower_arrays.specs.Slots.{Slot, slots, slots_from}
 use Rattle.lower_arrays.specs.declared.array.AnyArray.{AnyArray}
+use Rattle.ipc_devices.proofs.Claims.{claimed, denies_through}
 use Rattle.ipc_devices.specs.Faults.{OwnFault}
 use Rattle.ipc_devices.specs.declared.fault.Fault.{Fault}
 use Rattle.ipc_base.specs.Chunks.{AreEqualRows}
@@ -21,10 +22,8 @@ use Rattle.ipc_model.proofs.Pruned.{batch_some, projected_is, projection_decides
 use Rattle.ipc_model.specs.Batches.{Schema, kinds, Body, Lists, lists_of, entries_of, kind_at, type_at, nodes_before, buffers_before, rows_at, slots_of_column, chosen, IsProjection, AllRead, first_rows, IsBatch, Chunk, chunk_of, batch, record_meaning}
 use Rattle.ipc_model.specs.Entries.{Entries, Part, IsSize, size, part_at, node, Dictionaries, Limit, limited, rows}
 use Rattle.ipc_model.specs.Kinds.{Kind, Kinds, count, all_nodes, all_buffers}
-use Rattle.ipc_flat_columns.proofs.Fetches.{denies_through}
 use Rattle.ipc_columns.specs.ReadColumns.{IsColumn}
 use Rattle.ipc_projections.proofs.Prepared.{prepared_projection}
-use Rattle.ipc_read.proofs.Refusals.{own_any}
 use Rattle.ipc_read.specs.Chunks.{column_seen, chunk_seen, HasMeaning, GivesBatch}
 use Rattle.ipc_read.specs.Columns.{ArePrepared, HasColumns, AreColumns}
 use Rattle.ipc_read.specs.Sizes.{AreSizes, total_of}
@@ -249,7 +248,7 @@ gives_batch schema extra known vs b t projection limit lists ys (Ok xs) f ok tol
     let means = fetched_meaning schema extra known vs b t projection limit lists ys f (ok.0 refl) in
     (some_is _ (chunk_seen ys) means, means ∙ ap (λ (zs : List AnyArray). Some (chunk_seen zs)) (sym told))
 gives_batch schema extra known vs b t projection limit lists ys (Err e) f ok told =
-    own_any e _ (λ h.
+    claimed e _ (λ h.
     let s = entries_of lists b schema.order extra known in
     let ts = kinds schema in
     let js = chosen projection (count ts) in

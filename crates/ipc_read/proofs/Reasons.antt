@@ -2,6 +2,7 @@
 use Rattle.std.proofs.Common.{arith, rules, ◌≡◌, ◌<◌, ℕ, zero, suc, ℤ, pos, negsuc, Bool, List, [], ◌∷◌, length, map, get_or, Option, None, Some, IsSome, IfSome, sym, subst, inr, refl}
 use Rattle.std.proofs.lemmas.List.{length-map, get_or-map}
 use Rattle.lower_types.specs.declared.Endianness.{Endianness}
+use Rattle.ipc_devices.proofs.Claims.{claims_through}
 use Rattle.ipc_devices.specs.Faults.{OwnFault}
 use Rattle.ipc_devices.specs.declared.fault.ArgFault.TheVariants.{UnequalRows}
 use Rattle.ipc_devices.specs.declared.fault.Fault.{Fault}
@@ -11,7 +12,6 @@ use Rattle.ipc_views.specs.Spot.{Spot}
 use Rattle.ipc_views.specs.declared.schema.Buffer.{Buffer}
 use Rattle.ipc_model.specs.Batches.{Body, Lists, entries_of, lists_of}
 use Rattle.ipc_model.specs.Entries.{Dictionaries, Entries, IsSize, Part, part_at, buffer}
-use Rattle.ipc_read.proofs.Refusals.{claims_through}
 use Rattle.ipc_flat_columns.specs.Refusals.{TellsEntries}
 use Rattle.ipc_read.specs.Refusals.{TellsColumns, TellsCounts, TellsLengths}
 use Rattle.ipc_read.specs.Sizes.{AreSizes}

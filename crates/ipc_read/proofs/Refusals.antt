@@ -1,9 +1,10 @@
 -- The faults of a part are faults of the whole.
-use Rattle.std.proofs.Common.{◌≡◌, ℕ, ◌<◌, List, [], ◌∷◌, length, Option, None, Some, Result, Ok, Err, refl, sym, ap, subst, inl, inr}
+use Rattle.std.proofs.Common.{◌≡◌, ℕ, List, [], ◌∷◌, length, Option, None, Some, Result, Ok, Err, refl, sym, ap, subst, inl, inr}
+use Rattle.ipc_devices.proofs.Claims.{claimed, claims_own, claims_through}
 use Rattle.ipc_devices.specs.Faults.{OwnFault}
 use Rattle.ipc_devices.specs.declared.fault.ArgFault.TheVariants.{UnequalRows}
 use Rattle.ipc_devices.specs.declared.fault.Fault.{Fault}
-use Rattle.ipc_devices.specs.declared.fault.Fault.TheVariants.{Ended, OutOfSpec, NotYetImplemented, Schema, Argument, State, TooManyDictionaries, Io, Memory, Lower}
+use Rattle.ipc_devices.specs.declared.fault.Fault.TheVariants.{OutOfSpec, NotYetImplemented, Argument}
 use Rattle.ipc_devices.specs.declared.fault.Nyi.TheVariants.{Compressed}
 use Rattle.ipc_devices.specs.declared.fault.OutOfSpecKind.TheVariants.{NegativeFooterLength, InvalidBuffersLength, MissingMessageBuffers, MissingMessageNodes, ExpectedBuffer, InvalidFlatbufferBuffers, InvalidFlatbufferNodes, InvalidFlatbufferCompression}
 use Rattle.ipc_devices.specs.declared.fault.TableFault.{TableFault}
@@ -17,44 +18,6 @@ use Rattle.ipc_flat_columns.proofs.Refusals.{kind_column}
 use Rattle.ipc_flat_columns.specs.Refusals.{IsColumnFault, IsFaultOf}
 use Rattle.ipc_read.specs.Refusals.{IsEntriesFault, IsListFault, IsFaultOfSome, IsFaultOfBatch, IsShorter, TellsCounts, TellsLengths, TellsLonger, TellsLists, TellsTable}
 use Rattle.ipc_read.specs.Sizes.{AreSizes, batch_listed}
-
--- a claim of a fault by which another one holds
-pub claims_through : (e : Fault) (P Q : Type 0) → (P → Q) → OwnFault e P → OwnFault e Q
-claims_through (OutOfSpec k) P Q f h = f h
-claims_through Ended P Q f h = f h
-claims_through (NotYetImplemented n) P Q f h = f h
-claims_through (Schema s) P Q f h = f h
-claims_through (Argument a) P Q f h = f h
-claims_through (State s) P Q f h = f h
-claims_through TooManyDictionaries P Q f h = f h
-claims_through (Io e) P Q f h = tt
-claims_through Memory P Q f h = tt
-claims_through (Lower e) P Q f h = f h
-
--- one from which another follows, where the fault is the input's
-pub claims_own : (e : Fault) (P Q : Type 0) → (P → OwnFault e Q) → OwnFault e P → OwnFault e Q
-claims_own (OutOfSpec k) P Q f h = f h
-claims_own Ended P Q f h = f h
-claims_own (NotYetImplemented n) P Q f h = f h
-claims_own (Schema s) P Q f h = f h
-claims_own (Argument a) P Q f h = f h
-claims_own (State s) P Q f h = f h
-claims_own TooManyDictionaries P Q f h = f h
-claims_own (Io e) P Q f h = tt
-claims_own Memory P Q f h = tt
-claims_own (Lower e) P Q f h = f h
-
-pub own_any : (e : Fault) (P : Type 0) → P → OwnFault e P
-own_any (OutOfSpec k) P h = h
-own_any Ended P h = h
-own_any (NotYetImplemented n) P h = h
-own_any (Schema s) P h = h
-own_any (Argument a) P h = h
-own_any (State s) P h = h
-own_any TooManyDictionaries P h = h
-own_any (Io e) P h = tt
-own_any Memory P h = tt
-own_any (Lower e) P h = h
 
 pub negative_entries : (e : Fault) → e ≡ OutOfSpec NegativeFooterLength → OwnFault e (IsEntriesFault e)
 negative_entries e q = subst (λ (x : Fault). OwnFault x (IsEntriesFault x)) (sym q) tt
@@ -76,7 +39,7 @@ pub some_in_batch : (ts : Kinds) (js : List ℕ) (e : Fault) → OwnFault e (IsF
 some_in_batch ts js e h = claims_through e (IsFaultOfSome ts js e) (IsFaultOfBatch ts js e) (λ f. inr (inl f)) h
 
 pub unequal_in_batch : (ts : Kinds) (js : List ℕ) (e : Fault) → e ≡ Argument UnequalRows → OwnFault e (IsFaultOfBatch ts js e)
-unequal_in_batch ts js e q = own_any e (IsFaultOfBatch ts js e) (inr (inr q))
+unequal_in_batch ts js e q = claimed e (IsFaultOfBatch ts js e) (inr (inr q))
 
 -- ---- what has to be so
 
@@ -157,7 +120,7 @@ module _ (t : Spot) (size nodes buffers : ℕ) where
   some_column : (ts : Kinds) (js : List ℕ) (e : Fault) → IsFaultOfSome ts js e → OwnFault e (IsColumnFault e)
   some_column ts [] e h = absurd h
   some_column ts (j ∷ js) e h = elim h [
-    | inl f ↦ kind_column (kind_at ts j) e (own_any e (IsFaultOf (kind_at ts j) e) f)
+    | inl f ↦ kind_column (kind_at ts j) e (claimed e (IsFaultOf (kind_at ts j) e) f)
     | inr f ↦ some_column ts js e f
   ]
 

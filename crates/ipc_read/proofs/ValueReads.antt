@@ -5,6 +5,7 @@ use Rattle.lower_types.specs.declared.Endianness.{Endianness}
 use Rattle.lower_arrays.specs.AnyLayouts.{layout_of}
 use Rattle.lower_arrays.specs.Layouts.{Layout}
 use Rattle.lower_arrays.specs.declared.array.AnyArray.{AnyArray}
+use Rattle.ipc_devices.proofs.Claims.{claims_through, denies_through}
 use Rattle.ipc_base.specs.IdTrees.{IdTrees}
 use Rattle.ipc_devices.specs.Faults.{OwnFault}
 use Rattle.ipc_devices.specs.declared.fault.Fault.{Fault}
@@ -14,7 +15,6 @@ use Rattle.ipc_model.specs.Columns.{IsWell}
 use Rattle.ipc_model.specs.Entries.{Dictionaries}
 use Rattle.ipc_model.specs.Kinds.{Kind}
 use Rattle.ipc_model.specs.TypeKinds.{kind_of}
-use Rattle.ipc_flat_columns.proofs.Fetches.{denies_through}
 use Rattle.ipc_flat_columns.specs.Bodies.{entries}
 use Rattle.ipc_flat_columns.specs.Kinds.{listed_in}
 use Rattle.ipc_columns.specs.ReadColumns.{IsColumn}
@@ -23,7 +23,7 @@ use Rattle.ipc_flat_columns.specs.declared.read.body.Body.{Body as Read}
 use Rattle.ipc_devices.specs.Device.{Memory}
 use Rattle.ipc_read.proofs.Listed.{given_total}
 use Rattle.ipc_read.proofs.Meanings.{IsListed, any_rows, some_is, equal_rows, fetched_meaning, judged}
-use Rattle.ipc_read.proofs.Refusals.{claims_through, counts_tell, entries_in_list, lengths_tell, values_tell}
+use Rattle.ipc_read.proofs.Refusals.{counts_tell, entries_in_list, lengths_tell, values_tell}
 use Rattle.ipc_read.specs.Chunks.{HasMeaning}
 use Rattle.ipc_read.specs.DictionaryBatches.{GivesColumn, IsValuesFault}
 use Rattle.ipc_read.specs.Refusals.{IsEntriesFault, IsListFault}

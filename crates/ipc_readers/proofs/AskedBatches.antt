@@ -2,6 +2,7 @@
 use Rattle.std.proofs.Common.{◌≡◌, ℕ, List, length, Option, None, Some, IsSome, Ok, Err, refl, sym, ◌∙◌, subst}
 use Rattle.std.proofs.lemmas.List.{length-map}
 use Rattle.lower_arrays.specs.declared.array.AnyArray.{AnyArray}
+use Rattle.ipc_devices.proofs.Claims.{claims_through}
 use Rattle.ipc_devices.specs.declared.fault.Fault.{Fault}
 use Rattle.ipc_views.specs.Spot.{Spot}
 use Rattle.ipc_model.specs.Batches.{Schema, Body, Chunk, record_meaning}
@@ -12,7 +13,6 @@ use Rattle.ipc_projections.specs.AskedOrder.{Asked, AreInAskedOrder, IsInAskedOr
 use Rattle.ipc_projections.specs.ChosenColumns.{AreAsMany, AreOrdered, AreShuffled, asked_by, rising_by}
 use Rattle.ipc_projections.specs.declared.read.chosen.ChosenColumns.{ChosenColumns}
 use Rattle.ipc_read.specs.Chunks.{GivesBatch, chunk_seen, column_seen}
-use Rattle.ipc_read.proofs.Refusals.{claims_through}
 
 -- what has no meaning in rising order has none as it is asked for
 asked_none : (a : Asked) (o p : Option Chunk) → AreInAskedOrder a o p → (IsSome o → ⊥) → IsSome p → ⊥

@@ -5,6 +5,7 @@ use Rattle.std.proofs.lemmas.List.{drop_at, take_at}
 use Rattle.lower.specs.TypeTrees.{Pairs, FieldTrees}
 use Rattle.lower_types.specs.declared.Endianness.{Endianness}
 use Rattle.lower_arrays.specs.declared.array.AnyArray.{AnyArray}
+use Rattle.ipc_devices.proofs.Claims.{both_claimed, claims_through}
 use Rattle.ipc_base.specs.IdTrees.{IdTrees}
 use Rattle.ipc_devices.specs.Faults.{OwnFault}
 use Rattle.ipc_devices.specs.declared.fault.Fault.{Fault}
@@ -21,7 +22,6 @@ use Rattle.ipc_model.specs.Kinds.{count}
 use Rattle.ipc_model.specs.TypeKinds.{kinds_of}
 use Rattle.ipc_model.specs.Streams.{Header, Known, done, faulty, whole, with_chunk, with_dictionaries, most_dictionaries}
 use Rattle.ipc_read.proofs.DictionaryMeanings.{any_tells}
-use Rattle.ipc_read.proofs.Refusals.{claims_through}
 use Rattle.ipc_read.specs.DictionaryBatches.{BlamesDictionary, GivesDictionary, TellsValues, TellsOfValues}
 use Rattle.ipc_read.specs.Refusals.{IsFaultOfBatch, TellsBatch, TellsColumns}
 use Rattle.ipc_read.specs.Chunks.{chunk_seen, GivesBatch}
@@ -31,19 +31,6 @@ use Rattle.ipc_readers.proofs.Knowing.{AlsoGives, alike_then, dictionary_alike, 
 use Rattle.ipc_readers.specs.Refusals.{IsStreamFault}
 use Rattle.ipc_readers.specs.Streams.{BlamesBody, GivesBody, GivesHeld, HoldsRecord, ReadsBody, RefusesBody, of_dictionary, of_record}
 use Rattle.ipc_views.specs.declared.schema.MetadataVersion.{MetadataVersion}
-
--- two claims of a fault
-pub both_claims : (e : Fault) (P Q : Type 0) → OwnFault e P → OwnFault e Q → OwnFault e (P × Q)
-both_claims (Faults.OutOfSpec k) P Q p q = (p, q)
-both_claims Faults.Ended P Q p q = (p, q)
-both_claims (Faults.NotYetImplemented n) P Q p q = (p, q)
-both_claims (Faults.Schema s) P Q p q = (p, q)
-both_claims (Faults.Argument a) P Q p q = (p, q)
-both_claims (Faults.State s) P Q p q = (p, q)
-both_claims Faults.TooManyDictionaries P Q p q = (p, q)
-both_claims (Faults.Io e) P Q p q = tt
-both_claims Faults.Memory P Q p q = tt
-both_claims (Faults.Lower e) P Q p q = (p, q)
 
 -- ---- schemas that differ in their metadata
 
@@ -155,7 +142,7 @@ module _ (fs : FieldTrees) (ms : Pairs) (is : IdTrees) (o : Endianness) (version
       → TellsColumns true o (extra_of version) k.dictionaries (first bytes n) t e' → OwnFault e' (record_meaning (bare fs is o) (extra_of version) k.dictionaries (first bytes n) t p None ≡ None) → (l : Known)
       → ReadsBody (asks fs ms is o version p) s (header 3 t n) xs (Err e') l (drop n xs)
   record_refused e' only told named none l =
-      both_claims e' (chosen_body (asks fs ms is o version p) s (header 3 t n) xs ≡ done faulty) (BlamesBody (asks fs ms is o version p) s (header 3 t n) xs e')
+      both_claimed e' (chosen_body (asks fs ms is o version p) s (header 3 t n) xs ≡ done faulty) (BlamesBody (asks fs ms is o version p) s (header 3 t n) xs e')
       (claims_through e' (record_meaning (bare fs is o) (extra_of version) k.dictionaries (first bytes n) t p None ≡ None) (chosen_body (asks fs ms is o version p) s (header 3 t n) xs ≡ done faulty)
       (λ means. record_body (asks fs ms is o version p) s t n xs None long (record_is ∙ means)) none)
       (claims_through e' (IsFaultOfBatch (kinds_of fs is) (chosen p (count (kinds_of fs is))) e') (BlamesBody (asks fs ms is o version p) s (header 3 t n) xs e')
@@ -199,7 +186,7 @@ module _ (fs : FieldTrees) (ms : Pairs) (is : IdTrees) (o : Endianness) (version
   values_refused e' few blames told named none l =
       let h = asks fs ms is o version p in
       let same : s.count ≡ k.count = at.count in
-      both_claims e' (chosen_body h s (header 2 t n) xs ≡ done faulty) (BlamesBody h s (header 2 t n) xs e')
+      both_claimed e' (chosen_body h s (header 2 t n) xs ≡ done faulty) (BlamesBody h s (header 2 t n) xs e')
       (claims_through e' (dictionary_meaning (bare fs is o) (extra_of version) k.dictionaries (first bytes n) t ≡ None) (chosen_body h s (header 2 t n) xs ≡ done faulty)
       (λ means. dictionary_body h s t n xs None long (omega (arith, same, few))
       (no_dictionary_alike h.head.schema (extra_of version) s.dictionaries k.dictionaries (whole (take n xs)) t at.alike (read_of ∙ means))) none)

@@ -1,11 +1,11 @@
 -- What reads of a message give.
 use Rattle.std.proofs.Common.{◌≡◌, ℕ, ◌≤◌, List, [], ◌++◌, length, Option, Some, None, Result, Ok, Err, refl, sym, ap, ◌∙◌, subst, inl, inr}
 use Rattle.lower_arrays.specs.declared.array.AnyArray.{AnyArray}
+use Rattle.ipc_devices.proofs.Claims.{claimed, claims_through}
 use Rattle.ipc_devices.specs.declared.fault.Fault.{Fault}
 use Rattle.ipc_model.specs.Frame.{Frame, message, mark, waiting, broken, frame}
 use Rattle.ipc_model.specs.Streams.{Header, Known, header_of, more, done, faulty}
 use Rattle.ipc_read.specs.Chunks.{chunk_seen}
-use Rattle.ipc_read.proofs.Refusals.{claims_through}
 use Rattle.ipc_readers.specs.ChosenStreams.{Request, chosen_body, chosen_frame, chosen_item, chosen_message}
 use Rattle.ipc_readers.specs.Messages.{opened}
 use Rattle.ipc_readers.specs.Streams.{BlamesBody, BlamesFront, BlamesOpened, GivesBody, FrontHolds, GivesItem, HeaderHolds, BodyGave, ItemGave, ItemStop, IsWithinMessage, ReadsBody, ReadsItem}
@@ -15,7 +15,7 @@ use Rattle.ipc_devices.specs.Gives.{Stop, going, ended, stop_of, AnswerStop, Fau
 use Rattle.ipc_devices.proofs.Gave.{gave_then, gave_as}
 use Rattle.ipc_readers.specs.Frames.{FrameGave, GivesFrame, IsFrame, due, frame_fault}
 use Rattle.ipc_readers.specs.declared.read.begun.Frame.TheVariants as frames
-use Rattle.ipc_devices.proofs.Stops.{fault_stop, claimed}
+use Rattle.ipc_devices.proofs.Stops.{fault_stop}
 
 -- ---- what a frame was
 

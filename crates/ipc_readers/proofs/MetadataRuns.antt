@@ -1,5 +1,6 @@
 -- What reads of the schema message give.
 use Rattle.std.proofs.Common.{◌≡◌, ℕ, ◌≤◌, List, [], length, Some, None, Result, Ok, Err, refl, subst, inl}
+use Rattle.ipc_devices.proofs.Claims.{claims_through}
 use Rattle.ipc_devices.specs.Faults.{OwnFault}
 use Rattle.ipc_devices.specs.Gives.{going, ended, stop_of, FaultStop, Gives, Gave}
 use Rattle.ipc_devices.specs.declared.fault.Fault.{Fault}
@@ -11,7 +12,6 @@ use Rattle.ipc_devices.proofs.Stops.{fault_stop}
 use Rattle.ipc_model.specs.Frame.{Frame, message, mark, waiting, broken, frame}
 use Rattle.ipc_model.specs.Schemas.{schema_of}
 use Rattle.ipc_schema.specs.Reading.{RefusesMessage}
-use Rattle.ipc_read.proofs.Refusals.{claims_through}
 use Rattle.ipc_readers.specs.Frames.{FrameGave, GivesFrame, IsFrame, begun_bytes, due, frame_fault, frame_stop}
 use Rattle.ipc_readers.specs.Metadata.{GivesMetadata, MetadataGave, RefusesMetadata, metadata_at, metadata_seen}
 use Rattle.ipc_readers.specs.declared.read.begun.Begun.{Begun}

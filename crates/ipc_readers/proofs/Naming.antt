@@ -1,6 +1,7 @@
 -- What a fault says of the entries of a batch, whoever knows the same values.
 use Rattle.std.proofs.Common.{◌≡◌, ℤ, ℕ, Bool, Option, None, Some, IsSome, IfSome, option_map, sym, subst, inl, inr}
 use Rattle.lower_types.specs.declared.Endianness.{Endianness}
+use Rattle.ipc_devices.proofs.Claims.{claims_through}
 use Rattle.ipc_devices.specs.Faults.{OwnFault}
 use Rattle.ipc_devices.specs.declared.fault.Fault.{Fault}
 use Rattle.ipc_devices.specs.declared.fault.Fault.TheVariants.{Ended, OutOfSpec}
@@ -11,7 +12,6 @@ use Rattle.ipc_model.specs.Batches.{Schema, Body, Lists, Place, entries_of, list
 use Rattle.ipc_model.specs.Entries.{Dictionary, Dictionaries, Entries}
 use Rattle.ipc_flat_columns.specs.Refusals.{TellsEntries}
 use Rattle.ipc_read.proofs.Reasons.{each_list}
-use Rattle.ipc_read.proofs.Refusals.{claims_through}
 use Rattle.ipc_read.specs.DictionaryBatches.{dictionary_head, TellsOfValues}
 use Rattle.ipc_read.specs.Refusals.{TellsColumns}
 

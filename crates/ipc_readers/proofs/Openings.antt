@@ -1,5 +1,6 @@
 -- An opened message is the message that the metadata means.
 use Rattle.std.proofs.Common.{◌≡◌, ℕ, ℤ, pos, negsuc, List, Option, Some, None, Result, Ok, Err, refl}
+use Rattle.ipc_devices.proofs.Claims.{claims_through}
 use Rattle.ipc_devices.specs.Faults.{OwnFault}
 use Rattle.ipc_devices.specs.declared.fault.Fault.{Fault}
 use Rattle.ipc_devices.specs.declared.fault.Fault.TheVariants.{OutOfSpec}
@@ -11,7 +12,6 @@ use Rattle.ipc_views.specs.Tables.{root_at}
 use Rattle.ipc_model.specs.Streams.{Header, header_of, header_at, both_slots}
 use Rattle.ipc_readers.specs.declared.read.message.Message.{Message}
 use Rattle.ipc_read.specs.Headers.{LacksHeader, answered_as, needed_header}
-use Rattle.ipc_read.proofs.Refusals.{claims_through}
 use Rattle.ipc_readers.specs.Messages.{GivesMessage, header_seen, natural_length, opened, opened_table, with_header}
 use Rattle.ipc_readers.specs.Refusals.{IsMessageFault}
 

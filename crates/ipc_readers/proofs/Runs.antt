@@ -1,11 +1,11 @@
 -- Calls of `next` give what the stream means.
 use Rattle.std.proofs.Common.{◌≡◌, ◌≢◌, List, [], ◌∷◌, None, Some, Ok, Err, Bool, true, false, IsTrue, sym, ap, subst, ◌∙◌}
+use Rattle.ipc_devices.proofs.Claims.{claims_through}
 use Rattle.ipc_devices.specs.Device.{Memory}
 use Rattle.ipc_devices.specs.Gives.{Gives}
 use Rattle.ipc_model.specs.Batches.{Chunk}
 use Rattle.ipc_model.specs.Streams.{Known, End, marked, waits, faulty, Meant}
 use Rattle.ipc_read.specs.Chunks.{chunk_seen}
-use Rattle.ipc_read.proofs.Refusals.{claims_through}
 use Rattle.ipc_readers.proofs.Loops.{same_request}
 use Rattle.ipc_readers.specs.ChosenStreams.{Request, chosen_meaning}
 use Rattle.ipc_readers.specs.Runs.{Answer, Calls, AreNone, AreAnswers}

@@ -1,12 +1,12 @@
 -- What the messages that were read say of the meaning of a stream.
 use Rattle.std.proofs.Common.{◌≡◌, ℕ, zero, suc, List, [], ◌++◌, Bool, IsTrue, Option, None, Some, Result, Ok, Err, ◌∙◌}
+use Rattle.ipc_devices.proofs.Claims.{claims_through}
 use Rattle.ipc_devices.specs.Device.{Memory, after}
 use Rattle.ipc_devices.specs.Gives.{Gives, GivesAhead}
 use Rattle.ipc_devices.specs.declared.fault.Fault.{Fault}
 use Rattle.ipc_model.specs.Frame.{frame}
 use Rattle.ipc_model.specs.Streams.{Known, done, faulty, marked, waits}
 use Rattle.ipc_read.specs.Chunks.{chunk_seen}
-use Rattle.ipc_read.proofs.Refusals.{claims_through}
 use Rattle.ipc_readers.proofs.ChosenStreams.{chosen_done, chosen_more}
 use Rattle.ipc_readers.proofs.OfMemory.{item_ahead}
 use Rattle.ipc_readers.specs.ChosenStreams.{Request, chosen_item, chosen_meaning}

@@ -1,6 +1,7 @@
 -- What is read of a stream by some columns is what was written of them.
 use Rattle.std.proofs.Common.{◌≡◌, ℕ, List, [], map, length, Option, None, Some, Ok, Err, refl, sym, ap, ◌∙◌, subst}
 use Rattle.std.specs.Option.{option_map}
+use Rattle.ipc_devices.proofs.Claims.{claims_through}
 use Rattle.ipc_model.specs.BatchLaws.{pruned}
 use Rattle.ipc_model.specs.Batches.{Chunk, IsProjection, kinds}
 use Rattle.ipc_model.specs.Frame.{Frame, message, mark, waiting, broken, frame}
@@ -13,7 +14,6 @@ use Rattle.ipc_devices.specs.Faults.{OwnFault}
 use Rattle.ipc_devices.specs.declared.fault.Fault.{Fault}
 use Rattle.ipc_base.specs.IdTrees.{all_ids_view}
 use Rattle.ipc_read.proofs.Fields.{field_count}
-use Rattle.ipc_read.proofs.Refusals.{claims_through}
 use Rattle.ipc_readers.proofs.PrunedStreams.{pruned_law}
 use Rattle.ipc_readers.specs.ChosenStreams.{chosen_meaning}
 use Rattle.ipc_readers.specs.Metadata.{GivesMetadata, RefusesMetadata, metadata_at}

@@ -4,13 +4,13 @@ use Rattle.std.specs.Prelude.{◌⊎◌, option_map, Vec, vec_capacity, vec_len}
 use Rattle.std.specs.declared.alloc.Global.{Global}
 use Rattle.std.specs.Result.{result_ok}
 use Rattle.lower.specs.TypeViews.{schema_view}
+use Rattle.ipc_devices.proofs.Claims.{claimed, claims_through}
 use Rattle.ipc_base.specs.IdTrees.{IdTrees, ipc_schema_view}
 use Rattle.std.specs.Borrow.{Bor}
 use Rattle.ipc_devices.specs.Device.{Memory, after, before}
 use Rattle.ipc_devices.specs.declared.memory.MemFile.{MemFile}
 use Rattle.ipc_devices.specs.Faults.{OnIo, OwnFault}
 use Rattle.ipc_devices.specs.Gives.{Gives, MemoryGives}
-use Rattle.ipc_devices.proofs.Stops.{claimed}
 use Rattle.ipc_devices.specs.declared.fault.Fault.{Fault}
 use Rattle.ipc_devices.specs.declared.fault.Fault.TheVariants as faults
 use Rattle.ipc_devices.specs.declared.fault.StateFault.TheVariants.{NotStarted, Failed as StateFailed}
@@ -29,7 +29,6 @@ use Rattle.ipc_model.specs.Streams.{End, Head, marked, waits, faulty, Known, Mea
 use Rattle.ipc_model.specs.WholeStreams.{Stream, stream_from, stream_of}
 use Rattle.ipc_read.specs.Chunks.{order_of}
 use Rattle.ipc_readers.specs.Metadata.{GivesMetadata, MetadataGave, MetadataSeen, RefusesMetadata, metadata_at, metadata_seen, table_version, version_at, version_slot}
-use Rattle.ipc_read.proofs.Refusals.{claims_through}
 use Rattle.ipc_readers.proofs.OfMemory.{metadata_ahead, metadata_fails, no_failure}
 use Rattle.ipc_readers.proofs.ChosenStreams.{whole_law}
 use Rattle.ipc_readers.specs.ChosenStreams.{Request, chosen_meaning}
@@ -127,12 +126,6 @@ unfolding stream_of
 unreadable bytes xs rest e same h =
     claims_through e _ _ (λ none readable. let there = sym none ∙ readable.stream in absurd cc)
     (no_stream bytes (frame bytes) e rest (subst (λ ys. GivesMetadata ys (frame ys) (Err e) rest) same h))
-
--- both claims of a fault of the input's
-pub own_both : (e : Fault) (P Q : Type 0) → OwnFault e P → OwnFault e Q → OwnFault e (P × Q)
-own_both faults.Memory P Q p q = tt
-own_both (faults.Io x) P Q p q = tt
-own_both _ P Q p q = (p, q)
 
 -- the fault of the front
 pub blames_front : (bytes xs rest : List ℕ) (stream : Option Stream) (p : Option (List ℕ)) (e : Fault) → xs ≡ bytes → GivesMetadata xs (frame xs) (Err e) rest → OwnFault e (BlamesStream bytes stream p e)

@@ -80,9 +80,6 @@ WritesTable order (Err e) fs es is = RefusesSchema e fs es is
 abbrev pub written_head_as : Endianness → FieldTrees → Pairs → IdTrees → Head
 written_head_as order fs es is = record { schema = written_as order fs es is; version = V5 }
 
-abbrev pub written_head : FieldTrees → Pairs → IdTrees → Head
-written_head fs es is = written_head_as Little fs es is
-
 -- the bytes are the message of the table of a schema that lists no features, with no body
 pub record IsSchemaMessage (bytes : List ℕ) : Type 0 where
   pub table : SchemaTable

@@ -4,6 +4,7 @@ use Rattle.std.specs.Prelude.{Vec}
 use Rattle.std.specs.declared.alloc.Global.{Global}
 use Rattle.lower.specs.TypeTrees.{Pairs}
 use Rattle.lower_arrays.specs.declared.array.AnyArray.{AnyArray}
+use Rattle.ipc_devices.proofs.Claims.{claims_through}
 use Rattle.ipc_devices.specs.Device.{Memory}
 use Rattle.ipc_devices.specs.Faults.{OwnFault}
 use Rattle.ipc_devices.specs.declared.fault.ArgFault.TheVariants.{FieldsShape, NoRecordBlocks, NotWritable, TooLarge}
@@ -146,11 +147,6 @@ refuses_no_old m bytes known e k is refused =
     ])
     refused (refuses-not m e)
 
-pub own_one : (e : Fault) (P Q : Type 0) → (P → Q) → OwnFault e P → OwnFault e Q
-own_one NoMemory P Q f p = tt
-own_one (Io x) P Q f p = tt
-own_one _ P Q f p = f p
-
 -- ---- metadata that a session reads
 
 -- What holds of the bytes that were read holds of those that were there before.
@@ -164,7 +160,7 @@ as_read P old mid read m e f is h m' is' =
 -- what is refused of the bytes that were read is refused of those that were there
 refuses-read : (known : Bool) (old read : List ℕ) (m : FileMetadata) (e : Fault) → (IsTrue known → read ≡ old) → RefusesFile known m read e → RefusesFile known m old e
 refuses-read known old read m e same =
-    own_one e (RefusesToGoOn m e ⊎ HasNoDictionaries known m read e) (RefusesToGoOn m e ⊎ HasNoDictionaries known m old e)
+    claims_through e (RefusesToGoOn m e ⊎ HasNoDictionaries known m read e) (RefusesToGoOn m e ⊎ HasNoDictionaries known m old e)
     (λ reason. elim reason [
       | inl own ↦ inl own
       | inr lacks ↦ inr (record {
@@ -197,7 +193,7 @@ refused_unread known old mid place e same at =
 -- nothing refuses one of itself that isn't there
 pub none_read : (old mid : List ℕ) (e : Fault) → mid ≡ old → OwnFault e (metadata_of mid ≡ None) → (m : FileMetadata) → metadata_of old ≡ Some m → RefusesNoOld m old e
 none_read old mid e same none m is =
-    own_one e (metadata_of mid ≡ None) _
+    claims_through e (metadata_of mid ≡ None) _
     (λ no may is_stream schema pairs before h.
     let both : None ≡ Some m = sym no ∙ ap metadata_of same ∙ is in
     absurd cc)

@@ -1,7 +1,7 @@
 use Rattle.std.proofs.Common.{ap, inl, inr, subst}
 use Rattle.std.proofs.lemmas.Result.{err_from_is_err_and}
+use Rattle.ipc_devices.proofs.Claims.{claims_through}
 use Rattle.ipc_devices.specs.Faults.{OwnFault}
-use Rattle.ipc_read.proofs.Refusals.{claims_through}
 use Rattle.ipc_files.specs.Files.{FileReason}
 use Rattle.ipc_files.specs.Footers.{file_seen}
 use Rattle.ipc_write.specs.Writers.{order_of}

@@ -1,7 +1,7 @@
 use Rattle.std.proofs.Common.{[], ap, inl, inr}
 use Rattle.std.proofs.lemmas.Result.{err_from_is_err_and}
-use Rattle.ipc_read.proofs.Refusals.{claims_through}
 use Rattle.lower.specs.TypeViews.{pairs_of}
+use Rattle.ipc_devices.proofs.Claims.{claims_through}
 use Rattle.ipc_write.specs.Writers.{order_of}
 use Rattle.ipc_readers.specs.Streams.{head_of}
 use Rattle.ipc_convert.proofs.Conversions.{stream_filed, stream_taken_so}

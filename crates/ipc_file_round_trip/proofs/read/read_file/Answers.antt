@@ -1,7 +1,7 @@
 use Rattle.std.proofs.Common.{None}
 use Rattle.std.proofs.lemmas.Result.{err_from_is_err_and}
+use Rattle.ipc_devices.proofs.Claims.{claims_through}
 use Rattle.ipc_readers.proofs.OfMemory.{other_answer}
-use Rattle.ipc_read.proofs.Refusals.{claims_through}
 use Rattle.ipc_files.specs.Footers.{file_seen}
 use Rattle.ipc_files.specs.declared.read.file.metadata.FileMetadata.{FileMetadata}
 use Rattle.ipc_file_round_trip.proofs.Files.{answer_reason, file_given, metadata_reason, no_metadata}

@@ -4,6 +4,7 @@ use Rattle.std.proofs.lemmas.Result.{err_from_is_err_and}
 use Rattle.std.specs.Prelude.{Vec}
 use Rattle.std.specs.declared.alloc.Global.{Global}
 use Rattle.lower_arrays.specs.declared.array.AnyArray.{AnyArray}
+use Rattle.ipc_devices.proofs.Claims.{both_claimed}
 use Rattle.ipc_devices.specs.Device.{after}
 use Rattle.ipc_model.specs.Batches.{IsProjection}
 use Rattle.ipc_model.specs.Streams.{Head, Meant, nothing_known}
@@ -11,7 +12,7 @@ use Rattle.ipc_readers.proofs.OfMemory.{no_failure}
 use Rattle.ipc_readers.specs.ChosenStreams.{chosen_meaning}
 use Rattle.ipc_readers.specs.Streams.{head_of}
 use Rattle.ipc_round_trip.proofs.Chosen.{chosen_whole, names_others, none_readable, refused_columns}
-use Rattle.ipc_round_trip.proofs.Streams.{blames_front, blames_message, chosen_ahead, ends_same, head_same, own_both, refuses_stream, slice_memory, slice_metadata, slice_metadata_own}
+use Rattle.ipc_round_trip.proofs.Streams.{blames_front, blames_message, chosen_ahead, ends_same, head_same, refuses_stream, slice_memory, slice_metadata, slice_metadata_own}
 use Rattle.ipc_round_trip.specs.declared.read.WholeStream.{WholeStream}
 use Rattle.ipc_round_trip.proofs.columns.read_stream_columns.Goals as goal
 
@@ -46,7 +47,7 @@ returns-in_err-metadata c =
     ap (λ f. after (record { whole = f.inner.now; place = f.position })) c.new-input.ensures in
     let p = err_from_is_err_and c.from_residual.result c.from_residual.ensures.1 in
     rw (p.1, p.2) (refuses_stream fault _ (slice_metadata_own WholeStream fault old new gave)
-    (own_both fault _ _ (none_readable (Some c.args.projection.items) c.args.bytes.now _ _ fault front (slice_metadata (Err fault) old new gave))
+    (both_claimed fault _ _ (none_readable (Some c.args.projection.items) c.args.bytes.now _ _ fault front (slice_metadata (Err fault) old new gave))
     (blames_front c.args.bytes.now _ _ _ _ fault front (slice_metadata (Err fault) old new gave))))
 
 pub returns-in_err-chunks : goal.returns-in_err-chunks
@@ -60,7 +61,7 @@ returns-in_err-chunks c =
     let schema = slice_metadata (Ok m) c.new-input.result c.read_stream_metadata.new.reader c.in_ok-metadata.ensures.gives in
     let p = err_from_is_err_and c.from_residual-in_err-chunks.result c.from_residual-in_err-chunks.ensures.1 in
     rw (p.1, p.2) (refuses_stream fault _ (no_failure (Vec (List AnyArray) Global) WholeStream fault c.in_err-chunks.ensures.failed)
-    (own_both fault _ _
+    (both_claimed fault _ _
     (refused_columns slice_memory c.read_stream_metadata.new.reader (Some js) c.args.bytes.now _ m c.in_ok-reader.reader fault front schema
     begins c.in_ok-reader.ensures.asked (c.in_err-chunks.ensures.refused refl begins.unfinished))
     (blames_message c.read_stream_metadata.new.reader c.args.bytes.now _ _ m m c.in_ok-reader.reader (Some js) fault begins refl c.in_ok-reader.ensures.asked

@@ -1,13 +1,12 @@
 use Rattle.std.proofs.Common.{inl, inr, true, refl}
 use Rattle.std.proofs.lemmas.Result.{err_from_is_err_and}
-use Rattle.ipc_devices.proofs.Stops.{claimed}
 use Rattle.std.specs.Prelude.{not}
 use Rattle.lower.specs.TypeViews.{fields_view, pairs_of}
+use Rattle.ipc_devices.proofs.Claims.{claimed, claims_through}
 use Rattle.ipc_schema_write.specs.WriterAnswers.{byte_order, written_as}
 use Rattle.ipc_write.specs.Writers.{chosen_ids}
 use Rattle.ipc_sessions.specs.Sessions.{taken_of}
 use Rattle.ipc_sessions.proofs.EndedFiles.{written_file}
-use Rattle.ipc_sessions.proofs.Going.{own_one}
 use Rattle.ipc_sessions.proofs.created.write_sessions.Goals as goal
 
 pub returns-clause-made : goal.returns-clause-made
@@ -40,7 +39,7 @@ pub returns-in_err-left-clause-only : goal.returns-in_err-left-clause-only
 returns-in_err-left-clause-only c =
     let p = err_from_is_err_and c.from_residual-in_err-left.result c.from_residual-in_err-left.ensures.1 in
     rw (p.1, p.2)
-    (own_one c.in_err-left.field-0.0 _ _
+    (claims_through c.in_err-left.field-0.0 _ _
     (λ why. inr (record {
       answers = c.in_ok-created.created.answers.items;
       creation = c.in_ok-created.ensures.made;

@@ -1,9 +1,10 @@
 use Rattle.std.proofs.Common.{ℕ, List, OnOk, inr, sym, ap, ◌∙◌}
 use Rattle.std.proofs.lemmas.Result.{err_from_is_err_and}
+use Rattle.ipc_devices.proofs.Claims.{claims_through}
 use Rattle.ipc_files.specs.Footers.{file_seen}
 use Rattle.ipc_model.specs.Files.{FileMetadata, metadata_of}
 use Rattle.ipc_sessions.specs.Sessions.{GainsChunks, KeepsOld, RefusesNoOld, taken_of}
-use Rattle.ipc_sessions.proofs.Going.{as_read, none_read, own_one, refused_as_read, refused_unread}
+use Rattle.ipc_sessions.proofs.Going.{as_read, none_read, refused_as_read, refused_unread}
 use Rattle.ipc_sessions.proofs.sessions.append_session.Goals as goal
 
 pub returns-in_err-metadata-clause-always : goal.returns-in_err-metadata-clause-always
@@ -60,7 +61,7 @@ pub returns-in_err-session-clause-only : goal.returns-in_err-session-clause-only
 returns-in_err-session-clause-only g c =
     let p = err_from_is_err_and c.from_residual-in_err-session.result c.from_residual-in_err-session.ensures.1 in
     rw (p.1, p.2)
-    (own_one c.in_err-session.field-0.0 _ _
+    (claims_through c.in_err-session.field-0.0 _ _
     (λ refused. inr (refused_as_read g.W.Failures.known (g.W.Failures.memory c.args.device).whole (g.W.Failures.memory c.read_file_metadata.new.reader).whole (file_seen c.in_ok-metadata.metadata) c.in_err-session.field-0.0
     (λ k. c.in_ok-metadata.ensures.whole (g.met.W.Seeks.known_still k) ∙ (c.in_ok-seek_to.ensures.memory k).whole)
     (λ k. let at = c.in_ok-seek_to.ensures.memory k in ap metadata_of (sym at.whole) ∙ c.in_ok-metadata.ensures.memory k at.place) c.in_err-session.ensures.only))

@@ -3,9 +3,10 @@ use Rattle.std.proofs.lemmas.List.{take-append-drop, take_all, take_more}
 use Rattle.std.proofs.lemmas.Result.{err_from_is_err_and}
 use Rattle.std.specs.declared.alloc.Global.{Global}
 use Rattle.lower_arrays.specs.declared.array.AnyArray.{AnyArray}
+use Rattle.ipc_devices.proofs.Claims.{claims_through}
 use Rattle.ipc_model.specs.Batches.{Chunk}
 use Rattle.ipc_sessions.specs.Sessions.{AddsInTurn}
-use Rattle.ipc_sessions.proofs.Going.{in_turn_more, in_turn_none, own_one, sessions_more}
+use Rattle.ipc_sessions.proofs.Going.{in_turn_more, in_turn_none, sessions_more}
 use Rattle.ipc_sessions.proofs.Taken.{all_taken_more}
 use Rattle.ipc_sessions.proofs.sessions.run_sessions.Goals as goal
 
@@ -49,7 +50,7 @@ returns-in_err-ended-clause-only g c =
     take_more sessions i chunks c.loop-chunks-test.true ∙ sym (ap (λ x. take i sessions ++ x ∷ []) c.chunks-item.is) in
     let p = err_from_is_err_and c.from_residual.result c.from_residual.ensures.1 in
     rw (p.1, p.2)
-    (own_one c.in_err-ended.field-0.0 _ _
+    (claims_through c.in_err-ended.field-0.0 _ _
     (λ why. record {
       done = take i sessions;
       refused = chunks;

@@ -1,7 +1,6 @@
 use Rattle.std.proofs.Common.{inl, inr}
 use Rattle.std.proofs.lemmas.Result.{err_from_is_err_and}
-use Rattle.ipc_devices.proofs.Stops.{claimed}
-use Rattle.ipc_sessions.proofs.Going.{own_one}
+use Rattle.ipc_devices.proofs.Claims.{claimed, claims_through}
 use Rattle.ipc_sessions.proofs.sessions.whole_session.Goals as goal
 
 pub returns-clause-adds : goal.returns-clause-adds
@@ -13,7 +12,7 @@ returns-clause-made g c = rw c.in_ok-outcome.was at c.in_ok-session.ensures.made
 pub returns-in_err-session-clause-only : goal.returns-in_err-session-clause-only
 returns-in_err-session-clause-only g c =
     let p = err_from_is_err_and c.from_residual.result c.from_residual.ensures.1 in
-    rw (p.1, p.2) (own_one c.in_err-session.field-0.0 _ _ (λ refused. inl refused) c.in_err-session.ensures.only)
+    rw (p.1, p.2) (claims_through c.in_err-session.field-0.0 _ _ (λ refused. inl refused) c.in_err-session.ensures.only)
 
 pub returns-in_err-outcome-clause-only : goal.returns-in_err-outcome-clause-only
 returns-in_err-outcome-clause-only g c =

@@ -4,6 +4,7 @@ use Rattle.lower_rules.specs.AnyOffsets.{list_places, list_width}
 use Rattle.lower_rules.specs.Fields.{child_fields, FieldTypes}
 use Rattle.lower_arrays.specs.Layouts.{len_of, type_of}
 use Rattle.lower_arrays.specs.AnyLayouts.{layout_of}
+use Rattle.ipc_devices.proofs.Claims.{denies_through}
 use Rattle.ipc_base.specs.IdTrees.{all_ids_view}
 use Rattle.ipc_devices.specs.Faults.{Answers, OwnFault}
 use Rattle.ipc_model.specs.Kinds.{Kind, list_kind}
@@ -12,7 +13,7 @@ use Rattle.ipc_model.specs.Columns.{IsWell}
 use Rattle.ipc_model.specs.ReadArrays.{array_at}
 use Rattle.ipc_flat_columns.specs.Bodies.{HasRoom, entries, known}
 use Rattle.ipc_flat_columns.specs.Kinds.{form_of}
-use Rattle.ipc_flat_columns.proofs.Fetches.{denies_through, refused}
+use Rattle.ipc_flat_columns.proofs.Fetches.{refused}
 use Rattle.ipc_columns.proofs.ColumnLevels.{child_typed, list_len, list_well, list_array}
 use Rattle.std.proofs.Common.{List, None, map, drop, ◌<◌}
 use Rattle.std.proofs.lemmas.List.{map-append}

@@ -3,6 +3,7 @@ use Rattle.lower.specs.TypeViews.{type_view}
 use Rattle.lower.specs.declared.datatypes.physical_type.PhysicalType.{PhysicalType}
 use Rattle.lower_arrays.specs.AnyLayouts.{layout_of}
 use Rattle.lower_flat.specs.FixedBinaries.{byte_size}
+use Rattle.ipc_devices.proofs.Claims.{denies_through}
 use Rattle.ipc_base.specs.IdTrees.{all_ids_view}
 use Rattle.ipc_devices.specs.Faults.{OwnFault}
 use Rattle.ipc_model.specs.Kinds.{Kind}
@@ -12,7 +13,7 @@ use Rattle.ipc_model.specs.ReadArrays.{array_at}
 use Rattle.ipc_flat_columns.specs.Bodies.{entries, known}
 use Rattle.ipc_flat_columns.specs.FlatKinds.{flat_kind}
 use Rattle.ipc_flat_columns.specs.Kinds.{IsBehind}
-use Rattle.ipc_flat_columns.proofs.Fetches.{denies_through, refused, failing}
+use Rattle.ipc_flat_columns.proofs.Fetches.{refused, failing}
 use Rattle.ipc_flat_columns.specs.Refusals.{IsFaultOf}
 use Rattle.ipc_columns.proofs.Plain.{stored_kind}
 use Rattle.ipc_flat_columns.proofs.Refusals.{same_kind}

@@ -5,6 +5,7 @@ use Rattle.lower.specs.TypeViews.{type_view, fields_view}
 use Rattle.lower_arrays.specs.AnyLayouts.{layout_of}
 use Rattle.lower_arrays.specs.Held.{held}
 use Rattle.lower_arrays.specs.declared.array.AnyArray.{AnyArray}
+use Rattle.ipc_devices.proofs.Claims.{claims_through, denies_through}
 use Rattle.ipc_base.specs.IdTrees.{all_ids_view}
 use Rattle.ipc_devices.specs.Faults.{OwnFault}
 use Rattle.ipc_model.specs.Batches.{kind_at, type_at, chosen}
@@ -14,7 +15,7 @@ use Rattle.ipc_model.specs.TypeKinds.{kind_of, kinds_of}
 use Rattle.ipc_model.proofs.TypeKinds.{node_counts, buffer_counts}
 use Rattle.ipc_flat_columns.specs.Bodies.{entries, known}
 use Rattle.ipc_flat_columns.specs.Refusals.{IsFaultOf}
-use Rattle.ipc_flat_columns.proofs.Fetches.{denies_through, refused, failing}
+use Rattle.ipc_flat_columns.proofs.Fetches.{refused, failing}
 use Rattle.ipc_columns.proofs.StructReads.{extra_is}
 use Rattle.ipc_read.specs.Columns.{IsChosen, HasColumns, columns_listed}
 use Rattle.ipc_read.specs.HeldChunks.{arrays_held, columns_most}
@@ -23,7 +24,6 @@ use Rattle.ipc_read.proofs.Chosen.{AreLeft, left_of, left_start, left_all, left_
 use Rattle.ipc_read.proofs.ColumnLists.{Among, all_among, among_same, among_more, fault_among, SoFar, so_start, so_same, one_on, so_more, so_end}
 use Rattle.ipc_read.proofs.ColumnPlaces.{first_place, room_there, kind_there, type_there, next_place, well_there, well_here, column_there, listed_there, held_there, faults_there, skipped}
 use Rattle.ipc_read.proofs.Fields.{field_count}
-use Rattle.ipc_read.proofs.Refusals.{claims_through}
 use Rattle.ipc_read.proofs.Steps.{step_err}
 use Rattle.ipc_read.proofs.read.common.read_columns.Goals as goal
 

@@ -8,6 +8,7 @@ use Rattle.lower_arrays.specs.AnyLayouts.{layout_of}
 use Rattle.lower_arrays.specs.Held.{held}
 use Rattle.lower_arrays.specs.Layouts.{type_of}
 use Rattle.lower_arrays.specs.declared.array.AnyArray.{AnyArray}
+use Rattle.ipc_devices.proofs.Claims.{claimed, denies_through}
 use Rattle.ipc_base.specs.IdTrees.{all_ids_view}
 use Rattle.ipc_base.specs.declared.ipc.IpcField.{IpcField}
 use Rattle.ipc_devices.specs.Faults.{OwnFault}
@@ -15,7 +16,6 @@ use Rattle.ipc_devices.specs.declared.fault.Fault.TheVariants.{OutOfSpec}
 use Rattle.ipc_devices.specs.declared.fault.OutOfSpecKind.TheVariants.{InvalidId}
 use Rattle.ipc_model.specs.Batches.{Schema, Place, extra_of, places, place_of, values_schema, dictionary_meaning}
 use Rattle.ipc_model.specs.Batches as model
-use Rattle.ipc_flat_columns.proofs.Fetches.{denies_through}
 use Rattle.ipc_flat_columns.specs.Bodies.{dictionary_of, known_dictionaries}
 use Rattle.ipc_laws.specs.Agreement.{KnowAlike}
 use Rattle.ipc_read.specs.Chunks.{batch_schema, HasMeaning}
@@ -24,7 +24,6 @@ use Rattle.ipc_read.proofs.DictionaryMeanings.{head_there, no_place, values_ther
 use Rattle.ipc_read.proofs.HeldLists.{values_held}
 use Rattle.ipc_read.proofs.KnownDictionaries.{known_put, puts_values}
 use Rattle.ipc_read.proofs.ValueReasons.{headless_tells, unplaced_say, values_say}
-use Rattle.ipc_read.proofs.Refusals.{own_any}
 use Rattle.ipc_read.proofs.read.dictionaries.read_dictionary.Goals as goal
 
 pub returns-in_err-id-clause-memory : goal.returns-in_err-id-clause-memory
@@ -52,7 +51,7 @@ returns-in_default-clause-memory g c = λ k.
     let none : place_of (places schema.fields schema.ids) id ≡ None =
     subst (λ (j : ℤ). place_of (places (fields_view c.args.fields.now) (all_ids_view c.args.ipc_schema.now.fields.items)) j ≡ None) same_id
     (subst (λ (l : List IpcField). place_of (places (fields_view c.args.fields.now) (all_ids_view l)) (to_z w64 (of_z w64 id)) ≡ None) ids_are c.in_default.ensures) in
-    own_any c.into.result (IsSome (dictionary_meaning schema extra ds body c.args.batch) → ⊥)
+    claimed c.into.result (IsSome (dictionary_meaning schema extra ds body c.args.batch) → ⊥)
     (λ h. no_place schema extra ds body c.args.batch id c.in_ok-id.values headed none h)
 
 pub returns-in_default-clause-blames : goal.returns-in_default-clause-blames

@@ -2,6 +2,7 @@ use Rattle.std.proofs.Common.{rules, ◌≡◌, ◌∙◌, length, Ok, Err, sym,
 use Rattle.std.proofs.lemmas.Option.{slice_get_read}
 use Rattle.std.specs.Prelude.{vec_len}
 use Rattle.std.specs.Option.{option_copied}
+use Rattle.ipc_devices.proofs.Claims.{claimed}
 use Rattle.ipc_devices.specs.declared.fault.OutOfSpecKind.TheVariants.{NegativeFooterLength, UnexpectedNegativeInteger}
 use Rattle.ipc_model.specs.Batches.{chosen}
 use Rattle.ipc_model.specs.Files.{block_header}
@@ -10,7 +11,6 @@ use Rattle.ipc_files.specs.Batches.{BlamesRecord}
 use Rattle.ipc_files.specs.Blocks.{message_seen, place_seen}
 use Rattle.ipc_files.specs.Footers.{file_seen}
 use Rattle.ipc_files.proofs.BlockFaults.{blames-record, ill-made, in-batch, no-message, other-kind, record-kind, unplaced}
-use Rattle.ipc_read.proofs.Refusals.{own_any}
 use Rattle.ipc_files.proofs.BlockRecords.{refused-record-place, refused-record-message, refused-record-header, refused-record-kind, read-record, has-place, message-read, on-ok}
 use Rattle.ipc_files.proofs.read.file.batch.read_batch.Goals as goal
 
@@ -40,7 +40,7 @@ pub returns-in_err-batch-clause-memory : goal.returns-in_err-batch-clause-memory
 returns-in_err-batch-clause-memory g c = λ k.
     let e = c.in_err-batch.field-0.0 in
     let is : c.from_residual-in_err-batch.result ≡ Err e = search rules in
-    rw is (own_any e _ (refused-record-kind c.args.metadata.now (known_dictionaries c.args.dictionaries.now) (g.R.Failures.memory c.args.reader.now).whole (option_copied c.args.projection) c.args.limit
+    rw is (claimed e _ (refused-record-kind c.args.metadata.now (known_dictionaries c.args.dictionaries.now) (g.R.Failures.memory c.args.reader.now).whole (option_copied c.args.projection) c.args.limit
     c.args.index c.index-block.result.now (slice_get_read c.args.metadata.now.blocks.items (vec_len c.args.metadata.now.blocks) c.args.index c.index-block.result.now (search rules) c.requires.index c.index-block.ensures) c.in_ok-place.place c.in_ok-place.ensures.place
     c.read_metadata.new.metadata.items (c.in_ok-read_metadata.ensures.memory k) c.in_ok-message.message
     (ap block_header (sym c.deref.ensures.value) ∙ c.in_ok-message.ensures.meaning) e c.in_err-batch.ensures))

@@ -1,4 +1,5 @@
 use Rattle.std.proofs.Common.{rules, ◌≡◌, ◌∙◌, [], ◌∷◌, Some, Ok, Err, refl, sym, ap}
+use Rattle.ipc_devices.proofs.Claims.{claimed}
 use Rattle.ipc_devices.specs.declared.fault.OutOfSpecKind.TheVariants.{NegativeFooterLength, UnexpectedNegativeInteger}
 use Rattle.ipc_model.specs.Files.{block_header}
 use Rattle.ipc_flat_columns.specs.Bodies.{known_dictionaries}
@@ -7,7 +8,6 @@ use Rattle.ipc_files.specs.Dictionaries.{BlamesValues}
 use Rattle.ipc_files.specs.Footers.{file_seen}
 use Rattle.ipc_files.proofs.BlockDictionaries.{refused-dictionary-place, refused-dictionary-message, refused-dictionary-header, refused-dictionary-kind, read-dictionary}
 use Rattle.ipc_files.proofs.BlockFaults.{blames-values, dictionary-kind, ill-made, in-batch, no-message, other-kind, unplaced}
-use Rattle.ipc_read.proofs.Refusals.{own_any}
 use Rattle.ipc_files.proofs.BlockRecords.{message-read}
 use Rattle.ipc_files.proofs.read.file.dictionaries.read_dictionary_block.Goals as goal
 
@@ -36,7 +36,7 @@ pub returns-in_err-batch-clause-memory : goal.returns-in_err-batch-clause-memory
 returns-in_err-batch-clause-memory g c = λ k.
     let e = c.in_err-batch.field-0.0 in
     let is : c.from_residual-in_err-batch.result ≡ Err e = search rules in
-    rw is (own_any e _ (refused-dictionary-kind c.args.metadata.now (known_dictionaries c.args.dictionaries.now) (g.R.Failures.memory c.args.reader.now).whole c.args.block.now
+    rw is (claimed e _ (refused-dictionary-kind c.args.metadata.now (known_dictionaries c.args.dictionaries.now) (g.R.Failures.memory c.args.reader.now).whole c.args.block.now
     c.in_ok-place.place c.in_ok-place.ensures.place c.read_metadata.new.metadata.items (c.in_ok-read_metadata.ensures.memory k) c.in_ok-message.message
     (ap block_header (sym c.deref.ensures.value) ∙ c.in_ok-message.ensures.meaning) e c.in_err-batch.ensures))
 

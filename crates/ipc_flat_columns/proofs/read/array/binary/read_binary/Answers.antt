@@ -2,12 +2,12 @@ use Rattle.std.proofs.Common.{rules, ◌≡◌, ℕ, ◌+◌, ap, sym, subst, �
 use Rattle.lower.specs.TypeViews.{type_view}
 use Rattle.lower_flat.specs.Spans.{spans_seen}
 use Rattle.lower_arrays.specs.Flat.{bytes_layout}
+use Rattle.ipc_devices.proofs.Claims.{denies_through}
 use Rattle.ipc_devices.specs.Faults.{OwnFault}
 use Rattle.ipc_model.specs.Kinds.{offset_width, binary_kind}
 use Rattle.ipc_model.specs.Entries.{rows, Need}
 use Rattle.ipc_model.specs.Columns.{last_offset, HasBytes, IsWell}
 use Rattle.ipc_flat_columns.specs.Bodies.{entries}
-use Rattle.ipc_flat_columns.proofs.Fetches.{denies_through}
 use Rattle.ipc_flat_columns.proofs.SpanLevels.{last_read, binary_is}
 use Rattle.ipc_flat_columns.proofs.HeldLevels.{bytes_held}
 use Rattle.ipc_flat_columns.proofs.read.array.binary.read_binary.Goals as goal

@@ -6,13 +6,14 @@ use Rattle.lower_rules.specs.AnyKeys.{keys_seen}
 use Rattle.lower_rules.specs.Rules.{DictionaryRules}
 use Rattle.lower_arrays.specs.AnyLayouts.{layout_of}
 use Rattle.lower_arrays.specs.Layouts.{len_of, type_of}
+use Rattle.ipc_devices.proofs.Claims.{denies_through}
 use Rattle.ipc_devices.specs.Faults.{OwnFault}
 use Rattle.ipc_model.specs.Columns.{Begins, values_type, values_slots, IsWell}
 use Rattle.ipc_model.specs.Entries.{Need, rows}
 use Rattle.ipc_model.specs.Kinds.{dictionary_kind}
 use Rattle.ipc_model.specs.TypeKinds.{key_form}
 use Rattle.ipc_flat_columns.specs.Bodies.{entries, known}
-use Rattle.ipc_flat_columns.proofs.Fetches.{denies_through, refused}
+use Rattle.ipc_flat_columns.proofs.Fetches.{refused}
 use Rattle.ipc_flat_columns.proofs.KeyReads.{keys_rules, keys_well, keys_array}
 use Rattle.ipc_flat_columns.proofs.KnownValues.{values_count}
 use Rattle.ipc_flat_columns.proofs.HeldLevels.{dictionary_held}

@@ -4,13 +4,14 @@ use Rattle.lower_flat.specs.Spans.{spans_seen, span_count, EndsWithin}
 use Rattle.lower_flat.specs.Texts.{IsText, BreaksText}
 use Rattle.lower_flat.specs.Validities.{ValidityFits}
 use Rattle.lower_arrays.specs.Flat.{texts_layout}
+use Rattle.ipc_devices.proofs.Claims.{denies_through}
 use Rattle.ipc_devices.specs.Faults.{OwnFault}
 use Rattle.ipc_devices.specs.declared.fault.Fault.TheVariants.{Lower}
 use Rattle.ipc_model.specs.Kinds.{offset_width, utf8_kind}
 use Rattle.ipc_model.specs.Entries.{rows, Need}
 use Rattle.ipc_model.specs.Columns.{last_offset, HasBytes, IsWell, AreTexts as HasTexts}
 use Rattle.ipc_flat_columns.specs.Bodies.{entries}
-use Rattle.ipc_flat_columns.proofs.Fetches.{denies_through, refused}
+use Rattle.ipc_flat_columns.proofs.Fetches.{refused}
 use Rattle.ipc_flat_columns.proofs.SpanLevels.{last_read, texts_are, texts_were, text_keeps, utf8_is}
 use Rattle.ipc_flat_columns.proofs.HeldLevels.{texts_held}
 use Rattle.ipc_flat_columns.proofs.read.array.utf8.read_utf8.Goals as goal
