@@ -12,6 +12,7 @@ use Rattle.lower_rules.specs.Fields.{child_fields, field_type, FieldTypes}
 use Rattle.lower_arrays.specs.Layouts.{Layout, layout, no_layouts, more_layouts, lists, len_of, type_of}
 use Rattle.lower_arrays.specs.Lists.{list_seen, list_layout}
 use Rattle.ipc_base.specs.IdTrees.{IdTree, ids, IdTrees}
+use Rattle.ipc_model.proofs.ReadSlots.{array_len}
 use Rattle.ipc_model.specs.Kinds.{OffsetWidth, offset_width, Kind, null_kind, boolean_kind, number_kind, float_kind, fixed_binary_kind, binary_kind, utf8_kind, list_kind, map_kind, fixed_list_kind, struct_kind, union_kind, dictionary_kind, extension_kind}
 use Rattle.ipc_model.specs.TypeKinds.{field_kind, kind_of}
 use Rattle.ipc_model.specs.Entries.{Entries, Limit, rows}
@@ -39,23 +40,6 @@ pub ruleset child_fields_is = (child_kind_is, child_type_is)
 pub ruleset columns = (same_stored)
 
 -- ---- levels
-
-pub array_len : (s : Entries) (vs : Option ℤ → Layout) (t : Kind) (u : TypeTree) (a b : ℕ) (limit : Limit) → len_of (array_at s vs t u a b limit) ≡ rows s a limit
-array_len s vs null_kind u a b limit = refl
-array_len s vs boolean_kind u a b limit = refl
-array_len s vs (number_kind f) u a b limit = refl
-array_len s vs float_kind u a b limit = refl
-array_len s vs (fixed_binary_kind n) u a b limit = refl
-array_len s vs (binary_kind w) u a b limit = refl
-array_len s vs (utf8_kind w) u a b limit = refl
-array_len s vs (list_kind w t) u a b limit = refl
-array_len s vs (map_kind t) u a b limit = refl
-array_len s vs (fixed_list_kind n t) u a b limit = refl
-array_len s vs (struct_kind ts) u a b limit = refl
-array_len s vs (union_kind Sparse is ts) u a b limit = refl
-array_len s vs (union_kind Dense is ts) u a b limit = refl
-array_len s vs (dictionary_kind f id t) u a b limit = refl
-array_len s vs (extension_kind t) u a b limit = array_len s vs t u a b limit
 
 pub array_type : (s : Entries) (vs : Option ℤ → Layout) (t : Kind) (u : TypeTree) (a b : ℕ) (limit : Limit) → type_of (array_at s vs t u a b limit) ≡ u
 array_type s vs null_kind u a b limit = refl

@@ -12,13 +12,14 @@ use Rattle.lower_rules.specs.Fields.{child_fields, field_type, FieldTypes}
 use Rattle.lower_rules.specs.ListTypes.{list_size}
 use Rattle.lower_arrays.specs.Layouts.{Layout, layout, no_layouts, more_layouts, fixed_lists, len_of, type_of}
 use Rattle.lower_arrays.specs.FixedLists.{fixed_list_seen, fixed_list_layout, BreaksFixedList}
+use Rattle.ipc_model.proofs.ReadSlots.{array_len}
 use Rattle.ipc_model.specs.Kinds.{Kind, fixed_list_kind}
 use Rattle.ipc_model.specs.Entries.{Entries, Limit, rows, times}
 use Rattle.ipc_model.specs.Columns.{Begins, IsWell}
 use Rattle.ipc_model.specs.ReadArrays.{validity_of, first_type, array_at}
 use Rattle.ipc_columns.specs.FixedLevels.{sized_layout}
 use Rattle.ipc_flat_columns.specs.Limits.{SameRows}
-use Rattle.ipc_columns.proofs.ColumnLevels.{array_len, array_type}
+use Rattle.ipc_columns.proofs.ColumnLevels.{array_type}
 use Rattle.ipc_columns.proofs.LimitLevels.{row_same, well_same, array_same, same_back}
 
 lists_in : (u : TypeTree) (size n m : ℕ) → list_size u ≡ size → 0 < size → m ≡ n * size → m / list_size u ≡ n

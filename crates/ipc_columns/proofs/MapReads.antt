@@ -18,13 +18,14 @@ use Rattle.lower_rules.specs.Fields.{child_fields, field_type, FieldTypes, IsPai
 use Rattle.lower_arrays.specs.Layouts.{Layout, layout, no_layouts, more_layouts, maps, len_of, type_of}
 use Rattle.lower_arrays.specs.Maps.{map_seen, map_layout, BreaksMap}
 use Rattle.ipc_base.specs.IdTrees.{IdTrees}
+use Rattle.ipc_model.proofs.ReadSlots.{array_len}
 use Rattle.ipc_model.specs.Kinds.{offsets_32, offset_width, Kind, map_kind}
 use Rattle.ipc_model.specs.TypeKinds.{first_ids, plain_kind, field_kind, kind_of}
 use Rattle.ipc_model.specs.Entries.{Entries, Limit, rows}
 use Rattle.ipc_model.specs.Columns.{Begins, Offsets, last_offset, IsPairKind, IsWell}
 use Rattle.ipc_model.specs.ReadArrays.{first_type, array_at}
 use Rattle.ipc_columns.specs.ListHeads.{AreLists, AreListsAt}
-use Rattle.ipc_columns.proofs.ColumnLevels.{array_len, array_type}
+use Rattle.ipc_columns.proofs.ColumnLevels.{array_type}
 
 pub map_keeps :
     (u : TypeTree) (os : List ℕ) (c : Layout) (v : Validity) (last : ℕ) (e : Error) → physical u ≡ Map → AreLists os v last → len_of c ≡ last

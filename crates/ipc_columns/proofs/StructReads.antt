@@ -9,6 +9,7 @@ use Rattle.lower_arrays.specs.Layouts.{Layout, Layouts, no_layouts, more_layouts
 use Rattle.lower_arrays.specs.Children.{ChildTypes, HasChild, AllHave}
 use Rattle.ipc_base.specs.IdTrees.{IdTrees}
 use Rattle.ipc_devices.specs.Device.{Memory}
+use Rattle.ipc_model.proofs.ReadSlots.{array_len}
 use Rattle.ipc_model.specs.Kinds.{Kind, Kinds, no_kinds, more_kinds, nodes, all_nodes, buffers, all_buffers}
 use Rattle.ipc_model.specs.TypeKinds.{first_ids, other_ids, field_kind, kinds_of}
 use Rattle.ipc_model.specs.Entries.{Entries, Limit, rows}
@@ -19,7 +20,7 @@ use Rattle.ipc_flat_columns.specs.Kinds.{IsBehind}
 use Rattle.ipc_columns.specs.StructLevels.{over, Left, HaveRows, SoFar}
 use Rattle.ipc_flat_columns.specs.declared.read.body.Body.{Body}
 use Rattle.ipc_flat_columns.specs.declared.read.body.Place.{Place}
-use Rattle.ipc_columns.proofs.ColumnLevels.{array_len, array_type}
+use Rattle.ipc_columns.proofs.ColumnLevels.{array_type}
 
 pub extra_is : {R : Type 0} (memory : R → Memory) (b : Body R) → b.extra ≡ (entries memory b).extra
 unfolding entries

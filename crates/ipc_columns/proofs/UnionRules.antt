@@ -18,11 +18,11 @@ use Rattle.lower_arrays.specs.Layouts.{choices, Layout, layout, Layouts, layouts
 use Rattle.lower_arrays.specs.Children.{child_count, lens_of, ChildTypes, AllHave}
 use Rattle.lower_arrays.specs.Choices.{ChoicesFit}
 use Rattle.lower_arrays.specs.Unions.{union_seen, union_layout, IsUnion as IsUnionArray, BreaksUnion}
+use Rattle.ipc_model.proofs.ReadSlots.{array_len}
 use Rattle.ipc_model.specs.Kinds.{Kinds, no_kinds, more_kinds, count, nodes, buffers, union_kind}
 use Rattle.ipc_model.specs.Entries.{Entries, IsSize, IsIndex, node, Need, Limit, rows, integer}
 use Rattle.ipc_model.specs.Columns.{child_rows, IsUnionKind, type_at, child_at, HasTypes, place_at, Reaches, IsWell, AllHaveRows, AllWell}
 use Rattle.ipc_model.specs.ReadArrays.{integers_of, other_fields, first_type, array_at, arrays_at}
-use Rattle.ipc_columns.proofs.ColumnLevels.{array_len}
 use Rattle.ipc_columns.proofs.Records.{so_many}
 use Rattle.ipc_flat_columns.proofs.Indices.{index_key, key_index}
 use Rattle.ipc_columns.proofs.UnionIds.{ids_are, ids_were, names_one, one_named}

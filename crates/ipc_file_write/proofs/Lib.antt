@@ -3,6 +3,7 @@ pub mod AppendOpens
 pub mod Appends
 pub mod CallLists
 pub mod Deliveries
+pub mod Elsewhere
 pub mod EncodedMessages
 pub mod Exactness
 pub mod FileHeads

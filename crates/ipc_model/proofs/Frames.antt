@@ -6,9 +6,9 @@ use Rattle.std.proofs.lemmas.List.{take-append-le, drop-append-le}
 use Rattle.std.specs.Int.{w32, from_le_bytes}
 use Rattle.ipc_model.specs.Frame.{message, waiting, frame, marked, sized, word}
 
-chosen : {A : Type 0} (b : Bool) (x y z : A) → cond b x y ≡ z → ((b ≡ true) × (x ≡ z)) ⊎ ((b ≡ false) × (y ≡ z))
-chosen true x y z e = inl (refl, e)
-chosen false x y z e = inr (refl, e)
+pub by_test : {A : Type 0} (b : Bool) (x y z : A) → cond b x y ≡ z → ((b ≡ true) × (x ≡ z)) ⊎ ((b ≡ false) × (y ≡ z))
+by_test true x y z e = inl (refl, e)
+by_test false x y z e = inr (refl, e)
 
 pub record IsSized (n : ℕ) (bytes m r : List ℕ) : Type 0 where
   pub within : n ≤ length bytes
@@ -23,11 +23,11 @@ message_is a b m r e = (cc, cc)
 pub sized_message : (n : ℕ) (bytes m r : List ℕ) → sized n bytes ≡ message m r → IsSized n bytes m r
 unfolding sized
 sized_message n bytes m r h =
-    elim (chosen (nat_lt n (2 ^ 31)) _ _ _ h) [
+    elim (by_test (nat_lt n (2 ^ 31)) _ _ _ h) [
       | inr p ↦ absurd cc
-      | inl p ↦ elim (chosen (n == 0) _ _ _ p.1) [
+      | inl p ↦ elim (by_test (n == 0) _ _ _ p.1) [
         | inl q ↦ absurd cc
-        | inr q ↦ elim (chosen (nat_lt (length bytes) n) _ _ _ q.1) [
+        | inr q ↦ elim (by_test (nat_lt (length bytes) n) _ _ _ q.1) [
           | inl t ↦ absurd cc
           | inr t ↦
               let e = message_is _ _ _ _ t.1 in
@@ -77,15 +77,15 @@ older bytes m r = (word bytes ≢ 0xFFFF_FFFF) × (sized (word bytes) (drop 4 by
 
 marked_message : (bytes m r : List ℕ) → marked bytes ≡ message m r → (4 ≤ length bytes) × (sized (word bytes) (drop 4 bytes) ≡ message m r)
 unfolding marked
-marked_message bytes m r h = elim (chosen (nat_lt (length bytes) 4) _ _ _ h) [ inl p ↦ absurd cc | inr p ↦ (ltb-false _ _ p.0, p.1) ]
+marked_message bytes m r h = elim (by_test (nat_lt (length bytes) 4) _ _ _ h) [ inl p ↦ absurd cc | inr p ↦ (ltb-false _ _ p.0, p.1) ]
 
 frame_message : (bytes m r : List ℕ) → frame bytes ≡ message m r → (4 ≤ length bytes) × (newer bytes m r ⊎ older bytes m r)
 unfolding frame newer older
-frame_message bytes m r h = elim (chosen (nat_lt (length bytes) 4) _ _ _ h) [
+frame_message bytes m r h = elim (by_test (nat_lt (length bytes) 4) _ _ _ h) [
   | inl p ↦ absurd cc
   | inr p ↦ (
     ltb-false _ _ p.0,
-    elim (chosen (word bytes == 0xFFFF_FFFF) _ _ _ p.1) [
+    elim (by_test (word bytes == 0xFFFF_FFFF) _ _ _ p.1) [
       | inl q ↦ (let k = marked_message (drop 4 bytes) m r q.1 in inl (eqb-true _ _ q.0, k.0, k.1))
       | inr q ↦ inr (eqb-false _ _ q.0, q.1)
     ],
@@ -124,11 +124,11 @@ frame_append bytes m r xs h =
 sized_never : (n : ℕ) (bytes b : List ℕ) → sized n bytes ≡ waiting b → ⊥
 unfolding sized
 sized_never n bytes b h =
-    elim (chosen (nat_lt n (2 ^ 31)) _ _ _ h) [
+    elim (by_test (nat_lt n (2 ^ 31)) _ _ _ h) [
       | inr p ↦ absurd cc
-      | inl p ↦ elim (chosen (n == 0) _ _ _ p.1) [
+      | inl p ↦ elim (by_test (n == 0) _ _ _ p.1) [
         | inl q ↦ absurd cc
-        | inr q ↦ elim (chosen (nat_lt (length bytes) n) _ _ _ q.1) [
+        | inr q ↦ elim (by_test (nat_lt (length bytes) n) _ _ _ q.1) [
           | inl t ↦ absurd cc
           | inr t ↦ absurd cc
         ]
@@ -137,16 +137,16 @@ sized_never n bytes b h =
 
 marked_never : (bytes b : List ℕ) → marked bytes ≡ waiting b → ⊥
 unfolding marked
-marked_never bytes b h = elim (chosen (nat_lt (length bytes) 4) _ _ _ h) [ inl p ↦ absurd cc | inr p ↦ sized_never _ _ b p.1 ]
+marked_never bytes b h = elim (by_test (nat_lt (length bytes) 4) _ _ _ h) [ inl p ↦ absurd cc | inr p ↦ sized_never _ _ b p.1 ]
 
 waiting_is : (a b : List ℕ) → waiting a ≡ waiting b → b ≡ a
 waiting_is a b e = cc
 
 pub frame_waits : (bytes b : List ℕ) → frame bytes ≡ waiting b → b ≡ bytes
 unfolding frame
-frame_waits bytes b h = elim (chosen (nat_lt (length bytes) 4) _ _ _ h) [
+frame_waits bytes b h = elim (by_test (nat_lt (length bytes) 4) _ _ _ h) [
   | inl p ↦ waiting_is _ _ p.1
-  | inr p ↦ elim (chosen (word bytes == 0xFFFF_FFFF) _ _ _ p.1) [
+  | inr p ↦ elim (by_test (word bytes == 0xFFFF_FFFF) _ _ _ p.1) [
     | inl q ↦ absurd (marked_never _ b q.1)
     | inr q ↦ absurd (sized_never _ _ b q.1)
   ]

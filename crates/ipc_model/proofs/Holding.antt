@@ -15,22 +15,22 @@ use Rattle.ipc_model.specs.Needed.{validity_bytes, offset_bytes, cut_bytes, need
 
 -- ---- what buffers list
 
-split : (s : Entries) (b n m : ℕ) → listed_from s b (n + m) ≡ listed_from s b n + listed_from s (b + n) m
-split s b zero m = ap (listed_from s b) (let e : zero + m ≡ m = omega arith in e) ∙ ap (λ c. listed_from s c m) (let e : b ≡ b + zero = omega arith in e)
+pub split_listed : (s : Entries) (b n m : ℕ) → listed_from s b (n + m) ≡ listed_from s b n + listed_from s (b + n) m
+split_listed s b zero m = ap (listed_from s b) (let e : zero + m ≡ m = omega arith in e) ∙ ap (λ c. listed_from s c m) (let e : b ≡ b + zero = omega arith in e)
     ∙ (let e : listed_from s (b + zero) m ≡ 0 + listed_from s (b + zero) m = omega arith in e)
-split s b (suc n) m =
+split_listed s b (suc n) m =
     ap (listed_from s b) (let e : suc n + m ≡ suc (n + m) = omega arith in e)
-    ∙ ap (λ k. listed s b + k) (split s (b + 1) n m ∙ ap (λ c. listed_from s (b + 1) n + listed_from s c m) (let e : b + 1 + n ≡ b + suc n = omega arith in e))
+    ∙ ap (λ k. listed s b + k) (split_listed s (b + 1) n m ∙ ap (λ c. listed_from s (b + 1) n + listed_from s c m) (let e : b + 1 + n ≡ b + suc n = omega arith in e))
     ∙ (let e : listed s b + (listed_from s (b + 1) n + listed_from s (b + suc n) m) ≡ listed s b + listed_from s (b + 1) n + listed_from s (b + suc n) m = omega arith in e)
 
-one : (s : Entries) (b : ℕ) → listed_from s b 1 ≡ listed s b
-one s b = omega arith
+pub one_listed : (s : Entries) (b : ℕ) → listed_from s b 1 ≡ listed s b
+one_listed s b = omega arith
 
-two : (s : Entries) (b : ℕ) → listed_from s b 2 ≡ listed s b + listed s (b + 1)
-two s b = omega arith
+pub two_listed : (s : Entries) (b : ℕ) → listed_from s b 2 ≡ listed s b + listed s (b + 1)
+two_listed s b = omega arith
 
-three : (s : Entries) (b : ℕ) → listed_from s b 3 ≡ listed s b + listed s (b + 1) + listed s (b + 1 + 1)
-three s b = omega arith
+pub three_listed : (s : Entries) (b : ℕ) → listed_from s b 3 ≡ listed s b + listed s (b + 1) + listed s (b + 1 + 1)
+three_listed s b = omega arith
 
 -- ---- one level
 
@@ -56,31 +56,31 @@ cut_in s b w k h = omega (arith, offsets_in s b (offset_width w) k h.offsets, h.
 -- the buffers of a union: those in front, the types, and those of the children
 sparse_split : (s : Entries) (b e m : ℕ) → listed_from s b (1 + e + m) ≡ listed_from s b e + listed s (b + e) + listed_from s (b + e + 1) m
 sparse_split s b e m =
-    ap (listed_from s b) (let f : 1 + e + m ≡ e + (1 + m) = omega arith in f) ∙ split s b e (1 + m)
-    ∙ (let f : listed_from s b e + listed_from s (b + e) (1 + m) ≡ listed_from s b e + listed s (b + e) + listed_from s (b + e + 1) m = omega (arith, split s (b + e) 1 m, one s (b + e)) in f)
+    ap (listed_from s b) (let f : 1 + e + m ≡ e + (1 + m) = omega arith in f) ∙ split_listed s b e (1 + m)
+    ∙ (let f : listed_from s b e + listed_from s (b + e) (1 + m) ≡ listed_from s b e + listed s (b + e) + listed_from s (b + e + 1) m = omega (arith, split_listed s (b + e) 1 m, one_listed s (b + e)) in f)
 
 -- those in front, the types, the offsets, and those of the children
 dense_split : (s : Entries) (b e m : ℕ) → listed_from s b (2 + e + m) ≡ listed_from s b e + (listed s (b + e) + listed s (b + e + 1)) + listed_from s (b + e + 2) m
 dense_split s b e m =
-    ap (listed_from s b) (let f : 2 + e + m ≡ e + (2 + m) = omega arith in f) ∙ split s b e (2 + m)
-    ∙ (let f : listed_from s b e + listed_from s (b + e) (2 + m) ≡ listed_from s b e + (listed s (b + e) + listed s (b + e + 1)) + listed_from s (b + e + 2) m = omega (arith, split s (b + e) 2 m, two s (b + e)) in f)
+    ap (listed_from s b) (let f : 2 + e + m ≡ e + (2 + m) = omega arith in f) ∙ split_listed s b e (2 + m)
+    ∙ (let f : listed_from s b e + listed_from s (b + e) (2 + m) ≡ listed_from s b e + (listed s (b + e) + listed s (b + e + 1)) + listed_from s (b + e + 2) m = omega (arith, split_listed s (b + e) 2 m, two_listed s (b + e)) in f)
 
 -- ---- columns
 
 mutual
   needed_in : (s : Entries) (t : Kind) (a b : ℕ) (limit : Limit) → IsWell s t a b limit → needed s t a b limit ≤ listed_from s b (buffers s.extra t)
   needed_in s null_kind a b limit v = omega arith
-  needed_in s boolean_kind a b limit v = omega (arith, two s b, validity_in s a b (rows s a limit) v.0, v.1.1)
-  needed_in s (number_kind f) a b limit v = omega (arith, two s b, validity_in s a b (rows s a limit) v.0, v.1.1)
+  needed_in s boolean_kind a b limit v = omega (arith, two_listed s b, validity_in s a b (rows s a limit) v.0, v.1.1)
+  needed_in s (number_kind f) a b limit v = omega (arith, two_listed s b, validity_in s a b (rows s a limit) v.0, v.1.1)
   needed_in s float_kind a b limit v = absurd v
-  needed_in s (fixed_binary_kind n) a b limit v = omega (arith, two s b, validity_in s a b (rows s a limit) v.1, v.2.1)
-  needed_in s (binary_kind w) a b limit v = omega (arith, three s b, validity_in s a b (rows s a limit) v.0, cut_in s (b + 1) w (rows s a limit) v.1)
-  needed_in s (utf8_kind w) a b limit v = omega (arith, three s b, validity_in s a b (rows s a limit) v.0, cut_in s (b + 1) w (rows s a limit) v.1)
+  needed_in s (fixed_binary_kind n) a b limit v = omega (arith, two_listed s b, validity_in s a b (rows s a limit) v.1, v.2.1)
+  needed_in s (binary_kind w) a b limit v = omega (arith, three_listed s b, validity_in s a b (rows s a limit) v.0, cut_in s (b + 1) w (rows s a limit) v.1)
+  needed_in s (utf8_kind w) a b limit v = omega (arith, three_listed s b, validity_in s a b (rows s a limit) v.0, cut_in s (b + 1) w (rows s a limit) v.1)
   needed_in s (list_kind w t) a b limit v =
       omega (
         arith,
-        split s b 2 (buffers s.extra t),
-        two s b,
+        split_listed s b 2 (buffers s.extra t),
+        two_listed s b,
         validity_in s a b (rows s a limit) v.0,
         offsets_in s (b + 1) (offset_width w) (rows s a limit) v.1,
         needed_in s t (a + 1) (b + 2) (Some (last_offset s (b + 1) (offset_width w) (rows s a limit))) v.2.0,
@@ -88,21 +88,21 @@ mutual
   needed_in s (map_kind t) a b limit v =
       omega (
         arith,
-        split s b 2 (buffers s.extra t),
-        two s b,
+        split_listed s b 2 (buffers s.extra t),
+        two_listed s b,
         validity_in s a b (rows s a limit) v.1.0,
         offsets_in s (b + 1) (offset_width offsets_32) (rows s a limit) v.1.1,
         needed_in s t (a + 1) (b + 2) (Some (last_offset s (b + 1) (offset_width offsets_32) (rows s a limit))) v.1.2.0,
       )
   needed_in s (fixed_list_kind n t) a b limit v =
-      omega (arith, split s b 1 (buffers s.extra t), one s b, validity_in s a b (rows s a limit) v.1, needed_in s t (a + 1) (b + 1) (times limit n) v.2.0)
+      omega (arith, split_listed s b 1 (buffers s.extra t), one_listed s b, validity_in s a b (rows s a limit) v.1, needed_in s t (a + 1) (b + 1) (times limit n) v.2.0)
   needed_in s (struct_kind ts) a b limit v =
-      omega (arith, split s b 1 (all_buffers s.extra ts), one s b, validity_in s a b (rows s a limit) v.1, all_in s ts (a + 1) (b + 1) limit (rows s a limit) v.2)
+      omega (arith, split_listed s b 1 (all_buffers s.extra ts), one_listed s b, validity_in s a b (rows s a limit) v.1, all_in s ts (a + 1) (b + 1) limit (rows s a limit) v.2)
   needed_in s (union_kind Sparse ids ts) a b limit v =
       omega (arith, sparse_split s b s.extra (all_buffers s.extra ts), v.2.types.1, all_in s ts (a + 1) (b + s.extra + 1) limit (rows s a limit) v.3)
   needed_in s (union_kind Dense ids ts) a b limit v =
       omega (arith, dense_split s b s.extra (all_buffers s.extra ts), v.2.types.1, v.3.offsets.1, whole_in s ts (a + 1) (b + s.extra + 2) v.4)
-  needed_in s (dictionary_kind f id t) a b limit v = omega (arith, two s b, validity_in s a b (rows s a limit) v.0, v.1.1)
+  needed_in s (dictionary_kind f id t) a b limit v = omega (arith, two_listed s b, validity_in s a b (rows s a limit) v.0, v.1.1)
   needed_in s (extension_kind t) a b limit v = needed_in s t a b limit v
 
   all_in : (s : Entries) (ts : Kinds) (a b : ℕ) (limit : Limit) (k : ℕ) → AllHaveRows s ts a b limit k → all_needed s ts a b limit ≤ listed_from s b (all_buffers s.extra ts)
@@ -110,7 +110,7 @@ mutual
   all_in s (more_kinds t ts) a b limit k v =
       omega (
         arith,
-        split s b (buffers s.extra t) (all_buffers s.extra ts),
+        split_listed s b (buffers s.extra t) (all_buffers s.extra ts),
         needed_in s t a b limit v.0.0,
         all_in s ts (a + nodes t) (b + buffers s.extra t) limit k v.1,
       )
@@ -118,7 +118,7 @@ mutual
   whole_in : (s : Entries) (ts : Kinds) (a b : ℕ) → AllWell s ts a b → all_needed s ts a b None ≤ listed_from s b (all_buffers s.extra ts)
   whole_in s no_kinds a b v = omega arith
   whole_in s (more_kinds t ts) a b v =
-      omega (arith, split s b (buffers s.extra t) (all_buffers s.extra ts), needed_in s t a b None v.0, whole_in s ts (a + nodes t) (b + buffers s.extra t) v.1)
+      omega (arith, split_listed s b (buffers s.extra t) (all_buffers s.extra ts), needed_in s t a b None v.0, whole_in s ts (a + nodes t) (b + buffers s.extra t) v.1)
 
 pub needed_law : NeededLaw
 needed_law s t a b limit v = needed_in s t a b limit v
@@ -137,7 +137,7 @@ sum_in s (more_kinds t ts) a b limit v =
     subst (λ (c : ℕ). IsWell s (kind_at ts j) c (b + buffers s.extra t + buffers_before s.extra ts j) limit) (let e : a + (nodes t + nodes_before ts j) ≡ a + nodes t + nodes_before ts j = omega arith in e)
     (subst (λ (d : ℕ). IsWell s (kind_at ts j) (a + (nodes t + nodes_before ts j)) d limit) (let e : b + (buffers s.extra t + buffers_before s.extra ts j) ≡ b + buffers s.extra t + buffers_before s.extra ts j = omega arith in e)
     (v (suc j) (omega arith))) in
-    omega (arith, split s b (buffers s.extra t) (all_buffers s.extra ts), needed_in s t a b limit here, sum_in s ts (a + nodes t) (b + buffers s.extra t) limit others)
+    omega (arith, split_listed s b (buffers s.extra t) (all_buffers s.extra ts), needed_in s t a b limit here, sum_in s ts (a + nodes t) (b + buffers s.extra t) limit others)
 
 read_at : (s : Entries) (ts : Kinds) (limit : Limit) (k : ℕ) (js : List ℕ) (i : ℕ) → AllRead s ts limit k js → i < length js → IsWellAt s ts limit (get_or js i 0)
 read_at s ts limit k [] i v h = absurd (omega arith)

@@ -1,16 +1,12 @@
 -- The meaning goes over messages, and bytes that are added go to its end.
-use Rattle.std.proofs.Common.{◌≡◌, ℕ, ◌<◌, ◌≤◌, ◌==◌, nat_lt, true, false, Bool, cond, List, [], ◌++◌, length, Option, None, Some, option_to_list, zero, suc, refl, sym, ap, ◌∙◌, append_assoc, length-drop, length-append, arith, inl, inr, ◌⊎◌}
+use Rattle.std.proofs.Common.{◌≡◌, ℕ, ◌<◌, ◌≤◌, ◌==◌, nat_lt, List, [], ◌++◌, length, Option, None, Some, option_to_list, zero, suc, refl, sym, ap, ◌∙◌, append_assoc, length-drop, length-append, arith, inl, inr}
 use Rattle.std.proofs.lemmas.List.{take-append-le, drop-append-le}
 use Rattle.std.proofs.lemmas.Bool.{ltb-false, le-ltb}
-use Rattle.ipc_model.proofs.Frames.{frame_shorter, frame_append, frame_waits}
+use Rattle.ipc_model.proofs.Frames.{by_test, frame_append, frame_shorter, frame_waits}
 use Rattle.ipc_model.specs.Batches.{Chunk}
 use Rattle.ipc_model.specs.Entries.{Dictionaries}
 use Rattle.ipc_model.specs.Frame.{Frame, message, mark, waiting, broken, frame}
 use Rattle.ipc_model.specs.Streams.{Header, header_of, Head, Known, End, waits, Item, more, done, with_chunk, with_dictionaries, most_dictionaries, body_item, message_item, frame_item, item, Meant, with_chunks, from_item, meant_within, meaning, FrontLaw, ResumeLaw}
-
-chosen : {A : Type 0} (b : Bool) (x y z : A) → cond b x y ≡ z → ((b ≡ true) × (x ≡ z)) ⊎ ((b ≡ false) × (y ≡ z))
-chosen true x y z e = inl (refl, e)
-chosen false x y z e = inr (refl, e)
 
 -- ---- one message
 
@@ -20,7 +16,7 @@ more_rest c c' t t' a r h = cc
 more_moved : (c c' : Option Chunk) (t t' : Known) (a b r xs : List ℕ) → more c' t' a ≡ more c t r → b ≡ a ++ xs → more c' t' b ≡ more c t (r ++ xs)
 more_moved c c' t t' a b r xs h e = cc
 
-chunk_rest : (o : Option Chunk) (s : Known) (a : List ℕ) (c : Option Chunk) (t : Known) (r : List ℕ) → with_chunk o s a ≡ more c t r → a ≡ r
+pub chunk_rest : (o : Option Chunk) (s : Known) (a : List ℕ) (c : Option Chunk) (t : Known) (r : List ℕ) → with_chunk o s a ≡ more c t r → a ≡ r
 chunk_rest None s a c t r h = absurd cc
 chunk_rest (Some x) s a c t r h = more_rest _ _ _ _ _ _ h
 
@@ -29,7 +25,7 @@ chunk_moved : (o : Option Chunk) (s : Known) (a b : List ℕ) (c : Option Chunk)
 chunk_moved None s a b c t r xs h e = absurd cc
 chunk_moved (Some x) s a b c t r xs h e = more_moved _ _ _ _ _ _ _ xs h e
 
-known_rest : (o : Option Dictionaries) (s : Known) (a : List ℕ) (c : Option Chunk) (t : Known) (r : List ℕ) → with_dictionaries o s a ≡ more c t r → a ≡ r
+pub known_rest : (o : Option Dictionaries) (s : Known) (a : List ℕ) (c : Option Chunk) (t : Known) (r : List ℕ) → with_dictionaries o s a ≡ more c t r → a ≡ r
 known_rest None s a c t r h = absurd cc
 known_rest (Some x) s a c t r h = more_rest _ _ _ _ _ _ h
 
@@ -42,12 +38,12 @@ known_moved (Some x) s a b c t r xs h e = more_moved _ _ _ _ _ _ _ xs h e
 body_shorter : (h : Head) (s : Known) (m : Header) (r : List ℕ) (c : Option Chunk) (t : Known) (rest : List ℕ) → body_item h s m r ≡ more c t rest → length rest ≤ length r
 unfolding body_item
 body_shorter h s m r c t rest e =
-    elim (chosen (nat_lt (length r) m.body) _ _ _ e) [
+    elim (by_test (nat_lt (length r) m.body) _ _ _ e) [
       | inl p ↦ absurd cc
-      | inr p ↦ elim (chosen (m.tag == 3) _ _ _ p.1) [
+      | inr p ↦ elim (by_test (m.tag == 3) _ _ _ p.1) [
         | inl q ↦ omega (arith, ap length (chunk_rest _ _ _ c t rest q.1), length-drop m.body r)
-        | inr q ↦ elim (chosen (m.tag == 2) _ _ _ q.1) [
-          | inl u ↦ elim (chosen (nat_lt s.count most_dictionaries) _ _ _ u.1) [
+        | inr q ↦ elim (by_test (m.tag == 2) _ _ _ q.1) [
+          | inl u ↦ elim (by_test (nat_lt s.count most_dictionaries) _ _ _ u.1) [
             | inl v ↦ omega (arith, ap length (known_rest _ _ _ c t rest v.1), length-drop m.body r)
             | inr v ↦ absurd cc
           ]
@@ -60,7 +56,7 @@ body_append : (h : Head) (s : Known) (m : Header) (r : List ℕ) (c : Option Chu
     → body_item h s m (r ++ xs) ≡ more c t (rest ++ xs)
 unfolding body_item
 body_append h s m r c t rest xs e =
-    elim (chosen (nat_lt (length r) m.body) _ _ _ e) [
+    elim (by_test (nat_lt (length r) m.body) _ _ _ e) [
       | inl p ↦ absurd cc
       | inr p ↦
           let inside : m.body ≤ length r = ltb-false _ _ p.0 in
@@ -68,10 +64,10 @@ body_append h s m r c t rest xs e =
           let same = take-append-le m.body r xs inside in
           let moved = drop-append-le m.body r xs inside in
           rw (le-ltb (length (r ++ xs)) m.body long, same)
-          (elim (chosen (m.tag == 3) _ _ _ p.1) [
+          (elim (by_test (m.tag == 3) _ _ _ p.1) [
             | inl q ↦ rw q.0 (chunk_moved _ _ _ _ c t rest xs q.1 moved)
-            | inr q ↦ rw q.0 (elim (chosen (m.tag == 2) _ _ _ q.1) [
-              | inl u ↦ rw u.0 (elim (chosen (nat_lt s.count most_dictionaries) _ _ _ u.1) [
+            | inr q ↦ rw q.0 (elim (by_test (m.tag == 2) _ _ _ q.1) [
+              | inl u ↦ rw u.0 (elim (by_test (nat_lt s.count most_dictionaries) _ _ _ u.1) [
                 | inl v ↦ rw v.0 (known_moved _ _ _ _ c t rest xs v.1 moved)
                 | inr v ↦ absurd cc
               ])
@@ -112,11 +108,11 @@ item_append h s bytes c t rest xs e =
 
 -- ---- what waits
 
-chunk_never : (o : Option Chunk) (s : Known) (a : List ℕ) (t : Known) (b : List ℕ) → with_chunk o s a ≡ done (waits t b) → ⊥
+pub chunk_never : (o : Option Chunk) (s : Known) (a : List ℕ) (t : Known) (b : List ℕ) → with_chunk o s a ≡ done (waits t b) → ⊥
 chunk_never None s a t b e = cc
 chunk_never (Some x) s a t b e = cc
 
-known_never : (o : Option Dictionaries) (s : Known) (a : List ℕ) (t : Known) (b : List ℕ) → with_dictionaries o s a ≡ done (waits t b) → ⊥
+pub known_never : (o : Option Dictionaries) (s : Known) (a : List ℕ) (t : Known) (b : List ℕ) → with_dictionaries o s a ≡ done (waits t b) → ⊥
 known_never None s a t b e = cc
 known_never (Some x) s a t b e = cc
 
@@ -124,12 +120,12 @@ known_never (Some x) s a t b e = cc
 body_never : (h : Head) (s : Known) (m : Header) (r : List ℕ) (t : Known) (b : List ℕ) → body_item h s m r ≡ done (waits t b) → ⊥
 unfolding body_item
 body_never h s m r t b e =
-    elim (chosen (nat_lt (length r) m.body) _ _ _ e) [
+    elim (by_test (nat_lt (length r) m.body) _ _ _ e) [
       | inl p ↦ cc
-      | inr p ↦ elim (chosen (m.tag == 3) _ _ _ p.1) [
+      | inr p ↦ elim (by_test (m.tag == 3) _ _ _ p.1) [
         | inl q ↦ chunk_never _ _ _ t b q.1
-        | inr q ↦ elim (chosen (m.tag == 2) _ _ _ q.1) [
-          | inl u ↦ elim (chosen (nat_lt s.count most_dictionaries) _ _ _ u.1) [
+        | inr q ↦ elim (by_test (m.tag == 2) _ _ _ q.1) [
+          | inl u ↦ elim (by_test (nat_lt s.count most_dictionaries) _ _ _ u.1) [
             | inl v ↦ known_never _ _ _ t b v.1
             | inr v ↦ cc
           ]
@@ -142,7 +138,7 @@ message_never : (h : Head) (s : Known) (o : Option Header) (r : List ℕ) (t : K
 message_never h s None r t b e = cc
 message_never h s (Some m) r t b e = body_never h s m r t b e
 
-waits_same : (s t : Known) (a b : List ℕ) → done (waits s a) ≡ done (waits t b) → (s ≡ t) × (a ≡ b)
+pub waits_same : (s t : Known) (a b : List ℕ) → done (waits s a) ≡ done (waits t b) → (s ≡ t) × (a ≡ b)
 waits_same s t a b e = (cc, cc)
 
 frame_waiting : (h : Head) (s : Known) (f : Frame) (t : Known) (begun : List ℕ) → frame_item h s f ≡ done (waits t begun) → (f ≡ waiting begun) × (s ≡ t)
@@ -157,7 +153,7 @@ item_waits h s bytes t begun e = let w = frame_waiting h s (frame bytes) t begun
 
 -- ---- all messages
 
-same_from : (f g : Known → List ℕ → Meant) (i : Item) → ((c : Option Chunk) (t : Known) (r : List ℕ) → i ≡ more c t r → f t r ≡ g t r) → from_item f i ≡ from_item g i
+pub same_from : (f g : Known → List ℕ → Meant) (i : Item) → ((c : Option Chunk) (t : Known) (r : List ℕ) → i ≡ more c t r → f t r ≡ g t r) → from_item f i ≡ from_item g i
 same_from f g (more c t r) e = ap (with_chunks (option_to_list c)) (e c t r refl)
 same_from f g (done d) e = refl
 

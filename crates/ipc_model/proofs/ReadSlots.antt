@@ -130,7 +130,7 @@ value_is l xs p e h =
 
 -- ---- columns
 
-array_len : (s : Entries) (vs : Option ℤ → Layout) (t : Kind) (u : TypeTree) (a b : ℕ) (limit : Limit) → len_of (array_at s vs t u a b limit) ≡ rows s a limit
+pub array_len : (s : Entries) (vs : Option ℤ → Layout) (t : Kind) (u : TypeTree) (a b : ℕ) (limit : Limit) → len_of (array_at s vs t u a b limit) ≡ rows s a limit
 array_len s vs null_kind u a b limit = refl
 array_len s vs boolean_kind u a b limit = refl
 array_len s vs (number_kind f) u a b limit = refl

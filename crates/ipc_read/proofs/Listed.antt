@@ -6,6 +6,7 @@ use Rattle.std.proofs.lemmas.List.Sums.{sum_by-cons}
 use Rattle.lower.specs.declared.datatypes.UnionMode.TheVariants.{Sparse, Dense}
 use Rattle.lower_types.specs.declared.Endianness.{Endianness}
 use Rattle.ipc_views.specs.declared.schema.Buffer.{Buffer}
+use Rattle.ipc_model.proofs.Holding.{split_listed, one_listed, two_listed, three_listed}
 use Rattle.ipc_model.specs.Batches.{Body, Lists, entries_of, kind_at, buffers_before}
 use Rattle.ipc_model.specs.Entries.{Entries, Part, size, part_at, listed, Dictionaries}
 use Rattle.ipc_model.specs.Kinds.{Kind, null_kind, boolean_kind, number_kind, float_kind, fixed_binary_kind, binary_kind, utf8_kind, list_kind, map_kind, fixed_list_kind, struct_kind, union_kind, dictionary_kind, extension_kind, Kinds, no_kinds, more_kinds, buffers, all_buffers}
@@ -19,53 +20,36 @@ use Rattle.ipc_read.specs.Sizes.{total_of, chosen_total, chosen_listed}
 
 -- ---- from one buffer on
 
-split : (s : Entries) (b n m : ℕ) → listed_from s b (n + m) ≡ listed_from s b n + listed_from s (b + n) m
-split s b zero m = ap (listed_from s b) (let e : zero + m ≡ m = omega arith in e) ∙ ap (λ c. listed_from s c m) (let e : b ≡ b + zero = omega arith in e)
-    ∙ (let e : listed_from s (b + zero) m ≡ 0 + listed_from s (b + zero) m = omega arith in e)
-split s b (suc n) m =
-    ap (listed_from s b) (let e : suc n + m ≡ suc (n + m) = omega arith in e)
-    ∙ ap (λ k. listed s b + k) (split s (b + 1) n m ∙ ap (λ c. listed_from s (b + 1) n + listed_from s c m) (let e : b + 1 + n ≡ b + suc n = omega arith in e))
-    ∙ (let e : listed s b + (listed_from s (b + 1) n + listed_from s (b + suc n) m) ≡ listed s b + listed_from s (b + 1) n + listed_from s (b + suc n) m = omega arith in e)
-
-one : (s : Entries) (b : ℕ) → listed_from s b 1 ≡ listed s b
-one s b = omega arith
-
-two : (s : Entries) (b : ℕ) → listed_from s b 2 ≡ listed s b + listed s (b + 1)
-two s b = omega arith
-
-three : (s : Entries) (b : ℕ) → listed_from s b 3 ≡ listed s b + listed s (b + 1) + listed s (b + 1 + 1)
-three s b = omega arith
-
 -- those of a union: in front, its own, and those of its children
 in_front : (s : Entries) (b own extra m : ℕ) → listed_from s b (own + extra + m) ≡ listed_from s b extra + (listed_from s (b + extra) own + listed_from s (b + extra + own) m)
 in_front s b own extra m =
-    ap (listed_from s b) (let e : own + extra + m ≡ extra + (own + m) = omega arith in e) ∙ split s b extra (own + m)
-    ∙ ap (λ k. listed_from s b extra + k) (split s (b + extra) own m)
+    ap (listed_from s b) (let e : own + extra + m ≡ extra + (own + m) = omega arith in e) ∙ split_listed s b extra (own + m)
+    ∙ ap (λ k. listed_from s b extra + k) (split_listed s (b + extra) own m)
 
 mutual
   pub column_in : (s : Entries) (extra : ℕ) (t : Kind) (b : ℕ) → listed_in s extra t b ≤ listed_from s b (buffers extra t)
   column_in s extra null_kind b = omega arith
-  column_in s extra boolean_kind b = omega (arith, two s b)
-  column_in s extra (number_kind f) b = omega (arith, two s b)
-  column_in s extra float_kind b = omega (arith, two s b)
-  column_in s extra (fixed_binary_kind n) b = omega (arith, two s b)
-  column_in s extra (binary_kind w) b = omega (arith, three s b)
-  column_in s extra (utf8_kind w) b = omega (arith, three s b)
-  column_in s extra (list_kind w t) b = omega (arith, split s b 2 (buffers extra t), two s b, column_in s extra t (b + 2))
-  column_in s extra (map_kind t) b = omega (arith, split s b 2 (buffers extra t), two s b, column_in s extra t (b + 2))
-  column_in s extra (fixed_list_kind n t) b = omega (arith, split s b 1 (buffers extra t), one s b, column_in s extra t (b + 1))
-  column_in s extra (struct_kind ts) b = omega (arith, split s b 1 (all_buffers extra ts), one s b, columns_in s extra ts (b + 1))
+  column_in s extra boolean_kind b = omega (arith, two_listed s b)
+  column_in s extra (number_kind f) b = omega (arith, two_listed s b)
+  column_in s extra float_kind b = omega (arith, two_listed s b)
+  column_in s extra (fixed_binary_kind n) b = omega (arith, two_listed s b)
+  column_in s extra (binary_kind w) b = omega (arith, three_listed s b)
+  column_in s extra (utf8_kind w) b = omega (arith, three_listed s b)
+  column_in s extra (list_kind w t) b = omega (arith, split_listed s b 2 (buffers extra t), two_listed s b, column_in s extra t (b + 2))
+  column_in s extra (map_kind t) b = omega (arith, split_listed s b 2 (buffers extra t), two_listed s b, column_in s extra t (b + 2))
+  column_in s extra (fixed_list_kind n t) b = omega (arith, split_listed s b 1 (buffers extra t), one_listed s b, column_in s extra t (b + 1))
+  column_in s extra (struct_kind ts) b = omega (arith, split_listed s b 1 (all_buffers extra ts), one_listed s b, columns_in s extra ts (b + 1))
   column_in s extra (union_kind Sparse ids ts) b =
-      omega (arith, in_front s b 1 extra (all_buffers extra ts), one s (b + extra), columns_in s extra ts (b + extra + 1))
+      omega (arith, in_front s b 1 extra (all_buffers extra ts), one_listed s (b + extra), columns_in s extra ts (b + extra + 1))
   column_in s extra (union_kind Dense ids ts) b =
-      omega (arith, in_front s b 2 extra (all_buffers extra ts), two s (b + extra), columns_in s extra ts (b + extra + 2))
-  column_in s extra (dictionary_kind f id t) b = omega (arith, two s b)
+      omega (arith, in_front s b 2 extra (all_buffers extra ts), two_listed s (b + extra), columns_in s extra ts (b + extra + 2))
+  column_in s extra (dictionary_kind f id t) b = omega (arith, two_listed s b)
   column_in s extra (extension_kind t) b = column_in s extra t b
 
   columns_in : (s : Entries) (extra : ℕ) (ts : Kinds) (b : ℕ) → all_listed s extra ts b ≤ listed_from s b (all_buffers extra ts)
   columns_in s extra no_kinds b = omega arith
   columns_in s extra (more_kinds t ts) b =
-      omega (arith, split s b (buffers extra t) (all_buffers extra ts), column_in s extra t b, columns_in s extra ts (b + buffers extra t))
+      omega (arith, split_listed s b (buffers extra t) (all_buffers extra ts), column_in s extra t b, columns_in s extra ts (b + buffers extra t))
 
 -- ---- of the list of a batch
 

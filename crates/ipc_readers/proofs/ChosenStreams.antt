@@ -1,25 +1,13 @@
 -- The meaning of a stream by a projection goes over its messages, and without a projection it is what the stream means.
-use Rattle.std.proofs.Common.{◌≡◌, ℕ, zero, suc, ◌<◌, ◌≤◌, ◌==◌, nat_lt, true, false, Bool, cond, List, [], length, Option, None, Some, option_to_list, refl, ap, ◌∙◌, length-drop, arith, inl, inr, ◌⊎◌}
-use Rattle.ipc_model.proofs.Frames.{frame_shorter, frame_waits}
+use Rattle.std.proofs.Common.{◌≡◌, ℕ, zero, suc, ◌<◌, ◌≤◌, ◌==◌, nat_lt, List, [], length, Option, None, Some, option_to_list, refl, ap, ◌∙◌, length-drop, arith, inl, inr}
+use Rattle.ipc_model.proofs.Frames.{by_test, frame_shorter, frame_waits}
+use Rattle.ipc_model.proofs.Meanings.{chunk_never, chunk_rest, known_never, known_rest, same_from, waits_same}
 use Rattle.ipc_model.specs.Batches.{Chunk}
-use Rattle.ipc_model.specs.Entries.{Dictionaries}
 use Rattle.ipc_model.specs.Frame.{Frame, message, mark, waiting, broken, frame}
-use Rattle.ipc_model.specs.Streams.{Header, header_of, Head, Known, End, waits, Item, more, done, with_chunk, with_dictionaries, most_dictionaries, body_item, message_item, frame_item, item, Meant, with_chunks, from_item, meant_within, meaning}
+use Rattle.ipc_model.specs.Streams.{Header, header_of, Head, Known, End, waits, more, done, most_dictionaries, body_item, message_item, frame_item, item, with_chunks, from_item, meant_within, meaning}
 use Rattle.ipc_readers.specs.ChosenStreams.{Request, chosen_body, chosen_message, chosen_frame, chosen_item, chosen_within, chosen_meaning, WholeLaw}
 
-by_test : {A : Type 0} (b : Bool) (x y z : A) → cond b x y ≡ z → ((b ≡ true) × (x ≡ z)) ⊎ ((b ≡ false) × (y ≡ z))
-by_test true x y z e = inl (refl, e)
-by_test false x y z e = inr (refl, e)
-
 -- ---- one message
-
-chunk_rest : (o : Option Chunk) (s : Known) (a : List ℕ) (c : Option Chunk) (t : Known) (r : List ℕ) → with_chunk o s a ≡ more c t r → a ≡ r
-chunk_rest None s a c t r h = absurd cc
-chunk_rest (Some x) s a c t r h = cc
-
-known_rest : (o : Option Dictionaries) (s : Known) (a : List ℕ) (c : Option Chunk) (t : Known) (r : List ℕ) → with_dictionaries o s a ≡ more c t r → a ≡ r
-known_rest None s a c t r h = absurd cc
-known_rest (Some x) s a c t r h = cc
 
 -- a message that gives more has all of its body
 body_shorter : (h : Request) (s : Known) (m : Header) (r : List ℕ) (c : Option Chunk) (t : Known) (rest : List ℕ) → chosen_body h s m r ≡ more c t rest → length rest ≤ length r
@@ -55,14 +43,6 @@ chosen_shorter h s bytes c t rest e = frame_rest h s bytes (frame bytes) c t res
 
 -- ---- what waits
 
-chunk_never : (o : Option Chunk) (s : Known) (a : List ℕ) (t : Known) (b : List ℕ) → with_chunk o s a ≡ done (waits t b) → ⊥
-chunk_never None s a t b e = cc
-chunk_never (Some x) s a t b e = cc
-
-known_never : (o : Option Dictionaries) (s : Known) (a : List ℕ) (t : Known) (b : List ℕ) → with_dictionaries o s a ≡ done (waits t b) → ⊥
-known_never None s a t b e = cc
-known_never (Some x) s a t b e = cc
-
 -- a body never waits
 body_never : (h : Request) (s : Known) (m : Header) (r : List ℕ) (t : Known) (b : List ℕ) → chosen_body h s m r ≡ done (waits t b) → ⊥
 unfolding chosen_body
@@ -85,9 +65,6 @@ message_never : (h : Request) (s : Known) (o : Option Header) (r : List ℕ) (t 
 message_never h s None r t b e = cc
 message_never h s (Some m) r t b e = body_never h s m r t b e
 
-waits_same : (s t : Known) (a b : List ℕ) → done (waits s a) ≡ done (waits t b) → (s ≡ t) × (a ≡ b)
-waits_same s t a b e = (cc, cc)
-
 frame_waiting : (h : Request) (s : Known) (f : Frame) (t : Known) (begun : List ℕ) → chosen_frame h s f ≡ done (waits t begun) → (f ≡ waiting begun) × (s ≡ t)
 frame_waiting h s (message x r) t begun e = absurd (message_never h s (header_of x) r t begun e)
 frame_waiting h s (mark r) t begun e = absurd cc
@@ -99,10 +76,6 @@ unfolding chosen_item
 chosen_waits h s bytes t begun e = let w = frame_waiting h s (frame bytes) t begun e in (frame_waits bytes begun w.0, w.1)
 
 -- ---- all messages
-
-same_from : (f g : Known → List ℕ → Meant) (i : Item) → ((c : Option Chunk) (t : Known) (r : List ℕ) → i ≡ more c t r → f t r ≡ g t r) → from_item f i ≡ from_item g i
-same_from f g (more c t r) e = ap (with_chunks (option_to_list c)) (e c t r refl)
-same_from f g (done d) e = refl
 
 -- any number of messages that is enough gives the same
 enough : (h : Request) (k j : ℕ) (s : Known) (bytes : List ℕ) → length bytes < k → length bytes < j → chosen_within h k s bytes ≡ chosen_within h j s bytes

@@ -21,6 +21,7 @@ use Rattle.ipc_write.specs.Meaning.{chunk_written}
 use Rattle.ipc_write.specs.Writers.{fault_unless_started}
 use Rattle.ipc_write.specs.declared.stream.WriterState.{WriterState}
 use Rattle.ipc_write.specs.declared.stream.WriterState.TheVariants.{New, Started, Finished, Failed}
+use Rattle.ipc_file_write.proofs.Elsewhere.{over, whole_over}
 use Rattle.ipc_file_write.specs.Calls.{vector}
 use Rattle.ipc_file_write.specs.FileWriters.{Agrees, EndsWith, FileSeen, HasNothing, IsFileOf, IsSameFile, IsWholeFile, MissesFinish, MissesStart, OrFails, RefusesFinish, TakesNoPairs, Remains, StartsWith, StateComesFirst, TakesPairs, fault_if_over, head_of_file}
 use Rattle.ipc_file_write.specs.WrittenFiles.{RefusesEnd}
@@ -28,7 +29,7 @@ use Rattle.ipc_file_write.proofs.FileStates.{at_state}
 use Rattle.ipc_file_write.proofs.WrittenFiles.{refuses_end}
 use Rattle.ipc_sessions.specs.Sessions.{IsEndedFile}
 use Rattle.ipc_sessions.specs.Steps.{AreWritten, IsCreation, RefusesCreation, TakesChunks}
-use Rattle.ipc_sessions.proofs.Ends.{front_before, whole_without, without_device}
+use Rattle.ipc_sessions.proofs.Ends.{front_before}
 
 -- all that a vector holds stands before its place
 vector-before : (v : Vec ℕ Global) → before (vector v) ≡ v.items
@@ -60,8 +61,8 @@ module _ (n p a b c : FileSeen (Vec ℕ Global)) (v : Vec ℕ Global) (fs : Fiel
       let whole : IsWholeFile true c there.bytes cs = at_state true c.state Finished c there.bytes cs ends.is there.file in
       let held : v.items ≡ there.bytes = sym (vector-before v) ∙ ap (λ (x : Vec ℕ Global). before (vector x)) handed ∙ there.held in
       record {
-        writer = without_device c;
-        whole = whole_without true c v.items cs (subst (λ (xs : List ℕ). IsWholeFile true c xs cs) (sym held) whole);
+        writer = over tt c;
+        whole = whole_over c tt true v.items cs (subst (λ (xs : List ℕ). IsWholeFile true c xs cs) (sym held) whole);
         schema_is = created-head;
         pairs_are = ends.pairs ∙ took.same.pairs ∙ starts.pairs ∙ paired.are;
       }

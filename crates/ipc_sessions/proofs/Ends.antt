@@ -10,55 +10,12 @@ use Rattle.ipc_write.specs.declared.stream.WriterState.TheVariants.{Finished, St
 use Rattle.ipc_file_write.specs.AppendLaws.{NoMore, Onward}
 use Rattle.ipc_file_write.specs.Calls.{DoesFinish}
 use Rattle.ipc_file_write.specs.FileWriters.{EndsWith, FileSeen, HoldsBytes, IsOpenFile, IsWholeFile, ReachesEnd, Remains, SendsEnding, head_of_file}
+use Rattle.ipc_file_write.proofs.Elsewhere.{over, whole_over}
 use Rattle.ipc_file_write.proofs.FileStates.{at_state}
 use Rattle.ipc_file_write.proofs.Onward.{onward_both}
 use Rattle.ipc_sessions.specs.Sessions.{IsEndedFile, taken_of}
 use Rattle.ipc_sessions.specs.Steps.{AreWritten, EndsSession, Leaves, TakesChunks}
 use Rattle.ipc_sessions.proofs.Writes.{no_more_step, onward_step, takes_all}
-
--- ---- writers without a device
-
-abbrev pub without_device : {W : Type 0} → FileSeen W → FileSeen (Unit {0})
-without_device w = record {
-  device = tt;
-  state = w.state;
-  order = w.order;
-  fields = w.fields;
-  metadata = w.metadata;
-  chosen = w.chosen;
-  ids = w.ids;
-  pairs = w.pairs;
-  remembers = w.remembers;
-  dictionaries = w.dictionaries;
-  blocks = w.blocks;
-  place = w.place;
-  size = w.size;
-}
-
-open-without : {W : Type 0} (is_stream : Bool) (w : FileSeen W) (bytes : List ℕ) (cs : List Chunk) → IsOpenFile is_stream w bytes cs → IsOpenFile is_stream (without_device w) bytes cs
-open-without is_stream w bytes cs h = record {
-  writable = h.writable;
-  light = h.light;
-  begun = h.begun;
-  long = h.long;
-  file = h.file;
-  stream = h.stream;
-  place = h.place;
-  natural = h.natural;
-  reached = h.reached;
-  last = h.last;
-}
-
-pub whole_without : {W : Type 0} (is_stream : Bool) (w : FileSeen W) (bytes : List ℕ) (cs : List Chunk) → IsWholeFile is_stream w bytes cs → IsWholeFile is_stream (without_device w) bytes cs
-whole_without is_stream w bytes cs h = record {
-  file = h.file;
-  stream = h.stream;
-  front = h.front;
-  behind = h.behind;
-  bytes_are = h.bytes_are;
-  open_front = open-without is_stream w h.front cs h.open_front;
-  long = h.long;
-}
 
 -- ---- nothing stands behind the end
 
@@ -102,8 +59,8 @@ module _ {W : Type 0} (known grows : Bool) (failures room : W → ℕ) (memory :
         let head : head_of_file c ≡ head_of_file b = rw (same.order, same.fields, same.metadata, ends.ids) refl in
         let head_then : head_of_file b ≡ head_of_file a = rw (took.same.order, took.same.fields, took.same.metadata, took.ids ends.was) refl in
         record {
-          writer = without_device c;
-          whole = whole_without is_stream c (memory c.device).whole (then ++ cs) (subst (λ (xs : List ℕ). IsWholeFile is_stream c xs (then ++ cs)) (sym all) whole);
+          writer = over tt c;
+          whole = whole_over c tt is_stream (memory c.device).whole (then ++ cs) (subst (λ (xs : List ℕ). IsWholeFile is_stream c xs (then ++ cs)) (sym all) whole);
           schema_is = ap (λ (x : Head). x.schema) (head ∙ head_then);
           pairs_are = ends.pairs ∙ took.same.pairs;
         }

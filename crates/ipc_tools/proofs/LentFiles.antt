@@ -9,8 +9,9 @@ use Rattle.ipc_model.specs.Batches.{Chunk}
 use Rattle.ipc_model.specs.Entries.{Dictionaries}
 use Rattle.ipc_write.specs.declared.stream.WriterState.{WriterState}
 use Rattle.ipc_write.specs.declared.stream.WriterState.TheVariants.{Failed, Finished, New, Started}
+use Rattle.ipc_file_write.proofs.Elsewhere.{open_over, over, whole_over}
 use Rattle.ipc_file_write.specs.AppendLaws.{NoMore, Onward}
-use Rattle.ipc_file_write.specs.FileWriters.{AnswersFinish, FileIs, FileSeen, HoldsBytes, IsOpenFile, MayBeFinished}
+use Rattle.ipc_file_write.specs.FileWriters.{AnswersFinish, FileIs, FileSeen, HoldsBytes, MayBeFinished}
 use Rattle.ipc_file_write.specs.Writes.{HaveBlocks, MayBeWritten, MissesWrite, Written, WritesExactly}
 use Rattle.ipc_convert.proofs.Own.{own}
 use Rattle.ipc_convert.specs.Refusals.{CopiesNoFile, CopiesNoStream, RefusesAsFile}
@@ -22,52 +23,13 @@ use Rattle.ipc_tools.proofs.Lending.{before_named, copies_no_file, copies_no_str
 
 -- ---- writers over another device
 
-abbrev over : {V W : Type 0} → W → FileSeen V → FileSeen W
-over device w = record {
-  device = device;
-  state = w.state;
-  order = w.order;
-  fields = w.fields;
-  metadata = w.metadata;
-  chosen = w.chosen;
-  ids = w.ids;
-  pairs = w.pairs;
-  remembers = w.remembers;
-  dictionaries = w.dictionaries;
-  blocks = w.blocks;
-  place = w.place;
-  size = w.size;
-}
-
 -- Of a writer over another device the same holds, where a device isn't asked.
 module _ {V W : Type 0} (w : FileSeen V) (device : W) where
-  open_over : (is_stream : Bool) (bytes : List ℕ) (cs : List Chunk) → IsOpenFile is_stream w bytes cs → IsOpenFile is_stream (over device w) bytes cs
-  open_over is_stream bytes cs h = record {
-    writable = h.writable;
-    light = h.light;
-    begun = h.begun;
-    long = h.long;
-    file = h.file;
-    stream = h.stream;
-    place = h.place;
-    natural = h.natural;
-    reached = h.reached;
-    last = h.last;
-  }
-
   -- the file that its bytes are
   pub file_over : (is_stream : Bool) (state : WriterState) (bytes : List ℕ) (cs : List Chunk) → FileIs is_stream state w bytes cs → FileIs is_stream state (over device w) bytes cs
   file_over is_stream New bytes cs h = record { none = h.none; no_chunks = h.no_chunks; nothing = h.nothing; no_dictionaries = h.no_dictionaries; no_blocks = h.no_blocks }
-  file_over is_stream Started bytes cs h = open_over is_stream bytes cs h
-  file_over is_stream Finished bytes cs h = record {
-    file = h.file;
-    stream = h.stream;
-    front = h.front;
-    behind = h.behind;
-    bytes_are = h.bytes_are;
-    open_front = open_over is_stream h.front cs h.open_front;
-    long = h.long;
-  }
+  file_over is_stream Started bytes cs h = open_over w device is_stream bytes cs h
+  file_over is_stream Finished bytes cs h = whole_over w device is_stream bytes cs h
   file_over is_stream Failed bytes cs h = h
 
   abbrev written_over : (columns : List AnyArray) → Written w columns → Written (over device w) columns

@@ -32,7 +32,7 @@ use Rattle.ipc_model.specs.Columns.{AllHaveRows}
 use Rattle.ipc_model.specs.ReadArrays.{arrays_at}
 use Rattle.ipc_flat_columns.specs.Kinds.{IsBehind, listed_in, all_listed}
 use Rattle.ipc_columns.specs.StructLevels.{HaveRows, SoFar}
-use Rattle.ipc_columns.proofs.ColumnLevels.{array_len}
+use Rattle.ipc_model.proofs.ReadSlots.{array_len}
 use Rattle.ipc_columns.proofs.StructReads.{extra_is, fields_left, kinds_left, left_more, so_more, one_of, so_end, arrays_typed, arrays_have, arrays_some}
 use Rattle.std.proofs.Common.{◌*◌}
 use Rattle.lower_rules.specs.Fields.{IsPair}
