@@ -1,11 +1,11 @@
 # `rt` is the command of the Rattle kit.
 .PHONY: demo build edits refused test
 
-# Builds ipcat without its proofs, and runs `ipcat demo`, and then `ipcat stream` on what it wrote. What is tried waits two seconds for
-# its input and no longer, so the second begins when the first has ended.
+# Builds ipcat once, without its proofs. `ipcat demo` writes the example, byte for byte, and `ipcat stream` shows it.
 demo:
-	@cd crates/ipcat && stream=$$(mktemp) && rt try -- demo > $$stream && rt try -- stream < $$stream; \
-	status=$$?; rm -f $$stream; exit $$status
+	@cd crates/ipcat && cases=$$(mktemp -d) && touch $$cases/demo && cp data/example.arrows $$cases/demo.stdout \
+	&& cp data/example.arrows $$cases/stream && echo demo > $$cases/demo.args && echo stream > $$cases/stream.args && rt try --cases $$cases; \
+	status=$$?; rm -rf $$cases; exit $$status
 
 # Proves ipcat and all below it, and builds it.
 build:
