@@ -31,11 +31,13 @@ pub enum Kind {
     Struct,
     /// Keys of 32 bits to 100 texts.
     Dictionary,
+    /// Keys of 32 bits to as many texts.
+    Values,
     /// Of these, one after the other: numbers, numbers with nulls, texts, lists, keys.
     Mixed,
 }
 
-const KINDS: [(&str, Kind); 9] = [
+const KINDS: [(&str, Kind); 10] = [
     ("int64", Kind::Int64),
     ("nulls", Kind::Nulls),
     ("bits3", Kind::Bits3),
@@ -44,6 +46,7 @@ const KINDS: [(&str, Kind); 9] = [
     ("utf8", Kind::Utf8),
     ("struct", Kind::Struct),
     ("dictionary", Kind::Dictionary),
+    ("values", Kind::Values),
     ("mixed", Kind::Mixed),
 ];
 
@@ -142,12 +145,15 @@ fn struct_(alloc: Global, rows: u32, first: i64) -> Result<AnyArray, Fault> {
     Ok(AnyArray::Struct(StructArray::try_new(data_type, values, None)?))
 }
 
-fn dictionary(alloc: Global, rows: u32) -> Result<AnyArray, Fault> {
-    let keys: Vec<i32> = (0..rows).map(|row| (row % 100) as i32).collect(alloc)?;
+// Keys to so many texts, from the first to the last and on from the first.
+fn dictionary(alloc: Global, rows: u32, texts: u32) -> Result<AnyArray, Fault> {
+    let keys: Vec<i32> = (0..rows)
+        .map(|row| row.checked_rem(texts).unwrap_or(0) as i32)
+        .collect(alloc)?;
     let keys = PrimitiveArray::try_new(DataType::Int32, Buffer::new(keys)?, None)?;
-    let texts = Box::new(alloc, DataType::Utf8)?;
-    let data_type = DataType::Dictionary(IntegerType::Int32, texts, false);
-    let values = Rc::new(alloc, utf8(alloc, 100)?)?;
+    let utf8_type = Box::new(alloc, DataType::Utf8)?;
+    let data_type = DataType::Dictionary(IntegerType::Int32, utf8_type, false);
+    let values = Rc::new(alloc, utf8(alloc, texts)?)?;
     let array = DictionaryArray::try_new(data_type, DictionaryKeys::Int32(keys), values)?;
     Ok(AnyArray::Dictionary(array))
 }
@@ -163,7 +169,8 @@ pub fn column(alloc: Global, kind: Kind, rows: u32, number: u32) -> Result<AnyAr
         Kind::List => list(alloc, rows, first),
         Kind::Utf8 => utf8(alloc, rows),
         Kind::Struct => struct_(alloc, rows, first),
-        Kind::Dictionary => dictionary(alloc, rows),
+        Kind::Dictionary => dictionary(alloc, rows, 100),
+        Kind::Values => dictionary(alloc, rows, rows),
         // (no kind of a mixed table is mixed)
         Kind::Mixed => int64(alloc, rows, first, None),
     }
