@@ -1,3 +1,4 @@
 pub mod Streams
 pub mod Pushes
 pub mod Chosen
+pub mod WrittenArrays

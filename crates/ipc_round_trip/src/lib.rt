@@ -1,6 +1,7 @@
-//! Whole streams in memory: what a stream writer wrote is what a stream reader reads.
+//! What was written is what is read: whole streams in memory, and, as a law, arrays that were appended to a batch.
 #![tactic(auto)]
 
+pub mod arrays;
 pub mod columns;
 pub mod read;
 pub mod round_trip;
