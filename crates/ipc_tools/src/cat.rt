@@ -17,6 +17,7 @@ mod show;
 mod slots;
 
 use crate::class::tell;
+use crate::convert::opened;
 use arrow2_ipc::io::ipc::fault::{Fault, Reads, Seeks, Writes};
 use demo::write_demo;
 use file::show_file;
@@ -25,8 +26,6 @@ use ipc_write::common_sync::write_all;
 use printer::Printer;
 use show::{Outcome, show_stream};
 use std::alloc::Global;
-use std::io;
-use std::io::ErrorKind;
 
 const USAGE: &str = "usage: ipcat demo | ipcat stream [COLS] | ipcat file PATH [COLS [LIMIT]]\n";
 
@@ -152,8 +151,5 @@ fn show_opened<F: Reads + Seeks + Drop, O: Writes>(
     ensures wrong { IfSome file (λ device. IfOk result (λ outcome. outcome ≡ WrongWords → FileHasOthers F.known F.memory device (columns_by words.entry.columns))) }
     ensures refused { IfSome file (λ device. IfErr result (λ e. OwnFault e (ShowsNoFile F.known F.memory device (columns_by words.entry.columns) words.entry.limit e))) }
 {
-    match file {
-        Some(file) => show_file(alloc, file, words, printer),
-        None => Err(Fault::Io(io::Error::from(ErrorKind::NotFound))),
-    }
+    show_file(alloc, opened(file)?, words, printer)
 }

@@ -128,7 +128,7 @@ fn run_form<R: Reads, F: Reads + Writes + Seeks + Drop, O: Writes>(
 }
 
 // What stands at a path, where it could be opened.
-fn opened<F>(file: Option<F>) -> Result<F, Fault>
+pub(crate) fn opened<F>(file: Option<F>) -> Result<F, Fault>
     ensures there { IfOk result (λ device. file ≡ Some device) }
     ensures missing { IfErr result IsIo }
 {

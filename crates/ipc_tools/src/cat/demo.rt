@@ -1,16 +1,14 @@
 //! The documented example: two columns of whole numbers, written five times.
-ghost use Rattle.std.specs.Prelude.{◌≡◌, [], ◌∷◌, false, map, IfErr, IfOk};
-ghost use Rattle.lower.specs.TypeTrees.{field, int32, plain};
-ghost use Rattle.lower.specs.TypeViews.{field_view, fields_view, pairs_of};
+ghost use Rattle.std.specs.Prelude.{◌≡◌, [], map, IfErr, IfOk};
+ghost use Rattle.lower.specs.TypeViews.{fields_view, pairs_of};
 ghost use Rattle.lower_arrays.specs.AnyLayouts.{layout_of};
 ghost use Rattle.ipc_devices.specs.Faults.{OwnFault};
 ghost use Rattle.ipc_model.specs.OfferRows.{demo, integers_are};
 ghost use Rattle.ipc_tools.specs.Demo.{demo_fields};
 
-use arrow2_ipc::array::{AnyArray, AnyPrimitive, PrimitiveArray};
-use arrow2_ipc::buffer::Buffer;
+use arrow2_ipc::array::{AnyArray, Int32Array};
 use arrow2_ipc::chunk::Chunk;
-use arrow2_ipc::datatypes::{DataType, Field, Metadata, Schema};
+use arrow2_ipc::datatypes::{DataType, Field, Schema};
 use arrow2_ipc::io::ipc::fault::{Fault, Writes};
 use arrow2_ipc::io::ipc::write::{StreamWriter, WriteOptions};
 use std::alloc::Global;
@@ -34,39 +32,23 @@ fn demo_schema(alloc: Global) -> Result<Schema, Fault>
     ensures metadata { IfOk result (λ schema. pairs_of schema.metadata.entries ≡ []) }
     ensures only { IfErr result (λ e. OwnFault e ⊥) }
 {
-    Ok(Schema {
-        fields: vec![in alloc; demo_field(alloc, "x")?, demo_field(alloc, "y")?]?,
-        metadata: Metadata::new(alloc),
-    })
-}
-
-fn demo_field(alloc: Global, name: &str) -> Result<Field, Fault>
-    ensures is { IfOk result (λ f. field_view f ≡ field name.now (plain int32) false []) }
-    ensures only { IfErr result (λ e. OwnFault e ⊥) }
-{
-    Ok(Field {
-        name: name.to_string(alloc)?,
-        data_type: DataType::Int32,
-        is_nullable: false,
-        metadata: Metadata::new(alloc),
-    })
+    let x = Field::new("x".to_string(alloc)?, DataType::Int32, false);
+    let y = Field::new("y".to_string(alloc)?, DataType::Int32, false);
+    Ok(Schema::from(vec![in alloc; x, y]?))
 }
 
 fn demo_chunk(alloc: Global) -> Result<Chunk<AnyArray>, Fault>
     ensures columns { IfOk result (λ chunk. map layout_of chunk ≡ demo) }
     ensures only { IfErr result (λ e. OwnFault e ⊥) }
 {
-    let mut columns = Vec::new(alloc);
-    columns.push(demo_column(alloc, [-1, 1])?)?;
-    columns.push(demo_column(alloc, [1, -1])?)?;
-    Chunk::try_new(columns)
+    let x = demo_column(alloc, [-1, 1])?;
+    let y = demo_column(alloc, [1, -1])?;
+    Chunk::try_new(vec![in alloc; x, y]?)
 }
 
 fn demo_column(alloc: Global, numbers: [i32; 2]) -> Result<AnyArray, Fault>
     ensures is { IfOk result (λ column. layout_of column ≡ integers_are numbers) }
     ensures only { IfErr result (λ e. OwnFault e ⊥) }
 {
-    let values = Buffer::new(Vec::from_slice(alloc, &numbers)?)?;
-    let array = PrimitiveArray::try_new(DataType::Int32, values, None)?;
-    Ok(AnyArray::Primitive(AnyPrimitive::Int32(array)))
+    Ok(AnyArray::from(Int32Array::from_slice(alloc, &numbers)?))
 }
