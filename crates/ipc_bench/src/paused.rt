@@ -2,9 +2,10 @@
 
 use crate::keyed::{Keyed, make_keyed};
 use crate::pieces::Pieces;
-use crate::told::{Told, letter};
+use crate::told::Told;
+use crate::walks::state_letter;
 use arrow2_ipc::io::ipc::fault::Fault;
-use arrow2_ipc::io::ipc::read::{StreamReader, StreamState, read_stream_metadata};
+use arrow2_ipc::io::ipc::read::{StreamReader, read_stream_metadata};
 use arrow2_ipc::io::ipc::write::{StreamWriter, WriteOptions};
 use std::alloc::{AllocError, Global};
 
@@ -67,12 +68,7 @@ fn tell(alloc: Global, keyed: &Keyed, mut device: Pieces) -> Result<Told, Fault>
     let mut reader = StreamReader::new(alloc, device, metadata, None)?;
     let mut told = Told::new();
     for _ in 0..3 {
-        told.put(match reader.next() {
-            Some(Ok(StreamState::Some(chunk))) => keyed.letter(&chunk),
-            Some(Ok(StreamState::Waiting)) => 'w',
-            Some(Err(fault)) => letter(&fault),
-            None => '.',
-        });
+        told.put(state_letter(keyed, &mut reader));
     }
     told.ample()
 }

@@ -179,8 +179,8 @@ fn put_device(device: Watched<Rough>, whole: &[u8], told: &mut Told) {
     });
 }
 
-// What a reader of streams answers: a chunk, `w` where it waits, a fault, or `.` where no more comes.
-fn state_letter<R: Reads + Drop>(keyed: &Keyed, reader: &mut StreamReader<R>) -> char {
+/// What a reader of streams answers: a chunk, `w` where it waits, a fault, or `.` where no more comes.
+pub fn state_letter<R: Reads + Drop>(keyed: &Keyed, reader: &mut StreamReader<R>) -> char {
     match reader.next() {
         Some(Ok(StreamState::Some(chunk))) => keyed.letter(&chunk),
         Some(Ok(StreamState::Waiting)) => 'w',
