@@ -6,7 +6,7 @@ use crate::told::Told;
 use arrow2_ipc::array::AnyArray;
 use arrow2_ipc::chunk::Chunk;
 use arrow2_ipc::datatypes::{Metadata, Schema};
-use arrow2_ipc::io::ipc::fault::{Fault, StateFault};
+use arrow2_ipc::io::ipc::fault::{ArgFault, Fault, StateFault};
 use arrow2_ipc::io::ipc::read::{read_file, read_stream};
 use arrow2_ipc::io::ipc::write::{
     FileWriter, WriteOptions, WrittenSessions, write_chunks, write_sessions,
@@ -55,6 +55,8 @@ fn a_file_of_four_sessions(rt: HostRuntime) -> Result<(), Fault> {
         Ok(made) => made,
         // (a chunk's write was refused the growth of the file's own memory and answered `Io`, and then the end is refused so)
         Err(Fault::State(StateFault::Failed)) => return Err(Fault::Memory),
+        // (there was no memory for the chunks of the first session, and no other goes on with a file that has none)
+        Err(Fault::Argument(ArgFault::NoRecordBlocks)) => return Err(Fault::Memory),
         Err(fault) => return Err(fault),
     };
     assert!(rt; tell(alloc, &keyed, &made)?.is("oox,,o,aaba,aaba"));
