@@ -2,15 +2,14 @@
 
 use crate::fixtures::room;
 use crate::keyed::Keyed;
+use crate::messages::{Placed, read_columns, read_values};
 use crate::rough::{Rough, Way, make_rough};
 use crate::told::{Told, letter};
 use arrow2_ipc::array::AnyArray;
 use arrow2_ipc::chunk::Chunk;
-use arrow2_ipc::io::ipc::fault::{Failures, Fault, MemFile, OutOfSpecKind, Watched};
-use arrow2_ipc::io::ipc::format::{Block, MessageHeaderRef, MessageRef, MetadataVersion};
-use arrow2_ipc::io::ipc::read::{
-    Dictionaries, FileMetadata, read_dictionary, read_file_metadata, read_record_batch,
-};
+use arrow2_ipc::io::ipc::fault::{Failures, Fault, MemFile, Watched};
+use arrow2_ipc::io::ipc::format::Block;
+use arrow2_ipc::io::ipc::read::{Dictionaries, FileMetadata, read_file_metadata};
 use arrow2_ipc::io::ipc::write::{EncodedData, write_all, write_continuation, write_message};
 use std::alloc::Global;
 use std::collections::HashMap;
@@ -32,16 +31,22 @@ pub fn send(alloc: Global, way: Way) -> Result<Told, Fault> {
     };
     let mut device = make_rough(room(alloc)?, way);
     let mut told = Told::new();
-    let continuation = write_continuation(&mut device, 258);
-    put_right(&mut told, continuation.map(|length| length == 8));
-    let sent = write_message(&mut device, &message);
-    put_right(
-        &mut told,
-        sent.map(|lengths| lengths.0 == 16 && lengths.1 == 64),
-    );
+    put_right(&mut told, send_continuation(&mut device));
+    put_right(&mut told, send_message(&mut device, &message));
     told.put_answer(&write_all(&mut device, b"de"));
     told.put_failures(device.failures());
     Ok(told)
+}
+
+// Whether a continuation takes as many bytes as it should.
+fn send_continuation(device: &mut Watched<Rough>) -> Result<bool, Fault> {
+    Ok(write_continuation(device, 258)? == 8)
+}
+
+// Whether a message and its body do.
+fn send_message(device: &mut Watched<Rough>, message: &EncodedData) -> Result<bool, Fault> {
+    let (metadata, body) = write_message(device, message)?;
+    Ok(metadata == 16 && body == 64)
 }
 
 // A place in a file, or one past all.
@@ -56,24 +61,22 @@ fn body_of(block: &Block) -> i64 {
         .saturating_add(i64::from(block.meta_data_length))
 }
 
-// The header of the message of a block.
-fn header_of<'a>(file: &'a [u8], block: &Block) -> Result<MessageHeaderRef<'a>, Fault> {
+// The message of a block, and where its body begins.
+fn placed<'a>(file: &'a [u8], size: u64, block: &Block) -> Result<Placed<'a>, Fault> {
     let from = place_of(block.offset.saturating_add(8));
-    let Some(metadata) = file.get(from..place_of(body_of(block))) else {
+    let body = place_of(body_of(block));
+    let Some(message) = file.get(from..body) else {
         return Err(Fault::Ended);
     };
-    let message = match MessageRef::read_as_root(metadata) {
-        Ok(message) => message,
-        Err(e) => return Err(Fault::OutOfSpec(OutOfSpecKind::InvalidFlatbufferMessage(e))),
-    };
-    match message.header() {
-        Ok(Some(header)) => Ok(header),
-        _ => Err(Fault::OutOfSpec(OutOfSpecKind::MissingMessageHeader)),
-    }
+    Ok(Placed {
+        message,
+        place: body as u64,
+        size,
+    })
 }
 
 // Reads the values of the first dictionary block.
-fn read_values(
+fn read_first_values(
     alloc: Global,
     file: &[u8],
     metadata: &FileMetadata,
@@ -83,25 +86,17 @@ fn read_values(
     let Some(block) = metadata.dictionary_blocks().first() else {
         return Err(Fault::Ended);
     };
-    let MessageHeaderRef::DictionaryBatch(batch) = header_of(file, block)? else {
-        return Err(Fault::Ended);
-    };
-    read_dictionary(
-        alloc,
-        batch,
-        &metadata.schema.fields,
-        &metadata.ipc_schema,
-        known,
-        MetadataVersion::V5,
-        device,
-        place_of(body_of(block)) as u64,
-        metadata.size,
-        &mut Vec::new(alloc),
-    )
+    let placed = placed(file, metadata.size, block)?;
+    let FileMetadata {
+        schema,
+        ipc_schema,
+        ..
+    } = metadata;
+    read_values(alloc, placed, &schema.fields, ipc_schema, known, device)
 }
 
 // Reads the columns of the first record block.
-fn read_columns(
+fn read_first_columns(
     alloc: Global,
     file: &[u8],
     metadata: &FileMetadata,
@@ -111,23 +106,13 @@ fn read_columns(
     let Some(block) = metadata.blocks.first() else {
         return Err(Fault::Ended);
     };
-    let MessageHeaderRef::RecordBatch(batch) = header_of(file, block)? else {
-        return Err(Fault::Ended);
-    };
-    read_record_batch(
-        alloc,
-        batch,
-        &metadata.schema.fields,
-        &metadata.ipc_schema,
-        None,
-        None,
-        known,
-        MetadataVersion::V5,
-        device,
-        place_of(body_of(block)) as u64,
-        metadata.size,
-        &mut Vec::new(alloc),
-    )
+    let placed = placed(file, metadata.size, block)?;
+    let FileMetadata {
+        schema,
+        ipc_schema,
+        ..
+    } = metadata;
+    read_columns(alloc, placed, &schema.fields, ipc_schema, known, device)
 }
 
 /// Tells what is answered where the first dictionary of a file is read twice, how many are known then, and where its first record is read twice.
@@ -137,13 +122,13 @@ pub fn read(alloc: Global, keyed: &Keyed, file: &[u8], way: Way) -> Result<Told,
     let mut known: Dictionaries = HashMap::new(alloc);
     let mut told = Told::new();
     for _ in 0..2 {
-        let answer = read_values(alloc, file, &metadata, &mut device, &mut known);
+        let answer = read_first_values(alloc, file, &metadata, &mut device, &mut known);
         told.put_answer(&answer);
         told.put(if known.is_empty() { '0' } else { '1' });
     }
     for _ in 0..2 {
         told.put(
-            match read_columns(alloc, file, &metadata, &mut device, &known) {
+            match read_first_columns(alloc, file, &metadata, &mut device, &known) {
                 Ok(chunk) => keyed.letter(&chunk),
                 Err(fault) => letter(&fault),
             },

@@ -2,17 +2,15 @@
 
 use crate::fixtures::{Example, int32, make_example};
 use crate::keyed::{make_chunk, make_schema};
+use crate::messages::{Placed, read_columns, read_values};
 use arrow2_ipc::array::{AnyArray, equal};
 use arrow2_ipc::chunk::Chunk;
 use arrow2_ipc::datatypes::Field;
 use arrow2_ipc::io::ipc::IpcSchema;
-use arrow2_ipc::io::ipc::fault::{Fault, MemFile, OutOfSpecKind};
-use arrow2_ipc::io::ipc::format::{
-    DictionaryBatchRef, MessageHeaderRef, MessageRef, MetadataVersion, RecordBatchRef,
-};
+use arrow2_ipc::io::ipc::fault::{Fault, MemFile};
 use arrow2_ipc::io::ipc::read::{
     Dictionaries, ProjectionIter, ProjectionResult, apply_projection, is_prepared, is_projection,
-    is_reordering, prepare_projection, read_dictionary, read_record_batch,
+    is_reordering, prepare_projection,
 };
 use arrow2_ipc::io::ipc::write::{
     DictionaryTracker, EncodedData, WriteOptions, default_ipc_fields, encode_chunk,
@@ -21,10 +19,9 @@ use std::alloc::{AllocError, Global};
 use std::collections::HashMap;
 use std::rc::Rc;
 
-// The example's columns, brought into the order in which they are asked for: the second comes first.
-fn turned(alloc: Global) -> Result<Chunk<AnyArray>, Fault> {
+// The example's columns, brought into the order in which they are asked for.
+fn in_order(alloc: Global, asked: Vec<usize>) -> Result<Chunk<AnyArray>, Fault> {
     let Example { schema, chunk } = make_example(alloc)?;
-    let asked = Vec::from_slice(alloc, &[1usize, 0])?;
     if !is_projection(&asked, schema.fields.len()) {
         return Err(Fault::Ended);
     }
@@ -45,8 +42,9 @@ fn is_first(chunk: &Chunk<AnyArray>, column: &AnyArray) -> bool {
 #[test]
 fn columns_come_as_they_are_asked_for(rt: HostRuntime) -> Result<(), Fault> {
     let alloc = rt.alloc();
+    let turned = in_order(alloc, Vec::from_slice(alloc, &[1usize, 0])?)?;
     let second = int32(alloc, &[1, -1])?;
-    assert!(rt; is_first(&turned(alloc)?, &second));
+    assert!(rt; is_first(&turned, &second));
     Ok(())
 }
 
@@ -80,25 +78,12 @@ fn items_are_told_as_chosen(rt: HostRuntime) -> Result<(), Fault> {
     Ok(())
 }
 
-fn dictionary_in(message: &[u8]) -> Result<DictionaryBatchRef<'_>, Fault> {
-    let message = match MessageRef::read_as_root(message) {
-        Ok(message) => message,
-        Err(e) => return Err(Fault::OutOfSpec(OutOfSpecKind::InvalidFlatbufferMessage(e))),
-    };
-    match message.header() {
-        Ok(Some(MessageHeaderRef::DictionaryBatch(batch))) => Ok(batch),
-        _ => Err(Fault::OutOfSpec(OutOfSpecKind::MissingMessageHeader)),
-    }
-}
-
-fn record_in(message: &[u8]) -> Result<RecordBatchRef<'_>, Fault> {
-    let message = match MessageRef::read_as_root(message) {
-        Ok(message) => message,
-        Err(e) => return Err(Fault::OutOfSpec(OutOfSpecKind::InvalidFlatbufferMessage(e))),
-    };
-    match message.header() {
-        Ok(Some(MessageHeaderRef::RecordBatch(batch))) => Ok(batch),
-        _ => Err(Fault::OutOfSpec(OutOfSpecKind::MissingMessageHeader)),
+// An encoded message, as it is read by itself.
+fn placed(encoded: &EncodedData) -> Placed<'_> {
+    Placed {
+        message: encoded.ipc_message.as_slice(),
+        place: 0,
+        size: encoded.arrow_data.len() as u64,
     }
 }
 
@@ -110,19 +95,8 @@ fn know(
     ids: &IpcSchema,
     known: &mut Dictionaries,
 ) -> Result<(), Fault> {
-    let body = encoded.arrow_data.as_slice();
-    read_dictionary(
-        alloc,
-        dictionary_in(&encoded.ipc_message)?,
-        fields,
-        ids,
-        known,
-        MetadataVersion::V5,
-        &mut MemFile::new(body),
-        0,
-        body.len() as u64,
-        &mut Vec::new(alloc),
-    )
+    let mut body = MemFile::new(encoded.arrow_data.as_slice());
+    read_values(alloc, placed(encoded), fields, ids, known, &mut body)
 }
 
 // The columns of a record's message.
@@ -133,21 +107,8 @@ fn read(
     ids: &IpcSchema,
     known: &Dictionaries,
 ) -> Result<Chunk<AnyArray>, Fault> {
-    let body = encoded.arrow_data.as_slice();
-    read_record_batch(
-        alloc,
-        record_in(&encoded.ipc_message)?,
-        fields,
-        ids,
-        None,
-        None,
-        known,
-        MetadataVersion::V5,
-        &mut MemFile::new(body),
-        0,
-        body.len() as u64,
-        &mut Vec::new(alloc),
-    )
+    let mut body = MemFile::new(encoded.arrow_data.as_slice());
+    read_columns(alloc, placed(encoded), fields, ids, known, &mut body)
 }
 
 // Whether each column is one of keys whose values are these, in the same memory.
@@ -156,14 +117,18 @@ fn share(chunk: &Chunk<AnyArray>, values: Option<&Rc<AnyArray>>) -> Result<bool,
         return Ok(false);
     };
     for column in chunk.iter() {
-        let AnyArray::Dictionary(keys) = column else {
-            return Ok(false);
-        };
-        if !Rc::ptr_eq(&keys.shared_values()?, values) {
+        if !has_values(column, values)? {
             return Ok(false);
         }
     }
     Ok(true)
+}
+
+fn has_values(column: &AnyArray, values: &Rc<AnyArray>) -> Result<bool, AllocError> {
+    match column {
+        AnyArray::Dictionary(keys) => Ok(Rc::ptr_eq(&keys.shared_values()?, values)),
+        _ => Ok(false),
+    }
 }
 
 // Whether the columns that are read of a chunk's messages are the chunk's, and share the values that are known.

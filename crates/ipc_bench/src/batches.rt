@@ -1,14 +1,14 @@
 //! Batches of many columns, read from a device that counts the bytes which it gives.
 
 use crate::fixtures::{int32, refusal};
+use crate::messages::record_of;
 use arrow2_ipc::array::{AnyArray, equal};
 use arrow2_ipc::chunk::Chunk;
 use arrow2_ipc::datatypes::{DataType, Field};
 use arrow2_ipc::io::ipc::IpcSchema;
 use arrow2_ipc::io::ipc::fault::{Failures, Fault, OutOfSpecKind, Reads, Watched};
 use arrow2_ipc::io::ipc::format::{
-    Buffer, FieldNode, Message, MessageHeader, MessageHeaderRef, MessageRef, MetadataVersion,
-    RecordBatch, RecordBatchRef,
+    Buffer, FieldNode, Message, MessageHeader, MetadataVersion, RecordBatch,
 };
 use arrow2_ipc::io::ipc::read::{Dictionaries, is_prepared, read_record_batch};
 use arrow2_ipc::io::ipc::write::default_ipc_fields;
@@ -41,15 +41,20 @@ fn number_columns(alloc: Global, count: u32) -> Result<Columns, Fault> {
 fn put_column(alloc: Global, columns: &mut Columns, number: u32) -> Result<(), Fault> {
     let field = Field::new(String::new(alloc), DataType::Int32, false);
     columns.fields.push(field)?;
-    let node = FieldNode {
-        length: 1,
-        null_count: 0,
-    };
-    columns.nodes.push(node)?;
-    let place = i64::from(number) * 4;
-    put_buffer(&mut columns.buffers, place, 0)?;
-    put_buffer(&mut columns.buffers, place, 4)?;
+    columns.nodes.push(ONE)?;
+    put_buffers(&mut columns.buffers, i64::from(number) * 4)?;
     Ok(columns.body.extend_from_slice(&number.to_le_bytes())?)
+}
+
+const ONE: FieldNode = FieldNode {
+    length: 1,
+    null_count: 0,
+};
+
+// No validity, and a number of four bytes.
+fn put_buffers(buffers: &mut Vec<Buffer>, place: i64) -> Result<(), Fault> {
+    put_buffer(buffers, place, 0)?;
+    put_buffer(buffers, place, 4)
 }
 
 fn put_buffer(buffers: &mut Vec<Buffer>, offset: i64, length: i64) -> Result<(), Fault> {
@@ -90,17 +95,6 @@ fn batch_of(alloc: Global, columns: Columns) -> Result<Batch, Fault> {
     })
 }
 
-fn record_of(message: &[u8]) -> Result<RecordBatchRef<'_>, Fault> {
-    let message = match MessageRef::read_as_root(message) {
-        Ok(message) => message,
-        Err(e) => return Err(Fault::OutOfSpec(OutOfSpecKind::InvalidFlatbufferMessage(e))),
-    };
-    match message.header() {
-        Ok(Some(MessageHeaderRef::RecordBatch(record))) => Ok(record),
-        _ => Err(Fault::OutOfSpec(OutOfSpecKind::MissingMessageHeader)),
-    }
-}
-
 // Some columns of a batch, and how many bytes the device gave for them.
 fn read(alloc: Global, batch: &Batch, chosen: &[usize]) -> Result<(Chunk<AnyArray>, u64), Fault> {
     let record = record_of(&batch.message)?;
@@ -132,11 +126,15 @@ fn has_numbers(alloc: Global, chunk: &Chunk<AnyArray>, numbers: &[i32]) -> Resul
         return Ok(false);
     }
     for (column, number) in chunk.arrays().iter().zip(numbers) {
-        if !equal(column, &int32(alloc, &[*number])?) {
+        if !is_number(alloc, column, *number)? {
             return Ok(false);
         }
     }
     Ok(true)
+}
+
+fn is_number(alloc: Global, column: &AnyArray, number: i32) -> Result<bool, Fault> {
+    Ok(equal(column, &int32(alloc, &[number])?))
 }
 
 // The last of a thousand columns is found, and four bytes are taken for it.

@@ -36,6 +36,8 @@ mod keyed;
 #[cfg(test)]
 mod long;
 #[cfg(test)]
+mod messages;
+#[cfg(test)]
 mod paused;
 #[cfg(test)]
 mod pieces;

@@ -16,7 +16,7 @@
 ghost use Rattle.std.specs.Prelude.{◌+◌, ◌≤◌, IfOk, IfSome};
 
 use crate::bytes::{bits, bytes};
-use crate::json::{count, items, member, named, text};
+use crate::json::{both, count, items, member, named, text};
 use crate::numbers::{Head, head_of, keys, numbers, type_of, whole_numbers};
 use crate::trouble::Trouble;
 use lower::buffer::Buffer;
@@ -55,14 +55,16 @@ pub fn cut_of(
     let Some(part) = value.get(name) else {
         return Ok(None);
     };
-    let [offset, len] = items(Some(part), name)? else {
-        return Err(Trouble::Row(name));
-    };
-    let (offset, len) = (count(Some(offset), name)?, count(Some(len), name)?);
+    let (offset, len) = two_counts(part, name)?;
     if offset > slots || len > slots - offset {
         return Err(Trouble::Row(name));
     }
     Ok(Some((offset, len)))
+}
+
+fn two_counts(part: &Value, name: &'static str) -> Result<(usize, usize), Trouble> {
+    let (first, second) = both(part, name)?;
+    Ok((count(Some(first), name)?, count(Some(second), name)?))
 }
 
 // The kinds of arrays that have children.
@@ -76,15 +78,21 @@ enum Nested {
 
 #[derive(Clone, Copy)]
 enum ListKind {
-    Small,
-    Large,
+    List(Width),
     FixedSize,
     Map,
 }
 
+// Whether offsets take 32 or 64 bits.
+#[derive(Clone, Copy)]
+enum Width {
+    Small,
+    Large,
+}
+
 const NESTED_KINDS: [(&str, Nested); 7] = [
-    ("list", Nested::OfChild(ListKind::Small)),
-    ("large_list", Nested::OfChild(ListKind::Large)),
+    ("list", Nested::OfChild(ListKind::List(Width::Small))),
+    ("large_list", Nested::OfChild(ListKind::List(Width::Large))),
     ("fixed_size_list", Nested::OfChild(ListKind::FixedSize)),
     ("map", Nested::OfChild(ListKind::Map)),
     ("struct", Nested::Struct),
@@ -154,14 +162,14 @@ pub fn arrays(alloc: Global, value: &Value, levels: usize) -> Result<Vec<AnyArra
 // An array without children.
 fn flat_array(alloc: Global, value: &Value, kind: &str) -> Result<AnyArray, Trouble> {
     match named(&FLAT_KINDS, kind) {
-        None => Ok(AnyArray::Primitive(numbers(alloc, value)?)),
+        None => numbers(alloc, value),
         Some(Flat::Null) => null(alloc, value),
         Some(Flat::Boolean) => boolean(alloc, value),
         Some(Flat::FixedSizeBinary) => fixed_size_binary(alloc, value),
-        Some(Flat::Binary) => Ok(AnyArray::Binary(binary(alloc, value)?)),
-        Some(Flat::LargeBinary) => Ok(AnyArray::LargeBinary(binary(alloc, value)?)),
-        Some(Flat::Utf8) => Ok(AnyArray::Utf8(utf8(alloc, value)?)),
-        Some(Flat::LargeUtf8) => Ok(AnyArray::LargeUtf8(utf8(alloc, value)?)),
+        Some(Flat::Binary) => binary::<i32>(alloc, value),
+        Some(Flat::LargeBinary) => binary::<i64>(alloc, value),
+        Some(Flat::Utf8) => utf8::<i32>(alloc, value),
+        Some(Flat::LargeUtf8) => utf8::<i64>(alloc, value),
     }
 }
 
@@ -205,33 +213,32 @@ where
     Ok(OffsetsBuffer::try_new(numbers)?)
 }
 
-fn binary<O: Offset + TryFrom<i128>>(
-    alloc: Global,
-    value: &Value,
-) -> Result<BinaryArray<O>, Trouble>
+fn binary<O: Offset + TryFrom<i128>>(alloc: Global, value: &Value) -> Result<AnyArray, Trouble>
 where
     O::Error: Drop,
+    AnyArray: From<BinaryArray<O>>,
 {
-    let offsets = offsets(alloc, value)?;
+    let offsets = offsets::<O>(alloc, value)?;
     let values = byte_values(alloc, value)?;
     let Head {
         data_type,
         validity,
     } = head_of(alloc, value)?;
-    Ok(BinaryArray::try_new(data_type, offsets, values, validity)?)
+    Ok(AnyArray::from(BinaryArray::try_new(data_type, offsets, values, validity)?))
 }
 
-fn utf8<O: Offset + TryFrom<i128>>(alloc: Global, value: &Value) -> Result<Utf8Array<O>, Trouble>
+fn utf8<O: Offset + TryFrom<i128>>(alloc: Global, value: &Value) -> Result<AnyArray, Trouble>
 where
     O::Error: Drop,
+    AnyArray: From<Utf8Array<O>>,
 {
-    let offsets = offsets(alloc, value)?;
+    let offsets = offsets::<O>(alloc, value)?;
     let values = byte_values(alloc, value)?;
     let Head {
         data_type,
         validity,
     } = head_of(alloc, value)?;
-    Ok(Utf8Array::try_new(data_type, offsets, values, validity)?)
+    Ok(AnyArray::from(Utf8Array::try_new(data_type, offsets, values, validity)?))
 }
 
 // An array of lists.
@@ -243,29 +250,26 @@ fn array_of_child(
 ) -> Result<AnyArray, Trouble> {
     let child = Box::new(alloc, child)?;
     match kind {
-        ListKind::Small => list(
-            alloc,
-            value,
-            ListOffsets::Small(offsets(alloc, value)?),
-            child,
-        ),
-        ListKind::Large => list(
-            alloc,
-            value,
-            ListOffsets::Large(offsets(alloc, value)?),
-            child,
-        ),
+        ListKind::List(width) => list(alloc, value, width, child),
         ListKind::Map => map(alloc, value, child),
         ListKind::FixedSize => fixed_size_list(alloc, value, child),
+    }
+}
+
+fn list_offsets(alloc: Global, value: &Value, width: Width) -> Result<ListOffsets, Trouble> {
+    match width {
+        Width::Small => Ok(ListOffsets::Small(offsets(alloc, value)?)),
+        Width::Large => Ok(ListOffsets::Large(offsets(alloc, value)?)),
     }
 }
 
 fn list(
     alloc: Global,
     value: &Value,
-    offsets: ListOffsets,
+    width: Width,
     child: Box<AnyArray>,
 ) -> Result<AnyArray, Trouble> {
+    let offsets = list_offsets(alloc, value, width)?;
     let Head {
         data_type,
         validity,

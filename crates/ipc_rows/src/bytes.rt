@@ -9,7 +9,7 @@
 //! Bits are `"1011"`, the first slot's first, or `{"bytes": BYTES, "bits": 9}`: so many of some bytes, the lowest bit of a byte
 //! first.
 
-use crate::json::{count, items, member, text, whole};
+use crate::json::{count, items, member, number, text, whole};
 use crate::tables::{footer, message};
 use crate::trouble::Trouble;
 use ipc_encode::common::EncodedData;
@@ -92,14 +92,18 @@ fn cut(out: &mut Vec<u8>, length: usize) -> Result<(), Trouble> {
 // Puts bytes at places: each change is a place and a byte.
 fn set(out: &mut Vec<u8>, changes: &[Value]) -> Result<(), Trouble> {
     for change in changes {
-        let change = items(Some(change), "set")?;
-        let place = count(change.get(0), "set")?;
-        let byte = count(change.get(1), "set")?;
-        match (out.get_mut(place), u8::try_from(byte)) {
-            (Some(at), Ok(byte)) => *at = byte,
-            _ => return Err(Trouble::Row("set")),
-        }
+        set_byte(out, items(Some(change), "set")?)?;
     }
+    Ok(())
+}
+
+fn set_byte(out: &mut Vec<u8>, change: &[Value]) -> Result<(), Trouble> {
+    let place = count(change.get(0), "set")?;
+    let byte = number(change.get(1), "set")?;
+    let Some(at) = out.get_mut(place) else {
+        return Err(Trouble::Row("set"));
+    };
+    *at = byte;
     Ok(())
 }
 
@@ -199,12 +203,15 @@ fn spelt_bits(alloc: Global, digits: &[u8]) -> Result<Bitmap, Trouble> {
 fn byte_of(digits: &[u8]) -> Result<u8, Trouble> {
     let mut byte = 0u8;
     for digit in digits.iter().rev() {
-        let bit = match digit {
-            b'0' => 0,
-            b'1' => 1,
-            _ => return Err(Trouble::Row("bits")),
-        };
-        byte = (byte & 0x7f) << 1 | bit;
+        byte = byte.wrapping_mul(2).wrapping_add(bit_of(*digit)?);
     }
     Ok(byte)
+}
+
+fn bit_of(digit: u8) -> Result<u8, Trouble> {
+    match digit {
+        b'0' => Ok(0),
+        b'1' => Ok(1),
+        _ => Err(Trouble::Row("bits")),
+    }
 }

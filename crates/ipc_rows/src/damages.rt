@@ -106,16 +106,20 @@ fn put_sets(all: &mut Vec<Damage>, length: usize, byte: u8) -> Result<(), AllocE
 pub fn damaged(alloc: Global, message: &[u8], damage: Damage) -> Result<Vec<u8>, Trouble> {
     let mut copy = Vec::from_slice(alloc, message)?;
     match damage {
-        Damage::Cut(length) => {
-            if length < copy.len() {
-                copy.truncate(length);
-            }
-        }
-        Damage::Set { place, byte } => {
-            if let Some(at) = copy.get_mut(place) {
-                *at = byte;
-            }
-        }
+        Damage::Cut(length) => cut(&mut copy, length),
+        Damage::Set { place, byte } => set(&mut copy, place, byte),
     }
     Ok(copy)
+}
+
+fn cut(message: &mut Vec<u8>, length: usize) {
+    if length < message.len() {
+        message.truncate(length);
+    }
+}
+
+fn set(message: &mut [u8], place: usize, byte: u8) {
+    if let Some(at) = message.get_mut(place) {
+        *at = byte;
+    }
 }

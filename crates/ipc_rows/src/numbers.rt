@@ -8,7 +8,7 @@ use lower::bitmap::Bitmap;
 use lower::buffer::Buffer;
 use lower::datatypes::DataType;
 use lower::types::{NativeType, days_ms, i256, months_days_ns};
-use lower_arrays::array::{AnyPrimitive, DictionaryKeys, PrimitiveArray};
+use lower_arrays::array::{AnyArray, AnyPrimitive, DictionaryKeys, PrimitiveArray};
 use serde_json::Value;
 use std::alloc::Global;
 
@@ -130,40 +130,41 @@ pub fn number_kind(array: &Value) -> Result<NumberKind, Trouble> {
 }
 
 /// An array of numbers.
-pub fn numbers(alloc: Global, array: &Value) -> Result<AnyPrimitive, Trouble> {
+pub fn numbers(alloc: Global, array: &Value) -> Result<AnyArray, Trouble> {
     match number_kind(array)? {
-        NumberKind::Int8 => Ok(AnyPrimitive::Int8(integers(alloc, array)?)),
-        NumberKind::Int16 => Ok(AnyPrimitive::Int16(integers(alloc, array)?)),
-        NumberKind::Int32 => Ok(AnyPrimitive::Int32(integers(alloc, array)?)),
-        NumberKind::Int64 => Ok(AnyPrimitive::Int64(integers(alloc, array)?)),
-        NumberKind::UInt8 => Ok(AnyPrimitive::UInt8(integers(alloc, array)?)),
-        NumberKind::UInt16 => Ok(AnyPrimitive::UInt16(integers(alloc, array)?)),
-        NumberKind::UInt32 => Ok(AnyPrimitive::UInt32(integers(alloc, array)?)),
-        NumberKind::UInt64 => Ok(AnyPrimitive::UInt64(integers(alloc, array)?)),
-        NumberKind::Int128 => Ok(AnyPrimitive::Int128(integers(alloc, array)?)),
-        NumberKind::Int256 => Ok(AnyPrimitive::Int256(large_array(alloc, array)?)),
-        NumberKind::DaysMs => Ok(AnyPrimitive::DaysMs(large_array(alloc, array)?)),
-        NumberKind::MonthDayNano => Ok(AnyPrimitive::MonthDayNano(large_array(alloc, array)?)),
+        NumberKind::Int8 => integers::<i8>(alloc, array),
+        NumberKind::Int16 => integers::<i16>(alloc, array),
+        NumberKind::Int32 => integers::<i32>(alloc, array),
+        NumberKind::Int64 => integers::<i64>(alloc, array),
+        NumberKind::UInt8 => integers::<u8>(alloc, array),
+        NumberKind::UInt16 => integers::<u16>(alloc, array),
+        NumberKind::UInt32 => integers::<u32>(alloc, array),
+        NumberKind::UInt64 => integers::<u64>(alloc, array),
+        NumberKind::Int128 => integers::<i128>(alloc, array),
+        NumberKind::Int256 => large_array::<i256>(alloc, array),
+        NumberKind::DaysMs => large_array::<days_ms>(alloc, array),
+        NumberKind::MonthDayNano => large_array::<months_days_ns>(alloc, array),
     }
 }
 
 fn integers<T: NativeType + TryFrom<i128>>(
     alloc: Global,
     array: &Value,
-) -> Result<PrimitiveArray<T>, Trouble>
+) -> Result<AnyArray, Trouble>
 where
     T::Error: Drop,
+    AnyArray: From<PrimitiveArray<T>>,
 {
     let values = whole_numbers(alloc, member(array, "values")?, "values")?;
-    of_values(alloc, array, values)
+    Ok(AnyArray::from(of_values::<T>(alloc, array, values)?))
 }
 
-fn large_array<T: NativeType + Part>(
-    alloc: Global,
-    array: &Value,
-) -> Result<PrimitiveArray<T>, Trouble> {
+fn large_array<T: NativeType + Part>(alloc: Global, array: &Value) -> Result<AnyArray, Trouble>
+where
+    AnyArray: From<PrimitiveArray<T>>,
+{
     let values = values(alloc, member(array, "values")?, "values")?;
-    of_values(alloc, array, Buffer::new(values)?)
+    Ok(AnyArray::from(of_values::<T>(alloc, array, Buffer::new(values)?)?))
 }
 
 /// The array of a row of these numbers, with its type and validity.
@@ -223,6 +224,13 @@ impl Part for months_days_ns {
 /// The keys of a dictionary, of an array of integers.
 pub fn keys(alloc: Global, array: &Value) -> Result<DictionaryKeys, Trouble> {
     match numbers(alloc, array)? {
+        AnyArray::Primitive(numbers) => as_keys(numbers),
+        _ => Err(Trouble::Row("keys")),
+    }
+}
+
+fn as_keys(numbers: AnyPrimitive) -> Result<DictionaryKeys, Trouble> {
+    match numbers {
         AnyPrimitive::Int8(keys) => Ok(DictionaryKeys::Int8(keys)),
         AnyPrimitive::Int16(keys) => Ok(DictionaryKeys::Int16(keys)),
         AnyPrimitive::Int32(keys) => Ok(DictionaryKeys::Int32(keys)),

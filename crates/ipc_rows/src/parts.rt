@@ -179,59 +179,63 @@ fn put_keys(out: &mut Text, array: &DictionaryArray) {
     out.put(",\"ordered\":");
     out.show(&array.is_ordered());
     out.put(",\"keys\":{");
-    match as_numbers(array.keys()) {
-        Ok(numbers) => {
-            let keys = AnyArray::Primitive(numbers);
-            put_counts(out, &keys);
-            put_flat(out, &keys);
-        }
-        Err(_) => out.miss("keys"),
+    match array.keys() {
+        DictionaryKeys::Int8(keys) => put_as_array(out, keys),
+        DictionaryKeys::Int16(keys) => put_as_array(out, keys),
+        DictionaryKeys::Int32(keys) => put_as_array(out, keys),
+        DictionaryKeys::Int64(keys) => put_as_array(out, keys),
+        DictionaryKeys::UInt8(keys) => put_as_array(out, keys),
+        DictionaryKeys::UInt16(keys) => put_as_array(out, keys),
+        DictionaryKeys::UInt32(keys) => put_as_array(out, keys),
+        DictionaryKeys::UInt64(keys) => put_as_array(out, keys),
     }
     out.put("}");
 }
 
-fn as_numbers(keys: &DictionaryKeys) -> Result<AnyPrimitive, Trouble> {
-    match keys {
-        DictionaryKeys::Int8(keys) => Ok(AnyPrimitive::Int8(keys.clone()?)),
-        DictionaryKeys::Int16(keys) => Ok(AnyPrimitive::Int16(keys.clone()?)),
-        DictionaryKeys::Int32(keys) => Ok(AnyPrimitive::Int32(keys.clone()?)),
-        DictionaryKeys::Int64(keys) => Ok(AnyPrimitive::Int64(keys.clone()?)),
-        DictionaryKeys::UInt8(keys) => Ok(AnyPrimitive::UInt8(keys.clone()?)),
-        DictionaryKeys::UInt16(keys) => Ok(AnyPrimitive::UInt16(keys.clone()?)),
-        DictionaryKeys::UInt32(keys) => Ok(AnyPrimitive::UInt32(keys.clone()?)),
-        DictionaryKeys::UInt64(keys) => Ok(AnyPrimitive::UInt64(keys.clone()?)),
+fn put_as_array<T: NativeType>(out: &mut Text, keys: &PrimitiveArray<T>)
+where
+    AnyArray: From<PrimitiveArray<T>>,
+{
+    match keys.clone() {
+        Ok(keys) => {
+            let keys = AnyArray::from(keys);
+            put_counts(out, &keys);
+            put_flat(out, &keys);
+        }
+        Err(_) => out.miss("keys"),
     }
 }
 
 // All numbers of an array, with those under a null.
 fn put_numbers(out: &mut Text, numbers: &AnyPrimitive) {
     out.put(",\"values\":");
-    match all_valid(numbers) {
-        Ok(numbers) => put_slots(out, &AnyArray::Primitive(numbers), 1),
+    match numbers {
+        AnyPrimitive::Int8(numbers) => put_all(out, numbers),
+        AnyPrimitive::Int16(numbers) => put_all(out, numbers),
+        AnyPrimitive::Int32(numbers) => put_all(out, numbers),
+        AnyPrimitive::Int64(numbers) => put_all(out, numbers),
+        AnyPrimitive::UInt8(numbers) => put_all(out, numbers),
+        AnyPrimitive::UInt16(numbers) => put_all(out, numbers),
+        AnyPrimitive::UInt32(numbers) => put_all(out, numbers),
+        AnyPrimitive::UInt64(numbers) => put_all(out, numbers),
+        AnyPrimitive::Int128(numbers) => put_all(out, numbers),
+        AnyPrimitive::Int256(numbers) => put_all(out, numbers),
+        AnyPrimitive::DaysMs(numbers) => put_all(out, numbers),
+        AnyPrimitive::MonthDayNano(numbers) => put_all(out, numbers),
+    }
+}
+
+fn put_all<T: NativeType>(out: &mut Text, numbers: &PrimitiveArray<T>)
+where
+    AnyArray: From<PrimitiveArray<T>>,
+{
+    match each_valid(numbers) {
+        Ok(numbers) => put_slots(out, &AnyArray::from(numbers), 1),
         Err(_) => out.miss("values"),
     }
 }
 
 // The same numbers, none of which is null.
-fn all_valid(numbers: &AnyPrimitive) -> Result<AnyPrimitive, Trouble> {
-    match numbers {
-        AnyPrimitive::Int8(numbers) => Ok(AnyPrimitive::Int8(each_valid(numbers)?)),
-        AnyPrimitive::Int16(numbers) => Ok(AnyPrimitive::Int16(each_valid(numbers)?)),
-        AnyPrimitive::Int32(numbers) => Ok(AnyPrimitive::Int32(each_valid(numbers)?)),
-        AnyPrimitive::Int64(numbers) => Ok(AnyPrimitive::Int64(each_valid(numbers)?)),
-        AnyPrimitive::UInt8(numbers) => Ok(AnyPrimitive::UInt8(each_valid(numbers)?)),
-        AnyPrimitive::UInt16(numbers) => Ok(AnyPrimitive::UInt16(each_valid(numbers)?)),
-        AnyPrimitive::UInt32(numbers) => Ok(AnyPrimitive::UInt32(each_valid(numbers)?)),
-        AnyPrimitive::UInt64(numbers) => Ok(AnyPrimitive::UInt64(each_valid(numbers)?)),
-        AnyPrimitive::Int128(numbers) => Ok(AnyPrimitive::Int128(each_valid(numbers)?)),
-        AnyPrimitive::Int256(numbers) => Ok(AnyPrimitive::Int256(each_valid(numbers)?)),
-        AnyPrimitive::DaysMs(numbers) => Ok(AnyPrimitive::DaysMs(each_valid(numbers)?)),
-        AnyPrimitive::MonthDayNano(numbers) => {
-            Ok(AnyPrimitive::MonthDayNano(each_valid(numbers)?))
-        }
-    }
-}
-
 fn each_valid<T: NativeType>(numbers: &PrimitiveArray<T>) -> Result<PrimitiveArray<T>, Trouble> {
     let data_type = numbers.data_type().clone()?;
     Ok(PrimitiveArray::try_new(data_type, numbers.values().clone()?, None)?)

@@ -99,23 +99,24 @@ fn dictionaries(alloc: Global, value: &Value) -> Result<Dictionaries, Trouble> {
 
 /// The record batch of a message, where it holds one.
 pub fn batch_of(message: &[u8]) -> Option<RecordBatchRef<'_>> {
-    let Ok(message) = MessageRef::read_as_root(message) else {
-        return None;
-    };
-    match message.header() {
-        Ok(Some(MessageHeaderRef::RecordBatch(batch))) => Some(batch),
+    match header_of(message) {
+        Some(MessageHeaderRef::RecordBatch(batch)) => Some(batch),
         _ => None,
     }
 }
 
 /// The dictionary batch of a message, where it holds one.
 pub fn dictionary_batch_of(message: &[u8]) -> Option<DictionaryBatchRef<'_>> {
-    let Ok(message) = MessageRef::read_as_root(message) else {
-        return None;
-    };
-    match message.header() {
-        Ok(Some(MessageHeaderRef::DictionaryBatch(batch))) => Some(batch),
+    match header_of(message) {
+        Some(MessageHeaderRef::DictionaryBatch(batch)) => Some(batch),
         _ => None,
+    }
+}
+
+fn header_of(message: &[u8]) -> Option<MessageHeaderRef<'_>> {
+    match MessageRef::read_as_root(message) {
+        Ok(message) => message.header().unwrap_or(None),
+        Err(_) => None,
     }
 }
 

@@ -15,7 +15,7 @@
 
 mod types;
 
-use crate::json::{Part, choice, count, items, member, number, text, truth, values};
+use crate::json::{Part, both, choice, count, items, member, number, text, truth, values};
 use crate::trouble::Trouble;
 use crate::types::{LEVELS, nullable};
 use ipc_tables::file::Footer;
@@ -28,18 +28,21 @@ use std::alloc::Global;
 
 /// The bytes of a message.
 pub fn message(alloc: Global, value: &Value) -> Result<Vec<u8>, Trouble> {
+    Ok(message_of(alloc, value)?.to_bytes(alloc)?)
+}
+
+fn message_of(alloc: Global, value: &Value) -> Result<Message, Trouble> {
     let version = version(value)?;
     let body_length = match value.get("body_length") {
         None => 0,
         Some(length) => number(Some(length), "body_length")?,
     };
-    let message = Message {
+    Ok(Message {
         version,
         header: header(alloc, member(value, "header")?)?,
         body_length,
         custom_metadata: None,
-    };
-    Ok(message.to_bytes(alloc)?)
+    })
 }
 
 /// The bytes of the footer of a file in which these messages stand.
@@ -195,9 +198,17 @@ fn pairs(alloc: Global, value: &Value) -> Result<Vec<KeyValue>, Trouble> {
         return Ok(out);
     };
     for pair in items(Some(pairs), "metadata")? {
-        out.push(key_value(alloc, items(Some(pair), "metadata")?)?)?;
+        put_pair(alloc, &mut out, pair)?;
     }
     Ok(out)
+}
+
+fn put_pair(alloc: Global, out: &mut Vec<KeyValue>, pair: &Value) -> Result<(), Trouble> {
+    let (key, value) = both(pair, "metadata")?;
+    let key = text(Some(key), "metadata")?.to_string(alloc)?;
+    let value = text(Some(value), "metadata")?.to_string(alloc)?;
+    out.push(KeyValue { key, value })?;
+    Ok(())
 }
 
 // The same, or none where that member is left out.
@@ -206,15 +217,6 @@ fn stated_pairs(alloc: Global, value: &Value) -> Result<Option<Vec<KeyValue>>, T
         return Ok(None);
     }
     Ok(Some(pairs(alloc, value)?))
-}
-
-fn key_value(alloc: Global, pair: &[Value]) -> Result<KeyValue, Trouble> {
-    let key = text(pair.get(0), "metadata")?;
-    let value = text(pair.get(1), "metadata")?;
-    Ok(KeyValue {
-        key: String::from_str(alloc, key)?,
-        value: String::from_str(alloc, value)?,
-    })
 }
 
 #[cycle(tables)]

@@ -309,11 +309,15 @@ fn extension(alloc: Global, parts: &[Value], inner: DataType) -> Result<DataType
 fn twins(alloc: Global, parts: &[Value], inner: DataType) -> Result<DataType, Trouble> {
     let mut data_type = inner;
     for _ in 0..count(parts.get(2), "twins")? {
-        let first = unnamed(alloc, data_type.clone()?, false);
-        let second = unnamed(alloc, data_type, false);
-        data_type = DataType::Struct(vec![in alloc; first, second]?);
+        data_type = twin(alloc, data_type)?;
     }
     Ok(data_type)
+}
+
+fn twin(alloc: Global, data_type: DataType) -> Result<DataType, Trouble> {
+    let first = unnamed(alloc, data_type.clone()?, false);
+    let second = unnamed(alloc, data_type, false);
+    Ok(DataType::Struct(vec![in alloc; first, second]?))
 }
 
 // A field without a name.
@@ -334,11 +338,20 @@ fn lists(alloc: Global, parts: &[Value], inner: DataType) -> Result<DataType, Tr
     };
     let mut data_type = inner;
     for _ in 0..count(parts.get(2), "lists")? {
-        let mut item = unnamed(alloc, data_type, is_nullable);
-        item.name.push_str(name)?;
-        data_type = DataType::List(Box::new(alloc, item)?);
+        data_type = list_of(alloc, name, data_type, is_nullable)?;
     }
     Ok(data_type)
+}
+
+fn list_of(
+    alloc: Global,
+    name: &str,
+    data_type: DataType,
+    is_nullable: bool,
+) -> Result<DataType, Trouble> {
+    let mut item = unnamed(alloc, data_type, is_nullable);
+    item.name.push_str(name)?;
+    Ok(DataType::List(Box::new(alloc, item)?))
 }
 
 impl Part for i32 {
@@ -394,8 +407,13 @@ pub fn texts(alloc: Global, value: &Value, name: &'static str) -> Result<Metadat
         return Err(Trouble::Row(name));
     };
     for (key, value) in pairs {
-        let value = String::from_str(alloc, text(Some(value), name)?)?;
-        out.insert(key.clone()?, value)?;
+        put_text(alloc, &mut out, key, text(Some(value), name)?)?;
     }
     Ok(out)
+}
+
+fn put_text(alloc: Global, out: &mut Metadata, key: &String, text: &str) -> Result<(), Trouble> {
+    let text = text.to_string(alloc)?;
+    out.insert(key.clone()?, text)?;
+    Ok(())
 }

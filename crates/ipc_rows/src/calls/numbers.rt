@@ -13,7 +13,10 @@ use crate::text::Text;
 use crate::trouble::Trouble;
 use crate::types::LEVELS;
 use lower::buffer::Buffer;
-use lower::types::{Endianness, NativeType, PrimitiveType, append_bytes, numbers_from_bytes};
+use lower::types::{
+    Endianness, NativeType, PrimitiveType, append_bytes, days_ms, i256, months_days_ns,
+    numbers_from_bytes,
+};
 use lower_arrays::array::{AnyArray, AnyPrimitive, PrimitiveArray};
 use lower_arrays::equal;
 use serde_json::Value;
@@ -37,7 +40,7 @@ pub fn bytes_of_numbers(alloc: Global, out: &mut Text, value: &Value) -> Result<
 /// The numbers that some bytes are.
 pub fn numbers_of_bytes(alloc: Global, out: &mut Text, value: &Value) -> Result<(), Trouble> {
     let bytes = bytes(alloc, member(value, "bytes")?)?;
-    let numbers = AnyArray::Primitive(read(alloc, value, &bytes)?);
+    let numbers = read(alloc, value, &bytes)?;
     put_slots(out, &numbers, LEVELS);
     Ok(())
 }
@@ -53,8 +56,8 @@ pub fn numbers_back_of(alloc: Global, out: &mut Text, value: &Value) -> Result<(
     if front > all.len() {
         return Err(Trouble::Row("front"));
     }
-    let again = AnyArray::Primitive(read(alloc, value, &all[front..])?);
-    let are_same = equal(&AnyArray::Primitive(numbers), &again);
+    let again = read(alloc, value, &all[front..])?;
+    let are_same = equal(&numbers, &again);
     out.put("{\"bytes\":");
     out.show(&count);
     out.put(",\"are_same\":");
@@ -72,6 +75,17 @@ fn order_of(value: &Value) -> Result<Endianness, Trouble> {
 
 // Appends the bytes of numbers, and answers the name of their type and how many bytes each takes.
 fn spell(
+    bytes: &mut Vec<u8>,
+    array: &AnyArray,
+    order: Endianness,
+) -> Result<(PrimitiveType, usize), Trouble> {
+    match array {
+        AnyArray::Primitive(numbers) => spell_numbers(bytes, numbers, order),
+        _ => Err(Trouble::Row("array")),
+    }
+}
+
+fn spell_numbers(
     bytes: &mut Vec<u8>,
     numbers: &AnyPrimitive,
     order: Endianness,
@@ -102,28 +116,27 @@ fn spell_each<T: NativeType>(
 }
 
 // The numbers of a row's kind that these bytes are.
-fn read(alloc: Global, row: &Value, bytes: &[u8]) -> Result<AnyPrimitive, Trouble> {
+fn read(alloc: Global, row: &Value, bytes: &[u8]) -> Result<AnyArray, Trouble> {
     match number_kind(row)? {
-        NumberKind::Int8 => Ok(AnyPrimitive::Int8(read_each(alloc, row, bytes)?)),
-        NumberKind::Int16 => Ok(AnyPrimitive::Int16(read_each(alloc, row, bytes)?)),
-        NumberKind::Int32 => Ok(AnyPrimitive::Int32(read_each(alloc, row, bytes)?)),
-        NumberKind::Int64 => Ok(AnyPrimitive::Int64(read_each(alloc, row, bytes)?)),
-        NumberKind::UInt8 => Ok(AnyPrimitive::UInt8(read_each(alloc, row, bytes)?)),
-        NumberKind::UInt16 => Ok(AnyPrimitive::UInt16(read_each(alloc, row, bytes)?)),
-        NumberKind::UInt32 => Ok(AnyPrimitive::UInt32(read_each(alloc, row, bytes)?)),
-        NumberKind::UInt64 => Ok(AnyPrimitive::UInt64(read_each(alloc, row, bytes)?)),
-        NumberKind::Int128 => Ok(AnyPrimitive::Int128(read_each(alloc, row, bytes)?)),
-        NumberKind::Int256 => Ok(AnyPrimitive::Int256(read_each(alloc, row, bytes)?)),
-        NumberKind::DaysMs => Ok(AnyPrimitive::DaysMs(read_each(alloc, row, bytes)?)),
-        NumberKind::MonthDayNano => Ok(AnyPrimitive::MonthDayNano(read_each(alloc, row, bytes)?)),
+        NumberKind::Int8 => read_each::<i8>(alloc, row, bytes),
+        NumberKind::Int16 => read_each::<i16>(alloc, row, bytes),
+        NumberKind::Int32 => read_each::<i32>(alloc, row, bytes),
+        NumberKind::Int64 => read_each::<i64>(alloc, row, bytes),
+        NumberKind::UInt8 => read_each::<u8>(alloc, row, bytes),
+        NumberKind::UInt16 => read_each::<u16>(alloc, row, bytes),
+        NumberKind::UInt32 => read_each::<u32>(alloc, row, bytes),
+        NumberKind::UInt64 => read_each::<u64>(alloc, row, bytes),
+        NumberKind::Int128 => read_each::<i128>(alloc, row, bytes),
+        NumberKind::Int256 => read_each::<i256>(alloc, row, bytes),
+        NumberKind::DaysMs => read_each::<days_ms>(alloc, row, bytes),
+        NumberKind::MonthDayNano => read_each::<months_days_ns>(alloc, row, bytes),
     }
 }
 
-fn read_each<T: NativeType>(
-    alloc: Global,
-    row: &Value,
-    bytes: &[u8],
-) -> Result<PrimitiveArray<T>, Trouble> {
-    let values = numbers_from_bytes(alloc, bytes, order_of(row)?)?;
-    of_values(alloc, row, Buffer::new(values)?)
+fn read_each<T: NativeType>(alloc: Global, row: &Value, bytes: &[u8]) -> Result<AnyArray, Trouble>
+where
+    AnyArray: From<PrimitiveArray<T>>,
+{
+    let values = numbers_from_bytes::<T>(alloc, bytes, order_of(row)?)?;
+    Ok(AnyArray::from(of_values(alloc, row, Buffer::new(values)?)?))
 }

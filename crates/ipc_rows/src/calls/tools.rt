@@ -12,6 +12,7 @@
 //! by one of the `"classes"`, and the places where the answer is another one.
 
 use crate::bytes::bytes;
+use crate::damages::{Damage, damaged};
 use crate::files::file;
 use crate::json::{items, member};
 use crate::programs::{Program, Run, run_beside, run_of, words_of};
@@ -170,20 +171,28 @@ fn endings_of_cuts(alloc: Global, words: &[String], input: &[u8]) -> Endings {
     endings
 }
 
-// What is printed first has to be a beginning of what the whole input prints.
 fn ending_of_cut(run: &Run, whole: &Run) -> Ending {
-    let printed = run.out.as_slice();
-    if run.status == 0 && run.err.is_empty() {
-        return match printed.strip_suffix(b"waiting\n") {
-            Some(first) if whole.out.starts_with(first) => Ending::Waiting,
-            _ => Ending::Other,
-        };
+    let is_sound = run.status == 0 && run.err.is_empty();
+    if is_sound && is_beginning(&run.out, "waiting\n", &whole.out) {
+        return Ending::Waiting;
     }
-    let is_ended = run.status == 1 && run.err.as_slice() == b"ipcat: input ended\n".as_slice();
-    if is_ended && whole.out.starts_with(printed) {
+    let is_ended = run.status == 1 && is_text(&run.err, "ipcat: input ended\n");
+    if is_ended && whole.out.starts_with(&run.out) {
         return Ending::Ended;
     }
     Ending::Other
+}
+
+// Whether what is printed before this mark is a beginning of what the whole input prints.
+fn is_beginning(printed: &[u8], mark: &str, whole: &[u8]) -> bool {
+    match printed.strip_suffix(mark.as_bytes()) {
+        Some(first) => whole.starts_with(first),
+        None => false,
+    }
+}
+
+fn is_text(printed: &[u8], text: &str) -> bool {
+    printed == text.as_bytes()
 }
 
 /// How ipcat ends on an input in which one byte is another one.
@@ -209,7 +218,7 @@ fn endings_of_damages(
     let classes = items(value.get("classes"), "classes")?;
     let mut endings = Endings::new(alloc);
     for place in 0..input.len() {
-        let damaged = with_byte(alloc, input, place, byte)?;
+        let damaged = damaged(alloc, input, Damage::Set { place, byte })?;
         let run = run_of(alloc, Program::Ipcat, words, &damaged);
         endings.add(place, ending_of_damage(&run, classes));
     }
@@ -221,15 +230,6 @@ fn byte_of(alloc: Global, value: &Value) -> Result<u8, Trouble> {
         [byte] => Ok(*byte),
         _ => Err(Trouble::Row("byte")),
     }
-}
-
-// The same bytes, but for the one at this place.
-fn with_byte(alloc: Global, input: &[u8], place: usize, byte: u8) -> Result<Vec<u8>, Trouble> {
-    let mut damaged = Vec::from_slice(alloc, input)?;
-    if let Some(old) = damaged.get_mut(place) {
-        *old = byte;
-    }
-    Ok(damaged)
 }
 
 // What comes of it is shown, or refused by its class.
