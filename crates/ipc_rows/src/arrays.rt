@@ -16,7 +16,7 @@
 ghost use Rattle.std.specs.Prelude.{◌+◌, ◌≤◌, IfOk, IfSome};
 
 use crate::bytes::{bits, bytes};
-use crate::json::{both, count, items, member, named, text};
+use crate::json::{count, items, member, named, text};
 use crate::numbers::{Head, head_of, keys, numbers, type_of, whole_numbers};
 use crate::trouble::Trouble;
 use lower::buffer::Buffer;
@@ -63,7 +63,9 @@ pub fn cut_of(
 }
 
 fn two_counts(part: &Value, name: &'static str) -> Result<(usize, usize), Trouble> {
-    let (first, second) = both(part, name)?;
+    let [first, second] = items(Some(part), name)? else {
+        return Err(Trouble::Row(name));
+    };
     Ok((count(Some(first), name)?, count(Some(second), name)?))
 }
 
