@@ -57,14 +57,16 @@ bytes_asked (Some q) n ts metadata same = ap (λ (k : ℕ). 8 + length metadata 
 
 -- ---- what arrays hold
 
-header_asked : (q : Option ChosenColumns) (n : ℕ) (ts : Kinds) (o : Option BlockHeader) (read given : List AnyArray) → AreShuffled q → AreAsMany q (length read) → AreOrdered q read given
-    → HeaderHolds ts (chosen (rising_by q) n) o read → HeaderHolds ts (chosen (asked_by q) n) o given
-header_asked q n ts None read given same many order h = h
-header_asked q n ts (Some x) read given same many order h = held_in_order q n (lists_of x.table) x.extra ts read given same many order h
+header_asked :
+    (q : Option ChosenColumns) (n most : ℕ) (ts : Kinds) (o : Option BlockHeader) (read given : List AnyArray) → AreShuffled q → AreAsMany q (length read) → AreOrdered q read given
+    → HeaderHolds most ts (chosen (rising_by q) n) o read → HeaderHolds most ts (chosen (asked_by q) n) o given
+header_asked q n most ts None read given same many order h = h
+header_asked q n most ts (Some x) read given same many order h = held_in_order q n most (lists_of x.table) x.extra ts read given same many order h
 
-pub held_asked : (q : Option ChosenColumns) (n : ℕ) (ts : Kinds) (metadata : List ℕ) (read given : List AnyArray) → AreShuffled q → AreAsMany q (length read) → AreOrdered q read given
-    → HoldBatch ts (chosen (rising_by q) n) metadata read → HoldBatch ts (chosen (asked_by q) n) metadata given
-held_asked q n ts metadata read given same many order h = header_asked q n ts (block_header metadata) read given same many order h
+pub held_asked :
+    (q : Option ChosenColumns) (n most : ℕ) (ts : Kinds) (metadata : List ℕ) (read given : List AnyArray) → AreShuffled q → AreAsMany q (length read) → AreOrdered q read given
+    → HoldBatch most ts (chosen (rising_by q) n) metadata read → HoldBatch most ts (chosen (asked_by q) n) metadata given
+held_asked q n most ts metadata read given same many order h = header_asked q n most ts (block_header metadata) read given same many order h
 
 -- ---- how many
 

@@ -68,10 +68,10 @@ values_given : (known : Dictionaries) (is : IdTrees) (q : Option ChosenColumns) 
 values_given known is q n read (Ok given) same many order h = values_in_order known is n q read given same many order h
 values_given known is q n read (Err e) same many order h = tt
 
-held_given : (q : Option ChosenColumns) (n : ℕ) (ts : Kinds) (metadata : List ℕ) (read : List AnyArray) (r : Result (List AnyArray) Fault) → AreShuffled q → AreAsMany q (length read)
-    → IfOk r (λ given. AreOrdered q read given) → HoldBatch ts (chosen (rising_by q) n) metadata read → IfOk r (λ given. HoldBatch ts (chosen (asked_by q) n) metadata given)
-held_given q n ts metadata read (Ok given) same many order h = held_asked q n ts metadata read given same many order h
-held_given q n ts metadata read (Err e) same many order h = tt
+held_given : (q : Option ChosenColumns) (n most : ℕ) (ts : Kinds) (metadata : List ℕ) (read : List AnyArray) (r : Result (List AnyArray) Fault) → AreShuffled q → AreAsMany q (length read)
+    → IfOk r (λ given. AreOrdered q read given) → HoldBatch most ts (chosen (rising_by q) n) metadata read → IfOk r (λ given. HoldBatch most ts (chosen (asked_by q) n) metadata given)
+held_given q n most ts metadata read (Ok given) same many order h = held_asked q n most ts metadata read given same many order h
+held_given q n most ts metadata read (Err e) same many order h = tt
 
 -- ---- what it means
 
@@ -134,7 +134,7 @@ module _ (known : Bool) (q : Option ChosenColumns) (m : FileMetadata) (limit : L
   pub read_chunk : (read : List AnyArray) (r : Result (List AnyArray) Fault) → length read ≡ length (chosen o N)
       → IfOk r (λ given. AreOrdered q read given) → IfErr r (λ e. e ≡ faults.Memory)
       → (IsTrue known → block_metadata source (slice_get m.blocks.items i) ≡ Some metadata) → new ≤ old + needed_bytes (kinds (file_seen m).schema) (chosen o N) metadata
-      → HoldBatch (kinds (file_seen m).schema) (chosen o N) metadata read → (IsTrue known → file_chunk (file_seen m) d source o limit i ≡ Some (chunk_seen read))
+      → HoldBatch m.size (kinds (file_seen m).schema) (chosen o N) metadata read → (IsTrue known → file_chunk (file_seen m) d source o limit i ≡ Some (chunk_seen read))
       → (IsTrue known → HaveMeaning d (all_ids_view m.ipc_schema.fields.items) (chosen o N) (chunk_seen read) (map layout_of read))
       → WasChunk known m (asked_by q) limit i ds source old new metadata r
   read_chunk read r long order only message most holds means vals =
@@ -147,8 +147,8 @@ module _ (known : Bool) (q : Option ChosenColumns) (m : FileMetadata) (limit : L
         reason = λ k. memory_only r _ only;
         message = λ k. on_ok r _ (message k);
         bytes = on_ok r _ (subst (λ (n : ℕ). new ≤ old + n) (bytes_asked q N (kinds (file_seen m).schema) metadata same) bound);
-        holds = held_given q N (kinds (file_seen m).schema) metadata read r same (as_many_read N q (length read) many) order
-            (subst (λ (p : Option (List ℕ)). HoldBatch (kinds (file_seen m).schema) (chosen p N) metadata read) rising holds);
+        holds = held_given q N m.size (kinds (file_seen m).schema) metadata read r same (as_many_read N q (length read) many) order
+            (subst (λ (p : Option (List ℕ)). HoldBatch m.size (kinds (file_seen m).schema) (chosen p N) metadata read) rising holds);
         meaning = λ k es alike. block_given q same (file_seen m) d es (subst (λ (x : Dictionaries). KnowAlike x es) (sym held) alike) source limit i read r (as_many_read N q (length read) many) order only
             (subst (λ (p : Option (List ℕ)). file_chunk (file_seen m) d source p limit i ≡ Some (chunk_seen read)) rising (means k));
         values = λ k.

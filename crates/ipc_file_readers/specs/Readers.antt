@@ -182,7 +182,7 @@ pub record WasNext {R : Type 0} (known : Bool) (memory : R → Memory) (given : 
   pub first : known_of a ≡ None
       → OnOk r ((n : ℕ) × ValuesGiven known (file_of a) (memory (device_of a)).whole (given (device_of a)) n
       × (given (device_of b) ≤ n + needed_bytes (kinds (file_of a).schema) (columns_asked (metadata_of a) (asked_of a)) (message_of b)))
-  pub holds : IfOk r (HoldBatch (kinds (file_of a).schema) (columns_asked (metadata_of a) (asked_of a)) (message_of b))
+  pub holds : IfOk r (HoldBatch (file_of a).size (kinds (file_of a).schema) (columns_asked (metadata_of a) (asked_of a)) (message_of b))
   pub meaning : IsTrue known → (ds : Dictionaries) → KnowAlike dictionaries ds
       → GivesPart chunk_seen r (file_chunk (file_of a) ds (memory (device_of a)).whole (asked_of a) (remaining_of a) (block_of a))
   pub values : IsTrue known → IfOk r (HaveKnownValues (metadata_of a) (asked_of a) dictionaries)

@@ -51,7 +51,7 @@ pub record WasChunk (known : Bool) (m : FileMetadata) (asked : Option (List ℕ)
   pub reason : IsTrue known → IfErr r (λ e. OwnFault e (RecordReason (file_seen m) (columns_asked m asked) source (slice_get m.blocks.items i) e))
   pub message : IsTrue known → OnOk r (block_metadata source (slice_get m.blocks.items i) ≡ Some metadata)
   pub bytes : OnOk r (new ≤ old + needed_bytes (kinds (file_seen m).schema) (columns_asked m asked) metadata)
-  pub holds : IfOk r (HoldBatch (kinds (file_seen m).schema) (columns_asked m asked) metadata)
+  pub holds : IfOk r (HoldBatch m.size (kinds (file_seen m).schema) (columns_asked m asked) metadata)
   pub meaning : IsTrue known → (es : Dictionaries) → KnowAlike ds es → GivesPart chunk_seen r (file_chunk (file_seen m) es source asked limit i)
   pub values : IsTrue known → IfOk r (HaveKnownValues m asked ds)
 

@@ -1,2 +1,2 @@
-//! Reading.
+//! The reader of a file's chunks.
 pub mod reader;

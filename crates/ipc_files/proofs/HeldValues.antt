@@ -19,31 +19,31 @@ use Rattle.ipc_files.specs.Batches.{block_metadata}
 use Rattle.ipc_files.specs.Dictionaries.{HoldsHeader, IsListedBy, IsListedByOne, ListsValues}
 
 -- what the header of a dictionary batch has put
-put_or_kept : (schema : Schema) (o : Option BlockHeader) (before after : Option ℤ → Layout) → HoldsHeader schema o before after → (id : ℤ)
-    → ListsValues schema o id (held (after (Some id))) ⊎ (after (Some id) ≡ before (Some id))
-put_or_kept schema None before after h id = absurd h
-put_or_kept schema (Some x) before after h id = elim (cases_Bool (int_eq h.id id)) [
-  | inl e ↦ inl (subst (λ (i : ℤ). ListsValues schema (Some x) i (held (after (Some i)))) ((Decides-int_eq h.id id).0 e) (h.values, h.head, h.most))
+put_or_kept : (most : ℕ) (schema : Schema) (o : Option BlockHeader) (before after : Option ℤ → Layout) → HoldsHeader most schema o before after → (id : ℤ)
+    → ListsValues most schema o id (held (after (Some id))) ⊎ (after (Some id) ≡ before (Some id))
+put_or_kept most schema None before after h id = absurd h
+put_or_kept most schema (Some x) before after h id = elim (cases_Bool (int_eq h.id id)) [
+  | inl e ↦ inl (subst (λ (i : ℤ). ListsValues most schema (Some x) i (held (after (Some i)))) ((Decides-int_eq h.id id).0 e) (h.values, h.head, h.own_buffers, h.all_buffers))
   | inr e ↦ inr (h.others id e)
 ]
 
-module _ (known : Bool) (schema : Schema) (source : List ℕ) (id : ℤ) where
+module _ (known : Bool) (most : ℕ) (schema : Schema) (source : List ℕ) (id : ℤ) where
   -- the message of one of some blocks is that of one of these and another
-  one_before : (bs : List Block) (b : Block) (n : ℕ) → IsListedByOne known schema source bs id n → IsListedByOne known schema source (bs ++ b ∷ []) id n
+  one_before : (bs : List Block) (b : Block) (n : ℕ) → IsListedByOne known most schema source bs id n → IsListedByOne known most schema source (bs ++ b ∷ []) id n
   one_before [] b n h = inr h
   one_before (a ∷ bs) b n h = elim h [
     | inl here ↦ inl here
     | inr behind ↦ inr (one_before bs b n behind)
   ]
 
-  one_last : (bs : List Block) (b : Block) (n : ℕ) → IsListedBy known schema source b id n → IsListedByOne known schema source (bs ++ b ∷ []) id n
+  one_last : (bs : List Block) (b : Block) (n : ℕ) → IsListedBy known most schema source b id n → IsListedByOne known most schema source (bs ++ b ∷ []) id n
   one_last [] b n h = inl h
   one_last (a ∷ bs) b n h = inr (one_last bs b n h)
 
-module _ (known : Bool) (schema : Schema) (source : List ℕ) where
+module _ (known : Bool) (most : ℕ) (schema : Schema) (source : List ℕ) where
   -- each array is within what the message of one of some blocks lists
   pub record EachListed (bs : List Block) (values : Option ℤ → Layout) : Type 0 where
-    pub each : (id : ℤ) → IsListedByOne known schema source bs id (held (values (Some id)))
+    pub each : (id : ℤ) → IsListedByOne known most schema source bs id (held (values (Some id)))
 
   pub none_listed : {Z S : Type 0} (m : HashMap ℤ (Rc AnyArray Z) S) → IsEmpty m → (bs : List Block) → EachListed (take 0 bs) (λ id. array_under m id)
   none_listed m empty bs =
@@ -51,7 +51,7 @@ module _ (known : Bool) (schema : Schema) (source : List ℕ) where
       (record { each = λ id. ap (λ es. held (array_found (lookup (int_eq id) es))) empty })
 
   pub more_listed : (whole : List ℕ) (bs : List Block) (i : ℕ) (d : Block) (metadata : List ℕ) (before after : Option ℤ → Layout) → i < length bs → EachListed (take i bs) before
-      → (IsTrue known → whole ≡ source) → (IsTrue known → block_metadata whole (Some (get_or bs i d)) ≡ Some metadata) → HoldsHeader schema (block_header metadata) before after
+      → (IsTrue known → whole ≡ source) → (IsTrue known → block_metadata whole (Some (get_or bs i d)) ≡ Some metadata) → HoldsHeader most schema (block_header metadata) before after
       → EachListed (take (i + 1) bs) after
   more_listed whole bs i d metadata before after inside so_far same stands put =
       let b = get_or bs i d in
@@ -59,10 +59,10 @@ module _ (known : Bool) (schema : Schema) (source : List ℕ) where
       λ k. subst (λ (xs : List ℕ). block_metadata xs (Some b) ≡ Some metadata) (same k) (stands k) in
       subst (λ (xs : List Block). EachListed xs after) (sym (take_next bs i d inside))
       (record {
-        each = λ id. elim (put_or_kept schema (block_header metadata) before after put id) [
-          | inl h ↦ one_last known schema source id (take i bs) b (held (after (Some id))) (record { metadata = metadata; stands = there; lists = h })
-          | inr e ↦ one_before known schema source id (take i bs) b (held (after (Some id)))
-              (subst (λ (l : Layout). IsListedByOne known schema source (take i bs) id (held l)) (sym e) (so_far.each id))
+        each = λ id. elim (put_or_kept most schema (block_header metadata) before after put id) [
+          | inl h ↦ one_last known most schema source id (take i bs) b (held (after (Some id))) (record { metadata = metadata; stands = there; lists = h })
+          | inr e ↦ one_before known most schema source id (take i bs) b (held (after (Some id)))
+              (subst (λ (l : Layout). IsListedByOne known most schema source (take i bs) id (held l)) (sym e) (so_far.each id))
         ];
       })
 

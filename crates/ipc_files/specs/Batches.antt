@@ -41,14 +41,15 @@ needed_bytes ts js metadata = 8 + length metadata + header_lists ts js (block_he
 
 -- ---- how many bytes are held
 
--- the arrays of some columns hold no more than their buffers list by this header, and one offset for each buffer of offsets that lists nothing
-abbrev pub HeaderHolds : Kinds → List ℕ → Option BlockHeader → List AnyArray → Type 0
-HeaderHolds ts js None xs = ⊥
-HeaderHolds ts js (Some h) xs = HoldChosen (lists_of h.table) h.extra ts js xs
+-- the arrays of some columns hold no more than their buffers list by this header, no more than all buffers may, and one offset for each buffer of
+-- offsets that lists nothing
+abbrev pub HeaderHolds : ℕ → Kinds → List ℕ → Option BlockHeader → List AnyArray → Type 0
+HeaderHolds most ts js None xs = ⊥
+HeaderHolds most ts js (Some h) xs = HoldChosen most (lists_of h.table) h.extra ts js xs
 
 -- the same by the header of the message that has these metadata
-abbrev pub HoldBatch : Kinds → List ℕ → List ℕ → List AnyArray → Type 0
-HoldBatch ts js metadata xs = HeaderHolds ts js (block_header metadata) xs
+abbrev pub HoldBatch : ℕ → Kinds → List ℕ → List ℕ → List AnyArray → Type 0
+HoldBatch most ts js metadata xs = HeaderHolds most ts js (block_header metadata) xs
 
 -- ---- faults
 

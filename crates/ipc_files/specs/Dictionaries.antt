@@ -78,30 +78,31 @@ pub record ValuesGiven (known : Bool) (m : FileMetadata) (source : List ℕ) (ol
 
 -- ---- how many bytes are held
 
--- The dictionary batch of this message has put an array under its id that holds no more than its buffers list, and one offset for each
--- buffer of offsets that lists nothing. The others are as before.
-abbrev pub HoldsHeader : Schema → Option BlockHeader → (before after : Option ℤ → Layout) → Type 0
-HoldsHeader schema None before after = ⊥
-HoldsHeader schema (Some h) before after = HoldsValues schema h.extra h.table before after
+-- The dictionary batch of this message has put an array under its id that holds no more than its buffers list, no more than all of them may, and one
+-- offset for each buffer of offsets that lists nothing. The others are as before.
+abbrev pub HoldsHeader : ℕ → Schema → Option BlockHeader → (before after : Option ℤ → Layout) → Type 0
+HoldsHeader most schema None before after = ⊥
+HoldsHeader most schema (Some h) before after = HoldsValues most schema h.extra h.table before after
 
--- n bytes are no more than this header of an id's dictionary batch says that the buffers of its values list, and those offsets
-abbrev pub ListsValues : Schema → Option BlockHeader → ℤ → ℕ → Type 0
-ListsValues schema None id n = ⊥
-ListsValues schema (Some h) id n =
+-- n bytes are no more than this header of an id's dictionary batch says that the buffers of its values list, no more than they may, and those offsets
+abbrev pub ListsValues : ℕ → Schema → Option BlockHeader → ℤ → ℕ → Type 0
+ListsValues most schema None id n = ⊥
+ListsValues most schema (Some h) id n =
     (values : Spot) × (dictionary_head h.table ≡ Some (id, values)) × (n ≤ values_listed schema h.extra h.table + values_empty schema h.extra h.table)
+    × (n ≤ most + values_empty schema h.extra h.table)
 
 -- so says the message of a block
-pub record IsListedBy (known : Bool) (schema : Schema) (source : List ℕ) (b : Block) (id : ℤ) (n : ℕ) : Type 0 where
+pub record IsListedBy (known : Bool) (most : ℕ) (schema : Schema) (source : List ℕ) (b : Block) (id : ℤ) (n : ℕ) : Type 0 where
   pub metadata : List ℕ
   pub stands : IsTrue known → block_metadata source (Some b) ≡ Some metadata
-  pub lists : ListsValues schema (block_header metadata) id n
+  pub lists : ListsValues most schema (block_header metadata) id n
 
 -- so says that of one of some blocks, or nothing is held
-abbrev pub IsListedByOne : Bool → Schema → List ℕ → List Block → ℤ → ℕ → Type 0
-IsListedByOne known schema source [] id n = n ≡ 0
-IsListedByOne known schema source (b ∷ bs) id n = IsListedBy known schema source b id n ⊎ IsListedByOne known schema source bs id n
+abbrev pub IsListedByOne : Bool → ℕ → Schema → List ℕ → List Block → ℤ → ℕ → Type 0
+IsListedByOne known most schema source [] id n = n ≡ 0
+IsListedByOne known most schema source (b ∷ bs) id n = IsListedBy known most schema source b id n ⊎ IsListedByOne known most schema source bs id n
 
--- The array under each id holds no more than the buffers of the values list in one of the id's own blocks, and one offset for each buffer
--- of offsets that lists nothing; without such a block it holds nothing.
+-- The array under each id holds no more than the buffers of the values list in one of the id's own blocks, no more than the file has bytes, and one
+-- offset for each buffer of offsets that lists nothing; without such a block it holds nothing.
 pub record HoldListed (known : Bool) (m : FileMetadata) (source : List ℕ) (values : Option ℤ → Layout) : Type 0 where
-  pub each : (id : ℤ) → IsListedByOne known m.schema source m.dictionaries id (held (values (Some id)))
+  pub each : (id : ℤ) → IsListedByOne known m.size m.schema source m.dictionaries id (held (values (Some id)))

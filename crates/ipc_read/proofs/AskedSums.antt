@@ -99,13 +99,16 @@ empty_same (Some lists) extra ts xs ys same =
 -- ---- what arrays hold
 
 -- arrays that were read in rising order, as they are asked for
-pub held_in_order : (q : Option ChosenColumns) (n : ℕ) (lists : Option Lists) (extra : ℕ) (ts : Kinds) (read given : List AnyArray) → AreShuffled q → AreAsMany q (length read)
-    → AreOrdered q read given → HoldChosen lists extra ts (chosen (rising_by q) n) read → HoldChosen lists extra ts (chosen (asked_by q) n) given
-held_in_order None n lists extra ts read given same many order h = subst (λ (xs : List AnyArray). HoldChosen lists extra ts (chosen None n) xs) (sym order) h
-held_in_order (Some q) n lists extra ts read given same many order h =
+pub held_in_order :
+    (q : Option ChosenColumns) (n most : ℕ) (lists : Option Lists) (extra : ℕ) (ts : Kinds) (read given : List AnyArray) → AreShuffled q → AreAsMany q (length read)
+    → AreOrdered q read given → HoldChosen most lists extra ts (chosen (rising_by q) n) read → HoldChosen most lists extra ts (chosen (asked_by q) n) given
+held_in_order None n most lists extra ts read given same many order h = subst (λ (xs : List AnyArray). HoldChosen most lists extra ts (chosen None n) xs) (sym order) h
+held_in_order (Some q) n most lists extra ts read given same many order h =
     let a = q.columns in
     let sums : arrays_held given ≡ arrays_held read = asked_sum (λ x. held (layout_of x)) a read given same.0 same.1 many order in
     let listed : chosen_listed lists extra ts a.rising ≡ chosen_listed lists extra ts a.columns = listed_same lists extra ts a.columns a.rising same.0 in
     let empty : chosen_empty lists extra ts a.rising ≡ chosen_empty lists extra ts a.columns = empty_same lists extra ts a.columns a.rising same.0 in
-    let most : arrays_held read ≤ chosen_listed lists extra ts a.rising + chosen_empty lists extra ts a.rising = h in
-    omega (arith, sums, listed, empty, most)
+    record {
+      own_buffers = omega (arith, sums, listed, empty, h.own_buffers);
+      all_buffers = omega (arith, sums, empty, h.all_buffers);
+    }

@@ -17,5 +17,6 @@ pub mod PlaceLists
 pub mod KnownDictionaries
 pub mod DictionaryMeanings
 pub mod AskedColumns
+pub mod Within
 pub mod HeldLists
 pub mod AskedSums

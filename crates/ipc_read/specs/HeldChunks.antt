@@ -42,9 +42,10 @@ chosen_empty (Some lists) extra ts js = columns_empty (λ c. length_listed lists
 abbrev pub arrays_held : List AnyArray → ℕ
 arrays_held xs = sum_by (λ x. held (layout_of x)) xs
 
--- the arrays of some columns of a batch hold no more than their buffers list, and those offsets
-abbrev pub HoldChosen : Option Lists → ℕ → Kinds → List ℕ → List AnyArray → Type 0
-HoldChosen lists extra ts js xs = arrays_held xs ≤ chosen_listed lists extra ts js + chosen_empty lists extra ts js
+-- The arrays of some columns of a batch hold no more than their own buffers list, no more than all buffers may, and those offsets.
+pub record HoldChosen (most : ℕ) (lists : Option Lists) (extra : ℕ) (ts : Kinds) (js : List ℕ) (xs : List AnyArray) : Type 0 where
+  pub own_buffers : arrays_held xs ≤ chosen_listed lists extra ts js + chosen_empty lists extra ts js
+  pub all_buffers : arrays_held xs ≤ most + chosen_empty lists extra ts js
 
 -- ---- the values of a dictionary
 
@@ -60,11 +61,12 @@ head_empty schema extra (Some h) = place_empty extra schema.order h.1 (place_of 
 abbrev pub values_empty : Schema → ℕ → Spot → ℕ
 values_empty schema extra t = head_empty schema extra (dictionary_head t)
 
--- A dictionary batch has put an array under its id that holds no more than the buffers of its values list, and those offsets; the arrays under the other
--- ids are those from before.
-pub record HoldsValues (schema : Schema) (extra : ℕ) (t : Spot) (before after : Option ℤ → Layout) : Type 0 where
+-- A dictionary batch has put an array under its id that holds no more than the buffers of its values list, no more than all buffers may, and those
+-- offsets; the arrays under the other ids are those from before.
+pub record HoldsValues (most : ℕ) (schema : Schema) (extra : ℕ) (t : Spot) (before after : Option ℤ → Layout) : Type 0 where
   pub id : ℤ
   pub values : Spot
   pub head : dictionary_head t ≡ Some (id, values)
-  pub most : held (after (Some id)) ≤ values_listed schema extra t + values_empty schema extra t
+  pub own_buffers : held (after (Some id)) ≤ values_listed schema extra t + values_empty schema extra t
+  pub all_buffers : held (after (Some id)) ≤ most + values_empty schema extra t
   pub others : (other : ℤ) → int_eq id other ≡ false → after (Some other) ≡ before (Some other)

@@ -112,7 +112,7 @@ module _ (fs : FieldTrees) (ms : Pairs) (is : IdTrees) (o : Endianness) (version
 
   chunk_reads : (chunk : List AnyArray) (l : Known) → l.dictionaries ≡ k.dictionaries → l.count ≡ 0
       → record_meaning (bare fs is o) (extra_of version) k.dictionaries (first bytes n) t p None ≡ Some (chunk_seen chunk)
-      → HoldsRecord (asks fs ms is o version p) t chunk → ReadsBody (asks fs ms is o version p) s (header 3 t n) xs (Ok (Some chunk)) l (drop n xs)
+      → HoldsRecord (asks fs ms is o version p) t n chunk → ReadsBody (asks fs ms is o version p) s (header 3 t n) xs (Ok (Some chunk)) l (drop n xs)
   chunk_reads chunk l same none means holds = (
     record { dictionaries = s.dictionaries; count = 0 },
     record { alike = alike_then s.dictionaries k.dictionaries l.dictionaries at.alike (same_values k.dictionaries l.dictionaries (sym same)); count = sym none },
@@ -196,7 +196,7 @@ module _ (fs : FieldTrees) (ms : Pairs) (is : IdTrees) (o : Endianness) (version
 record_answer : (fs : FieldTrees) (ms : Pairs) (is : IdTrees) (o : Endianness) (version : MetadataVersion) (p : Option (List ℕ)) (k : Known) (t : Spot) (n : ℕ) (xs bytes : List ℕ)
     → n ≤ length xs → bytes ≡ take n xs → (r : Result (List AnyArray) Fault) (l : Known) → OnOk r ((l.dictionaries ≡ k.dictionaries) × (l.count ≡ 0))
     → IfErr r (λ e. OwnFault e (IsFaultOfBatch (kinds_of fs is) (chosen p (count (kinds_of fs is))) e)) → IfErr r (TellsBatch (bare fs is o) (extra_of version) t n)
-    → IfErr r (TellsColumns true o (extra_of version) k.dictionaries (first bytes n) t) → IfOk r (HoldsRecord (asks fs ms is o version p) t) → GivesBatch (bare fs is o) (extra_of version) k.dictionaries (first bytes n) t p None r
+    → IfErr r (TellsColumns true o (extra_of version) k.dictionaries (first bytes n) t) → IfOk r (HoldsRecord (asks fs ms is o version p) t n) → GivesBatch (bare fs is o) (extra_of version) k.dictionaries (first bytes n) t p None r
     → GivesBody (asks fs ms is o version p) k (header 3 t n) xs (of_record r) l (drop n xs)
 record_answer fs ms is o version p k t n xs bytes long e (Ok chunk) l next only told named holds read = record {
   each = λ s at. chunk_reads fs ms is o version p k t n xs bytes long e s at chunk l next.0 next.1 read.1 holds;
@@ -238,7 +238,7 @@ held h k tag t body r l given = record {
 pub columns_give : (fs : FieldTrees) (ms : Pairs) (is : IdTrees) (o : Endianness) (version : MetadataVersion) (p : Option (List ℕ)) (k : Known) (t : Spot) (body : List ℕ) (r : Result (List AnyArray) Fault) (l : Known)
     → OnOk r ((l.dictionaries ≡ k.dictionaries) × (l.count ≡ 0))
     → IfErr r (λ e. OwnFault e (IsFaultOfBatch (kinds_of fs is) (chosen p (count (kinds_of fs is))) e)) → IfErr r (TellsBatch (bare fs is o) (extra_of version) t (length body))
-    → IfErr r (TellsColumns true o (extra_of version) k.dictionaries (first body (length body)) t) → IfOk r (HoldsRecord (asks fs ms is o version p) t) → GivesBatch (bare fs is o) (extra_of version) k.dictionaries (first body (length body)) t p None r
+    → IfErr r (TellsColumns true o (extra_of version) k.dictionaries (first body (length body)) t) → IfOk r (HoldsRecord (asks fs ms is o version p) t (length body)) → GivesBatch (bare fs is o) (extra_of version) k.dictionaries (first body (length body)) t p None r
     → GivesHeld (asks fs ms is o version p) k 3 t body (of_record r) l
 columns_give fs ms is o version p k t body r l next only told named holds read =
     held (asks fs ms is o version p) k 3 t body (of_record r) l

@@ -43,21 +43,21 @@ module _ (c : Option ChosenColumns) (ds : List Field) (ms : Pairs) (is : IdTrees
   pub stream_faults : (e : Fault) → Blames e → OwnFault e (IsStreamFault (asks (fields_view ds) ms is o version (asked_by c)) e)
   stream_faults e only = batch_faults (fields_view ds) ms is o version (asked_by c) e (asked_faults e only)
 
-  asked_holds : (t : Spot) (read given : List AnyArray) → AreAsMany c (length read) → AreOrdered c read given
-      → HoldChosen (lists_of t) (extra_of version) (kinds_of (fields_view ds) is) (chosen (rising_by c) (length ds)) read
-      → HoldsRecord (asks (fields_view ds) ms is o version (asked_by c)) t given
-  asked_holds t read given many moved h =
+  asked_holds : (t : Spot) (most : ℕ) (read given : List AnyArray) → AreAsMany c (length read) → AreOrdered c read given
+      → HoldChosen most (lists_of t) (extra_of version) (kinds_of (fields_view ds) is) (chosen (rising_by c) (length ds)) read
+      → HoldsRecord (asks (fields_view ds) ms is o version (asked_by c)) t most given
+  asked_holds t most read given many moved h =
       let ts = kinds_of (fields_view ds) is in
-      held_in_order c (count ts) (lists_of t) (extra_of version) ts read given same many moved
-      (subst (λ (n : ℕ). HoldChosen (lists_of t) (extra_of version) ts (chosen (rising_by c) n) read) (sym (field_count ds is)) h)
+      held_in_order c (count ts) most (lists_of t) (extra_of version) ts read given same many moved
+      (subst (λ (n : ℕ). HoldChosen most (lists_of t) (extra_of version) ts (chosen (rising_by c) n) read) (sym (field_count ds is)) h)
 
   module _ (k : Known) (t : Spot) (body : List ℕ) where
     pub given_columns : (read given : List AnyArray) → AreAsMany c (length read) → AreOrdered c read given
-        → HoldChosen (lists_of t) (extra_of version) (kinds_of (fields_view ds) is) (chosen (rising_by c) (length ds)) read
+        → HoldChosen (length body) (lists_of t) (extra_of version) (kinds_of (fields_view ds) is) (chosen (rising_by c) (length ds)) read
         → GivesBatch (bare (fields_view ds) is o) (extra_of version) k.dictionaries (first body (length body)) t (rising_by c) None (Ok read)
         → GivesHeld (asks (fields_view ds) ms is o version (asked_by c)) k 3 t body (Ok (Some given)) (record { dictionaries = k.dictionaries; count = 0 })
     given_columns read given many moved holds g =
-        columns_give (fields_view ds) ms is o version (asked_by c) k t body (Ok given) (record { dictionaries = k.dictionaries; count = 0 }) (refl, refl) tt tt tt (asked_holds t read given many moved holds)
+        columns_give (fields_view ds) ms is o version (asked_by c) k t body (Ok given) (record { dictionaries = k.dictionaries; count = 0 }) (refl, refl) tt tt tt (asked_holds t (length body) read given many moved holds)
         (given_in_order c (bare (fields_view ds) is o) (extra_of version) k.dictionaries (first body (length body)) t read given same many moved g)
 
     pub refused_columns : (e : Fault) → Blames e → TellsBatch (bare (fields_view ds) is o) (extra_of version) t (length body) e

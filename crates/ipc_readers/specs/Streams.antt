@@ -135,20 +135,20 @@ StateHasValues b _ = Unit {0}
 
 -- ---- how many bytes are held
 
--- The arrays of a record batch with this table hold no more than the buffers of the columns that are asked for list, and one offset for each
--- buffer of offsets that lists nothing.
-abbrev pub HoldsRecord : Request → Spot → List AnyArray → Type 0
-HoldsRecord h t chunk = let ts = kinds h.head.schema in HoldChosen (lists_of t) (extra_of h.head.version) ts (chosen h.projection (count ts)) chunk
+-- The arrays of a record batch with this table hold no more than the buffers of the columns that are asked for list, no more than its body has bytes,
+-- and one offset for each buffer of offsets that lists nothing.
+abbrev pub HoldsRecord : Request → Spot → (body : ℕ) → List AnyArray → Type 0
+HoldsRecord h t body chunk = let ts = kinds h.head.schema in HoldChosen body (lists_of t) (extra_of h.head.version) ts (chosen h.projection (count ts)) chunk
 
 -- so do those of a message, if it is a record
-abbrev pub BodyHolds : Request → Spot → Option (List AnyArray) → Type 0
-BodyHolds h t None = Unit {0}
-BodyHolds h t (Some chunk) = HoldsRecord h t chunk
+abbrev pub BodyHolds : Request → Header → Option (List AnyArray) → Type 0
+BodyHolds h m None = Unit {0}
+BodyHolds h m (Some chunk) = HoldsRecord h m.table m.body chunk
 
 -- so do those of a record with this header
 abbrev pub HeaderHolds : Request → Option Header → List AnyArray → Type 0
 HeaderHolds h None chunk = ⊥
-HeaderHolds h (Some m) chunk = HoldsRecord h m.table chunk
+HeaderHolds h (Some m) chunk = HoldsRecord h m.table m.body chunk
 
 -- so do those of the record that stands at the front
 abbrev pub FrontHolds : Request → Frame → List AnyArray → Type 0
@@ -205,7 +205,7 @@ of_dictionary (Err e) = Err e
 -- The body of a message was read of xs, which leaves ys: what it means to s is its chunk, if it is a record, and what is known then is
 -- what l is; and it holds no more than its message lists. A fault of the input's says that it means nothing, and is one of its kind.
 abbrev pub ReadsBody : Request → (s : Known) → Header → List ℕ → Result (Option (List AnyArray)) Fault → (l : Known) → List ℕ → Type 0
-ReadsBody h s m xs (Ok c) l ys = (t : Known) × AreAt t l × (chosen_body h s m xs ≡ more (option_map chunk_seen c) t ys) × BodyHolds h m.table c
+ReadsBody h s m xs (Ok c) l ys = (t : Known) × AreAt t l × (chosen_body h s m xs ≡ more (option_map chunk_seen c) t ys) × BodyHolds h m c
 ReadsBody h s m xs (Err e) l ys = OwnFault e ((chosen_body h s m xs ≡ done faulty) × BlamesBody h s m xs e)
 
 -- the same for whoever knows as much as k

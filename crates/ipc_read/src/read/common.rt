@@ -238,8 +238,8 @@ pub fn read_columns<R: Reads + Seeks>(
 /// column, those inside the values of others aside, stand the values that the dictionaries have under
 /// its id. A column that isn't chosen is skipped by what its type takes: no byte of it is read, and it isn't
 /// judged. An empty projection gives a chunk without columns. No more bytes are taken of the device
-/// than the buffers of the chosen columns list, and the arrays hold together no more than these and one
-/// offset for each buffer of offsets that lists nothing, the values of dictionaries aside.
+/// than the buffers of the chosen columns list, and the arrays hold together no more than these, no more than
+/// `file_size` bytes, and one offset for each buffer of offsets that lists nothing, the values of dictionaries aside.
 ///
 /// Faults, each `OutOfSpec`: `InvalidFlatbufferCompression`, `InvalidFlatbufferBuffers`,
 /// `InvalidFlatbufferNodes` where these slots are ill-made, `MissingMessageBuffers`,
@@ -280,7 +280,7 @@ pub fn read_record_batch<R: Reads + Seeks>(
         R.given reader.new ≤ R.given reader.old
         + chosen_listed (lists_of batch.entry) (extra_of version) (kinds (batch_schema fields.now ipc_schema.now)) js }
     ensures held { let js = chosen (option_copied projection.entry) (length fields.now) in
-        IfOk result (λ xs. HoldChosen (lists_of batch.entry) (extra_of version) (kinds (batch_schema fields.now ipc_schema.now)) js xs) }
+        IfOk result (λ xs. HoldChosen file_size (lists_of batch.entry) (extra_of version) (kinds (batch_schema fields.now ipc_schema.now)) js xs) }
     ensures memory { IsTrue R.known → GivesBatch (batch_schema fields.now ipc_schema.now) (extra_of version) (known_dictionaries dictionaries.now)
         (record { source = (R.memory reader.old).whole; base = block_offset; size = file_size }) batch.entry
         (option_copied projection.entry) limit result }

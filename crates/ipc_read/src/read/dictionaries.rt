@@ -139,7 +139,7 @@ fn read_values<R: Reads + Seeks>(
     ensures given { let schema = values_schema (record { id = None; type = type_view value_type.now; ids = all_ids_view ids.now }) (order_of is_little_endian) in
         R.given reader.new ≤ R.given reader.old + chosen_listed (lists_of batch.entry) (extra_of version) (kinds schema) (0 ∷ []) }
     ensures held { let schema = values_schema (record { id = None; type = type_view value_type.now; ids = all_ids_view ids.now }) (order_of is_little_endian) in
-        IfOk result (λ x. HoldChosen (lists_of batch.entry) (extra_of version) (kinds schema) (0 ∷ []) (x ∷ [])) }
+        IfOk result (λ x. HoldChosen file_size (lists_of batch.entry) (extra_of version) (kinds schema) (0 ∷ []) (x ∷ [])) }
     ensures memory { IsTrue R.known → let u = type_view value_type.now in
         let schema = values_schema (record { id = None; type = u; ids = all_ids_view ids.now }) (order_of is_little_endian) in
         GivesColumn schema (extra_of version) (known_dictionaries dictionaries.now)
@@ -192,7 +192,7 @@ fn head_of<'a>(batch: &DictionaryBatchRef<'a>) -> Result<(i64, RecordBatchRef<'a
 /// Their type is that of the first field with this id, in pre-order, and the dictionaries in them are those that are
 /// known before. It is done exactly where the batch has a meaning, and there is memory for it; on a fault the
 /// dictionaries stay as they were. No more bytes are taken of the device than the buffers of the values list, and the array
-/// of the values holds no more than these and one offset for each buffer of offsets that lists nothing.
+/// of the values holds no more than these, no more than `file_size` bytes, and one offset for each buffer of offsets that lists nothing.
 ///
 /// Faults, each `OutOfSpec`: `InvalidFlatbufferIsDelta`, `InvalidFlatbufferId`, `InvalidFlatbufferData` where these slots
 /// are ill-made, `InvalidId` with the id where no field has it, `MissingData` where there are no values; of these
@@ -225,7 +225,7 @@ pub fn read_dictionary<R: Reads + Seeks>(
     ensures given { R.given reader.new ≤ R.given reader.old + values_listed (batch_schema fields.now ipc_schema.now) (extra_of version) batch.entry }
     ensures memory { IsTrue R.known → GivesDictionary (batch_schema fields.now ipc_schema.now) (extra_of version) (known_dictionaries dictionaries.old)
         (record { source = (R.memory reader.old).whole; base = block_offset; size = file_size }) batch.entry result (known_dictionaries dictionaries.new) }
-    ensures held { OnOk result (HoldsValues (batch_schema fields.now ipc_schema.now) (extra_of version) batch.entry
+    ensures held { OnOk result (HoldsValues file_size (batch_schema fields.now ipc_schema.now) (extra_of version) batch.entry
         (λ id. array_under dictionaries.old id) (λ id. array_under dictionaries.new id)) }
     ensures put { OnOk result (PutsValues R.known (batch_schema fields.now ipc_schema.now) batch.entry (known_dictionaries dictionaries.old) (known_dictionaries dictionaries.new)) }
     ensures kept { OnErr result (IsUnchanged dictionaries.old dictionaries.new) }

@@ -28,7 +28,7 @@ fn less(limit: Option<usize>, rows: usize) -> Option<usize>
 }
 
 impl<R: Reads + Seeks + Drop> FileReader<R> {
-    /// A reader of the chunks of the file that `metadata` is of. A projection names columns that are there, each once; without one all
+    /// A reader of the chunks of the file that `metadata` is of. A projection names columns that are there, each once (`is_projection`); without one all
     /// columns are read, and the call takes no memory. At most `limit` rows come, of all chunks together; without a limit all. The call
     /// reads nothing.
     ///

@@ -65,7 +65,7 @@ fn read_record<R: Reads + Seeks>(
     ensures given { let js = chosen (option_copied projection.entry) (length metadata.now.schema.fields.items) in
         R.given reader.new ≤ R.given reader.old + chosen_listed (lists_of batch.entry) (extra_of version) (kinds (file_seen metadata.now).schema) js }
     ensures held { let js = chosen (option_copied projection.entry) (length metadata.now.schema.fields.items) in
-        IfOk result (λ xs. HoldChosen (lists_of batch.entry) (extra_of version) (kinds (file_seen metadata.now).schema) js xs) }
+        IfOk result (λ xs. HoldChosen metadata.now.size (lists_of batch.entry) (extra_of version) (kinds (file_seen metadata.now).schema) js xs) }
     ensures memory { IsTrue R.known → let m = file_seen metadata.now in
         GivesPart chunk_seen result (record_meaning m.schema (extra_of version) (known_dictionaries dictionaries.now)
         (record { source = (R.memory reader.old).whole; base = body; size = m.size }) batch.entry (option_copied projection.entry) limit) }
@@ -95,7 +95,7 @@ fn read_record<R: Reads + Seeks>(
 /// a block in `metadata`, and the dictionaries are those of [`read_file_dictionaries`]. Each version is that of the block's own
 /// message, and the lengths of bodies aren't used. Of a column that isn't chosen no byte is read, and nothing is judged. Where it is
 /// Ok, no more bytes are taken of the device than the message, its prefix and what the buffers of the chosen columns list, and the
-/// arrays hold together no more than these list and one offset for each buffer of offsets that lists nothing. At each dictionary
+/// arrays hold together no more than these list, no more than the file has bytes, and one offset for each buffer of offsets that lists nothing. At each dictionary
 /// place of a column, those inside the values of others aside, stand the values that the dictionaries have under its id.
 ///
 /// Over memory it is Ok exactly where the block has a meaning by the projection and the limit, and the chunk is then that. Faults:
@@ -134,7 +134,7 @@ pub fn read_batch<R: Reads + Seeks>(
         OnOk result (R.given reader.new ≤ R.given reader.old + needed_bytes (kinds m.schema) js message_scratch.new.items) }
     ensures held { let m = file_seen metadata.now in
         let js = chosen (option_copied projection.entry) (length metadata.now.schema.fields.items) in
-        IfOk result (λ xs. HoldBatch (kinds m.schema) js message_scratch.new.items xs) }
+        IfOk result (λ xs. HoldBatch m.size (kinds m.schema) js message_scratch.new.items xs) }
     ensures message { IsTrue R.known → OnOk result (block_metadata (R.memory reader.old).whole (slice_get metadata.now.blocks.items index) ≡ Some message_scratch.new.items) }
     ensures numbers { option_and_then placed (slice_get metadata.now.blocks.items index) ≡ None → result ≡ Err (OutOfSpec NegativeFooterLength) }
     ensures reason { IsTrue R.known → let m = file_seen metadata.now in

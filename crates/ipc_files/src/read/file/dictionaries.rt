@@ -52,7 +52,7 @@ fn read_values<R: Reads + Seeks>(
     ensures failed { OnIo result (Rises (R.failures reader.old) (R.failures reader.new)) }
     ensures told { UnlessIo result (R.failures reader.new ≡ R.failures reader.old) }
     ensures given { R.given reader.new ≤ R.given reader.old + values_listed (file_seen metadata.now).schema (extra_of version) batch.entry }
-    ensures held { OnOk result (HoldsValues (file_seen metadata.now).schema (extra_of version) batch.entry
+    ensures held { OnOk result (HoldsValues metadata.now.size (file_seen metadata.now).schema (extra_of version) batch.entry
         (λ id. array_under dictionaries.old id) (λ id. array_under dictionaries.new id)) }
     ensures memory { IsTrue R.known → let m = file_seen metadata.now in
         GivesKnown (λ _. known_dictionaries dictionaries.new) result
@@ -91,7 +91,7 @@ fn read_dictionary_block<R: Reads + Seeks>(
     ensures failed { OnIo result (Rises (R.failures reader.old) (R.failures reader.new)) }
     ensures told { UnlessIo result (R.failures reader.new ≡ R.failures reader.old) }
     ensures given { OnOk result (R.given reader.new ≤ R.given reader.old + needed_values (file_seen metadata.now).schema message_scratch.new.items) }
-    ensures held { OnOk result (HoldsHeader (file_seen metadata.now).schema (block_header message_scratch.new.items)
+    ensures held { OnOk result (HoldsHeader metadata.now.size (file_seen metadata.now).schema (block_header message_scratch.new.items)
         (λ id. array_under dictionaries.old id) (λ id. array_under dictionaries.new id)) }
     ensures message { IsTrue R.known → OnOk result (block_metadata (R.memory reader.old).whole (Some block.now) ≡ Some message_scratch.new.items) }
     ensures numbers { placed block.now ≡ None → result ≡ Err (OutOfSpec UnexpectedNegativeInteger) }
@@ -123,8 +123,8 @@ fn read_dictionary_block<R: Reads + Seeks>(
 /// id that comes again the last values count. Each version is that of the block's own message, and the lengths of bodies aren't used.
 ///
 /// Where there are no blocks it is Ok. Over memory it is Ok exactly where the dictionaries have a meaning, and the values are then those.
-/// No more bytes are taken then than the messages of the blocks, their prefixes and what the buffers of the values list, and the array under an id holds no more than
-/// these list in one of its blocks, and one offset for each buffer of offsets that lists nothing. The scratch memory isn't used. Faults, of the
+/// No more bytes are taken then than the messages of the blocks, their prefixes and what the buffers of the values list. The array under an id holds, whatever the device,
+/// no more than these list in one of its blocks, no more than the file has bytes, and one offset for each buffer of offsets that lists nothing. The scratch memory isn't used. Faults, of the
 /// first block that is refused: `OutOfSpec(UnexpectedNegativeInteger)` where a number of it is below 0; `Ended` where its message isn't
 /// there, and `OutOfSpec(NegativeFooterLength)` where the length of that is below 0; `InvalidFlatbufferMessage`, `MissingMessageHeader`,
 /// `InvalidFlatbufferHeader`, `InvalidFlatbufferVersion` where it is ill-made, and `UnexpectedMessageType` where it is no dictionary

@@ -1,4 +1,4 @@
-use Rattle.std.proofs.Common.{arith, rules, ◌≡◌, ℕ, ◌+◌, ◌≤◌, Err, List, length, Option, refl, IsSome, ap, sym, subst}
+use Rattle.std.proofs.Common.{arith, rules, ◌≡◌, ℕ, ◌+◌, ◌≤◌, Err, List, length, Option, Some, refl, IsSome, ap, sym, subst}
 use Rattle.std.specs.Option.{option_copied}
 use Rattle.lower.specs.Counts.{fields_nodes, fields_buffers}
 use Rattle.lower.specs.TypeViews.{fields_view}
@@ -15,13 +15,14 @@ use Rattle.ipc_model.proofs.TypeKinds.{node_count_law, buffer_count_law}
 use Rattle.ipc_flat_columns.specs.Bodies.{entries, known_dictionaries, array_under}
 use Rattle.ipc_read.specs.Chunks.{batch_schema, order_of}
 use Rattle.ipc_read.specs.Columns.{ArePrepared, HasColumns, AreColumns}
-use Rattle.ipc_read.specs.HeldChunks.{arrays_held, HoldChosen}
+use Rattle.ipc_read.specs.HeldChunks.{arrays_held, chosen_empty}
 use Rattle.ipc_read.specs.Sizes.{AreSizes, total_of, chosen_listed}
 use Rattle.ipc_read.proofs.Batches.{same_entries}
 use Rattle.ipc_read.proofs.Fields.{field_count}
 use Rattle.ipc_read.proofs.KnownArrays.{have_meaning, dictionaries_are, chunk_has_meaning}
 use Rattle.ipc_read.proofs.HeldLists.{held_total, chunk_holds}
 use Rattle.ipc_read.proofs.Listed.{given_total}
+use Rattle.ipc_read.proofs.Within.{chosen_within, hold_within}
 use Rattle.ipc_read.proofs.Meanings.{listed_of, refused, judged, gives_batch}
 use Rattle.ipc_flat_columns.specs.Refusals.{TellsEntries}
 use Rattle.ipc_read.proofs.Reasons.{unlisted_tells, lengths_say, counts_say, entries_tell}
@@ -239,10 +240,17 @@ returns-clause-held g c =
     let js = chosen (option_copied c.args.projection) (length fs) in
     let ids_are : c.as_slice-ids.result.now ≡ c.args.ipc_schema.now.fields.items = search rules in
     let xs = c.in_ok-columns.columns.items in
-    chunk_holds (lists_of c.args.batch) extra (kinds (batch_schema c.args.fields.now c.args.ipc_schema.now)) js xs c.try_new.result c.try_new.ensures.value
-    (subst (λ (l : List IpcField). HoldChosen (lists_of c.args.batch) extra (kinds_of (fields_view fs) (all_ids_view l)) js xs) ids_are
-    (held_total g.R.Failures.memory _ lists body order extra ds (lists_of c.args.batch) (kinds_of (fields_view fs) (all_ids_view c.as_slice-ids.result.now)) js (arrays_held xs) same
-    c.count_extra-extra.ensures.extra c.in_ok-nodes.ensures.exact.1 c.in_ok-columns.ensures.held))
+    let o = lists_of c.args.batch in
+    let is = all_ids_view c.args.ipc_schema.now.fields.items in
+    let ts = kinds_of (fields_view fs) is in
+    let listed_so : o ≡ Some lists = c.in_ok-nodes.ensures.exact.1 in
+    let hold : arrays_held xs ≤ chosen_listed o extra ts js + chosen_empty o extra ts js =
+    subst (λ (l : List IpcField). arrays_held xs ≤ chosen_listed o extra (kinds_of (fields_view fs) (all_ids_view l)) js + chosen_empty o extra (kinds_of (fields_view fs) (all_ids_view l)) js) ids_are
+    (held_total g.R.Failures.memory _ lists body order extra ds o (kinds_of (fields_view fs) (all_ids_view c.as_slice-ids.result.now)) js (arrays_held xs) same
+    c.count_extra-extra.ensures.extra listed_so c.in_ok-columns.ensures.held) in
+    let within = chosen_within lists.buffers extra ts (option_copied c.args.projection) (length fs) (field_count fs is) c.requires.prepared in
+    chunk_holds c.args.file_size o extra ts js xs c.try_new.result c.try_new.ensures.value
+    (hold_within c.args.file_size o lists extra ts js xs listed_so within c.in_ok-check_lengths.ensures.exact.0.1 hold)
 
 pub returns-clause-values : goal.returns-clause-values
 returns-clause-values g c = λ k.

@@ -1,11 +1,9 @@
-use Rattle.std.proofs.Common.{arith, rules, ◌≡◌, ℤ, List, [], ◌∷◌, None, Some, IsSome, Err, to_z, of_z, ap, subst, ◌∙◌}
-use Rattle.std.proofs.lemmas.List.Sums.{sum_by-cons}
+use Rattle.std.proofs.Common.{rules, ◌≡◌, ℤ, List, [], ◌∷◌, None, Some, IsSome, Err, to_z, of_z, ap, sym, subst, ◌∙◌}
 use Rattle.std.specs.HashMap.{Updates}
 use Rattle.std.specs.Int.{w64}
 use Rattle.std.specs.Ordering.{int_eq}
 use Rattle.lower.specs.TypeViews.{type_view, fields_view}
 use Rattle.lower_arrays.specs.AnyLayouts.{layout_of}
-use Rattle.lower_arrays.specs.Held.{held}
 use Rattle.lower_arrays.specs.Layouts.{type_of}
 use Rattle.lower_arrays.specs.declared.array.AnyArray.{AnyArray}
 use Rattle.ipc_devices.proofs.Claims.{claimed, denies_through}
@@ -14,12 +12,13 @@ use Rattle.ipc_base.specs.declared.ipc.IpcField.{IpcField}
 use Rattle.ipc_devices.specs.Faults.{OwnFault}
 use Rattle.ipc_devices.specs.declared.fault.Fault.TheVariants.{OutOfSpec}
 use Rattle.ipc_devices.specs.declared.fault.OutOfSpecKind.TheVariants.{InvalidId}
-use Rattle.ipc_model.specs.Batches.{Schema, Place, extra_of, places, place_of, values_schema, dictionary_meaning}
+use Rattle.ipc_model.specs.Batches.{Schema, Place, kinds, lists_of, extra_of, places, place_of, values_schema, dictionary_meaning}
 use Rattle.ipc_model.specs.Batches as model
 use Rattle.ipc_flat_columns.specs.Bodies.{dictionary_of, known_dictionaries}
 use Rattle.ipc_laws.specs.Agreement.{KnowAlike}
 use Rattle.ipc_read.specs.Chunks.{batch_schema, HasMeaning}
 use Rattle.ipc_read.specs.DictionaryBatches.{dictionary_head}
+use Rattle.ipc_read.specs.HeldChunks.{HoldChosen}
 use Rattle.ipc_read.proofs.DictionaryMeanings.{head_there, no_place, values_there, dictionary_given, unplaced_blames, values_blame, values_told}
 use Rattle.ipc_read.proofs.HeldLists.{values_held}
 use Rattle.ipc_read.proofs.KnownDictionaries.{known_put, puts_values}
@@ -202,9 +201,8 @@ returns-clause-held g c =
     let same_value : shared.value ≡ x = c.in_ok-values-2.ensures.ok in
     let put : Updates int_eq c.args.dictionaries.now c.insert.new.self id (Some shared) =
     subst (λ (j : ℤ). Updates int_eq c.args.dictionaries.now c.insert.new.self j (Some shared)) same_id c.in_ok-insert.ensures.updates in
-    let one = sum_by-cons (λ (y : AnyArray). held (layout_of y)) x [] in
-    let e = ap (λ (y : AnyArray). held (layout_of y)) same_value in
-    values_held c.args.dictionaries.now c.insert.new.self id shared put schema extra c.args.batch v p headed placed (omega (arith, one, e, c.in_ok-values.ensures.held))
+    values_held c.args.dictionaries.now c.insert.new.self id shared put c.args.file_size schema extra c.args.batch v p headed placed
+    (subst (λ (y : AnyArray). HoldChosen c.args.file_size (lists_of v) extra (kinds (values_schema p schema.order)) (0 ∷ []) (y ∷ [])) (sym same_value) c.in_ok-values.ensures.held)
 
 pub returns-in_err-id-clause-tells : goal.returns-in_err-id-clause-tells
 returns-in_err-id-clause-tells g c =

@@ -204,7 +204,7 @@ returns-clause-held g c =
     let same : entries g.R.Failures.memory _ ≡ entries_of lists body order extra ds =
     same_entries g.R.Failures.memory _ lists body order extra refl refl (ap (λ r. (g.R.Failures.memory r).whole) c.of.ensures) refl c.byte_order.ensures c.count_extra-extra.ensures.extra in
     column_held g.R.Failures.memory _ lists body order extra ds (lists_of c.args.batch) u is c.in_ok-values.values same c.count_extra-extra.ensures.extra c.in_ok-nodes.ensures.exact.1
-    c.in_ok-values.ensures.held
+    c.in_ok-check_lengths.ensures.exact.0.1 c.in_ok-values.ensures.held
 
 pub returns-in_err-nodes-clause-tells : goal.returns-in_err-nodes-clause-tells
 returns-in_err-nodes-clause-tells g c =

@@ -19,7 +19,7 @@ loop-block-init g c = record {
   idle = refl;
   whole = search rules;
   given = none_given g.R.Failures.known (file_seen c.args.metadata.now).schema (g.R.Failures.memory c.args.reader.now).whole c.dictionary_blocks-blocks.result.now (g.R.Failures.given c.args.reader.now);
-  held = none_listed g.R.Failures.known (file_seen c.args.metadata.now).schema (g.R.Failures.memory c.args.reader.now).whole c.new-dictionaries.result (search rules) c.dictionary_blocks-blocks.result.now;
+  held = none_listed g.R.Failures.known c.args.metadata.now.size (file_seen c.args.metadata.now).schema (g.R.Failures.memory c.args.reader.now).whole c.new-dictionaries.result (search rules) c.dictionary_blocks-blocks.result.now;
   known = search rules;
   reason = λ k e.
       let none : known_dictionaries c.new-dictionaries.result ≡ [] = search rules in
@@ -36,7 +36,7 @@ loop-block-preserved g c = record {
       c.dictionary_blocks-blocks.result.now c.loop-block.block-index _ _ (g.R.Failures.given c.loop-block.reader) (g.R.Failures.given c.read_dictionary_block.new.reader)
       c.read_dictionary_block.new.message_scratch.items c.loop-block-test.true c.loop-block.invariant.given (λ k. c.loop-block.invariant.whole (g.met.R.Seeks.known_still k))
       c.in_ok-read_dictionary_block.ensures.message c.in_ok-read_dictionary_block.ensures.given;
-  held = more_listed g.R.Failures.known (file_seen c.args.metadata.now).schema (g.R.Failures.memory c.args.reader.now).whole (g.R.Failures.memory c.loop-block.reader).whole
+  held = more_listed g.R.Failures.known c.args.metadata.now.size (file_seen c.args.metadata.now).schema (g.R.Failures.memory c.args.reader.now).whole (g.R.Failures.memory c.loop-block.reader).whole
       c.dictionary_blocks-blocks.result.now c.loop-block.block-index _ c.read_dictionary_block.new.message_scratch.items (λ id. array_under c.loop-block.dictionaries id)
       (λ id. array_under c.read_dictionary_block.new.dictionaries id) c.loop-block-test.true c.loop-block.invariant.held (λ k. c.loop-block.invariant.whole (g.met.R.Seeks.known_still k))
       c.in_ok-read_dictionary_block.ensures.message c.in_ok-read_dictionary_block.ensures.held;
@@ -92,6 +92,6 @@ returns-clause-held g c =
     let m = file_seen c.args.metadata.now in
     let source = (g.R.Failures.memory c.args.reader.now).whole in
     let values : Option ℤ → Layout = λ id. array_under c.loop-block.dictionaries id in
-    let all = each_listed g.R.Failures.known m.schema source c.dictionary_blocks-blocks.result.now c.loop-block.block-index values (omega (arith, c.loop-block-test.false)) c.loop-block.invariant.held in
-    let named = subst (λ (blocks : List Block). EachListed g.R.Failures.known m.schema source blocks values) c.dictionary_blocks-blocks.ensures all in
+    let all = each_listed g.R.Failures.known m.size m.schema source c.dictionary_blocks-blocks.result.now c.loop-block.block-index values (omega (arith, c.loop-block-test.false)) c.loop-block.invariant.held in
+    let named = subst (λ (blocks : List Block). EachListed g.R.Failures.known m.size m.schema source blocks values) c.dictionary_blocks-blocks.ensures all in
     record { each = named.each }

@@ -16,7 +16,7 @@ invariant-loop-block g l = record {
   idle : l.scratch ≡ l.fn.scratch;
   whole : IsTrue g.R.Failures.still → (g.R.Failures.memory l.reader).whole ≡ (g.R.Failures.memory l.fn.reader).whole;
   given : GivenFor g.R.Failures.known (file_seen l.metadata).schema (g.R.Failures.memory l.fn.reader).whole (take l.block-index l.blocks) (g.R.Failures.given l.fn.reader) (g.R.Failures.given l.reader);
-  held : EachListed g.R.Failures.known (file_seen l.metadata).schema (g.R.Failures.memory l.fn.reader).whole (take l.block-index l.blocks) (λ id. array_under l.dictionaries id);
+  held : EachListed g.R.Failures.known l.metadata.size (file_seen l.metadata).schema (g.R.Failures.memory l.fn.reader).whole (take l.block-index l.blocks) (λ id. array_under l.dictionaries id);
   known : IsTrue g.R.Failures.known → AreAlike
       (dictionaries_after (file_seen l.metadata) (all_of (g.R.Failures.memory l.fn.reader).whole) (known_dictionaries l.dictionaries) (drop l.block-index l.blocks))
       (dictionaries_after (file_seen l.metadata) (all_of (g.R.Failures.memory l.fn.reader).whole) [] l.blocks);

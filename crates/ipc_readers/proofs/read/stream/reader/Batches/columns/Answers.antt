@@ -54,7 +54,7 @@ returns-clause-memory c =
     let given : Read (option_copied c.rising.result) c.deref.result.now bytes = c.in_ok-read.ensures.memory refl in
     let Many : Option (List ℕ) → List Field → Type 0 = λ p ds. length read ≡ length (chosen p (length ds)) in
     let Hold : Option (List ℕ) → List Field → Type 0 =
-    λ p ds. HoldChosen (lists_of c.args.batch) (extra_of m.version) (kinds (batch_schema ds m.ipc_schema)) (chosen p (length ds)) read in
+    λ p ds. HoldChosen (length body) (lists_of c.args.batch) (extra_of m.version) (kinds (batch_schema ds m.ipc_schema)) (chosen p (length ds)) read in
     let hold : Hold (option_copied c.rising.result) c.deref.result.now = c.in_ok-read.ensures.held in
     given_columns old.projection fs (pairs_of m.schema.metadata.entries) (all_ids_view m.ipc_schema.fields.items) (order_of m.ipc_schema.is_little_endian) m.version c.rising.ensures.same
     (known_in old) c.args.batch body read c.in_ok-chunk.chunk
