@@ -20,8 +20,8 @@ edits:
 refused:
 	tools/refused $(ONLY)
 
-# The gate: that each edit applies, and that the README's program is the tour; then every proof from nothing, the must-fail edits, every
-# test and every program.
+# The gate: that each edit applies, and that the README's program is the tour; then every proof and the must-fail edits (of what changed, where
+# earlier runs are kept), every test and every program.
 test:
 	tools/edits --applies
 	tools/readme

@@ -73,7 +73,7 @@ pub trait Reads: Failures {
             (gives self.old [] going new)
             (λ bytes. gives self.old bytes.now going new))) };
 
-    /// Goes past the next bytes, this many, or past all where there are fewer.
+    /// Goes past the next bytes, this many, or past all where there are fewer. It is for callers: no reader here makes use of it.
     fn skip(&mut self, count: usize) -> io::Result<()>
         ensures gives { SkipGives gives self.old count result self.new }
     {

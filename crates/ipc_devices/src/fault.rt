@@ -207,10 +207,10 @@ pub enum Nyi {
 /// How the tables of a message or a footer can be ill-made.
 #[derive(Debug, Clone, Copy, PartialEq, Eq, Error)]
 pub enum TableFault {
-    /// An offset or a length leads outside the bytes.
+    /// An offset or a length leads outside the bytes, that of a vtable too.
     #[error("an offset leads outside")]
     Outside,
-    /// A vtable is too short for its own head, or stands outside.
+    /// A vtable is shorter than its own head, of 4 bytes.
     #[error("a vtable is ill-made")]
     Vtable,
     /// An enumeration or a union holds a tag that isn't known.

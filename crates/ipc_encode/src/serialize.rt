@@ -81,7 +81,7 @@ fn append_plan(
 }
 
 /// Appends an array to the parts of a record batch: a node for each of its levels to `nodes`, their buffers to `buffers`, the offsets of
-/// these counted from `offset`, and their bytes to `arrow_data`, each buffer padded with zeros to a multiple of 64; `offset` is then
+/// these counted from `offset`, which isn't below 0, and their bytes to `arrow_data`, each buffer padded with zeros to a multiple of 64; `offset` is then
 /// behind the last one. Numbers have this byte order. Of a dictionary the keys are appended: its values belong in a message of their
 /// own. So the batch has one column more, of the array's type and with its slots.
 ///

@@ -1,5 +1,5 @@
 -- A message holds a part: each reader gives what the part says, texts end in a zero byte,
--- and the sizes in vtables are right.
+-- and the sizes in vtables are right. (Flatbuffers, "Internals".)
 use Rattle.std.specs.Prelude.{ℕ, ◌+◌, ◌*◌, ◌≡◌, ◌≤◌, List, length, Some, None, Ok}
 use Rattle.ipc_views.specs.Spot.{Spot, Vector}
 use Rattle.ipc_views.specs.Tables.{bytes_at, number_at, slot_at, table_at, target_at, text_at, vector_at}

@@ -1,4 +1,4 @@
--- The bytes of one part, given the bytes of the parts below it.
+-- The bytes of one part, given the bytes of the parts below it. (Flatbuffers, "Internals".)
 use Rattle.std.specs.Prelude.{ℕ, ◌+◌, ◌*◌, ◌%◌, ◌^◌, ◌≡◌, ◌<◌, ◌≤◌, List, [], ◌∷◌, ◌++◌, length}
 use Rattle.ipc_parts.specs.Pads.{le, missing, padded, short, zeros}
 use Rattle.ipc_parts.specs.declared.build.Built.{Built}

@@ -3,7 +3,7 @@
 //! `ipc_speed KIND ROWS COLUMNS ROUNDS [CHUNKS]` writes a stream of so many columns to memory that is used again, reads
 //! it back, and prints for each the least time of all rounds. Each of its chunks has so many rows; where their number
 //! is left out there is one. KIND says what the columns hold: `int64` (also where it is left out), `nulls`, `bits3`,
-//! `boolean`, `list`, `utf8`, `struct`, `dictionary`, `mixed`. Of these words, which stand before it, `big` writes
+//! `boolean`, `list`, `utf8`, `struct`, `dictionary`, `values`, `mixed`. Of these words, which stand before it, `big` writes
 //! numbers in big-endian order, and `file` writes and reads a file in place of a stream. What is written is held beside
 //! a copy into memory that is used again, what is read beside one into fresh memory. With `chosen` one column of a
 //! stream is read, beside the same column in a stream of its own; with `block` one column of the last block of a file,

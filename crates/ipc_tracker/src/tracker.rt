@@ -62,7 +62,7 @@ impl DictionaryTracker {
 
     /// Remembers the values of an array of keys under an id, and answers whether they are new or others
     /// than before: then they are to be written. Values are others where a slot is, or the type in its
-    /// normal form.
+    /// normal form. The array is one of keys ([`is_dictionary`]).
     ///
     /// Faults: `Argument(DictionaryReplaced)` with the id where they are others and those that are
     /// remembered have to stay; `Memory`. After a fault the tracker is as it was.

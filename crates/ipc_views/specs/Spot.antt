@@ -1,4 +1,4 @@
--- Places in a message.
+-- Places in a message. (Flatbuffers, "Internals".)
 use Rattle.std.specs.Prelude.{ℕ, List}
 
 -- a place at which a table stands

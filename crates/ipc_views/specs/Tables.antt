@@ -1,4 +1,5 @@
 -- Tables as they stand in a message: a list of bytes, whose places count from 0.
+-- (Flatbuffers, "Internals": tables, vtables, vectors, strings, unions.)
 use Rattle.std.specs.Prelude.{ℕ, ◌+◌, ◌-◌, ◌*◌, ◌^◌, List, length, drop, take, nat_lt, nat_le, nat_eq, Bool, not, if◌then◌else◌, Option, Some, None, option_map, Result, Ok, Err}
 use Rattle.ipc_views.specs.Spot.{Spot, Vector}
 use Rattle.std.specs.Borrow.{Bor}

@@ -256,7 +256,7 @@ fn nested(nesting: Nesting, child: &AnyArray, index: usize) -> Value<'_>
     Value::Nested(nesting, slice::from_ref(child), index)
 }
 
-// The slots of the child from an offset to the next.
+/// The value of a list's slot: the slots of the child from an offset to the next. The index is that of a slot.
 #[tactic(auto, using(crate::proofs::ItemPlaces::item_places))]
 pub fn list_value(array: &ListArray, index: usize) -> Value<'_>
     requires { index < span_count array.now.offsets }
@@ -273,7 +273,7 @@ pub fn list_value(array: &ListArray, index: usize) -> Value<'_>
     nested(Nesting::List(end - start), array.values(), start)
 }
 
-// The pairs of the child from an offset to the next.
+/// That of a map's slot: the pairs of the child from an offset to the next.
 #[tactic(auto, using(crate::proofs::ItemPlaces::item_places))]
 pub fn map_value(array: &MapArray, index: usize) -> Value<'_>
     requires { index < span_count array.now.offsets }
@@ -290,7 +290,7 @@ pub fn map_value(array: &MapArray, index: usize) -> Value<'_>
     nested(Nesting::List(end - start), array.field(), start)
 }
 
-// As many slots of the child as each list has.
+/// That of a list of a fixed size: as many slots of the child as each list has.
 #[tactic(auto, using(crate::proofs::ItemPlaces::item_places))]
 pub fn fixed_list_value(array: &FixedSizeListArray, index: usize) -> Value<'_>
     requires { index < array.now.len }
@@ -309,7 +309,7 @@ pub fn fixed_list_value(array: &FixedSizeListArray, index: usize) -> Value<'_>
     )
 }
 
-// A slot of each child.
+/// That of a struct: a slot of each child.
 #[tactic(auto, using(crate::proofs::ItemPlaces::item_places))]
 pub fn record_value(array: &StructArray, index: usize) -> Value<'_>
     requires { index < array.now.len }
@@ -323,7 +323,7 @@ pub fn record_value(array: &StructArray, index: usize) -> Value<'_>
     Value::Nested(Nesting::Record, array.values(), index)
 }
 
-// A variant: the id of its type, the child and the place there.
+/// That of a union, a variant: the id of its type, the child and the place there.
 pub fn union_value(array: &UnionArray, index: usize) -> Value<'_>
     requires { index < length array.now.types }
     ensures slot { value_slot result ≡ slot_at (union_layout array.now) index }
@@ -335,7 +335,7 @@ pub fn union_value(array: &UnionArray, index: usize) -> Value<'_>
     nested(Nesting::Variant(id), &array.fields()[number], place)
 }
 
-// The value that a key names.
+/// That of a dictionary: the value that the slot's key names.
 #[cycle(value)]
 pub fn dictionary_value(array: &DictionaryArray, index: usize) -> Value<'_>
     requires { index < length array.now.keys.integers }

@@ -319,7 +319,8 @@ fn is_little_endian(order: Endianness) -> bool
 /// opened, where it stands in the message of the table or wherever else such a table stands.
 ///
 /// Faults: those of [`deserialize_schema`] but `Schema(NotASchema)`. Whatever the answer, `visits` grows by
-/// no more than the message has bytes, and where it is Ok, by the number of fields at all levels.
+/// no more than the message has bytes, and where it is Ok, by the number of fields at all levels. `visits` and
+/// the length of the message are together below `2^64`.
 #[tactic(auto, unfolding(ipc_model::specs::Schemas::schema_at))]
 pub fn fb_to_schema(
     alloc: Global,
@@ -368,9 +369,11 @@ fn read_message(
 /// What [`deserialize_schema`] answers, with each visit counted: `visits` grows by one before the table of
 /// a field is opened.
 ///
-/// Whatever the answer, it grows by no more than the message has bytes, so a table that is shared over and
-/// over is no way to keep a reader busy. Where the answer is Ok, it grows by the number of fields at all
-/// levels.
+/// Whatever the answer, it grows by no more than the message has bytes, so a field table that is shared over and
+/// over is opened no more often than that. It counts no bytes: each field has a copy of its name, its pairs and its
+/// ids, also where tables share them. Where the answer is Ok, it grows by the number of fields at all levels.
+///
+/// `visits` and the length of the message are together below `2^64`.
 pub fn deserialize_schema_counted(
     alloc: Global,
     message: &[u8],
