@@ -2,9 +2,11 @@
 
 use crate::fixtures::room;
 use crate::rough::{Way, bytes_of, make_rough};
-use arrow2_ipc::io::ipc::fault::{Fault, MemFile};
+use arrow2_ipc::io::ipc::fault::{Fault, MemFile, Watched};
 use ipc_tools::{cat, convert};
 use std::alloc::Global;
+use std::io;
+use std::io::ErrorKind;
 
 // What a run answers, and what it printed.
 #[derive(Drop)]
@@ -50,6 +52,40 @@ fn a_failure_of_the_output_is_told_and_one_of_the_errors_passed_over(
     assert!(rt; printed.out.is_empty() && printed.err.is_empty());
     let printed = print(alloc, "nothing", SOUND, BROKEN)?;
     assert_eq!(rt; printed.status, 2);
+    Ok(())
+}
+
+// Takes all bytes, and can't send them on their way.
+#[derive(Drop)]
+struct Stuck;
+
+impl io::Write for Stuck {
+    fn write(&mut self, buf: &[u8]) -> io::Result<usize> {
+        Ok(buf.len())
+    }
+
+    fn flush(&mut self) -> io::Result<()> {
+        Err(io::Error::from(ErrorKind::BrokenPipe))
+    }
+}
+
+#[test]
+fn the_example_is_sent_on_its_way(rt: HostRuntime) -> Result<(), Fault> {
+    let alloc = rt.alloc();
+    let words = vec![in alloc; "demo".to_string(alloc)?]?;
+    let mut input = MemFile::new([].as_slice());
+    let no_file: Option<MemFile<&[u8]>> = None;
+    let mut out = Watched::new(Stuck);
+    let mut err = room(alloc)?;
+    let status = cat::run(alloc, &words, &mut input, no_file, &mut out, &mut err);
+    if err.as_slice() == b"ipcat: no memory\n".as_slice() {
+        return Err(Fault::Memory);
+    }
+    assert_eq!(rt; status, 1);
+    assert_eq!(rt;
+        err.as_slice(),
+        b"ipcat: input or output failed\n".as_slice()
+    );
     Ok(())
 }
 

@@ -13,7 +13,7 @@ use arrow2_ipc::io::ipc::fault::{Fault, Writes};
 use arrow2_ipc::io::ipc::write::{StreamWriter, WriteOptions};
 use std::alloc::Global;
 
-/// Writes the example as a stream. `Memory` and `Io` are the only faults.
+/// Writes the example as a stream, and has it sent on its way. `Memory` and `Io` are the only faults.
 pub fn write_demo<W: Writes + Drop>(alloc: Global, out: W) -> Result<(), Fault>
     ensures { IfErr result (λ e. OwnFault e ⊥) }
 {
@@ -24,7 +24,9 @@ pub fn write_demo<W: Writes + Drop>(alloc: Global, out: W) -> Result<(), Fault>
     for _ in 0..5 {
         writer.write(&chunk, None)?;
     }
-    writer.finish()
+    writer.finish()?;
+    writer.into_inner().flush()?;
+    Ok(())
 }
 
 fn demo_schema(alloc: Global) -> Result<Schema, Fault>
