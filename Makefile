@@ -1,5 +1,5 @@
 # `rt` is the command of the Rattle kit.
-.PHONY: demo build edits refused test
+.PHONY: demo build mutations refused test
 
 # Builds ipcat once, without its proofs. `ipcat demo` writes the example, byte for byte, and `ipcat stream` shows it.
 demo:
@@ -12,17 +12,18 @@ build:
 	@cd crates/ipcat && rt run -- demo > /dev/null
 	@echo "the proved program: crates/ipcat/out/ipcat"
 
-# The wrong bodies that the gate leaves out: all of edits/, or make edits ONLY="lower_rules ipc_views".
-edits:
-	tools/edits $(ONLY)
+# Judges mutations: wrong bodies, which the prover must refuse. Takes the crates that differ from origin/main, or
+# make mutations NAMES="lower_rules ipc_views".
+mutations:
+	tools/mutations $(NAMES)
 
 # The tests of ipc_bench with each allocation refused in its turn, or make refused ONLY="WORD ..": those whose names have a word.
 refused:
 	tools/refused $(ONLY)
 
-# The gate: that each edit applies, and that the README's program is the tour; then every proof and the must-fail edits (of what changed, where
+# CI: that each mutation applies, and that the README's program is the tour; then every proof and the mutations of must-fail/ (of what changed, where
 # earlier runs are kept), every test and every program.
 test:
-	tools/edits --applies
+	tools/mutations --applies
 	tools/readme
 	rt ci
