@@ -1,0 +1,6 @@
+//! The files of test cases: built, written, appended to, and read.
+#![tactic(auto)]
+
+pub mod calls;
+pub mod files;
+pub mod written_files;
