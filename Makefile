@@ -1,11 +1,15 @@
 # `rt` is the command of the Rattle kit.
-.PHONY: demo build mutations refused test
+.PHONY: demo build check mutations refused test
 
 # Builds ipcat once, without its proofs. `ipcat demo` writes the example, byte for byte, and `ipcat stream` shows it.
 demo:
 	@cd crates/ipcat && cases=$$(mktemp -d) && touch $$cases/demo && cp data/example.arrows $$cases/demo.stdout \
 	&& cp data/example.arrows $$cases/stream && echo demo > $$cases/demo.args && echo stream > $$cases/stream.args && rt try --cases $$cases; \
 	status=$$?; rm -rf $$cases; exit $$status
+
+# The check for daily work, in minutes: all programs, cases and tests, built without proofs; or make check WORD=flat: a crate, or files of cases.
+check:
+	tools/check $(WORD)
 
 # Proves ipcat and all below it, and builds it.
 build:

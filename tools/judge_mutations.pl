@@ -94,7 +94,7 @@ sub blocks {
         } elsif (/^file: \s*(.*?)\s*$/) {
             $file = $1;
             $head = $file if @blocks == 1;
-            fail($it, $line, 'the file is not below src/, specs/ or proofs/')
+            fail($it, $line, 'no file below src/, specs/ or proofs/')
                 if $file !~ m{^(src|specs|proofs)/} || $file =~ m{/\.{0,2}(/|$)};
         } elsif (/^old: (.+)/) {
             fail($it, $line, "no 'file:' line above") if !defined $file;
@@ -145,7 +145,7 @@ sub applied {
         substr($text, $offset, length $old) = $to;
         $new{$file} = $text;
     }
-    return @places ? (\%new, \@places) : (undef, "it has no 'old:' and 'new:' lines", $it->{line});
+    return @places ? (\%new, \@places) : (undef, 'it has no pair of lines', $it->{line});
 }
 
 # -- the functions of a file --
