@@ -1,8 +1,10 @@
 //! A case: its call, and what must come out of it.
 //!
-//! `{"case": NAME, CALL: PARTS, "gives": VALUE}`. A call that returns an error gives its `Debug` text; a wanted text that ends in
-//! `..` leaves open what follows. Wanted bytes may be in parts, as in `bytes.rt` of `cases_notation`. `{"fault": NAME, "text": TEXT}` wants the
-//! `Display` text too. `{"common": {CALL: PARTS}}` comes before cases that have these parts where they don't say others.
+//! `{"case": NAME, CALL: PARTS, "gives": VALUE}`. A call that returns an error gives its `Debug`
+//! text; a wanted text that ends in `..` leaves open what follows. Wanted bytes may be in parts, as
+//! in `bytes.rt` of `cases_notation`. `{"fault": NAME, "text": TEXT}` wants the `Display` text too.
+//! `{"common": {CALL: PARTS}}` comes before cases that have these parts where they don't say
+//! others.
 
 use crate::calls::put_call;
 use crate::conversions::put_converted;
@@ -93,7 +95,8 @@ fn join_wanted_bytes(d: &mut Decoder, case: &mut Value) {
     }
 }
 
-// What a call gave, with its parts in the order of their names, as the JSON text of a value has them. A schema isn't JSON.
+// What a call gave, with its parts in the order of their names, as the JSON text of a value has
+// them. A schema isn't JSON.
 fn in_order(alloc: Global, got: String) -> Result<String, Failure> {
     match Value::from_str(alloc, got.as_str()) {
         Ok(value) => Ok(value.to_string(alloc)?),

@@ -1,7 +1,9 @@
-//! Runs of `ipconvert`: `{"words": [WORD, ..], "input": STREAM, "path": FILE}`, with the stream at its input, if there is one, and
-//! the file at the path that the words name. Its output is what it writes; with the first word `append` that is the file at the path.
+//! Runs of `ipconvert`: `{"words": [WORD, ..], "input": STREAM, "path": FILE}`, with the stream at
+//! its input, if there is one, and the file at the path that the words name. Its output is what it
+//! writes; with the first word `append` that is the file at the path.
 //!
-//! What a run writes can be part of a case: the stream `{"converted": STREAM, "words": [WORD, ..]}`, or the file `{"converted": RUN, ..}`.
+//! What a run writes can be part of a case: the stream
+//! `{"converted": STREAM, "words": [WORD, ..]}`, or the file `{"converted": RUN, ..}`.
 
 use crate::programs::{Program, Run, run_beside, run_of, words_of};
 use cases_files::files::file;
@@ -73,7 +75,8 @@ fn is_to_file(words: &[String]) -> bool {
     }
 }
 
-/// Puts the bytes that `ipconvert` writes, as hex digits, in place of each `"converted"` part of a case.
+/// Puts the bytes that `ipconvert` writes, as hex digits, in place of each `"converted"` part of a
+/// case.
 pub fn put_converted(d: &mut Decoder, case: &mut Value) {
     if let Value::Object(members) = case {
         for parts in members.values_mut() {

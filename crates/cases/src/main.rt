@@ -1,8 +1,10 @@
-//! Runs test cases: each names a public call with its arguments, and states what the call must give.
+//! Runs test cases: each names a public call with its arguments, and states what the call must
+//! give.
 //!
-//! `cases FILE ..` runs the cases of these files, one in each paragraph, and prints of each whether it agrees, with both values
-//! where it doesn't. Lines that begin with `#` are comments. The status is 0 where all cases agree, else 1.
-//! `case` has the form of a case; the modules that decode its parts, in the libraries `cases_*`, begin with their notation.
+//! `cases FILE ..` runs the cases of these files, one in each paragraph, and prints of each whether
+//! it agrees, with both values where it doesn't. Lines that begin with `#` are comments. The status
+//! is 0 where all cases agree, else 1. `case` has the form of a case; the modules that decode its
+//! parts, in the libraries `cases_*`, begin with their notation.
 #![tactic(auto)]
 
 mod calls;

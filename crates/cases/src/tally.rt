@@ -22,8 +22,8 @@ impl Tally {
         }
     }
 
-    /// Runs the cases of a file, and prints the result of each. Empty lines separate cases; lines that begin with `#` are
-    /// comments.
+    /// Runs the cases of a file, and prints the result of each. Empty lines separate cases; lines
+    /// that begin with `#` are comments.
     pub fn run_cases(
         &mut self,
         rt: &impl Print,

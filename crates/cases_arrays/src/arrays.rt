@@ -1,13 +1,13 @@
 //! Arrays, which the public constructors make of their parts.
 //!
-//! An array is `{"array": KIND, ..}` with its parts by name: `"type"`, which may be left out where the kind is the name
-//! of a type; `"validity"`, bits, which may be left out; and the parts of its kind. `"slice": [OFFSET, LEN]` then
-//! slices it, and `"slice_again"` slices the result.
+//! An array is `{"array": KIND, ..}` with its parts by name: `"type"`, which may be left out where
+//! the kind is the name of a type; `"validity"`, bits, which may be left out; and the parts of its
+//! kind. `"slice": [OFFSET, LEN]` then slices it, and `"slice_again"` slices the result.
 //!
 //! - `"null"`: `"len"`
 //! - `"boolean"`: `"values"`, bits
-//! - `"int8"` to `"uint64"`, `"int128"`, `"int256"`, `"days_ms"`, `"months_days_ns"`: `"values"`, numbers, or for each
-//!   number a list of its parts
+//! - `"int8"` to `"uint64"`, `"int128"`, `"int256"`, `"days_ms"`, `"months_days_ns"`: `"values"`,
+//!   numbers, or for each number a list of its parts
 //! - `"fixed_size_binary"`: `"values"`, bytes
 //! - `"binary"`, `"large_binary"`, `"utf8"`, `"large_utf8"`: `"offsets"`, `"values"`, bytes
 //! - `"list"`, `"large_list"`, `"map"`: `"offsets"`, `"child"`, an array
@@ -47,7 +47,8 @@ fn sliced(d: &mut Decoder, array: AnyArray, value: &Value, name: &'static str) -
     }
 }
 
-/// The offset and the length that the part of this name selects out of so many slots. It may be left out.
+/// The offset and the length that the part of this name selects out of so many slots. It may be
+/// left out.
 pub fn cut_of(
     d: &mut Decoder,
     value: &Value,
@@ -167,8 +168,8 @@ fn children(d: &mut Decoder, value: &Value, levels: usize) -> Vec<AnyArray> {
     arrays(d, children, levels)
 }
 
-/// The arrays of a case, with at most so many levels. One that can't be made is left out: the decoder has remembered
-/// the failure.
+/// The arrays of a case, with at most so many levels. One that can't be made is left out: the
+/// decoder has remembered the failure.
 #[cycle(arrays)]
 pub fn arrays(d: &mut Decoder, value: &Value, levels: usize) -> Vec<AnyArray> {
     let mut out = d.list();

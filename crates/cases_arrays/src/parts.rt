@@ -1,11 +1,12 @@
-//! The parts of arrays as they are stored, as text: `{"len": 2, "nulls": 1, "validity": "01", ..}` and the parts of the
-//! kind.
+//! The parts of arrays as they are stored, as text: `{"len": 2, "nulls": 1, "validity": "01", ..}`
+//! and the parts of the kind.
 //!
-//! Values at null slots are included, and so are values outside of a slice. An array without children has `"type"`, the
-//! `Debug` text of its type, and `"values"`: bits, numbers, or bytes as hex digits, with `"offsets"` or the `"size"` of
-//! each value. A list has `"offsets"` or a `"size"`, and `"child"`, the parts of its child; a struct has `"children"`;
-//! a union has `"types"`, `"offsets"`, the `"places"` of its slots, each the index of a child and an index in it, and
-//! `"children"`; a dictionary has `"ordered"`, `"keys"` and `"values"`.
+//! Values at null slots are included, and so are values outside of a slice. An array without
+//! children has `"type"`, the `Debug` text of its type, and `"values"`: bits, numbers, or bytes as
+//! hex digits, with `"offsets"` or the `"size"` of each value. A list has `"offsets"` or a
+//! `"size"`, and `"child"`, the parts of its child; a struct has `"children"`; a union has
+//! `"types"`, `"offsets"`, the `"places"` of its slots, each the index of a child and an index in
+//! it, and `"children"`; a dictionary has `"ordered"`, `"keys"` and `"values"`.
 ghost use Rattle.std.specs.Prelude.{◌<◌};
 
 use crate::slots::put_slots;
@@ -151,7 +152,8 @@ pub fn put_bits(out: &mut Text, bits: &Bitmap) {
     out.put("\"");
 }
 
-// The type ids and the offsets of a union, and for each slot the index of its child and the index in that.
+// The type ids and the offsets of a union, and for each slot the index of its child and the index
+// in that.
 fn put_indices(out: &mut Text, union: &UnionArray) {
     out.put(",\"types\":[");
     put_each(out, union.types().as_slice());

@@ -68,7 +68,8 @@ fn is_integer(form: IntegerType, data_type: &DataType) -> bool {
     }
 }
 
-/// Whether all types, at all levels, are integers, texts, lists and structs, or extensions of these.
+/// Whether all types, at all levels, are integers, texts, lists and structs, or extensions of
+/// these.
 #[cycle(plain)]
 pub fn are_plain(fields: &[Field]) -> bool {
     for field in fields {

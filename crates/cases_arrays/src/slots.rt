@@ -1,8 +1,9 @@
 //! Slots, as text.
 //!
-//! `null`, `true`, a number, in quotes where 64 bits don't hold it; bytes as hex digits in quotes, texts in quotes;
-//! `[..]`, the slots of a list or of a struct, or the parts of a number of several parts; `{"5":..}`, the slot of a
-//! union by its type id. A slot of a dictionary is the value that its key refers to.
+//! `null`, `true`, a number, in quotes where 64 bits don't hold it; bytes as hex digits in quotes,
+//! texts in quotes; `[..]`, the slots of a list or of a struct, or the parts of a number of several
+//! parts; `{"5":..}`, the slot of a union by its type id. A slot of a dictionary is the value that
+//! its key refers to.
 ghost use Rattle.std.specs.Prelude.{◌<◌};
 
 use cases_notation::text::Text;

@@ -1,13 +1,13 @@
 //! Files.
 //!
-//! `{"messages": [BYTES, ..], "footer": FOOTER}` is the magic and its padding, the messages, the footer, its length,
-//! and the magic. Each message is its prefix of 8 bytes, its metadata and its body. The footer is a table, as in
-//! `tables.rt` of `cases_notation`, in which a block may be the number of a message. `"footer_bytes": BYTES` may replace
-//! the footer.
+//! `{"messages": [BYTES, ..], "footer": FOOTER}` is the magic and its padding, the messages, the
+//! footer, its length, and the magic. Each message is its prefix of 8 bytes, its metadata and its
+//! body. The footer is a table, as in `tables.rt` of `cases_notation`, in which a block may be the
+//! number of a message. `"footer_bytes": BYTES` may replace the footer.
 //!
-//! `{"bytes": BYTES}` are the bytes of a whole file, and `{"written": WRITTEN}` is what a writer writes, as in
-//! `written_files.rt`. `"changes": [PART, ..]` beside any of these are made to the whole, as in `bytes.rt` of
-//! `cases_notation`.
+//! `{"bytes": BYTES}` are the bytes of a whole file, and `{"written": WRITTEN}` is what a writer
+//! writes, as in `written_files.rt`. `"changes": [PART, ..]` beside any of these are made to the
+//! whole, as in `bytes.rt` of `cases_notation`.
 
 use crate::written_files::write_file;
 use cases_notation::bytes::{bytes, put_part};
@@ -68,7 +68,8 @@ fn put_messages(d: &mut Decoder, out: &mut Vec<u8>, value: &Value) -> Vec<Block>
     blocks
 }
 
-// The block of a message at an offset. The prefix states how long the metadata are, and the rest is the body.
+// The block of a message at an offset. The prefix states how long the metadata are, and the rest is
+// the body.
 fn block_at(d: &mut Decoder, offset: usize, message: &[u8]) -> Block {
     let meta_data_length = stated_length(d, message).saturating_add(8);
     let length = signed(d, message.len());

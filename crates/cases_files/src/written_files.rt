@@ -1,10 +1,10 @@
-//! Files that a writer writes: `{"fields": [FIELD, ..], "calls": [CALL, ..]}`, with the ids and the byte order of
-//! `written.rt` of `cases_streams`. With `"started": true` the writer is created by `try_new`. With `"room": 100` it
-//! writes to a device that takes so many bytes and then fails.
+//! Files that a writer writes: `{"fields": [FIELD, ..], "calls": [CALL, ..]}`, with the ids and the
+//! byte order of `written.rt` of `cases_streams`. With `"started": true` the writer is created by
+//! `try_new`. With `"room": 100` it writes to a device that takes so many bytes and then fails.
 //!
-//! A call is `"start"`; `{"write": [ARRAY, ..]}`, which may have ids beside the columns; `{"pairs": {"k": "v"}}`, which
-//! sets the pairs of the footer; `"finish"`; or `"schema"`, whose answer is the schema of the writer, by its `Debug`
-//! text.
+//! A call is `"start"`; `{"write": [ARRAY, ..]}`, which may have ids beside the columns;
+//! `{"pairs": {"k": "v"}}`, which sets the pairs of the footer; `"finish"`; or `"schema"`, whose
+//! answer is the schema of the writer, by its `Debug` text.
 
 use cases_arrays::chunks::chunk;
 use cases_arrays::schemas::schema;
@@ -23,7 +23,8 @@ use lower::datatypes::Schema;
 use serde_json::Value;
 use std::alloc::Global;
 
-/// Makes the calls of a writer to memory. It appends the answer of each, `"ok"` or its error, and returns the bytes.
+/// Makes the calls of a writer to memory. It appends the answer of each, `"ok"` or its error, and
+/// returns the bytes.
 pub fn write_file(d: &mut Decoder, answers: &mut Text, value: &Value) -> Vec<u8> {
     if value.get("room").is_some() {
         return write_to_room(d, answers, value);
@@ -81,8 +82,8 @@ fn created<W: Writes + Drop>(
     }
 }
 
-/// Makes the calls of a writer that appends to the file of these metadata. It appends the answer of each. It returns
-/// the error by which the writer couldn't be created, if there is one.
+/// Makes the calls of a writer that appends to the file of these metadata. It appends the answer of
+/// each. It returns the error by which the writer couldn't be created, if there is one.
 pub fn append(
     d: &mut Decoder,
     answers: &mut Text,

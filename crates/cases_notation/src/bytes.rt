@@ -1,14 +1,16 @@
 //! Bytes, and bits.
 //!
-//! Bytes are a part, or a list of parts. A part is hex digits, `{"text": ".."}`, `{"zeros": 56}`, `{"message": TABLE}`
-//! or `{"footer": TABLE}`, which `tables.rt` encodes, or `{"framed": TABLE, "body": [PART, ..], "times": 2}`: so many
-//! encapsulated messages, each with this body (one, where the times are left out). A part may also change the bytes of
-//! the parts before it: `{"cut": 44}` leaves so many bytes, `{"set": [[26, 3], ..]}` sets the byte at an offset.
-//! `{"repeat": [PART, ..], "times": 7}` repeats plain parts, in which `{"u32": 316, "step": -48}` is a number of 32
-//! bits, little-endian, to which the step is added at each turn.
+//! Bytes are a part, or a list of parts. A part is hex digits, `{"text": ".."}`, `{"zeros": 56}`,
+//! `{"message": TABLE}` or `{"footer": TABLE}`, which `tables.rt` encodes, or
+//! `{"framed": TABLE, "body": [PART, ..], "times": 2}`: so many encapsulated messages, each with
+//! this body (one, where the times are left out). A part may also change the bytes of the parts
+//! before it: `{"cut": 44}` leaves so many bytes, `{"set": [[26, 3], ..]}` sets the byte at an
+//! offset. `{"repeat": [PART, ..], "times": 7}` repeats plain parts, in which
+//! `{"u32": 316, "step": -48}` is a number of 32 bits, little-endian, to which the step is added at
+//! each turn.
 //!
-//! Bits are `"1011"`, that of the first slot first, or `{"bytes": BYTES, "bits": 9}`: the first nine bits of these
-//! bytes, the least significant bit of a byte first.
+//! Bits are `"1011"`, that of the first slot first, or `{"bytes": BYTES, "bits": 9}`: the first
+//! nine bits of these bytes, the least significant bit of a byte first.
 
 ghost use Rattle.std.specs.Prelude.{◌<◌};
 
@@ -169,8 +171,8 @@ fn put_framed(d: &mut Decoder, out: &mut Vec<u8>, table: &Value, part: &Value) {
     }
 }
 
-// The continuation marker, the length of the padded metadata, these metadata, and the padded body (Arrow columnar
-// format, Encapsulated message format).
+// The continuation marker, the length of the padded metadata, these metadata, and the padded body
+// (Arrow columnar format, Encapsulated message format).
 fn framed(d: &mut Decoder, table: &Value, body_parts: Option<&Value>) -> Vec<u8> {
     let mut body = d.list();
     put_turn(d, &mut body, body_parts, "body", 0);

@@ -1,4 +1,5 @@
-//! The damages of a message that are tried one by one: it is cut after each byte, and each byte is set to others.
+//! The damages of a message that are tried one by one: it is cut after each byte, and each byte is
+//! set to others.
 
 use crate::decoder::Decoder;
 use crate::text::Text;
@@ -51,7 +52,8 @@ impl Tried {
         out.put(",");
     }
 
-    /// Appends how many sets were tried, and the damages at which two answers differ: `"sets": 800, "differ": []`.
+    /// Appends how many sets were tried, and the damages at which two answers differ:
+    /// `"sets": 800, "differ": []`.
     pub fn put(self, d: &mut Decoder, out: &mut Text) {
         out.put("\"sets\":");
         out.show(&self.sets);

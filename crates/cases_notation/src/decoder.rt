@@ -5,8 +5,9 @@ use ipc_devices::fault::Fault;
 use serde_json::Value;
 use std::alloc::Global;
 
-/// Decodes the parts of a case, and remembers the first failure. After one its methods return default values, so that a
-/// function that decodes has one way through; `finish` reports the failure.
+/// Decodes the parts of a case, and remembers the first failure. After one its methods return
+/// default values, so that a function that decodes has one way through; `finish` reports the
+/// failure.
 #[derive(Drop)]
 pub struct Decoder {
     alloc: Global,
@@ -126,7 +127,8 @@ impl Decoder {
         }
     }
 
-    /// The first two items of the list that is the part of this name. A failure gives the value itself, twice.
+    /// The first two items of the list that is the part of this name. A failure gives the value
+    /// itself, twice.
     pub fn both<'v>(&mut self, value: &'v Value, name: &'static str) -> (&'v Value, &'v Value) {
         match self.items(Some(value), name) {
             [first, second, ..] => (first, second),
@@ -165,7 +167,8 @@ impl Decoder {
         }
     }
 
-    /// The whole number that is the part of this name. One that 64 bits don't hold is a text of digits.
+    /// The whole number that is the part of this name. One that 64 bits don't hold is a text of
+    /// digits.
     pub fn whole(&mut self, value: Option<&Value>, name: &'static str) -> i128 {
         let number = match value {
             Some(Value::Number(number)) => number.as_i128(),
@@ -204,7 +207,8 @@ impl Decoder {
         self.number(value, name)
     }
 
-    /// One of the values that have a name in a table: the part of this name. `other` is what a failure gives.
+    /// One of the values that have a name in a table: the part of this name. `other` is what a
+    /// failure gives.
     pub fn choice<T: Copy>(
         &mut self,
         value: Option<&Value>,

@@ -7,8 +7,8 @@ use serde_json::Value as Json;
 use std::alloc::Global;
 use std::fmt::{Debug, Display, Write};
 
-/// Text that is built piece by piece. Only `finish` reports that a piece is missing, so that a function that prints has
-/// one way through.
+/// Text that is built piece by piece. Only `finish` reports that a piece is missing, so that a
+/// function that prints has one way through.
 #[derive(Drop)]
 pub struct Text {
     alloc: Global,
@@ -143,7 +143,8 @@ impl Text {
         self.missing = Some(Missing::Part(part));
     }
 
-    /// Appends bytes by words of eight; words of zeros are counted: `["ffffffff01000000",{"zeros":56}]`.
+    /// Appends bytes by words of eight; words of zeros are counted:
+    /// `["ffffffff01000000",{"zeros":56}]`.
     pub fn words(&mut self, bytes: &[u8]) {
         let mut zeros = 0usize;
         self.put("[");

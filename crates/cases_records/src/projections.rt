@@ -1,5 +1,6 @@
-//! Projections: `"chosen": [2, 0]` reads these columns and gives them in this order, `"limit": 2` reads at most so many
-//! rows. Readers take columns in ascending order, so what they return is brought into the order of the case.
+//! Projections: `"chosen": [2, 0]` reads these columns and gives them in this order, `"limit": 2`
+//! reads at most so many rows. Readers take columns in ascending order, so what they return is
+//! brought into the order of the case.
 
 ghost use Rattle.std.specs.Prelude.{IfSome};
 ghost use Rattle.ipc_projections.specs.Projections.{IsPrepared};

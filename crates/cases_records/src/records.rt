@@ -1,10 +1,11 @@
-//! Records: `{"fields": [FIELD, ..], "nodes": [[2, 0], ..], "buffers": [[0, 8], ..], "body": BYTES}`, the message of a
-//! record batch with its body. Each node is a length and a count of nulls, each buffer an offset and a length.
-//! `"message": BYTES` may replace the nodes and buffers.
+//! Records: `{"fields": [FIELD, ..], "nodes": [[2, 0], ..], "buffers": [[0, 8], ..], "body":
+//! BYTES}`, the message of a record batch with its body. Each node is a length and a count of
+//! nulls, each buffer an offset and a length. `"message": BYTES` may replace the nodes and buffers.
 //!
-//! `"order": "big"` makes numbers big-endian, `"version": "V4"` is the metadata version, `"ids": [ID, ..]` are the ids
-//! of the fields as in `cases_arrays`, columns are chosen as in `projections.rt`, and
-//! `"dictionaries": [[ID, ARRAY], ..]` are the values of dictionaries that were read before.
+//! `"order": "big"` makes numbers big-endian, `"version": "V4"` is the metadata version,
+//! `"ids": [ID, ..]` are the ids of the fields as in `cases_arrays`, columns are chosen as in
+//! `projections.rt`, and `"dictionaries": [[ID, ARRAY], ..]` are the values of dictionaries that
+//! were read before.
 
 ghost use Rattle.std.specs.Prelude.{IfSome, length};
 ghost use Rattle.std.specs.Option.{option_copied};
@@ -45,7 +46,8 @@ pub struct Record {
     pub form: RecordForm,
 }
 
-/// What a reader needs to decode a record batch: parts of the schema, and the choices of the caller.
+/// What a reader needs to decode a record batch: parts of the schema, and the choices of the
+/// caller.
 #[derive(Drop)]
 pub struct RecordForm {
     pub fields: Vec<Field>,
@@ -172,7 +174,8 @@ impl RecordForm {
 
     // The chosen columns in ascending order, where a case chooses some.
     fn ascending(&self, d: &mut Decoder) -> Option<Vec<usize>>
-        ensures { IfSome result (λ columns. IsPrepared columns.items (length self.now.fields.items)) }
+        ensures { IfSome result
+            (λ columns. IsPrepared columns.items (length self.now.fields.items)) }
     {
         match &self.chosen {
             Some(chosen) => prepared(d, chosen, self.fields.len()),

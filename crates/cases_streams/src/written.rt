@@ -1,8 +1,10 @@
-//! Streams. A STREAM is bytes; or `{"fields": [FIELD, ..], "calls": [CALL, ..]}`, the bytes that a writer of these
-//! fields writes in these calls, some of which may fail; or a list of such parts, joined.
+//! Streams. A STREAM is bytes; or `{"fields": [FIELD, ..], "calls": [CALL, ..]}`, the bytes that a
+//! writer of these fields writes in these calls, some of which may fail; or a list of such parts,
+//! joined.
 //!
-//! A call is `"start"`, `{"write": [ARRAY, ..]}` or `"finish"`. `"ids": [ID, ..]` next to the fields are passed to
-//! `start`, and next to the columns to that `write`. With `"big_endian": true` numbers have their highest byte first.
+//! A call is `"start"`, `{"write": [ARRAY, ..]}` or `"finish"`. `"ids": [ID, ..]` next to the
+//! fields are passed to `start`, and next to the columns to that `write`. With `"big_endian": true`
+//! numbers have their highest byte first.
 
 use crate::calls::options;
 pub use crate::calls::put_answer;
@@ -91,7 +93,8 @@ fn make_call(
     }
 }
 
-// Columns that are not of one length are refused before the call, which then has this error as its result.
+// Columns that are not of one length are refused before the call, which then has this error as its
+// result.
 fn write_columns(
     d: &mut Decoder,
     writer: &mut Writer,

@@ -1,6 +1,8 @@
-//! Worked examples that data can't say, as proved tests over the public calls: devices with breaks, devices that fail and devices that
-//! count, memory that is refused, memory that is shared, files that begin in the midst of a device, files that are too long, chunks of a
-//! type that is no array, batches of a thousand columns, what is public for one batch, and slots that are null. What data can say is in `cases`.
+//! Worked examples that data can't say, as proved tests over the public calls: devices with breaks,
+//! devices that fail and devices that count, memory that is refused, memory that is shared, files
+//! that begin in the midst of a device, files that are too long, chunks of a type that is no array,
+//! batches of a thousand columns, what is public for one batch, and slots that are null. What data
+//! can say is in `cases`.
 #![tactic(auto)]
 
 #[cfg(test)]

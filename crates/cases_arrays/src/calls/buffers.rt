@@ -1,7 +1,8 @@
-//! The calls of bitmaps and offsets. `"bits_of": {"bits": BITS, "slice": [OFFSET, LEN]}` gives the bits, the bytes that
-//! hold them and the index of the first bit in these. `"offsets_of": {"offsets": [..], "slice": [OFFSET, LEN]}` gives
-//! offsets of 32 bits, and the last one. Either slice may be left out. `"offset_of_length": ["int32", 9]` gives the
-//! offset for so many slots, or `null`.
+//! The calls of bitmaps and offsets. `"bits_of": {"bits": BITS, "slice": [OFFSET, LEN]}` gives the
+//! bits, the bytes that hold them and the index of the first bit in these.
+//! `"offsets_of": {"offsets": [..], "slice": [OFFSET, LEN]}` gives offsets of 32 bits, and the last
+//! one. Either slice may be left out. `"offset_of_length": ["int32", 9]` gives the offset for so
+//! many slots, or `null`.
 
 use crate::arrays::{cut_of, offsets};
 use crate::parts::{put_bits, put_each_offset};

@@ -1,9 +1,9 @@
 //! The calls of chunks and ids.
 //!
-//! `"chunk_of": [ARRAY, ..]` makes a chunk of these columns and a clone of it. It gives `{"arrays": [SLOTS, ..],
-//! "columns": [SLOTS, ..], "is_clone_same": true, "is_empty": false, "moved": [2, 2], "rows": 2}`: the columns of the
-//! chunk and of its clone, and how many columns are moved out of each. `"are_equal_rows": [ARRAY, ..]` gives whether
-//! the arrays have the same number of rows.
+//! `"chunk_of": [ARRAY, ..]` makes a chunk of these columns and a clone of it. It gives `{"arrays":
+//! [SLOTS, ..], "columns": [SLOTS, ..], "is_clone_same": true, "is_empty": false, "moved": [2, 2],
+//! "rows": 2}`: the columns of the chunk and of its clone, and how many columns are moved out of
+//! each. `"are_equal_rows": [ARRAY, ..]` gives whether the arrays have the same number of rows.
 //!
 //! `"fits": {"fields": [FIELD, ..], "ids": [ID, ..]}` gives whether the ids belong to the fields.
 //! `"cloned_ids_of": SCHEMA` gives the schema with clones of its ids.

@@ -1,8 +1,9 @@
-//! The calls of numbers and their bytes, on an array of numbers with a byte order, `"order": "big"` or `"little"`.
-//! `"bytes_of_numbers"` gives the name of the numbers' type, how many bytes each number has, and the bytes.
-//! `"numbers_of_bytes"` has `"bytes"` in place of the values, and gives the numbers. `"numbers_back_of"` writes them
-//! after the bytes `"front"` and reads them back followed by the bytes `"behind"`: it gives how many bytes there are
-//! before `"behind"`, and whether the numbers are the same.
+//! The calls of numbers and their bytes, on an array of numbers with a byte order, `"order": "big"`
+//! or `"little"`. `"bytes_of_numbers"` gives the name of the numbers' type, how many bytes each
+//! number has, and the bytes. `"numbers_of_bytes"` has `"bytes"` in place of the values, and gives
+//! the numbers. `"numbers_back_of"` writes them after the bytes `"front"` and reads them back
+//! followed by the bytes `"behind"`: it gives how many bytes there are before `"behind"`, and
+//! whether the numbers are the same.
 
 use crate::numbers::{NumberKind, array_of_list, number_kind, numbers};
 use crate::slots::put_slots;
@@ -44,7 +45,8 @@ pub fn numbers_of_bytes(d: &mut Decoder, out: &mut Text, value: &Value) {
     }
 }
 
-/// How many bytes numbers and those before them have, and whether the numbers are the same when they are read back.
+/// How many bytes numbers and those before them have, and whether the numbers are the same when
+/// they are read back.
 pub fn numbers_back_of(d: &mut Decoder, out: &mut Text, value: &Value) {
     if let Some(numbers) = numbers(d, value) {
         let mut all = bytes_in(d, value, "front");

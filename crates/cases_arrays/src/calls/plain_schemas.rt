@@ -1,13 +1,15 @@
-//! The calls that decode a schema message by the reader and by the plain program, `ipc_plain_schema`, which knows only
-//! integers, texts, lists and structs.
+//! The calls that decode a schema message by the reader and by the plain program,
+//! `ipc_plain_schema`, which knows only integers, texts, lists and structs.
 //!
-//! - `"plain_schema_of": BYTES` gives what the plain program decodes: a schema, in which an extension type is the type
-//!   that it is stored as, `"Other"`, a schema with another type, or `"NoSchema"`.
+//! - `"plain_schema_of": BYTES` gives what the plain program decodes: a schema, in which an
+//!   extension type is the type that it is stored as, `"Other"`, a schema with another type, or
+//!   `"NoSchema"`.
 //! - `"schema_by_both": BYTES` gives `{"plain": PLAIN, "reader": SCHEMA, "agree": true}`.
-//! - `"damaged_schemas_of": {"bytes": BYTES, "kinds": ["NoSchema", ..]}` decodes the message with each damage by both,
-//!   and gives `{"cuts": 48, "sets": 192, "differ": [], "kinds": ["NoSchema", ..]}`: how many damages were tried, those
-//!   at which the two differ, and which of these kinds of answers occurred. `"only_cuts": true` leaves out the damages
-//!   that set a byte.
+//! - `"damaged_schemas_of": {"bytes": BYTES, "kinds": ["NoSchema", ..]}` decodes the message with
+//!   each damage by both, and gives
+//!   `{"cuts": 48, "sets": 192, "differ": [], "kinds": ["NoSchema", ..]}`: how many damages were
+//!   tried, those at which the two differ, and which of these kinds of answers occurred.
+//!   `"only_cuts": true` leaves out the damages that set a byte.
 
 use crate::same_schemas::{are_plain, is_same_schema};
 use crate::schemas::put_schema;
@@ -152,8 +154,8 @@ enum Kind {
     Differ,
 }
 
-// Where the plain program finds no schema, the reader has to return an error. Where it finds another type, the reader
-// has to find one too.
+// Where the plain program finds no schema, the reader has to return an error. Where it finds
+// another type, the reader has to find one too.
 fn judged(plain: &PlainAnswer, read: &Read) -> Kind {
     match (plain, read) {
         (PlainAnswer::NoSchema, Err(_)) => Kind::NoSchema,
@@ -202,7 +204,8 @@ const KIND_NAMES: [(&str, Kind); 3] = [
     ("Plain", Kind::Plain),
 ];
 
-/// Appends how many damages of a message were tried, those at which both differ, and which kinds of answers occurred.
+/// Appends how many damages of a message were tried, those at which both differ, and which kinds of
+/// answers occurred.
 pub fn damaged_schemas_of(d: &mut Decoder, out: &mut Text, value: &Value) {
     let message = d.member(value, "bytes");
     let message = bytes(d, message);

@@ -1,15 +1,16 @@
 //! The calls of schemas.
 //!
-//! - `"schema_of": BYTES` decodes a schema message, and gives the schema. `"visits_of": BYTES` does so too, and gives
-//!   the schema with `"visits": 3`, how many tables of fields were opened, or `{"fault": FAULT, "visits": 3}` where
-//!   decoding fails.
-//! - `"schema_bytes_of": SCHEMA` encodes a schema message, and gives its bytes; `"schema_back_of": SCHEMA` decodes
-//!   them, and gives the schema.
-//! - `"weight_of": SCHEMA` gives the weight of a schema's tables, or with `"pairs": {"k": "v"}` the weight of a file's
-//!   schema and of these pairs in its footer; null where 64 bits don't hold it.
-//! - `"normal_of": SCHEMA` gives the normal form, with the default ids; `"is_normal": SCHEMA` whether a schema is its
-//!   own normal form.
-//! - `"are_same_schemas": [SCHEMA, SCHEMA]` gives whether a clone of the first and the second are the same.
+//! - `"schema_of": BYTES` decodes a schema message, and gives the schema. `"visits_of": BYTES` does
+//!   so too, and gives the schema with `"visits": 3`, how many tables of fields were opened, or
+//!   `{"fault": FAULT, "visits": 3}` where decoding fails.
+//! - `"schema_bytes_of": SCHEMA` encodes a schema message, and gives its bytes;
+//!   `"schema_back_of": SCHEMA` decodes them, and gives the schema.
+//! - `"weight_of": SCHEMA` gives the weight of a schema's tables, or with `"pairs": {"k": "v"}` the
+//!   weight of a file's schema and of these pairs in its footer; null where 64 bits don't hold it.
+//! - `"normal_of": SCHEMA` gives the normal form, with the default ids; `"is_normal": SCHEMA`
+//!   whether a schema is its own normal form.
+//! - `"are_same_schemas": [SCHEMA, SCHEMA]` gives whether a clone of the first and the second are
+//!   the same.
 
 use crate::schemas::{ids_of, put_schema, put_schema_of_case, schema};
 use cases_notation::bytes::bytes;
@@ -38,7 +39,8 @@ fn put_message(d: &mut Decoder, out: &mut Text, message: &[u8]) {
     }
 }
 
-/// Appends the schema of a message, or why decoding fails, and how many tables of fields were opened.
+/// Appends the schema of a message, or why decoding fails, and how many tables of fields were
+/// opened.
 pub fn visits_of(d: &mut Decoder, out: &mut Text, value: &Value) {
     let message = bytes(d, value);
     let mut visits = 0;
@@ -122,7 +124,8 @@ pub fn are_same_schemas(d: &mut Decoder, out: &mut Text, value: &Value) {
     }
 }
 
-/// Appends the weight of a schema's tables, or of a file's schema and pairs; null where 64 bits don't hold it.
+/// Appends the weight of a schema's tables, or of a file's schema and pairs; null where 64 bits
+/// don't hold it.
 pub fn weight_of(d: &mut Decoder, out: &mut Text, value: &Value) {
     match weighed(d, value) {
         None => out.put("null"),

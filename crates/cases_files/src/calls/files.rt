@@ -1,19 +1,22 @@
 //! The calls that read files, in the notation of `files.rt`.
 //!
-//! `"file_of": FILE` gives the metadata of a file: `{"blocks": [[8, 152, 64], ..], "columns": ["x: Int32", ..],
-//! "dictionary_blocks": [..], "metadata": [["k", "v"], ..], "order": "little", "size": 600}`. `"file_schema_of": FILE`
-//! gives its schema. `"dictionaries_of": FILE` with `"shown": [0, ..]` gives `[SLOTS, ..]`, the values of these
-//! dictionary ids, null for an id without values.
+//! `"file_of": FILE` gives the metadata of a file: `{"blocks": [[8, 152, 64], ..], "columns": ["x:
+//! Int32", ..], "dictionary_blocks": [..], "metadata": [["k", "v"], ..], "order": "little", "size":
+//! 600}`. `"file_schema_of": FILE` gives its schema. `"dictionaries_of": FILE` with
+//! `"shown": [0, ..]` gives `[SLOTS, ..]`, the values of these dictionary ids, null for an id
+//! without values.
 //!
-//! `"batches_of": FILE` with `"at": [1, 0, ..]`, and columns that are chosen as in `projections.rt` of `cases_records`,
-//! reads the dictionaries and then the batch of each of these blocks, and gives `[CHUNK, ..]`, where an error may
-//! replace a chunk. `"given_of"` of the same parts gives how many bytes the device returned for each batch.
+//! `"batches_of": FILE` with `"at": [1, 0, ..]`, and columns that are chosen as in `projections.rt`
+//! of `cases_records`, reads the dictionaries and then the batch of each of these blocks, and gives
+//! `[CHUNK, ..]`, where an error may replace a chunk. `"given_of"` of the same parts gives how many
+//! bytes the device returned for each batch.
 //!
-//! `"cut_files_of": FILE` reads the metadata of the file cut to each length, and gives `{"cuts": 600, "differ": [],
-//! "sets": 0}`: the number of cuts, and the cuts whose metadata can be read. `"damaged_files_of": {"file": FILE,
-//! "places": [[0, 8], ..], "bytes": BYTES}` sets each byte of these ranges (an offset and a length) to each of these
-//! bytes, and reads the metadata, the dictionaries and each batch. It gives `{"differ": [], "sets": 600}`: the number
-//! of damages, and those that return `Io` or `Memory`.
+//! `"cut_files_of": FILE` reads the metadata of the file cut to each length, and gives
+//! `{"cuts": 600, "differ": [], "sets": 0}`: the number of cuts, and the cuts whose metadata can be
+//! read. `"damaged_files_of": {"file": FILE, "places": [[0, 8], ..], "bytes": BYTES}` sets each
+//! byte of these ranges (an offset and a length) to each of these bytes, and reads the metadata,
+//! the dictionaries and each batch. It gives `{"differ": [], "sets": 600}`: the number of damages,
+//! and those that return `Io` or `Memory`.
 
 ghost use Rattle.std.specs.Prelude.{length};
 ghost use Rattle.std.specs.Option.{option_copied};
@@ -225,7 +228,8 @@ impl FileForm {
         limit: Option<usize>,
         index: usize,
     ) -> Answer
-        requires { ArePrepared (option_copied columns) (length self.now.metadata.schema.fields.items) }
+        requires { ArePrepared (option_copied columns)
+            (length self.now.metadata.schema.fields.items) }
     {
         if index >= self.metadata.blocks.len() {
             d.miss("at");
@@ -344,7 +348,8 @@ pub fn cut_files_of(d: &mut Decoder, out: &mut Text, value: &Value) {
     out.put("}");
 }
 
-/// Appends how many damages of a file were tried, and those that return another error than one of the bytes.
+/// Appends how many damages of a file were tried, and those that return another error than one of
+/// the bytes.
 pub fn damaged_files_of(d: &mut Decoder, out: &mut Text, value: &Value) {
     let whole = d.member(value, "file");
     let file = file(d, whole);

@@ -1,14 +1,16 @@
 //! The calls that read a whole file at once.
 //!
-//! `"whole_file_of": FILE` gives `{"chunks": [CHUNK, ..], "footer": METADATA}`, with the metadata as `file_of` gives
-//! them. `"file_columns_of": FILE`, with columns and a limit that are chosen as in `projections.rt` of `cases_records`,
-//! gives the same of these columns, or null if the file doesn't have one of them or one is chosen twice.
+//! `"whole_file_of": FILE` gives `{"chunks": [CHUNK, ..], "footer": METADATA}`, with the metadata
+//! as `file_of` gives them. `"file_columns_of": FILE`, with columns and a limit that are chosen as
+//! in `projections.rt` of `cases_records`, gives the same of these columns, or null if the file
+//! doesn't have one of them or one is chosen twice.
 //!
-//! `"file_round_trip_of": {"fields": [FIELD, ..], "pairs": {"k": "v"}, "calls": [CALL, ..]}`, with the ids and the byte
-//! order of `written.rt` of `cases_streams`, writes a file and reads it. It gives `{"answers": [..], "are_ids_same":
-//! true, "chunks": [..], "is_schema_same": true, "order": "little", "pairs": [["k", "v"]]}`: the answer of each call,
-//! what is read, whether the schema is the one that was passed in, and whether the ids are those that were passed in,
-//! or the default ids if none were.
+//! `"file_round_trip_of": {"fields": [FIELD, ..], "pairs": {"k": "v"}, "calls": [CALL, ..]}`, with
+//! the ids and the byte order of `written.rt` of `cases_streams`, writes a file and reads it. It
+//! gives `{"answers": [..], "are_ids_same": true, "chunks": [..], "is_schema_same": true, "order":
+//! "little", "pairs": [["k", "v"]]}`: the answer of each call, what is read, whether the schema is
+//! the one that was passed in, and whether the ids are those that were passed in, or the default
+//! ids if none were.
 
 use crate::calls::files::{put_metadata, put_pairs};
 use crate::files::file;

@@ -1,17 +1,18 @@
 //! The calls that write files, in the notation of `written_files.rt`.
 //!
-//! `"file_by": WRITTEN` gives `{"answers": [..], "bytes": HEX, "chunks": [ITEM, ..], "footer": METADATA}`: the answer
-//! of each call of a writer, the bytes, and what is read back: the chunk or the error of each block, and the metadata,
-//! as `file_of` gives them. If the metadata can't be read, there are no chunks, and the footer is the error. With
-//! `"as_stream": true` it gives `"stream": {"chunks": [..], "end": END}` too, which is read from the bytes after the
-//! first eight.
+//! `"file_by": WRITTEN` gives `{"answers": [..], "bytes": HEX, "chunks": [ITEM, ..], "footer":
+//! METADATA}`: the answer of each call of a writer, the bytes, and what is read back: the chunk or
+//! the error of each block, and the metadata, as `file_of` gives them. If the metadata can't be
+//! read, there are no chunks, and the footer is the error. With `"as_stream": true` it gives
+//! `"stream": {"chunks": [..], "end": END}` too, which is read from the bytes after the first
+//! eight.
 //!
-//! `"file_on": {"on": FILE, "calls": [CALL, ..]}` gives the same for a writer that appends to a file. It gives
-//! `"before": [ITEM, ..]` too: what is read after these calls at the blocks of the old metadata. If the writer can't be
-//! created, the file must be unchanged.
+//! `"file_on": {"on": FILE, "calls": [CALL, ..]}` gives the same for a writer that appends to a
+//! file. It gives `"before": [ITEM, ..]` too: what is read after these calls at the blocks of the
+//! old metadata. If the writer can't be created, the file must be unchanged.
 //!
-//! `"whole_file_by": {"fields": [FIELD, ..], "pairs": {"k": "v"}, "calls": [CALL, ..]}` gives the same for one call
-//! that makes these calls, none of which sets pairs, and finishes the file.
+//! `"whole_file_by": {"fields": [FIELD, ..], "pairs": {"k": "v"}, "calls": [CALL, ..]}` gives the
+//! same for one call that makes these calls, none of which sets pairs, and finishes the file.
 
 use crate::calls::files::{metadata_in, metadata_of, put_metadata};
 use crate::calls::items::{Reader, fields_of, put_next, reader_of_all};
@@ -108,7 +109,8 @@ pub fn copy_of(d: &mut Decoder, bytes: &[u8]) -> Vec<u8> {
     copy
 }
 
-/// The bytes of a device after a call that appends. If the call returned an error, the bytes must be those before it.
+/// The bytes of a device after a call that appends. If the call returned an error, the bytes must
+/// be those before it.
 pub fn left_by(
     d: &mut Decoder,
     before: &[u8],
@@ -132,8 +134,8 @@ fn put_file(d: &mut Decoder, out: &mut Text, file: &[u8], value: &Value) {
     put_read(d, out, file, value);
 }
 
-/// Appends what is read from a file, as further members: its metadata, its chunks, and its stream where a case asks for
-/// that.
+/// Appends what is read from a file, as further members: its metadata, its chunks, and its stream
+/// where a case asks for that.
 pub fn put_read(d: &mut Decoder, out: &mut Text, file: &[u8], value: &Value) {
     out.put(",\"footer\":");
     match metadata_in(d.alloc(), &mut MemFile::new(file)) {

@@ -1,13 +1,14 @@
 //! The calls of projections.
 //!
-//! - `"projection_of": {"projection": [2, 0], "columns": 3}` gives whether it is a projection of so many columns, and a
-//!   prepared one: `{"is_prepared": false, "is_projection": true}`.
-//! - `"prepared_by": {"fields": [FIELD, ..], "projection": [2, 0]}` gives `{"columns": [0, 2], "map": [[0, 1], [1, 0]],
-//!   "selected": ["c: Int32", ..]}`, with the map as pairs of a key and its value, or null where it isn't a projection.
-//! - `"moved_by": {"columns": [ARRAY, ..], "map": [[0, 1], [1, 0]]}` gives the slots of the columns in their new order,
-//!   or null where the map isn't a reordering of so many.
-//! - `"marked_by": {"projection": [0, 2], "items": [1, 2]}` gives `[["selected", 1], ["not_selected", 2]]`, or null
-//!   where the projection isn't prepared.
+//! - `"projection_of": {"projection": [2, 0], "columns": 3}` gives whether it is a projection of so
+//!   many columns, and a prepared one: `{"is_prepared": false, "is_projection": true}`.
+//! - `"prepared_by": {"fields": [FIELD, ..], "projection": [2, 0]}` gives `{"columns": [0, 2],
+//!   "map": [[0, 1], [1, 0]], "selected": ["c: Int32", ..]}`, with the map as pairs of a key and
+//!   its value, or null where it isn't a projection.
+//! - `"moved_by": {"columns": [ARRAY, ..], "map": [[0, 1], [1, 0]]}` gives the slots of the columns
+//!   in their new order, or null where the map isn't a reordering of so many.
+//! - `"marked_by": {"projection": [0, 2], "items": [1, 2]}` gives
+//!   `[["selected", 1], ["not_selected", 2]]`, or null where the projection isn't prepared.
 
 use crate::projections::counts;
 use cases_arrays::chunks::{chunk, put_columns};

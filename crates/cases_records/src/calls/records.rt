@@ -1,16 +1,19 @@
 //! The calls of records, in the notation of `records.rt`.
 //!
-//! - `"columns_of": RECORD` gives the chunk that the reader decodes. `"plain_columns_of": RECORD` gives `[SLOTS, ..]`,
-//!   the columns that the plain program decodes, or null where the record is invalid.
-//! - `"known_by": RECORD`, with `"shown": [0, ..]` and the message of a dictionary batch, reads the batch. It gives
-//!   `{"answer": "ok", "values": [SLOTS, ..]}`: `"ok"` or the error, and then the values of the dictionaries with these
-//!   ids, null where there are none.
-//! - `"columns_by_both": RECORD` compares what the reader and the plain program return: `"Columns"`, the same columns;
-//!   `"NoColumns"`, the reader returns an error and the record is invalid; `"NoBatch"`, the message has no record
-//!   batch; else `"Differ"`.
+//! - `"columns_of": RECORD` gives the chunk that the reader decodes. `"plain_columns_of": RECORD`
+//!   gives `[SLOTS, ..]`, the columns that the plain program decodes, or null where the record is
+//!   invalid.
+//! - `"known_by": RECORD`, with `"shown": [0, ..]` and the message of a dictionary batch, reads the
+//!   batch. It gives `{"answer": "ok", "values": [SLOTS, ..]}`: `"ok"` or the error, and then the
+//!   values of the dictionaries with these ids, null where there are none.
+//! - `"columns_by_both": RECORD` compares what the reader and the plain program return:
+//!   `"Columns"`, the same columns; `"NoColumns"`, the reader returns an error and the record is
+//!   invalid; `"NoBatch"`, the message has no record batch; else `"Differ"`.
 //! - `"damaged_records_of": RECORD` compares both on the message with each damage, and gives
-//!   `{"cuts": 200, "differ": [], "sets": 800}`: how many damages were tried, and those at which they differ.
-//! - `"cut_bodies_of": RECORD` compares both on the body cut to each length, from 0, and gives the answers as runs.
+//!   `{"cuts": 200, "differ": [], "sets": 800}`: how many damages were tried, and those at which
+//!   they differ.
+//! - `"cut_bodies_of": RECORD` compares both on the body cut to each length, from 0, and gives the
+//!   answers as runs.
 
 use crate::plain::{PlainColumns, PlainForm, put_plain_columns};
 use crate::records::{Record, RecordForm, batch_of, dictionary_batch_of, record_of};
@@ -80,7 +83,8 @@ fn put_read(out: &mut Text, read: &Result<(), Fault>) {
     }
 }
 
-/// Appends the values of the dictionaries with the ids that a case shows, null where there are none.
+/// Appends the values of the dictionaries with the ids that a case shows, null where there are
+/// none.
 pub fn put_shown(d: &mut Decoder, out: &mut Text, dictionaries: &Dictionaries, value: &Value) {
     out.put("[");
     for id in d.items(value.get("shown"), "shown") {
@@ -156,8 +160,8 @@ fn of_columns(
     }
 }
 
-// The answer where the reader returns an error. A failed allocation isn't an answer, and reading from memory has no IO
-// errors.
+// The answer where the reader returns an error. A failed allocation isn't an answer, and reading
+// from memory has no IO errors.
 fn of_fault(d: &mut Decoder, plain: &Option<PlainColumns>, fault: &Fault) -> Answer {
     match (plain, fault) {
         (_, Fault::Memory) => {

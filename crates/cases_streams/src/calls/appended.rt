@@ -1,15 +1,16 @@
 //! Arrays that are appended to the parts of a batch, and records.
 //!
-//! `"appended": {"arrays": [ARRAY, ..], "offset": 0, "order": "big", "body": BYTES}` appends arrays to the parts of an
-//! empty batch, whose first buffer is at this offset. The order may be left out. It gives `{"answers": ["ok", ..],
-//! "body": true, "buffers": [[0, 0], [0, 8]], "nodes": [[2, 0]], "offset": 64}`: the result of each call, the parts
-//! after all calls, and whether the encoded bytes are those of `body`. If they are others, `body` has the encoded bytes
-//! instead.
+//! `"appended": {"arrays": [ARRAY, ..], "offset": 0, "order": "big", "body": BYTES}` appends arrays
+//! to the parts of an empty batch, whose first buffer is at this offset. The order may be left out.
+//! It gives `{"answers": ["ok", ..], "body": true, "buffers": [[0, 0], [0, 8]], "nodes": [[2, 0]],
+//! "offset": 64}`: the result of each call, the parts after all calls, and whether the encoded
+//! bytes are those of `body`. If they are others, `body` has the encoded bytes instead.
 //!
-//! `"record_of": {"fields": [FIELD, ..], "ids": [ID, ..], "columns": [ARRAY, ..]}` makes three records: one that
-//! borrows a chunk and its ids, one that owns both, and one of the chunk alone. It gives `{"are_same": true, "lent":
-//! RECORD, "of_chunk": RECORD, "owned": RECORD}`: whether the first two are equal, clones of these two, and the third
-//! one. A RECORD is `{"columns": [SLOTS, ..], "ids": TEXT}`.
+//! `"record_of": {"fields": [FIELD, ..], "ids": [ID, ..], "columns": [ARRAY, ..]}` makes three
+//! records: one that borrows a chunk and its ids, one that owns both, and one of the chunk alone.
+//! It gives `{"are_same": true, "lent": RECORD, "of_chunk": RECORD, "owned": RECORD}`: whether the
+//! first two are equal, clones of these two, and the third one. A RECORD is
+//! `{"columns": [SLOTS, ..], "ids": TEXT}`.
 
 use crate::calls::put_answer;
 use cases_arrays::arrays::arrays;

@@ -1,11 +1,12 @@
-//! Devices. `"device_by": {"device": KIND, "bytes": BYTES, "calls": [CALL, ..]}` makes the calls on a device with these
-//! bytes, and gives `{"answers": [..], "bytes": HEX}`: the result of each call, and the bytes after all calls. The
-//! kinds are `"memory"`, a file in memory; `"lent"`, the same by a borrow; `"watched"`, a device of the standard
-//! library; and `"vector"`, a vector of bytes, which has the calls of a writer only.
+//! Devices. `"device_by": {"device": KIND, "bytes": BYTES, "calls": [CALL, ..]}` makes the calls on
+//! a device with these bytes, and gives `{"answers": [..], "bytes": HEX}`: the result of each call,
+//! and the bytes after all calls. The kinds are `"memory"`, a file in memory; `"lent"`, the same by
+//! a borrow; `"watched"`, a device of the standard library; and `"vector"`, a vector of bytes,
+//! which has the calls of a writer only.
 //!
-//! A call is `{"read": 2}` or `{"pass": 2}`, which give bytes (`pass` gives null if the device has no slice of so many
-//! bytes); `{"skip": 2}`, `{"seek": 2}` or `"flush"`, which give `"ok"`; `{"write": BYTES}`, `"end"`, `"position"`,
-//! `"given"` or `"failures"`, which give a number.
+//! A call is `{"read": 2}` or `{"pass": 2}`, which give bytes (`pass` gives null if the device has
+//! no slice of so many bytes); `{"skip": 2}`, `{"seek": 2}` or `"flush"`, which give `"ok"`;
+//! `{"write": BYTES}`, `"end"`, `"position"`, `"given"` or `"failures"`, which give a number.
 
 use cases_notation::bytes::bytes;
 use cases_notation::decoder::Decoder;

@@ -1,14 +1,15 @@
 //! Chunks that are encoded as messages, and the dictionaries that a tracker has recorded.
 //!
-//! `"encoded_by": {"ids": [ID, ..], "chunks": [[ARRAY, ..], ..]}` encodes chunks in order, with one tracker. It gives
-//! `{"dictionaries": [PART, ..], "record": PART}` for each of them, or its error. A PART is `{"body": BYTES, "message":
-//! MESSAGE}`, as in `views.rt` of `cases_notation`. With `"amortized": true` the call is the one that fills an existing
-//! message, with `"big_endian": true` numbers have their highest byte first, and with `"cannot_replace": true` an id
-//! keeps the values that were recorded first.
+//! `"encoded_by": {"ids": [ID, ..], "chunks": [[ARRAY, ..], ..]}` encodes chunks in order, with one
+//! tracker. It gives `{"dictionaries": [PART, ..], "record": PART}` for each of them, or its error.
+//! A PART is `{"body": BYTES, "message": MESSAGE}`, as in `views.rt` of `cases_notation`. With
+//! `"amortized": true` the call is the one that fills an existing message, with
+//! `"big_endian": true` numbers have their highest byte first, and with `"cannot_replace": true` an
+//! id keeps the values that were recorded first.
 //!
-//! `"tracked_by": {"inserts": [[ID, ARRAY], ..]}`, which may have `"cannot_replace": true` too, inserts the values of
-//! dictionary arrays. It gives the result of each insertion and the values that are then recorded under its id:
-//! `[[true, ["a"]], [false, ["a"]]]`.
+//! `"tracked_by": {"inserts": [[ID, ARRAY], ..]}`, which may have `"cannot_replace": true` too,
+//! inserts the values of dictionary arrays. It gives the result of each insertion and the values
+//! that are then recorded under its id: `[[true, ["a"]], [false, ["a"]]]`.
 
 use crate::calls::options;
 use cases_arrays::arrays::array;

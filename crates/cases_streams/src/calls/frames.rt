@@ -1,6 +1,7 @@
-//! Messages as they are written to a stream. `"framed": {"message": BYTES, "body": BYTES}` gives `{"bytes": HEX,
-//! "lengths": [16, 128]}`: the bytes, and the lengths of the padded metadata with its prefix and of the padded body.
-//! `"continuation_of": 0` gives `{"bytes": HEX, "length": 8}`: the prefix of metadata of so many bytes.
+//! Messages as they are written to a stream. `"framed": {"message": BYTES, "body": BYTES}` gives
+//! `{"bytes": HEX, "lengths": [16, 128]}`: the bytes, and the lengths of the padded metadata with
+//! its prefix and of the padded body. `"continuation_of": 0` gives `{"bytes": HEX, "length": 8}`:
+//! the prefix of metadata of so many bytes.
 
 use cases_notation::bytes::bytes;
 use cases_notation::decoder::Decoder;

@@ -1,8 +1,9 @@
-//! The messages of streams. `"frames_of": [BYTES, ..]` reads the frames of pieces of a stream, of each piece up to its
-//! end, and gives `["Waiting", {"message": HEX}, "Mark", ..]`. No frame has a body.
+//! The messages of streams. `"frames_of": [BYTES, ..]` reads the frames of pieces of a stream, of
+//! each piece up to its end, and gives `["Waiting", {"message": HEX}, "Mark", ..]`. No frame has a
+//! body.
 //!
-//! `"records_of": STREAM` gives `{"end": "Mark", "records": [{"body": BYTES, "message": MESSAGE}, ..]}`: the messages
-//! after the first one, as in `views.rt` of `cases_notation`.
+//! `"records_of": STREAM` gives `{"end": "Mark", "records": [{"body": BYTES, "message": MESSAGE},
+//! ..]}`: the messages after the first one, as in `views.rt` of `cases_notation`.
 
 use crate::written::stream;
 use cases_notation::bytes::bytes;

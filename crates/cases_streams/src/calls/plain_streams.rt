@@ -1,11 +1,13 @@
-//! Streams that both the reader and the plain program read. `"stream_by_both": STREAM` compares their results, and
-//! gives `{"chunks": 2, "end": "Mark"}` where both have the same chunks and then the same end, which is `"Mark"`,
-//! `"Waiting"` or `"Fault"`; `"NoStream"` where neither finds a schema at the start; else `"Differ"`.
+//! Streams that both the reader and the plain program read. `"stream_by_both": STREAM` compares
+//! their results, and gives `{"chunks": 2, "end": "Mark"}` where both have the same chunks and then
+//! the same end, which is `"Mark"`, `"Waiting"` or `"Fault"`; `"NoStream"` where neither finds a
+//! schema at the start; else `"Differ"`.
 //!
-//! `"cut_streams_of": STREAM` compares them on the stream cut to each length, 0 first, and gives the results as in
-//! `runs.rt` of `cases_notation`. `"damaged_streams_of": {"stream": STREAM, "places": [[0, 8], ..], "bytes": BYTES}`
-//! compares them on the stream with each byte of these ranges (an offset and a count) set to each of these bytes in
-//! turn, and gives `{"differ": [], "sets": 160}`.
+//! `"cut_streams_of": STREAM` compares them on the stream cut to each length, 0 first, and gives
+//! the results as in `runs.rt` of `cases_notation`. `"damaged_streams_of": {"stream": STREAM,
+//! "places": [[0, 8], ..], "bytes": BYTES}` compares them on the stream with each byte of these
+//! ranges (an offset and a count) set to each of these bytes in turn, and gives
+//! `{"differ": [], "sets": 160}`.
 
 use crate::calls::streams::{Reader, opened};
 use crate::plain_streams::{Item, PlainHead, item_of, plain_head};

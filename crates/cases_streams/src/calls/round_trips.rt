@@ -1,10 +1,12 @@
-//! Streams that are written and read by one call. `"round_trip_of": {"fields": [FIELD, ..], "calls": [CALL, ..]}`, with
-//! the calls, the ids and the byte order of `written.rt`, gives `{"answers": ["ok" or the error, ..], "chunks": [CHUNK,
-//! ..], "is_finished": true, "is_schema_same": true}`, and if it has `"ids": [ID, ..]`, `"are_ids_same": true`.
+//! Streams that are written and read by one call.
+//! `"round_trip_of": {"fields": [FIELD, ..], "calls": [CALL, ..]}`, with the calls, the ids and the
+//! byte order of `written.rt`, gives `{"answers": ["ok" or the error, ..], "chunks": [CHUNK, ..],
+//! "is_finished": true, "is_schema_same": true}`, and if it has `"ids": [ID, ..]`,
+//! `"are_ids_same": true`.
 //!
-//! `"whole_of": STREAM` reads a stream, and gives `{"chunks": [CHUNK, ..], "is_finished": true}`. `"stream_columns_of":
-//! {"stream": STREAM, "chosen": [2, 0]}` gives the same with these columns only, or null if the stream doesn't have all
-//! of them or one is listed twice.
+//! `"whole_of": STREAM` reads a stream, and gives `{"chunks": [CHUNK, ..], "is_finished": true}`.
+//! `"stream_columns_of": {"stream": STREAM, "chosen": [2, 0]}` gives the same with these columns
+//! only, or null if the stream doesn't have all of them or one is listed twice.
 
 use crate::calls::options;
 use crate::written::{given_ids, stream};

@@ -1,16 +1,18 @@
 //! Streams, in the notation of `written.rt`.
 //!
-//! `"read_of": STREAM` gives `{"chunks": [CHUNK, ..], "end": END}`. END is `"finished"` if the stream ends with its
-//! mark, `"waiting"` if it ends without one, or the error that ends it. `"written_by": {"fields": [FIELD, ..],
-//! "calls": [CALL, ..]}` gives `{"answers": [..], "chunks": [..], "end": END}`: the result of each call of a writer,
-//! and what is read back. `"bytes_by"` with the same parts gives `{"answers": [..], "bytes": HEX}`. `"are_same_bytes":
-//! [STREAM, STREAM]` gives whether two streams have the same bytes.
+//! `"read_of": STREAM` gives `{"chunks": [CHUNK, ..], "end": END}`. END is `"finished"` if the
+//! stream ends with its mark, `"waiting"` if it ends without one, or the error that ends it.
+//! `"written_by": {"fields": [FIELD, ..], "calls": [CALL, ..]}` gives
+//! `{"answers": [..], "chunks": [..], "end": END}`: the result of each call of a writer, and what
+//! is read back. `"bytes_by"` with the same parts gives `{"answers": [..], "bytes": HEX}`.
+//! `"are_same_bytes": [STREAM, STREAM]` gives whether two streams have the same bytes.
 //!
-//! `"head_of": STREAM` gives a schema with its version. `"answers_of": {"stream": STREAM, "calls": 2}` makes so many
-//! calls of `next`, and gives `{"answers": [[ANSWER, FINISHED], ..], "columns": ["x: Int32", ..], "fits": true,
-//! "order": "little", "version": "V5"}`. An ANSWER is a chunk, `"waiting"`, null or an error, and FINISHED is whether
-//! the reader is finished after it. The other members are read from the reader after all calls. With
-//! `"projection": [2, 0]` the reader returns these columns only, in this order.
+//! `"head_of": STREAM` gives a schema with its version.
+//! `"answers_of": {"stream": STREAM, "calls": 2}` makes so many calls of `next`, and gives
+//! `{"answers": [[ANSWER, FINISHED], ..], "columns": ["x: Int32", ..], "fits": true, "order":
+//! "little", "version": "V5"}`. An ANSWER is a chunk, `"waiting"`, null or an error, and FINISHED
+//! is whether the reader is finished after it. The other members are read from the reader after all
+//! calls. With `"projection": [2, 0]` the reader returns these columns only, in this order.
 
 use crate::written::{stream, write};
 use cases_arrays::chunks::put_chunk;
