@@ -1,13 +1,15 @@
 # `rt` is the command of the Rattle kit.
 .PHONY: demo build check mutations refused test
 
-# Builds ipcat once, without its proofs. `ipcat demo` writes the example, byte for byte, and `ipcat stream` shows it.
+# Builds ipcat once, without its proofs. `ipcat demo` writes the example, byte for byte, and
+# `ipcat stream` shows it.
 demo:
 	@cd crates/ipcat && cases=$$(mktemp -d) && touch $$cases/demo && cp data/example.arrows $$cases/demo.stdout \
 	&& cp data/example.arrows $$cases/stream && echo demo > $$cases/demo.args && echo stream > $$cases/stream.args && rt try --cases $$cases; \
 	status=$$?; rm -rf $$cases; exit $$status
 
-# The check for daily work, in minutes: all programs, cases and tests, built without proofs; or make check WORD=flat: a crate, or files of cases.
+# The check for daily work, in minutes: all programs, cases and tests, built without proofs. With
+# make check WORD=flat: a crate, or files of cases.
 check:
 	tools/check $(WORD)
 
@@ -16,17 +18,19 @@ build:
 	@cd crates/ipcat && rt run -- demo > /dev/null
 	@echo "the proved program: crates/ipcat/out/ipcat"
 
-# Judges mutations: wrong bodies, which the prover must refuse. Takes the crates that differ from origin/main, or
-# make mutations NAMES="lower_rules ipc_views".
+# Judges mutations: wrong bodies, which the prover must refuse. Takes the crates that differ from
+# origin/main, or make mutations NAMES="lower_rules ipc_views".
 mutations:
 	tools/mutations $(NAMES)
 
-# The tests of ipc_bench with each allocation refused in its turn, or make refused ONLY="WORD ..": those whose names have a word.
+# The tests of ipc_bench with each allocation refused in its turn, or make refused ONLY="WORD ..":
+# those whose names have a word.
 refused:
 	tools/refused $(ONLY)
 
-# CI: that each mutation applies, and that the README's program is the tour; then every proof and the mutations of must-fail/ (of what changed, where
-# earlier runs are kept), every test and every program.
+# CI: that each mutation applies, and that the README's program is the tour; then every proof and
+# the mutations of must-fail/ (of what changed, where earlier runs are kept), every test and every
+# program.
 test:
 	tools/mutations --applies
 	tools/readme

@@ -5,30 +5,32 @@
 #
 # applies: at the top of the repository, reports the mutations of these crates that don't apply.
 #
-# judge: in the folder of a copy of CRATE, which is overwritten, judges the mutations in ORIGINAL, another
-# copy. Writes to COUNTS how many are refused, not refused and not judged. If the crate can't be judged, it
-# leaves COUNTS as it is, and the status is 2.
+# judge: in the folder of a copy of CRATE, which is overwritten, judges the mutations in ORIGINAL,
+# another copy. Writes to COUNTS how many are refused, not refused and not judged. If the crate
+# can't be judged, it leaves COUNTS as it is, and the status is 2.
 #
 # How one check tries many mutations:
 #
-# - In copies. The function is copied beside itself, as `name_mutation7`, with its clauses, its attributes
-#   and its files in proofs/, and the body of the copy is mutated. The functions of the crate stay unchanged
-#   and proved, so one check takes any number of mutations, and none is the cause of another's refusal. If a
-#   proof may depend on the function's name, an unchanged copy (`name_unchanged`) is added, and unless it is
-#   proved, the function's mutations are tried in place.
-# - In place. A function that can't be copied, as in an impl of a trait or in a cycle of calls, is mutated
-#   where it is: in one check, one mutation of a function, and one function of a cycle. The mutation is
-#   refused if the check doesn't prove the function, and the cause isn't a function that it calls.
-# - Alone. Any other mutation has a check of its own, and is judged by the rules of `rt must-fail`. Only a
-#   mutation that was tried alone is reported as NOT REFUSED.
+# - In copies. The function is copied beside itself, as `name_mutation7`, with its clauses, its
+#   attributes and its files in proofs/, and the body of the copy is mutated. The functions of the
+#   crate stay unchanged and proved, so one check takes any number of mutations, and none is the
+#   cause of another's refusal. If a proof may depend on the function's name, an unchanged copy
+#   (`name_unchanged`) is added, and unless it is proved, the function's mutations are tried in
+#   place.
+# - In place. A function that can't be copied, as in an impl of a trait or in a cycle of calls, is
+#   mutated where it is: in one check, one mutation of a function, and one function of a cycle. The
+#   mutation is refused if the check doesn't prove the function, and the cause isn't a function that
+#   it calls.
+# - Alone. Any other mutation has a check of its own, and is judged by the rules of `rt must-fail`.
+#   Only a mutation that was tried alone is reported as NOT REFUSED.
 #
-# A check of many mutations only shows which are refused. A mutation that doesn't compile is found by the
-# lines of the errors, and is then tried alone. If the lines show none, the mutations are tried in smaller
-# groups.
+# A check of many mutations only shows which are refused. A mutation that doesn't compile is found
+# by the lines of the errors, and is then tried alone. If the lines show none, the mutations are
+# tried in smaller groups.
 #
-# This depends on the layout of `rt fmt` (a body begins and ends at its function's indentation), and on the
-# prover's words: `fn NAME: proved`, `not proved`, `no proof`, `which is not proved`, `only=`, `logic=`. With
-# other words, mutations are tried alone, or not counted.
+# This depends on the layout of `rt fmt` (a body begins and ends at its function's indentation), and
+# on the prover's words: `fn NAME: proved`, `not proved`, `no proof`, `which is not proved`,
+# `only=`, `logic=`. With other words, mutations are tried alone, or not counted.
 use strict;
 use warnings;
 
@@ -73,9 +75,9 @@ sub report {
 # Notes why a mutation can't be tried, and the line of the cause.
 sub fail { my ($it, $at, $why) = @_; @$it{qw(at why)} = ($at, $why) if !$it->{why} }
 
-# The mutations of a file, each with its name, its line, and its pairs of [source file, old, new, line]. They
-# are blocks that begin with 'mutation: NAME'; a file of must-fail/ is one mutation, named by the file. The
-# first element has the lines above the first block.
+# The mutations of a file, each with its name, its line, and its pairs of [source file, old, new,
+# line]. They are blocks that begin with 'mutation: NAME'; a file of must-fail/ is one mutation,
+# named by the file. The first element has the lines above the first block.
 sub blocks {
     my ($path) = @_;
     my ($single) = $path =~ m{^must-fail/([\w.-]+)\.edit$};
@@ -128,8 +130,8 @@ sub mutations {
     return grep { index($_->{name}, $word) >= 0 } @found;
 }
 
-# What a mutation makes of the texts, over those of %$over, and the places that it changes, each [file, line,
-# old, new]. Or undef, and why not, and the line of the cause.
+# What a mutation makes of the texts, over those of %$over, and the places that it changes, each
+# [file, line, old, new]. Or undef, and why not, and the line of the cause.
 sub applied {
     my ($it, $over) = @_;
     my (%new, @places);
@@ -150,9 +152,9 @@ sub applied {
 
 # -- the functions of a file --
 
-# The functions with a body in a file that has the layout of rt fmt, by their lines, which no mutation moves.
-# Functions in a macro, nested, `const`, or with a result of `impl ..` are left out: their mutations are tried
-# alone.
+# The functions with a body in a file that has the layout of rt fmt, by their lines, which no
+# mutation moves. Functions in a macro, nested, `const`, or with a result of `impl ..` are left out:
+# their mutations are tried alone.
 sub functions {
     my ($file) = @_;
     return @{ $functions{$file} } if $functions{$file};
@@ -178,7 +180,8 @@ sub functions {
         my $names_itself = "@line[$body .. $end]" =~ /\b$name\(/ || "@line[$first .. $at]" =~ /#\[tactic/;
         push @{ $functions{$file} }, {
             file => $file, symbol => $symbol, path => $path,
-            # the lines of its first comment or attribute, of its name, where its body begins, and where it ends
+            # the lines of its first comment or attribute, of its name, where its body begins, and
+            # where it ends
             first => $first, head => $at, body => $body, end => $end,
             # what no two mutations of one check in place may share
             key => $cycle ? "cycle $cycle" : $symbol,
@@ -188,15 +191,16 @@ sub functions {
     return @{ $functions{$file} };
 }
 
-# The lines where the body of a function begins and ends. It begins at the function's indentation; its clauses
-# are indented more.
+# The lines where the body of a function begins and ends. It begins at the function's indentation;
+# its clauses are indented more.
 sub body_of {
     my ($at, $indent, $line) = @_;
     my $deep = length $indent;
     my $body = $at;
     until ($line->[$body] =~ /^$indent(\S.*)?\{\}?$/) {
         $body++;
-        # Another line at this indentation, but the end of the parameters or `where`: there is no body.
+        # Another line at this indentation, but the end of the parameters or `where`: there is no
+        # body.
         return if $body > $#$line || $line->[$body] =~ /^ {0,$deep}[^\s)>{w]/;
     }
     my $end = $body;
@@ -204,8 +208,8 @@ sub body_of {
     return ($body, $end);
 }
 
-# The name in a check of a module's function, or of one in an impl or a trait, whose head is the owner; false
-# unless exactly one fits.
+# The name in a check of a module's function, or of one in an impl or a trait, whose head is the
+# owner; false unless exactly one fits.
 sub symbol {
     my ($module, $owner, $name) = @_;
     my $form = $owner ? qr/^\Q$module\E::([^:]+)::$name$/ : qr/^\Q$module\E::$name$/;
@@ -221,8 +225,9 @@ sub symbol {
     return @found == 1 && $found[0];
 }
 
-# How a function can be copied. 0: it can't, since its proof is written whole or other proofs name it. 2: it can
-# if an unchanged copy is proved, since its proof files or its text may depend on its name. 1: it can.
+# How a function can be copied. 0: it can't, since its proof is written whole or other proofs name
+# it. 2: it can if an unchanged copy is proved, since its proof files or its text may depend on its
+# name. 1: it can.
 sub copies {
     my ($path, $names_itself) = @_;
     return 0 if -e "$original/proofs/$path/Proof.antt";
@@ -239,7 +244,8 @@ sub proof_files {
     return @proof_files;
 }
 
-# The functions whose bodies a mutation changes; none if it changes anything else, or a function is not known.
+# The functions whose bodies a mutation changes; none if it changes anything else, or a function is
+# not known.
 sub changed {
     my @found;
     for (@_) {
@@ -260,12 +266,12 @@ $SIG{TERM} = sub { kill 'TERM', $child if $child; exit 2 };
 # Ends if no more can be judged.
 sub stop { print "mutations: $_[0]\n"; exit 2 }
 
-# Checks the copy with these texts in place of its own, over what the check of the crate itself kept. Returns
-# the status and the lines. After a check that was killed nothing more is judged.
+# Checks the copy with these texts in place of its own, over what the check of the crate itself
+# kept. Returns the status and the lines. After a check that was killed nothing more is judged.
 sub check {
     my ($texts, @flags) = @_;
-    # out/incremental keeps each module once: after a check of mutations, functions that only it had mutated
-    # would be proved again.
+    # out/incremental keeps each module once: after a check of mutations, functions that only it had
+    # mutated would be proved again.
     if ($checks++ > 1) {
         system("rm -rf src specs proofs out/incremental && cp -a '$original/.' .") && stop("the copy of $crate cannot be written");
     }
@@ -316,8 +322,8 @@ sub judge_alone {
     }
 }
 
-# Whether a line says that a text of src/, of specs/ or of the mutation can't be read. A mutation that only
-# makes a statement false can be read.
+# Whether a line says that a text of src/, of specs/ or of the mutation can't be read. A mutation
+# that only makes a statement false can be read.
 sub is_unread {
     my ($line, $texts) = @_;
     my ($file, $named, $said) = $line =~ m{^(?:\./)?(\S+?):\d+:\d+: error: (?:(`[^`]*`): )?(.*)} or return 0;
@@ -326,8 +332,8 @@ sub is_unread {
         /is not in scope|has no field|is no name|operand is missing|expected the end|cannot continue/;
 }
 
-# Judges mutations of functions in one check, in copies of them or in place. Returns those to try again in this
-# way, those to try in another way, and how many to try next.
+# Judges mutations of functions in one check, in copies of them or in place. Returns those to try
+# again in this way, those to try in another way, and how many to try next.
 sub judge_together {
     my ($way, @mutations) = @_;
     my ($batch, $again) = $way->(@mutations);
@@ -390,7 +396,8 @@ sub in_copies {
     return (\%batch, []);
 }
 
-# Adds a copy of the function as this text of its file has it, with its proof. Returns its name in a check.
+# Adds a copy of the function as this text of its file has it, with its proof. Returns its name in a
+# check.
 sub copied {
     my ($own, $text, $ending, $texts, $copies, $it) = @_;
     my @copy = (split /\n/, $text)[$own->{first} - 1 .. $own->{end} - 1];
@@ -424,8 +431,8 @@ sub in_place {
 
 # -- the mutations of a crate --
 
-# Judges these mutations in one way, many in a check, until at most this many are left. Returns those to judge
-# in another way and those to judge alone.
+# Judges these mutations in one way, many in a check, until at most this many are left. Returns
+# those to judge in another way and those to judge alone.
 sub judge_in {
     my ($way, $left, @mutations) = @_;
     my ($most, @other, @alone) = ($MOST);
