@@ -2,7 +2,9 @@
 
 use super::parts::{present, put_name, put_optional_text, put_value};
 use crate::text::Text;
-use ipc_views::{IntRef, TableFault, TypeIds, TypeRef};
+use ipc_views::{
+    DecimalRef, IntRef, TableFault, TimeRef, TimestampRef, TypeIds, TypeRef, UnionRef,
+};
 use std::fmt::{Debug, Display};
 
 /// Appends a type: its name, or a list of its name and its parameters.
@@ -12,27 +14,10 @@ pub fn put_type(out: &mut Text, type_: Result<Option<TypeRef<'_>>, TableFault>) 
     };
     match &type_ {
         TypeRef::Int(int) => put_int(out, int),
-        TypeRef::Decimal(decimal) => {
-            put_first(out, "[\"Decimal\",", decimal.precision());
-            put_first(out, ",", decimal.scale());
-            put_last(out, decimal.bit_width());
-        }
-        TypeRef::Time(time) => {
-            put_unit(out, "[\"Time\",", time.unit());
-            put_last(out, time.bit_width());
-        }
-        TypeRef::Timestamp(stamp) => {
-            put_unit(out, "[\"Timestamp\",", stamp.unit());
-            out.put(",");
-            put_optional_text(out, stamp.timezone());
-            out.put("]");
-        }
-        TypeRef::Union(union) => {
-            put_unit(out, "[\"Union\",", union.mode());
-            out.put(",");
-            put_ids(out, union.type_ids());
-            out.put("]");
-        }
+        TypeRef::Decimal(decimal) => put_decimal(out, decimal),
+        TypeRef::Time(time) => put_time(out, time),
+        TypeRef::Timestamp(stamp) => put_timestamp(out, stamp),
+        TypeRef::Union(union) => put_union(out, union),
         TypeRef::FloatingPoint(float) => put_one_unit(
             out,
             "[\"FloatingPoint\",",
@@ -64,6 +49,31 @@ pub fn put_type(out: &mut Text, type_: Result<Option<TypeRef<'_>>, TableFault>) 
 pub fn put_int(out: &mut Text, int: &IntRef<'_>) {
     put_first(out, "[\"Int\",", int.bit_width());
     put_last(out, int.is_signed());
+}
+
+fn put_decimal(out: &mut Text, decimal: &DecimalRef<'_>) {
+    put_first(out, "[\"Decimal\",", decimal.precision());
+    put_first(out, ",", decimal.scale());
+    put_last(out, decimal.bit_width());
+}
+
+fn put_time(out: &mut Text, time: &TimeRef<'_>) {
+    put_unit(out, "[\"Time\",", time.unit());
+    put_last(out, time.bit_width());
+}
+
+fn put_timestamp(out: &mut Text, stamp: &TimestampRef<'_>) {
+    put_unit(out, "[\"Timestamp\",", stamp.unit());
+    out.put(",");
+    put_optional_text(out, stamp.timezone());
+    out.put("]");
+}
+
+fn put_union(out: &mut Text, union: &UnionRef<'_>) {
+    put_unit(out, "[\"Union\",", union.mode());
+    out.put(",");
+    put_ids(out, union.type_ids());
+    out.put("]");
 }
 
 // A parameter after this text.
