@@ -23,8 +23,8 @@ build:
 mutations:
 	tools/mutations $(NAMES)
 
-# The tests of ipc_bench with each allocation refused in its turn, or make refused ONLY="WORD ..":
-# those whose names have a word.
+# The tests of ipc_bench, ipc_bench_files and ipc_bench_programs with each allocation refused in its
+# turn, or make refused ONLY="WORD ..": those whose names have a word.
 refused:
 	tools/refused $(ONLY)
 

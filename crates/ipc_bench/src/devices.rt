@@ -1,11 +1,12 @@
-//! Devices that fail, and one that counts its flushes.
+//! `Watched` devices that fail, that take nothing and that count their flushes, and vectors that
+//! grow.
 
-use crate::fixtures::refusal;
+use bench_devices::fixtures::error_of;
 use ipc_devices::{Failures, Fault, MemFile, Reads, Seeks, Watched, Writes, read_bytes};
 use std::io;
 use std::io::{ErrorKind, SeekFrom};
 
-// Fails at every call, at each in a way of its own.
+// A device that fails in every call, each method with its own error.
 #[derive(Drop)]
 struct Broken;
 
@@ -31,33 +32,48 @@ impl io::Seek for Broken {
     }
 }
 
-fn fails_as<X>(answer: &io::Result<X>, kind: ErrorKind) -> bool {
-    match answer {
+fn has_kind<X>(outcome: &io::Result<X>, kind: ErrorKind) -> bool {
+    match outcome {
         Err(error) => error.kind() == kind,
         Ok(_) => false,
     }
 }
 
-// Each error is told as the device told it, and counted once.
+// Whether each call that reads passes the error on as it is.
+fn reads_fail(device: &mut Watched<Broken>) -> bool {
+    has_kind(&device.read(&mut [0; 2]), ErrorKind::BrokenPipe)
+        && has_kind(&device.skip(2), ErrorKind::BrokenPipe)
+}
+
+// The same of each call that writes, also of a write of nothing.
+fn writes_fail(device: &mut Watched<Broken>) -> bool {
+    has_kind(&device.write(b"ab"), ErrorKind::StorageFull)
+        && has_kind(&device.write(b""), ErrorKind::StorageFull)
+        && has_kind(&Writes::flush(device), ErrorKind::TimedOut)
+}
+
+// The same of each call that seeks.
+fn seeks_fail(device: &mut Watched<Broken>) -> bool {
+    has_kind(&device.seek_to(1), ErrorKind::NotSeekable)
+        && has_kind(&device.seek_end(), ErrorKind::NotSeekable)
+        && has_kind(&device.position(), ErrorKind::NotSeekable)
+}
+
+// Each error is counted once.
 #[test]
-fn errors_of_a_watched_device_are_told_on(rt: HostRuntime) -> Result<(), Fault> {
+fn watched_device_passes_errors_on(rt: HostRuntime) -> Result<(), Fault> {
     let mut device = Watched::new(Broken);
-    assert!(rt; fails_as(&device.read(&mut [0; 2]), ErrorKind::BrokenPipe));
-    assert!(rt; fails_as(&device.skip(2), ErrorKind::BrokenPipe));
-    assert!(rt; fails_as(&device.write(b"ab"), ErrorKind::StorageFull));
-    assert!(rt; fails_as(&device.write(b""), ErrorKind::StorageFull));
-    assert!(rt; fails_as(&Writes::flush(&mut device), ErrorKind::TimedOut));
-    assert!(rt; fails_as(&device.seek_to(1), ErrorKind::NotSeekable));
-    assert!(rt; fails_as(&device.seek_end(), ErrorKind::NotSeekable));
-    assert!(rt; fails_as(&device.position(), ErrorKind::NotSeekable));
+    assert!(rt; reads_fail(&mut device));
+    assert!(rt; writes_fail(&mut device));
+    assert!(rt; seeks_fail(&mut device));
     assert_eq!(rt; device.failures(), 8);
     assert_eq!(rt; device.given(), 0);
     Ok(())
 }
 
-// A full vector grows where it is written to, and so does a file over one.
+// A write makes a full vector grow, and so does a write to a file over one.
 #[test]
-fn full_vectors_grow(rt: HostRuntime) -> Result<(), Fault> {
+fn writes_grow_full_vectors(rt: HostRuntime) -> Result<(), Fault> {
     let mut bytes = Vec::from_slice(rt.alloc(), b"a")?;
     bytes.shrink_to_fit();
     assert_eq!(rt; bytes.write(b"bcd")?, 3);
@@ -70,11 +86,11 @@ fn full_vectors_grow(rt: HostRuntime) -> Result<(), Fault> {
     Ok(())
 }
 
-// Takes nothing.
+// A device that takes no bytes.
 #[derive(Drop)]
-struct Full;
+struct TakesNothing;
 
-impl io::Write for Full {
+impl io::Write for TakesNothing {
     fn write(&mut self, _buf: &[u8]) -> io::Result<usize> {
         Ok(0)
     }
@@ -84,7 +100,7 @@ impl io::Write for Full {
     }
 }
 
-// Whether a fault is that of `Broken`, as the device told it.
+// Whether this is the error of a read of `Broken`.
 fn is_broken_pipe(fault: &Option<Fault>) -> bool {
     match fault {
         Some(Fault::Io(error)) => error.kind() == ErrorKind::BrokenPipe,
@@ -93,11 +109,11 @@ fn is_broken_pipe(fault: &Option<Fault>) -> bool {
 }
 
 #[test]
-fn watched_devices_count_failures(rt: HostRuntime) -> Result<(), Fault> {
+fn watched_device_counts_failures(rt: HostRuntime) -> Result<(), Fault> {
     let mut broken = Watched::new(Broken);
-    assert!(rt; is_broken_pipe(&refusal(read_bytes(rt.alloc(), &mut broken, 1))?));
+    assert!(rt; is_broken_pipe(&error_of(read_bytes(rt.alloc(), &mut broken, 1))?));
     assert_eq!(rt; broken.failures(), 1);
-    let mut full = Watched::new(Full);
+    let mut full = Watched::new(TakesNothing);
     assert!(rt; full.write(b"a").is_err());
     assert_eq!(rt; full.failures(), 1);
     assert_eq!(rt; full.write(b"")?, 0);
@@ -105,13 +121,13 @@ fn watched_devices_count_failures(rt: HostRuntime) -> Result<(), Fault> {
     Ok(())
 }
 
-// Counts its flushes.
+// A device that counts its flushes.
 #[derive(Drop)]
-struct Flushed {
+struct CountsFlushes {
     count: u64,
 }
 
-impl io::Write for Flushed {
+impl io::Write for CountsFlushes {
     fn write(&mut self, buf: &[u8]) -> io::Result<usize> {
         Ok(buf.len())
     }
@@ -123,8 +139,8 @@ impl io::Write for Flushed {
 }
 
 #[test]
-fn a_watched_device_is_flushed(rt: HostRuntime) -> Result<(), Fault> {
-    let mut device = Watched::new(Flushed { count: 0 });
+fn watched_device_forwards_flush(rt: HostRuntime) -> Result<(), Fault> {
+    let mut device = Watched::new(CountsFlushes { count: 0 });
     Writes::flush(&mut device)?;
     let mut borrowed = &mut device;
     Writes::flush(&mut borrowed)?;

@@ -1,63 +1,39 @@
-//! Worked examples that data can't say, as proved tests over the public calls: devices with breaks,
-//! devices that fail and devices that count, memory that is refused, memory that is shared, files
-//! that begin in the midst of a device, files that are too long, chunks of a type that is no array,
-//! batches of a thousand columns, what is public for one batch, and slots that are null. What data
-//! can say is in `cases`.
+//! Tests of streams, and of what needs no file, that no contract says and no case of `cases` can
+//! say: devices that fail or move few bytes, allocations that fail, memory that arrays share, and
+//! public calls that nothing else makes.
 #![tactic(auto)]
 
 #[cfg(test)]
-mod alone;
+mod accessors;
 #[cfg(test)]
-mod appended;
+mod allocation_failure;
 #[cfg(test)]
-mod asked;
+mod chunk;
 #[cfg(test)]
-mod barred;
-#[cfg(test)]
-mod batches;
-#[cfg(test)]
-mod blanks;
-#[cfg(test)]
-mod bytewise;
+mod device_failure;
 #[cfg(test)]
 mod devices;
 #[cfg(test)]
-mod encoded;
+mod dictionaries;
 #[cfg(test)]
-mod failures;
+mod encoding;
 #[cfg(test)]
-mod files;
+mod message_write;
 #[cfg(test)]
-mod fixtures;
+mod no_allocation;
 #[cfg(test)]
-mod full;
+mod null_slots;
 #[cfg(test)]
-mod handed;
+mod projection;
 #[cfg(test)]
-mod keyed;
+mod record_batch;
 #[cfg(test)]
-mod long;
+mod round_trip;
 #[cfg(test)]
-mod messages;
+mod scenario;
 #[cfg(test)]
-mod nulls;
+mod sharing;
 #[cfg(test)]
-mod paused;
+mod stream_read;
 #[cfg(test)]
-mod pieces;
-#[cfg(test)]
-mod printing;
-#[cfg(test)]
-mod refusals;
-#[cfg(test)]
-mod rough;
-#[cfg(test)]
-mod sessions;
-#[cfg(test)]
-mod shared;
-#[cfg(test)]
-mod spare;
-#[cfg(test)]
-mod told;
-#[cfg(test)]
-mod walks;
+mod stream_write;

@@ -1,0 +1,13 @@
+//! Devices that fail or that move few bytes, and what the tests of several crates share: chunks, a
+//! file, and traces of what calls return.
+#![tactic(auto)]
+
+pub mod dictionary_chunks;
+pub mod dictionary_file;
+pub mod failing_runs;
+pub mod faulty;
+pub mod fixtures;
+pub mod out_of_memory;
+pub mod pieces;
+pub mod single_message;
+pub mod trace;

@@ -1,0 +1,35 @@
+//! Tests of files that no contract says and no case of `cases` can say: devices that fail or move
+//! few bytes, allocations that fail, files that begin inside a device, files that are too long, and
+//! sessions that append to a file.
+#![tactic(auto)]
+
+#[cfg(test)]
+mod allocation_failure;
+#[cfg(test)]
+mod append;
+#[cfg(test)]
+mod append_in_memory;
+#[cfg(test)]
+mod append_sessions;
+#[cfg(test)]
+mod batch_read;
+#[cfg(test)]
+mod device_failure;
+#[cfg(test)]
+mod example_file;
+#[cfg(test)]
+mod file_metadata;
+#[cfg(test)]
+mod file_read;
+#[cfg(test)]
+mod file_write;
+#[cfg(test)]
+mod no_allocation;
+#[cfg(test)]
+mod round_trip;
+#[cfg(test)]
+mod scenario;
+#[cfg(test)]
+mod scratches;
+#[cfg(test)]
+mod sessions;

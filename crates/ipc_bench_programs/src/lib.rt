@@ -1,0 +1,8 @@
+//! Tests of what `ipcat` and `ipconvert` do where a device fails, which no run of a program can
+//! show.
+#![tactic(auto)]
+
+#[cfg(test)]
+mod append;
+#[cfg(test)]
+mod printing;
