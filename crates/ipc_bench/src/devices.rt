@@ -1,8 +1,12 @@
-//! `Watched` devices that fail, that take nothing and that count their flushes, and vectors that
-//! grow.
+//! `Watched` devices that fail, that take nothing and that count their flushes, vectors that grow,
+//! and writers that flush.
 
-use bench_devices::fixtures::error_of;
-use ipc_devices::{Failures, Fault, MemFile, Reads, Seeks, Watched, Writes, read_bytes};
+use arrow2_ipc::io::ipc::write::{FileWriter, StreamWriter, WriteOptions};
+use bench_devices::fixtures::{error_of, make_example};
+use ipc_devices::{
+    Failures, Fault, MemFile, Reads, Seeks, StateFault, Watched, Writes, read_bytes,
+};
+use std::alloc::Global;
 use std::io;
 use std::io::{ErrorKind, SeekFrom};
 
@@ -146,5 +150,81 @@ fn watched_device_forwards_flush(rt: HostRuntime) -> Result<(), Fault> {
     Writes::flush(&mut borrowed)?;
     assert_eq!(rt; device.failures(), 0);
     assert_eq!(rt; device.into_inner().count, 2);
+    Ok(())
+}
+
+// Writes the example as a stream to a device.
+fn write_stream<W: Writes + Drop>(
+    alloc: Global,
+    writer: &mut StreamWriter<W>,
+) -> Result<(), Fault> {
+    let example = make_example(alloc)?;
+    writer.start(&example.schema, None)?;
+    writer.write(&example.chunk, None)?;
+    writer.finish()
+}
+
+// A writer of a file of the example on a device, which has all but the footer.
+fn make_file_writer<W: Writes + Drop>(alloc: Global, device: W) -> Result<FileWriter<W>, Fault> {
+    let example = make_example(alloc)?;
+    let schema = example.schema.clone()?;
+    let options = WriteOptions::default();
+    let mut writer = FileWriter::try_new(alloc, device, schema, None, options)?;
+    writer.write(&example.chunk, None)?;
+    Ok(writer)
+}
+
+#[test]
+fn finish_flushes_once(rt: HostRuntime) -> Result<(), Fault> {
+    let alloc = rt.alloc();
+    let mut device = Watched::new(CountsFlushes { count: 0 });
+    let mut stream = StreamWriter::new(alloc, &mut device, WriteOptions::default());
+    write_stream(alloc, &mut stream)?;
+    drop(stream);
+    assert_eq!(rt; device.into_inner().count, 1);
+    let mut device = Watched::new(CountsFlushes { count: 0 });
+    let mut file = make_file_writer(alloc, &mut device)?;
+    file.finish()?;
+    drop(file);
+    assert_eq!(rt; device.into_inner().count, 1);
+    Ok(())
+}
+
+// A device that takes all bytes, and whose flush fails.
+#[derive(Drop)]
+struct FlushFails;
+
+impl io::Write for FlushFails {
+    fn write(&mut self, buf: &[u8]) -> io::Result<usize> {
+        Ok(buf.len())
+    }
+
+    fn flush(&mut self) -> io::Result<()> {
+        Err(io::Error::from(ErrorKind::TimedOut))
+    }
+}
+
+// Whether this is the error of a flush of `FlushFails`.
+fn is_timed_out(fault: &Option<Fault>) -> bool {
+    match fault {
+        Some(Fault::Io(error)) => error.kind() == ErrorKind::TimedOut,
+        _ => false,
+    }
+}
+
+#[test]
+fn failed_flush_is_an_error_of_finish(rt: HostRuntime) -> Result<(), Fault> {
+    let alloc = rt.alloc();
+    let device = Watched::new(FlushFails);
+    let mut stream = StreamWriter::new(alloc, device, WriteOptions::default());
+    assert!(rt; is_timed_out(&error_of(write_stream(alloc, &mut stream))?));
+    let again = error_of(stream.finish())?;
+    assert!(rt; matches!(again, Some(Fault::State(StateFault::Failed))));
+    assert_eq!(rt; stream.into_inner().failures(), 1);
+    let mut file = make_file_writer(alloc, Watched::new(FlushFails))?;
+    assert!(rt; is_timed_out(&error_of(file.finish())?));
+    let again = error_of(file.finish())?;
+    assert!(rt; matches!(again, Some(Fault::State(StateFault::Failed))));
+    assert_eq!(rt; file.into_inner().failures(), 1);
     Ok(())
 }

@@ -76,6 +76,18 @@ pub const ON_DEVICE_FAILURE: &[&str] = &[
     write ok
     write ok
     write ok
+    finish io
+    start failed
+    write failed
+    finish failed
+    device: 1 failure
+    device: complete
+    ",
+    "
+    start ok
+    write ok
+    write ok
+    write ok
     finish ok
     start already finished
     write already finished

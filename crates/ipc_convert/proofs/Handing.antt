@@ -1,5 +1,5 @@
 -- Chunks that are handed on, one after the other.
-use Rattle.std.proofs.Common.{◌≡◌, ℕ, ◌+◌, ◌-◌, ◌^◌, ◌≤◌, List, [], ◌∷◌, ◌++◌, length, Option, Some, Err, inl, inr, refl, sym, subst, append-nil, length-append, arith}
+use Rattle.std.proofs.Common.{◌≡◌, ℕ, ◌+◌, ◌-◌, ◌^◌, ◌≤◌, List, [], ◌∷◌, ◌++◌, length, Option, Some, Err, inl, inr, refl, sym, subst, ◌∙◌, append-nil, length-append, arith}
 use Rattle.lower_arrays.specs.declared.array.AnyArray.{AnyArray}
 use Rattle.ipc_devices.proofs.Claims.{claims_through}
 use Rattle.ipc_devices.specs.Faults.{OnRefused, OwnFault}
@@ -8,7 +8,7 @@ use Rattle.ipc_devices.specs.declared.fault.Fault.{Fault}
 use Rattle.ipc_devices.specs.declared.fault.Fault.TheVariants.{Argument, Io}
 use Rattle.ipc_model.specs.Batches.{Chunk}
 use Rattle.ipc_read.specs.Chunks.{chunk_seen}
-use Rattle.ipc_convert.specs.Chunks.{BreaksAt, Copied, CopiedOne, Handed, HandedOne, MovedInTurn, Moved, Nothing, RefusesAt, StopsCopy, StopsOne, TookWhatCame}
+use Rattle.ipc_convert.specs.Chunks.{BreaksAt, Copied, CopiedOne, Handed, HandedOne, MovedInTurn, Moved, NoneFailed, Nothing, RefusesAt, StopsCopy, StopsOne, TookWhatCame}
 use Rattle.ipc_convert.specs.declared.chunks.Ending.{Ending}
 
 -- So many chunks came, and were taken.
@@ -46,6 +46,10 @@ none_more came took law a b u v w one none = record {
     took_all = subst (λ (cs : List Chunk). took u cs w) (append-nil one.chunks) (law u one.chunks v [] w one.took_all none);
   };
 }
+
+-- no call of the devices failed, and then none more
+pub none_on : {S T : Type 0} (failures : S → ℕ) (others : T → ℕ) (a b c : S) (u v w : T) → NoneFailed failures others a u b v → NoneFailed failures others b v c w → NoneFailed failures others a u c w
+none_on failures others a b c u v w one more = (more.0 ∙ one.0, more.1 ∙ one.1)
 
 -- what a refusal leaves, told on
 pub refused_then : (X Y : Type 0) {P Q : Type 0} (e : Fault) → (P → Q) → OnRefused {X = X} (Err e) P → OnRefused {X = Y} (Err e) Q

@@ -9,3 +9,4 @@ pub mod ReadFiles
 pub mod ReadStreams
 pub mod Refused
 pub mod Taken
+pub mod Unfailed

@@ -62,7 +62,7 @@ stream_took known memory v w columns ids (Ok x) appends takes = one_took known m
 stream_took known memory v w columns ids (Err e) appends takes = tt
 
 pub file_took : {W : Type 0} (known grows : Bool) (failures room : W → ℕ) (memory : W → Memory) (v w : FileSeen W) (columns : List AnyArray) (r : Result (Unit {0}) Fault)
-    → WritesNext known memory v columns r w → writes.SendsColumns known grows failures room memory v r w columns → OnOk r (TookBlocks known memory v (chunk_seen columns ∷ []) w)
+    → WritesNext known failures memory v columns r w → writes.SendsColumns known grows failures room memory v r w columns → OnOk r (TookBlocks known memory v (chunk_seen columns ∷ []) w)
 file_took known grows failures room memory v w columns (Ok x) wrote sends = record {
   state = sends.takes.is ∙ sym sends.takes.was;
   takes = subst (λ (c : Chunk). TakesChunks known memory v w (c ∷ [])) (written_seen columns) wrote.takes;
@@ -93,15 +93,15 @@ stream_kept known grows failures room memory v w columns r appends sends =
     (λ k base head so_far agrees. subst (λ (x : Result (Unit {0}) Fault). OnErr x (Agrees memory w base head so_far)) is (appends.kept k base head so_far agrees)))
     sends.step.refused
 
-took_none : {W : Type 0} (known : Bool) (memory : W → Memory) (v w : FileSeen W) (columns : List AnyArray) (e : Fault) → WritesNext known memory v columns (Err e) w → TakesChunks known memory v w []
-took_none known memory v w columns e wrote = wrote.takes
+took_none : {W : Type 0} (known : Bool) (failures : W → ℕ) (memory : W → Memory) (v w : FileSeen W) (columns : List AnyArray) (e : Fault) → WritesNext known failures memory v columns (Err e) w → TakesChunks known memory v w []
+took_none known failures memory v w columns e wrote = wrote.takes
 
 pub file_kept : {W : Type 0} (known grows : Bool) (failures room : W → ℕ) (memory : W → Memory) (v w : FileSeen W) (columns : List AnyArray) (r : Result (Unit {0}) Fault)
-    → WritesNext known memory v columns r w → writes.SendsColumns known grows failures room memory v r w columns → OnRefused r (TookBlocks known memory v [] w)
+    → WritesNext known failures memory v columns r w → writes.SendsColumns known grows failures room memory v r w columns → OnRefused r (TookBlocks known memory v [] w)
 file_kept known grows failures room memory v w columns r wrote sends =
     if_refused r (λ e is kept. record {
       state = kept.state;
-      takes = took_none known memory v w columns e (subst (λ (x : Result (Unit {0}) Fault). WritesNext known memory v columns x w) is wrote);
+      takes = took_none known failures memory v w columns e (subst (λ (x : Result (Unit {0}) Fault). WritesNext known failures memory v columns x w) is wrote);
     }) sends.step.refused
 
 -- why it is, as the call says it

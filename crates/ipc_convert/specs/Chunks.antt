@@ -1,5 +1,5 @@
 -- Chunks that come from somewhere, and go to somewhere else.
-use Rattle.std.specs.Prelude.{◌≡◌, ◌⊎◌, ◌-◌, ◌^◌, ◌≤◌, List, [], ◌∷◌, ◌++◌, length, Option, Some, None}
+use Rattle.std.specs.Prelude.{◌≡◌, ◌⊎◌, ℕ, ◌-◌, ◌^◌, ◌≤◌, List, [], ◌∷◌, ◌++◌, length, Option, Some, None}
 use Rattle.lower_arrays.specs.declared.array.AnyArray.{AnyArray}
 use Rattle.ipc_devices.specs.declared.fault.ArgFault.TheVariants.{TooLarge}
 use Rattle.ipc_devices.specs.declared.fault.Fault.{Fault}
@@ -21,6 +21,10 @@ BreaksAt S = S → Fault → Type 0
 -- `refuses v columns e`: in state v the chunk of these columns isn't taken, by this fault
 abbrev pub RefusesAt : Type 0 → Type 1
 RefusesAt T = T → List AnyArray → Fault → Type 0
+
+-- No call of two devices failed, from one state of each to another.
+abbrev pub NoneFailed : {S T : Type 0} → (S → ℕ) → (T → ℕ) → (a : S) (v : T) (b : S) (w : T) → Type 0
+NoneFailed failures others a v b w = (failures b ≡ failures a) × (others w ≡ others v)
 
 -- where nothing was done, no chunk moved
 abbrev pub Nothing : {S : Type 0} → Moved S → Type 0

@@ -5,6 +5,7 @@ ghost use Rattle.ipc_base.specs.IdTrees.{all_ids_view};
 ghost use Rattle.ipc_devices.specs.Faults.{Answers, OwnFault};
 ghost use Rattle.ipc_devices.specs.declared.fault.ArgFault.TheVariants.{FieldsDiffer};
 ghost use Rattle.ipc_devices.specs.declared.fault.Fault.TheVariants.{Argument};
+ghost use Rattle.ipc_convert.specs.Chunks.{NoneFailed};
 ghost use Rattle.ipc_convert.specs.Copies.{AppendsTo, AreSame, CopiesStream, TakesStream};
 ghost use Rattle.ipc_convert.specs.Refusals.{GoesOnWithNone, RefusesAppended};
 
@@ -23,7 +24,7 @@ use std::alloc::Global;
 
 /// Writes the chunks of the stream at `input` behind those of the file at `file`, each as soon as it is read, and a footer with all of them.
 /// The file begins where its device does, and the device has to stand there. The file's byte order and its pairs stay. Both devices are
-/// given back, and nothing behind the mark was taken of the input.
+/// given back, and nothing behind the mark was taken of the input. No call of either failed.
 ///
 /// Faults before anything is written, so that the file is as it was: those of [`read_file_metadata`], `try_from_file` and
 /// [`read_stream_metadata`]; `Argument(FieldsDiffer)` where the stream's schema isn't the file's, both in their normal form, or its ids
@@ -37,6 +38,8 @@ pub fn append_stream<F: Reads + Writes + Seeks + Drop, R: Reads + Drop>(
     input: R,
 ) -> Result<(F, R), Fault>
     ensures takes { IfOk result (λ devices. TakesStream R.gives input devices.1) }
+    ensures done { IfOk result (λ devices.
+        NoneFailed F.failures R.failures file input devices.0 devices.1) }
     ensures appends { IsTrue F.known → (F.memory file).place ≡ 0 → IfOk result (λ devices. CopiesStream R.gives input devices.1
         (λ schema chunks _. AppendsTo (F.memory file).whole (F.memory devices.0).whole schema chunks)) }
     ensures refused { IsTrue F.known → (F.memory file).place ≡ 0 → IfErr result (λ e. OwnFault e

@@ -1,9 +1,9 @@
 //! Chunks that are copied, one after the other.
-ghost use Rattle.std.specs.Prelude.{◌≡◌, ◌∷◌, [], IfErr, IfOk, List, OnOk};
+ghost use Rattle.std.specs.Prelude.{◌≡◌, ℕ, ◌∷◌, [], IfErr, IfOk, List, OnOk};
 ghost use Rattle.ipc_devices.specs.Faults.{OnRefused, OwnFault};
 ghost use Rattle.ipc_model.specs.Batches.{Chunk as ChunkMeant};
 ghost use Rattle.ipc_read.specs.Chunks.{chunk_seen};
-ghost use Rattle.ipc_convert.specs.Chunks.{CameNext, Copied, CopiedOne, MovedInTurn, Nothing, StopsCopy, StopsOne, TookWhatCame};
+ghost use Rattle.ipc_convert.specs.Chunks.{CameNext, Copied, CopiedOne, MovedInTurn, NoneFailed, Nothing, StopsCopy, StopsOne, TookWhatCame};
 
 use ipc_base::chunk::Chunk;
 use ipc_devices::fault::{ArgFault, Fault};
@@ -41,9 +41,14 @@ pub trait Source {
     // In one state this fault comes in place of the next chunk.
     ghost breaks: { Self → Fault → Type 0 };
 
-    /// The next chunk, or that none comes. A fault, `Memory` and `Io` aside, comes only where `breaks` says it.
+    // How many calls of its device failed.
+    ghost failures: { Self → ℕ };
+
+    /// The next chunk, or that none comes: then no call of its device failed. A fault, `Memory`
+    /// and `Io` aside, comes only where `breaks` says it.
     fn next_chunk(&mut self) -> Result<Next, Fault>
         ensures came { IfOk result (λ next. CameNext came stopped self.old next self.new) }
+        ensures done { OnOk result (failures self.new ≡ failures self.old) }
         ensures broken { IfErr result (λ e. OwnFault e (breaks self.old e)) };
 
     // Laws: at first none came, and what came twice stands one behind the other.
@@ -63,9 +68,14 @@ pub trait Sink {
     // In one state the chunk of these columns isn't taken, by this fault.
     ghost refuses: { Self → List AnyArray → Fault → Type 0 };
 
-    /// Takes a chunk. A fault, `Io` aside, leaves all as it was, and comes, `Memory` aside too, only where `refuses` says it.
+    // How many calls of its device failed.
+    ghost failures: { Self → ℕ };
+
+    /// Takes a chunk: if it is `Ok`, no call of its device failed. A fault, `Io` aside, leaves all
+    /// as it was, and comes, `Memory` aside too, only where `refuses` says it.
     fn take_chunk(&mut self, chunk: &Chunk<AnyArray>) -> Result<(), Fault>
         ensures taken { OnOk result (took self.old (chunk_seen chunk.now ∷ []) self.new) }
+        ensures done { OnOk result (failures self.new ≡ failures self.old) }
         ensures kept { OnRefused result (took self.old [] self.new) }
         ensures refused { IfErr result (λ e. OwnFault e (refuses self.old chunk.now e)) };
 
@@ -75,13 +85,16 @@ pub trait Sink {
     ghost took_in_order: { MovedInTurn took };
 }
 
-/// Reads all chunks that come, and writes each as soon as it is read: just these were taken then.
+/// Reads all chunks that come, and writes each as soon as it is read: just these were taken then,
+/// and no call of either device failed.
 ///
 /// Faults: that of the source where one came in place of a chunk, that of the sink where it refused the chunk that came, and
 /// `Argument(TooLarge)` where `2^64 - 1` chunks came and no end. The chunks that were taken by then are the first that came; after `Io`
 /// alone that isn't said.
 pub fn copy_chunks<S: Source, T: Sink>(source: &mut S, sink: &mut T) -> Result<Ending, Fault>
     ensures copied { IfOk result (λ ending. Copied S.came S.stopped T.took source.old sink.old ending source.new sink.new) }
+    ensures done { OnOk result
+        (NoneFailed S.failures T.failures source.old sink.old source.new sink.new) }
     ensures refused { OnRefused result (TookWhatCame S.came T.took source.old sink.old sink.new) }
     ensures stops { IfErr result (λ e. OwnFault e (StopsCopy S.came S.breaks T.took T.refuses source.old sink.old e)) }
 {
@@ -96,6 +109,8 @@ pub fn copy_chunks<S: Source, T: Sink>(source: &mut S, sink: &mut T) -> Result<E
 // Writes the next chunk, where one comes, else says how it ended.
 fn copy_next<S: Source, T: Sink>(source: &mut S, sink: &mut T) -> Result<Option<Ending>, Fault>
     ensures copied { IfOk result (λ ending. CopiedOne S.came S.stopped T.took source.old sink.old ending source.new sink.new) }
+    ensures done { OnOk result
+        (NoneFailed S.failures T.failures source.old sink.old source.new sink.new) }
     ensures refused { OnRefused result (T.took sink.old [] sink.new) }
     ensures stops { IfErr result (λ e. OwnFault e (StopsOne S.came S.breaks T.refuses source.old sink.old e)) }
 {

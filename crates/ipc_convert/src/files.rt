@@ -3,6 +3,7 @@ ghost use Rattle.std.specs.Prelude.{◌≡◌, [], IfErr, IfOk, IsTrue};
 ghost use Rattle.lower.specs.TypeViews.{fields_view, pairs_of};
 ghost use Rattle.ipc_base.specs.IdTrees.{all_ids_view};
 ghost use Rattle.ipc_devices.specs.Faults.{OwnFault};
+ghost use Rattle.ipc_convert.specs.Chunks.{NoneFailed};
 ghost use Rattle.ipc_convert.specs.Copies.{CopiesFileOf, CopiesStream, TakesStream, WritesFile};
 ghost use Rattle.ipc_convert.specs.Refusals.{CopiesNoFile, CopiesNoStream, HoldsOfGiven, RefusesAsFile};
 ghost use Rattle.ipc_convert.specs.Steps.{BeginsFile, EndsAnyway, EndsCopy, RefusesWithPairs};
@@ -24,7 +25,7 @@ use std::alloc::Global;
 
 /// Copies the stream at `input` as a file to `out`: its schema, in the normal form and with the ids of its dictionaries, then each chunk
 /// as soon as it is read, and the footer, without pairs, where the stream ends by its mark or waits for more. Both devices are given back,
-/// and nothing behind the mark was taken of the input.
+/// and nothing behind the mark was taken of the input. No call of either failed.
 ///
 /// Faults before anything is written: those of [`read_stream_metadata`], and the `Argument` faults of a schema that can't be written.
 /// Faults after that: those of the calls of [`StreamReader`] and [`FileWriter`], and `Argument(TooLarge)` where `2^64 - 1` chunks came and
@@ -38,6 +39,8 @@ pub fn stream_to_file<R: Reads + Drop, W: Writes + Drop>(
     write_options: WriteOptions,
 ) -> Result<(R, W), Fault>
     ensures takes { IfOk result (λ devices. TakesStream R.gives input devices.0) }
+    ensures done { IfOk result (λ devices.
+        NoneFailed R.failures W.failures input out devices.0 devices.1) }
     ensures copies { IsTrue W.known → IfOk result (λ devices. CopiesStream R.gives input devices.0
         (λ schema chunks _. WritesFile (order_of write_options) (W.memory out) (W.memory devices.1) schema [] chunks)) }
     ensures refused { IfErr result (λ e. OwnFault e (HoldsOfGiven R.gives R.known R.memory input
@@ -55,9 +58,11 @@ pub fn stream_to_file<R: Reads + Drop, W: Writes + Drop>(
     Ok((reader.into_inner(), writer.into_inner()))
 }
 
-/// Copies the file at `file` as a file to `out`, which it gives back: its schema, in the normal form and with the ids of its dictionaries,
-/// then the chunk at each block, in their order and each as soon as it is read, and the footer with the file's own pairs. The file begins
-/// where its device does, and the device has to stand there. The dictionaries are read with the first block.
+/// Copies the file at `file` as a file to `out`: its schema, in the normal form and with the ids of
+/// its dictionaries, then the chunk at each block, in their order and each as soon as it is read,
+/// and the footer with the file's own pairs. The file begins where its device does, and the device
+/// has to stand there. The dictionaries are read with the first block. Both devices are given back,
+/// and no call of either failed.
 ///
 /// Faults before anything is written: those of [`read_file_metadata`], and the `Argument` faults of a schema that can't be written, or that
 /// is too heavy with the pairs (`TooLarge`). Faults after that: those of the calls of [`FileReader`] and [`FileWriter`]. Then the file is
@@ -69,9 +74,11 @@ pub fn file_to_file<F: Reads + Seeks + Drop, W: Writes + Drop>(
     file: F,
     out: W,
     write_options: WriteOptions,
-) -> Result<W, Fault>
-    ensures copies { IsTrue W.known → IfOk result (λ device. CopiesFileOf F.known F.memory file
-        (WritesFile (order_of write_options) (W.memory out) (W.memory device))) }
+) -> Result<(F, W), Fault>
+    ensures copies { IsTrue W.known → IfOk result (λ devices. CopiesFileOf F.known F.memory file
+        (WritesFile (order_of write_options) (W.memory out) (W.memory devices.1))) }
+    ensures done { IfOk result (λ devices.
+        NoneFailed F.failures W.failures file out devices.0 devices.1) }
     ensures refused { IsTrue F.known → (F.memory file).place ≡ 0 → IfErr result (λ e. OwnFault e (CopiesNoFile
         (λ first schema pairs. RefusesAsFile W.known W.memory out (order_of write_options) pairs first schema) (F.memory file).whole e)) }
 {
@@ -84,7 +91,8 @@ pub fn file_to_file<F: Reads + Seeks + Drop, W: Writes + Drop>(
     let mut writer = begin_file(alloc, out, schema, ids, pairs, write_options)?;
     let copied = copy_chunks(&mut reader, &mut writer);
     finish_file(copied, &mut writer)?;
-    Ok(writer.into_inner())
+    let file = reader.into_inner();
+    Ok((file, writer.into_inner()))
 }
 
 // A writer of a file that is started.
@@ -100,6 +108,7 @@ fn begin_file<W: Writes + Drop>(
         (pairs_of schema.metadata.entries) (all_ids_view ids.items) (pairs_of pairs.entries) (seen w)) }
     ensures only { IfErr result (λ e. OwnFault e (RefusesWithPairs (fields_view schema.fields.items) (pairs_of schema.metadata.entries)
         (all_ids_view ids.items) (pairs_of pairs.entries) e)) }
+    ensures done { IfOk result (λ w. W.failures (seen w).device ≡ W.failures out) }
 {
     let mut writer = FileWriter::new(alloc, out, schema, Some(ids), write_options)?;
     writer.set_custom_metadata(pairs)?;

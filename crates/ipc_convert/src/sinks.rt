@@ -1,5 +1,7 @@
 //! Streams and files that chunks are written to.
 ghost use Rattle.ipc_convert.specs.SinkLaws.{file_took_in_order, file_took_nothing, stream_took_in_order, stream_took_nothing};
+ghost use Rattle.ipc_write.specs.Writers.{seen};
+ghost use Rattle.ipc_file_write.specs.FileWriters as files;
 ghost use Rattle.ipc_convert.specs.Sinks.{FileRefuses, FileTook, StreamRefuses, StreamTook};
 
 use crate::chunks::Sink;
@@ -15,6 +17,8 @@ impl<W: Writes + Drop> Sink for StreamWriter<W> {
 
     ghost refuses = { StreamRefuses };
 
+    ghost failures = { λ w. W.failures (seen w).device };
+
     ghost took_nothing = { stream_took_nothing W.known W.memory };
 
     ghost took_in_order = { stream_took_in_order W.known W.memory };
@@ -28,6 +32,8 @@ impl<W: Writes + Drop> Sink for FileWriter<W> {
     ghost took = { FileTook W.known W.memory };
 
     ghost refuses = { FileRefuses };
+
+    ghost failures = { λ w. W.failures (files.seen w).device };
 
     ghost took_nothing = { file_took_nothing W.known W.memory };
 

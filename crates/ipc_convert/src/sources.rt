@@ -1,4 +1,6 @@
 //! Streams and files that chunks are read from.
+ghost use Rattle.ipc_readers.specs.Streams.{device_of};
+ghost use Rattle.ipc_file_readers.specs.Readers as files;
 ghost use Rattle.ipc_convert.specs.SourceLaws.{file_came_in_order, file_came_nothing, stream_came_in_order, stream_came_nothing};
 ghost use Rattle.ipc_convert.specs.Sources.{FileBreaks, FileCame, FileStopped, StreamBreaks, StreamCame, StreamStopped};
 
@@ -14,6 +16,8 @@ impl<R: Reads + Drop> Source for StreamReader<R> {
     ghost stopped = { StreamStopped R.gives };
 
     ghost breaks = { StreamBreaks R.gives };
+
+    ghost failures = { λ r. R.failures (device_of r) };
 
     ghost came_nothing = { stream_came_nothing R.gives R.gives_nothing };
 
@@ -35,6 +39,8 @@ impl<F: Reads + Seeks + Drop> Source for FileReader<F> {
     ghost stopped = { FileStopped };
 
     ghost breaks = { FileBreaks F.known F.memory };
+
+    ghost failures = { λ r. F.failures (files.device_of r) };
 
     ghost came_nothing = { file_came_nothing F.known F.memory };
 

@@ -2,6 +2,7 @@
 ghost use Rattle.std.specs.Prelude.{◌≡◌, IfErr, IfOk, IsTrue, OnOk};
 ghost use Rattle.ipc_devices.specs.Faults.{OwnFault};
 ghost use Rattle.ipc_model.specs.Streams.{marked};
+ghost use Rattle.ipc_convert.specs.Chunks.{NoneFailed};
 ghost use Rattle.ipc_convert.specs.Copies.{CopiesFileOf, CopiesStream, TakesStream, WritesStream};
 ghost use Rattle.ipc_convert.specs.Refusals.{CopiesNoFile, CopiesNoStream, HoldsOfGiven, RefusesAsStream};
 ghost use Rattle.ipc_convert.specs.Steps.{EndsAsSource};
@@ -19,7 +20,7 @@ use std::alloc::Global;
 
 /// Copies the stream at `input` to `out`: its schema, in the normal form and with the ids of its dictionaries, then each chunk as soon as
 /// it is read, and the mark where the stream ends by one. Where the stream waits for more, so does what is written. Both devices are given
-/// back, and nothing behind the mark was taken of the input.
+/// back, and nothing behind the mark was taken of the input. No call of either failed.
 ///
 /// Faults: those of [`read_stream_metadata`] and of the calls of [`StreamReader`] and [`StreamWriter`]; the `Argument` faults among them
 /// tell that a schema or a chunk can't be written, or, as `TooLarge`, that `2^64 - 1` chunks came and no end. Each but `Memory` and `Io`
@@ -32,6 +33,8 @@ pub fn stream_to_stream<R: Reads + Drop, W: Writes + Drop>(
     write_options: WriteOptions,
 ) -> Result<(R, W), Fault>
     ensures takes { IfOk result (λ devices. TakesStream R.gives input devices.0) }
+    ensures done { IfOk result (λ devices.
+        NoneFailed R.failures W.failures input out devices.0 devices.1) }
     ensures copies { IsTrue W.known → IfOk result (λ devices. CopiesStream R.gives input devices.0
         (WritesStream (order_of write_options) (W.memory out) (W.memory devices.1))) }
     ensures refused { IfErr result (λ e. OwnFault e (HoldsOfGiven R.gives R.known R.memory input
@@ -48,10 +51,11 @@ pub fn stream_to_stream<R: Reads + Drop, W: Writes + Drop>(
     Ok((reader.into_inner(), writer.into_inner()))
 }
 
-/// Copies the file at `file` as a stream to `out`, which it gives back: its schema, in the normal form and with the ids of its
-/// dictionaries, then the chunk at each block, in their order and each as soon as it is read, and the mark. The file begins where its
-/// device does, and the device has to stand there. The pairs of the file itself are left out: a stream has none. The dictionaries are read
-/// with the first block.
+/// Copies the file at `file` as a stream to `out`: its schema, in the normal form and with the ids
+/// of its dictionaries, then the chunk at each block, in their order and each as soon as it is
+/// read, and the mark. The file begins where its device does, and the device has to stand there.
+/// The pairs of the file itself are left out: a stream has none. The dictionaries are read with the
+/// first block. Both devices are given back, and no call of either failed.
 ///
 /// Faults: those of [`read_file_metadata`] and of the calls of [`FileReader`] and [`StreamWriter`]; the `Argument` faults among them tell
 /// that the schema or a chunk can't be written. Where the file is in memory, each but `Memory` and `Io` names a condition that holds. The
@@ -62,9 +66,12 @@ pub fn file_to_stream<F: Reads + Seeks + Drop, W: Writes + Drop>(
     file: F,
     out: W,
     write_options: WriteOptions,
-) -> Result<W, Fault>
-    ensures copies { IsTrue W.known → IfOk result (λ device. CopiesFileOf F.known F.memory file
-        (λ schema _ chunks. WritesStream (order_of write_options) (W.memory out) (W.memory device) schema chunks marked)) }
+) -> Result<(F, W), Fault>
+    ensures copies { IsTrue W.known → IfOk result (λ devices. CopiesFileOf F.known F.memory file
+        (λ schema _ chunks. WritesStream (order_of write_options) (W.memory out)
+        (W.memory devices.1) schema chunks marked)) }
+    ensures done { IfOk result (λ devices.
+        NoneFailed F.failures W.failures file out devices.0 devices.1) }
     ensures refused { IsTrue F.known → (F.memory file).place ≡ 0 → IfErr result (λ e. OwnFault e (CopiesNoFile
         (λ first schema _ fault. RefusesAsStream first schema fault) (F.memory file).whole e)) }
 {
@@ -76,12 +83,15 @@ pub fn file_to_stream<F: Reads + Seeks + Drop, W: Writes + Drop>(
     writer.start(&reader.metadata().schema, Some(ids))?;
     let ending = copy_chunks(&mut reader, &mut writer)?;
     end_stream(ending, &mut writer)?;
-    Ok(writer.into_inner())
+    let file = reader.into_inner();
+    Ok((file, writer.into_inner()))
 }
 
 // Ends a stream by the mark where its source is over.
 fn end_stream<W: Writes + Drop>(ending: Ending, writer: &mut StreamWriter<W>) -> Result<(), Fault>
     ensures ends { OnOk result (EndsAsSource W.known W.memory ending (seen writer.old) (seen writer.new)) }
+    ensures done { OnOk result
+        (W.failures (seen writer.new).device ≡ W.failures (seen writer.old).device) }
     ensures only { IfErr result (RefusesFinish (seen writer.old).state) }
 {
     match ending {

@@ -20,14 +20,14 @@ use Rattle.ipc_model.specs.Writable.{IsWritable, file_weight, weight}
 use Rattle.ipc_schema_write.specs.WriterAnswers.{RefusesSchema, max_weight, written_head_as}
 use Rattle.ipc_write.specs.declared.stream.WriterState.{WriterState}
 use Rattle.ipc_write.specs.declared.stream.WriterState.TheVariants.{New, Started, Finished, Failed}
-use Rattle.ipc_write.specs.Sending.{OnSent}
+use Rattle.ipc_write.specs.Sending.{Delivers, OnSent}
 use Rattle.ipc_footers.specs.Footers.{HasFooter, tail_of}
 use Rattle.std.proofs.lemmas.List.{length-replicate, take-append-le}
 use Rattle.ipc_file_laws.proofs.Ends.{chunk_ends, chunk_natural, chunk_reaches, no_ends, none_at_all}
 use Rattle.ipc_file_laws.specs.FileBytes.{EndsStreamBehind, HoldsFile, HasStreamBehind, SendsChunk, Sent, all_bytes, block_at, blocks_at, chunk_bytes, file_head}
 use Rattle.ipc_file_laws.proofs.FileSteps.{end_law, grow_law, start_law, write_law}
 use Rattle.ipc_file_laws.proofs.StreamSteps.{stream_end_law, stream_start_law, stream_write_law}
-use Rattle.ipc_file_write.specs.FileWriters.{Delivers, FileIs, FileSeen, FileStep, HoldsBytes, IsEnding, IsFresh, IsOpenFile, IsSameFile, Kept, MayFinish, MayStart, ReachesEnd, RefusesFinish, RefusesStart, Remains, RemembersSame, SendsBeginning, SendsEnding, ending_bytes, head_of_file}
+use Rattle.ipc_file_write.specs.FileWriters.{FileIs, FileSeen, FileStep, HoldsBytes, IsEnding, IsFresh, IsOpenFile, IsSameFile, Kept, MayFinish, MayStart, ReachesEnd, RefusesFinish, RefusesStart, Remains, RemembersSame, SendsBeginning, SendsEnding, ending_bytes, head_of_file}
 use Rattle.ipc_file_write.specs.declared.sending.Ending.{Ending}
 use Rattle.ipc_file_write.specs.declared.writer.Starting.{Starting}
 
@@ -51,6 +51,7 @@ kept_step known grows failures room memory a b e bytes kept same not_io = record
   monotone = rw kept.device (omega arith);
   io = not_io _;
   refused = on_refused e _ kept;
+  done = tt;
   all_sent = λ k. tt;
   some_sent = λ k. rw kept.device (some_none (memory a.device) bytes);
 }

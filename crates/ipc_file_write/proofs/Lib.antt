@@ -2,7 +2,6 @@ pub mod AppendEnds
 pub mod AppendOpens
 pub mod Appends
 pub mod CallLists
-pub mod Deliveries
 pub mod Elsewhere
 pub mod EncodedMessages
 pub mod Exactness

@@ -31,15 +31,16 @@ use Rattle.ipc_chunks.proofs.Refusals.{IsOfMessage, of_some}
 use Rattle.ipc_chunks.specs.Messages.{AreMessages, Message, RefusesMessages, RefusesPlaces as DictionariesRefused}
 use Rattle.ipc_write.proofs.Refusals.{of_messages, some_refuse}
 use Rattle.ipc_write.specs.Messages.{messages_bytes}
+use Rattle.ipc_write.specs.Sending.{Delivers}
 use Rattle.ipc_write.specs.Writers.{FitTypes}
 use Rattle.ipc_write.specs.declared.stream.WriterState.{WriterState}
 use Rattle.ipc_write.specs.declared.stream.WriterState.TheVariants.{Failed, Started}
 use Rattle.ipc_file_laws.specs.FileBytes.{Sent, chunk_bytes, sent_bytes}
 use Rattle.ipc_file_write.specs.Blocks.{HasBlocksFrom, RefusesBlockRoom, sent}
-use Rattle.ipc_file_write.specs.FileWriters.{Delivers, FileSeen, IsSameFile, Kept}
+use Rattle.ipc_file_write.specs.FileWriters.{FileSeen, IsSameFile, Kept}
 use Rattle.ipc_file_write.specs.Writes.{Appends, HandsChunk, MayList, RefusesChunk, RefusesRoom, RefusesSending, SendsColumns, TakesChunk, WhereSent, as_stream, field_normal}
 use Rattle.ipc_file_write.specs.declared.blocks.Placed.{Placed}
-use Rattle.ipc_file_write.proofs.Deliveries.{delivered_as, failed_as}
+use Rattle.ipc_write.proofs.Deliveries.{delivered_as, failed_as}
 use Rattle.ipc_file_write.proofs.EncodedMessages.{sends_chunk}
 use Rattle.ipc_file_write.proofs.Exactness.{dictionary_blocks_count, values_count}
 use Rattle.ipc_file_write.specs.Keeping.{StaysWritable}
@@ -155,6 +156,7 @@ module _ {W : Type 0} (known grows : Bool) (failures room : W → ℕ) (memory :
       monotone = h.sends.monotone;
       io = (h.failed, h.sends.failed);
       refused = tt;
+      done = tt;
       all_sent = λ k. tt;
       some_sent = h.sends.part;
     };
@@ -198,7 +200,7 @@ module _ {W : Type 0} (known grows : Bool) (failures room : W → ℕ) (memory :
     lists = lists;
     are = h.are;
     takes = takes_columns p columns list was h ids pairs remembers dictionaries blocks place;
-    step = record { same = same; monotone = h.sends.monotone; io = tt; refused = tt; all_sent = h.sends.memory; some_sent = h.sends.part };
+    step = record { same = same; monotone = h.sends.monotone; io = tt; refused = tt; done = h.sends.done; all_sent = h.sends.memory; some_sent = h.sends.part };
   }
 
   -- so the file has the chunk

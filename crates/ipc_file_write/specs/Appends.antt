@@ -82,6 +82,11 @@ pub record GoesOn {W : Type 0} (known : Bool) (memory : W → Memory) (m : FileM
   pub stands : IsTrue known → GoesTo (memory device) (memory w.device) (goes_on m)
   pub remembers : IsTrue known → RemembersFile m (memory device).whole w.remembers
 
+-- It goes on so, and no call of its device failed.
+pub record OpensFile {W : Type 0} (known : Bool) (failures : W → ℕ) (memory : W → Memory) (m : FileMetadata) (device : W) (w : FileSeen W) : Type 0 where
+  pub goes_on : GoesOn known memory m device w
+  pub done : failures w.device ≡ failures device
+
 -- What it writes behind a file that had these chunks, whose blocks need no byte behind that place, goes on with them, in the normal form of the schema.
 abbrev pub GoesOnWith : {W : Type 0} → Bool → (W → Memory) → FileMetadata → W → FileSeen W → Type 0
 GoesOnWith known memory m device w =

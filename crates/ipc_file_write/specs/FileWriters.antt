@@ -1,13 +1,13 @@
 -- What the calls of a file's writer do, and what its bytes mean.
 -- (Arrow columnar format, "IPC File Format".)
-use Rattle.std.specs.Prelude.{◌≡◌, ℕ, ◌+◌, ◌-◌, ◌%◌, ◌<◌, ◌≤◌, ◌^◌, max, Bool, true, false, IsTrue, List, [], ◌++◌, length, take, replicate, Option, Some, None, IfSome, Result, Ok, Err, OnErr, OnOk, IfErr}
+use Rattle.std.specs.Prelude.{◌≡◌, ℕ, ◌+◌, ◌-◌, ◌%◌, ◌<◌, ◌≤◌, ◌^◌, max, Bool, true, false, IsTrue, List, [], ◌++◌, length, take, replicate, Option, Some, None, IfSome, Result, Ok, Err, OnOk}
 use Rattle.lower.specs.TypeTrees.{Pairs, FieldTrees}
 use Rattle.lower.specs.TypeViews.{fields_view, pairs_of}
 use Rattle.lower_types.specs.declared.Endianness.{Endianness}
 use Rattle.ipc_base.specs.Fitting.{AllFit}
 use Rattle.ipc_base.specs.IdTrees.{IdTrees, all_ids_view}
 use Rattle.ipc_devices.specs.Device.{Memory, WritesOver, before}
-use Rattle.ipc_devices.specs.Faults.{IsIo, OnIo, OnRefused, OwnFault}
+use Rattle.ipc_devices.specs.Faults.{OnIo, OnRefused, OwnFault}
 use Rattle.ipc_devices.specs.declared.fault.ArgFault.TheVariants.{FieldsShape, NotWritable, TooLarge}
 use Rattle.ipc_devices.specs.declared.fault.Fault.{Fault}
 use Rattle.ipc_devices.specs.declared.fault.Fault.TheVariants.{Argument, Io, Memory as NoMemory, State}
@@ -20,7 +20,7 @@ use Rattle.ipc_model.specs.Schemas.{head_of}
 use Rattle.ipc_model.specs.Streams.{Head}
 use Rattle.ipc_model.specs.Writable.{IsWritable, IsWritableFile, file_weight}
 use Rattle.ipc_model.specs.WrittenLaws.{prefix}
-use Rattle.ipc_plan.specs.Sending.{DeviceSeen, WritesSome}
+use Rattle.ipc_plan.specs.Sending.{WritesSome}
 use Rattle.ipc_laws.specs.Messages.{message_bytes}
 use Rattle.ipc_laws.specs.Remembered.{Remembered, nothing_remembered}
 use Rattle.ipc_schema_write.specs.WriterAnswers.{RefusesSchema, byte_order, max_weight, written_head_as}
@@ -167,15 +167,6 @@ pub record HasNothing {W : Type 0} (memory : W → Memory) (w : FileSeen W) : Ty
 abbrev pub StateComesFirst : {W : Type 0} → Option StateFault → FileSeen W → Result Unit Fault → FileSeen W → Type 0
 StateComesFirst own a r b = IfSome own (λ e. (r ≡ Err (State e)) × (b ≡ a))
 
--- A call that sends these bytes to a device: it fails with `Io` alone, where the device counted a failure or has too little room. What went out
--- are the first bytes, and all of them where it is Ok.
-pub record Delivers {X : Type 0} (known grows : Bool) (d d' : DeviceSeen) (r : Result X Fault) (bytes : List ℕ) : Type 0 where
-  pub monotone : d.failures ≤ d'.failures
-  pub failed : OnErr r (FailsOrIsFull grows d.failures d'.failures d.room (length bytes))
-  pub only : IfErr r (λ e. IsIo e)
-  pub memory : IsTrue known → OnOk r (WritesOver d.memory d'.memory bytes)
-  pub part : IsTrue known → WritesSome d.memory d'.memory bytes
-
 -- nothing was sent, and the writer is as it was
 pub record Kept {W : Type 0} (a b : FileSeen W) : Type 0 where
   pub device : b.device ≡ a.device
@@ -196,12 +187,14 @@ pub record IsSameFile {W : Type 0} (a b : FileSeen W) : Type 0 where
   pub pairs : b.pairs ≡ a.pairs
   pub size : b.size ≡ a.size
 
--- What a call that sends these bytes does to its device, and what a refused one leaves.
+-- What a call that sends these bytes does to its device, and what a refused one leaves. If it
+-- returns Ok, no call of the device failed.
 pub record FileStep {W : Type 0} (known grows : Bool) (failures room : W → ℕ) (memory : W → Memory) (a : FileSeen W) (r : Result Unit Fault) (b : FileSeen W) (bytes : List ℕ) : Type 0 where
   pub same : IsSameFile a b
   pub monotone : failures a.device ≤ failures b.device
   pub io : OnIo r ((b.state ≡ Failed) × FailsOrIsFull grows (failures a.device) (failures b.device) (room a.device) (length bytes))
   pub refused : OnRefused r (Kept a b)
+  pub done : OnOk r (failures b.device ≡ failures a.device)
   pub all_sent : IsTrue known → OnOk r (WritesOver (memory a.device) (memory b.device) bytes)
   pub some_sent : IsTrue known → WritesSome (memory a.device) (memory b.device) bytes
 

@@ -31,12 +31,13 @@ use Rattle.ipc_tracker.specs.Trackers.{IsSameMemory}
 use Rattle.ipc_chunks.specs.Lengths.{HaveLengths}
 use Rattle.ipc_write.specs.Meaning.{normal_types}
 use Rattle.ipc_chunks.specs.Messages.{AreMessages, Message, RefusesMessages}
+use Rattle.ipc_write.specs.Sending.{Delivers}
 use Rattle.ipc_write.specs.Writers.{FitTypes, MissesWrite as StreamMisses, RefusesChunk as StreamRefuses, WriterSeen}
 use Rattle.ipc_write.specs.declared.stream.WriterState.{WriterState}
 use Rattle.ipc_write.specs.declared.stream.WriterState.TheVariants.{Failed, Started}
 use Rattle.ipc_file_laws.specs.FileBytes.{Sent, all_bytes, block_at, blocks_at, chunk_bytes}
 use Rattle.ipc_file_write.specs.Blocks.{HasBlocksFrom, RefusesBlockRoom, sent}
-use Rattle.ipc_file_write.specs.FileWriters.{Delivers, FileSeen, FileStep, HoldsBytes}
+use Rattle.ipc_file_write.specs.FileWriters.{FileSeen, FileStep, HoldsBytes}
 use Rattle.ipc_file_write.specs.declared.blocks.Placed.{Placed}
 
 -- ---- calls

@@ -10,7 +10,7 @@ ghost use Rattle.ipc_files.specs.Dictionaries.{DictionariesReason, GivesKnown, I
 ghost use Rattle.ipc_files.specs.Footers.{file_seen};
 ghost use Rattle.ipc_file_laws.specs.Appending.{HasNegative, HaveNegative, end_of, goes_on, greatest_end};
 ghost use Rattle.ipc_file_write.specs.FileWriters.{scratches_of, seen};
-ghost use Rattle.ipc_file_write.specs.Appends.{CanBeWritten, GoesOn, GoesOnAgain, GoesOnWith, MayGoOn, RefusesFile, RefusesNoWhole, RefusesToGoOn};
+ghost use Rattle.ipc_file_write.specs.Appends.{CanBeWritten, GoesOnAgain, GoesOnWith, MayGoOn, OpensFile, RefusesFile, RefusesNoWhole, RefusesToGoOn};
 
 use crate::file::FileWriter;
 use ipc_devices::fault::{ArgFault, Fault, OutOfSpecKind};
@@ -141,7 +141,8 @@ impl<W: Reads + Writes + Seeks + Drop> FileWriter<W> {
         metadata: FileMetadata,
         _options: WriteOptions,
     ) -> Result<FileWriter<W>, Fault>
-        ensures ok { IfOk result (λ w. GoesOn W.known W.memory (file_seen metadata) writer (seen w)) }
+        ensures ok { IfOk result (λ w.
+            OpensFile W.known W.failures W.memory (file_seen metadata) writer (seen w)) }
         ensures only { IfErr result (RefusesFile W.known (file_seen metadata) (W.memory writer).whole) }
         ensures always { IfErr result (RefusesNoWhole W.known W.memory (file_seen metadata) writer) }
         ensures means { IfOk result (λ w. GoesOnWith W.known W.memory (file_seen metadata) writer (seen w)) }

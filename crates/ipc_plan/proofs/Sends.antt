@@ -48,6 +48,7 @@ sent_none known grows d = record {
   monotone = omega arith;
   failed = tt;
   only = tt;
+  done = refl;
   memory = λ k. writes_none d.memory;
   part = λ k. record { count = 0; most = omega arith; over = writes_none d.memory };
   room = omega arith;
@@ -59,6 +60,7 @@ sends_then known grows d d' d'' (Ok u) xs ys f g = record {
   monotone = omega (arith, f.monotone, g.monotone);
   failed = tt;
   only = tt;
+  done = g.done ∙ f.done;
   memory = λ k. writes_both d.memory d'.memory d''.memory xs ys (f.memory k) (g.memory k);
   part = λ k. some_after d.memory d'.memory d''.memory xs ys (f.memory k) (g.part k);
   room = omega (arith, f.room, g.room, length-append xs ys);
@@ -70,6 +72,7 @@ sends_then known grows d d' d'' (Err e) xs ys f g = record {
     | inr full ↦ inr (full.0, omega (arith, full.1, f.room, length-append xs ys))
   ];
   only = g.only;
+  done = tt;
   memory = λ k. tt;
   part = λ k. some_after d.memory d'.memory d''.memory xs ys (f.memory k) (g.part k);
   room = tt;
@@ -81,6 +84,7 @@ sends_stop known grows d d' e xs ys f = record {
   monotone = f.monotone;
   failed = elim f.failed [ inl rises ↦ inl rises | inr full ↦ inr (full.0, omega (arith, full.1, length-append xs ys)) ];
   only = f.only;
+  done = tt;
   memory = λ k. tt;
   part = λ k. some_front d.memory d'.memory xs ys (f.part k);
   room = tt;
@@ -102,7 +106,7 @@ before_more known grows d d' d'' u left piece left' bytes b e s =
     record {
       front = b.front ++ piece;
       parts = append_assoc b.front piece left' ∙ ap (λ xs. b.front ++ xs) (sym e) ∙ b.parts;
-      sent = record { monotone = all.monotone; failed = tt; only = tt; memory = all.memory; part = all.part; room = all.room };
+      sent = record { monotone = all.monotone; failed = tt; only = tt; done = all.done; memory = all.memory; part = all.part; room = all.room };
     }
 
 pub before_stop : {X Y : Type 0} (known grows : Bool) (d d' d'' : DeviceSeen) (e : Fault) (left piece left' bytes : List ℕ) → SentBefore known grows d d' left bytes → left ≡ piece ++ left'
@@ -116,14 +120,15 @@ before_all known grows d d' left bytes b e =
     subst (λ (xs : List ℕ). Sent known grows d d' xs) (sym (append-nil b.front) ∙ ap (λ xs. b.front ++ xs) (sym e) ∙ b.parts) b.sent
 
 -- one write of a device
-pub one_write : (known grows : Bool) (d d' : DeviceSeen) (n : ℕ) (xs : List ℕ) → n ≤ length xs → d.failures ≤ d'.failures → (IsTrue known → WritesOver d.memory d'.memory (take n xs)) → d.room ≤ d'.room + n
+pub one_write : (known grows : Bool) (d d' : DeviceSeen) (n : ℕ) (xs : List ℕ) → n ≤ length xs → d'.failures ≡ d.failures → (IsTrue known → WritesOver d.memory d'.memory (take n xs)) → d.room ≤ d'.room + n
     → Sent known grows d d' (take n xs)
-one_write known grows d d' n xs h rises over room =
+one_write known grows d d' n xs h same over room =
     let count : length (take n xs) ≡ n = length-take-le n xs h in
     record {
-      monotone = rises;
+      monotone = omega (arith, same);
       failed = tt;
       only = tt;
+      done = same;
       memory = over;
       part = λ k. record { count = n; most = omega (arith, count); over = subst (λ (ys : List ℕ). WritesOver d.memory d'.memory ys) (sym (take_all n (take n xs) (omega (arith, count)))) (over k) };
       room = omega (arith, room, count);
@@ -135,6 +140,7 @@ no_write known grows d d' e xs io rises failed same = record {
   monotone = rises;
   failed = failed;
   only = io;
+  done = tt;
   memory = λ k. tt;
   part = λ k. subst (λ (m : Memory). WritesSome d.memory m xs) (sym (same k)) (record { count = 0; most = omega arith; over = writes_none d.memory });
   room = tt;

@@ -1,5 +1,5 @@
 -- What a call that sends bytes does to its device.
-use Rattle.std.specs.Prelude.{ℕ, ◌+◌, ◌<◌, ◌≤◌, ◌⊎◌, Bool, IsTrue, List, length, take, Result, OnOk, OnErr, IfErr}
+use Rattle.std.specs.Prelude.{◌≡◌, ℕ, ◌+◌, ◌<◌, ◌≤◌, ◌⊎◌, Bool, IsTrue, List, length, take, Result, OnOk, OnErr, IfErr}
 use Rattle.ipc_devices.specs.Device.{Memory, WritesOver, Rises}
 use Rattle.ipc_devices.specs.Faults.{IsIo}
 use Rattle.ipc_devices.specs.declared.fault.Fault.{Fault}
@@ -21,11 +21,12 @@ seen_by failures room memory device = record { failures = failures device; room 
 
 -- A call that sends these bytes to a device, whose bytes are known (`known`) where it is memory, and which may have to grow
 -- (`grows`). It fails with `Io` alone, where the device counted a failure or has too little room; what went out are the first
--- bytes, and all of them where it is Ok.
+-- bytes. If it returns Ok, all of them went out, and no call of the device failed.
 pub record Sends {X : Type 0} (known grows : Bool) (d d' : DeviceSeen) (r : Result X Fault) (bytes : List ℕ) : Type 0 where
   pub monotone : d.failures ≤ d'.failures
   pub failed : OnErr r (Rises d.failures d'.failures ⊎ (IsTrue grows × (d.room < length bytes)))
   pub only : IfErr r (λ e. IsIo e)
+  pub done : OnOk r (d'.failures ≡ d.failures)
   pub memory : IsTrue known → OnOk r (WritesOver d.memory d'.memory bytes)
   pub part : IsTrue known → WritesSome d.memory d'.memory bytes
   pub room : OnOk r (d.room ≤ d'.room + length bytes)

@@ -69,7 +69,7 @@ module _ (n p a b c : FileSeen (Vec ℕ Global)) (v : Vec ℕ Global) (fs : Fiel
 
 -- which calls were made
 abbrev pub creation : (n p a b : FileSeen (Vec ℕ Global)) (fs : FieldTrees) (es : Pairs) (is : IdTrees) (order : Endianness) (pairs : Pairs) (chunks : List (List AnyArray)) (answers : List (Result (Unit {0}) Fault)) → IsFileOf n fs es is order []
-    → TakesPairs n p pairs → IsSameFile p a → StartsWith p a → Agrees vector a [] [] → AreWritten true vector a chunks answers b → IsCreation fs es is order pairs chunks answers
+    → TakesPairs n p pairs → IsSameFile p a → StartsWith p a → Agrees vector a [] [] → AreWritten true (λ v. 0) vector a chunks answers b → IsCreation fs es is order pairs chunks answers
 creation n p a b fs es is order pairs chunks answers file paired started starts empty writes = record {
   opened = a;
   started = starts.is;
@@ -111,7 +111,7 @@ going-after c is_refused s t e h = elim h [
   | inr failed ↦ inr (is-failed t (e ∙ ap state_seen failed))
 ]
 
-going-last : (a b : FileSeen (Vec ℕ Global)) (chunks : List (List AnyArray)) (answers : List (Result (Unit {0}) Fault)) → AreWritten true vector a chunks answers b → IsGoing a.state → IsGoing b.state
+going-last : (a b : FileSeen (Vec ℕ Global)) (chunks : List (List AnyArray)) (answers : List (Result (Unit {0}) Fault)) → AreWritten true (λ v. 0) vector a chunks answers b → IsGoing a.state → IsGoing b.state
 going-last a b [] [] made h = subst (λ (x : FileSeen (Vec ℕ Global)). IsGoing x.state) (sym made) h
 going-last a b [] (r ∷ rs) made h = absurd made
 going-last a b (c ∷ cs) [] made h = absurd made

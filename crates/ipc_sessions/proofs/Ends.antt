@@ -15,7 +15,7 @@ use Rattle.ipc_file_write.proofs.FileStates.{at_state}
 use Rattle.ipc_file_write.proofs.Onward.{onward_both}
 use Rattle.ipc_sessions.specs.Sessions.{IsEndedFile, taken_of}
 use Rattle.ipc_sessions.specs.Steps.{AreWritten, EndsSession, Leaves, TakesChunks}
-use Rattle.ipc_sessions.proofs.Writes.{no_more_step, onward_step, takes_all}
+use Rattle.ipc_sessions.proofs.Writes.{done_all, no_more_step, onward_step, takes_all}
 
 -- ---- nothing stands behind the end
 
@@ -72,13 +72,24 @@ module _ {W : Type 0} (known grows : Bool) (failures room : W → ℕ) (memory :
   }
   session_leaves (Err e) sent ends reaches remains = record { onward = λ k inside. onward-all (Err e) sent k inside; ended = λ k. tt }
 
+-- no call of a device failed, behind others that didn't
+pub done_from : {W : Type 0} (failures : W → ℕ) (r : Result (Unit {0}) Fault) (left mid first : W) → OnOk r (failures left ≡ failures mid) → failures mid ≡ failures first → OnOk r (failures left ≡ failures first)
+done_from failures (Ok x) left mid first e f = e ∙ f
+done_from failures (Err x) left mid first e f = tt
+
+session_done : {W : Type 0} (known grows : Bool) (failures room : W → ℕ) (memory : W → Memory) (a b c : FileSeen W) (r : Result (Unit {0}) Fault) → (b.state ≡ Started → failures b.device ≡ failures a.device)
+    → SendsEnding known grows failures room memory b r c → OnOk r (EndsWith b c) → OnOk r (failures c.device ≡ failures a.device)
+session_done known grows failures room memory a b c (Ok x) before sent ends = sent.step.done ∙ before ends.was
+session_done known grows failures room memory a b c (Err e) before sent ends = tt
+
 pub ends_session : {W : Type 0} (known grows : Bool) (failures room : W → ℕ) (memory : W → Memory) (a b c : FileSeen W) (chunks : List (List AnyArray)) (answers : List (Result (Unit {0}) Fault)) (r : Result (Unit {0}) Fault)
-    → AreWritten known memory a chunks answers b → DoesFinish known grows failures room memory b r c → EndsSession known grows failures room memory a chunks answers r c.device
+    → AreWritten known failures memory a chunks answers b → DoesFinish known grows failures room memory b r c → EndsSession known grows failures room memory a chunks answers r c.device
 ends_session known grows failures room memory a b c chunks answers r writes does = record {
   last = b;
   writes = writes;
   finished = c;
   ends = does;
   left_is = refl;
-  leaves = session_leaves known grows failures room memory a b c (taken_of chunks answers) (takes_all known memory a b chunks answers writes) r does.step does.ok does.reaches does.means;
+  leaves = session_leaves known grows failures room memory a b c (taken_of chunks answers) (takes_all known failures memory a b chunks answers writes) r does.step does.ok does.reaches does.means;
+  done = session_done known grows failures room memory a b c r (done_all known failures memory a b chunks answers writes) does.step does.ok;
 }

@@ -99,26 +99,41 @@ module _ {W : Type 0} (known grows : Bool) (failures room : W → ℕ) (memory :
   state-then (Err (Io x)) sends = ap state_seen sends.step.io.0
   state-then (Err _) sends = ap state_seen sends.step.refused.state
 
+  -- no call of the device failed, unless the writer did
+  done-then : (r : Result (Unit {0}) Fault) → SendsColumns known grows failures room memory a r b columns → b.state ≡ Started → failures b.device ≡ failures a.device
+  done-then (Ok x) sends s = sends.step.done
+  done-then (Err (Io x)) sends s = absurd (not-started b.state sends.step.io.0 s)
+  done-then (Err _) sends s = ap failures sends.step.refused.device
+
   pub writes_chunk : (r : Result (Unit {0}) Fault) → SendsColumns known grows failures room memory a r b columns → WritesExactly a columns None r → IfErr r (NamesOne a columns) → Appends known memory a r b (chunk_written columns)
-      → WritesNext known memory a columns r b
-  writes_chunk r sends exact named appends = record { exact = exact; named = named; state = state-then r sends; takes = takes-one r sends appends }
+      → WritesNext known failures memory a columns r b
+  writes_chunk r sends exact named appends = record { exact = exact; named = named; state = state-then r sends; done = done-then r sends; takes = takes-one r sends appends }
 
 -- ---- lists of writes
 
-module _ {W : Type 0} (known : Bool) (memory : W → Memory) where
+module _ {W : Type 0} (known : Bool) (failures : W → ℕ) (memory : W → Memory) where
   -- one write more
-  pub written_more : (a m b : FileSeen W) (cs : List (List AnyArray)) (rs : List (Result (Unit {0}) Fault)) (c : List AnyArray) (r : Result (Unit {0}) Fault) → AreWritten known memory a cs rs m → WritesNext known memory m c r b
-      → AreWritten known memory a (cs ++ c ∷ []) (rs ++ r ∷ []) b
-  written_more a m b [] [] c r h last = (b, (subst (λ (w : FileSeen W). WritesNext known memory w c r b) h last, refl))
+  pub written_more : (a m b : FileSeen W) (cs : List (List AnyArray)) (rs : List (Result (Unit {0}) Fault)) (c : List AnyArray) (r : Result (Unit {0}) Fault) → AreWritten known failures memory a cs rs m → WritesNext known failures memory m c r b
+      → AreWritten known failures memory a (cs ++ c ∷ []) (rs ++ r ∷ []) b
+  written_more a m b [] [] c r h last = (b, (subst (λ (w : FileSeen W). WritesNext known failures memory w c r b) h last, refl))
   written_more a m b [] (x ∷ rs) c r h last = absurd h
   written_more a m b (d ∷ cs) [] c r h last = absurd h
   written_more a m b (d ∷ cs) (x ∷ rs) c r h last = (h.0, (h.1.0, written_more h.0 m b cs rs c r h.1.1 last))
 
   -- what they took
-  pub takes_all : (a b : FileSeen W) (cs : List (List AnyArray)) (rs : List (Result (Unit {0}) Fault)) → AreWritten known memory a cs rs b → TakesChunks known memory a b (taken_of cs rs)
+  pub takes_all : (a b : FileSeen W) (cs : List (List AnyArray)) (rs : List (Result (Unit {0}) Fault)) → AreWritten known failures memory a cs rs b → TakesChunks known memory a b (taken_of cs rs)
   takes_all a b [] [] h = subst (λ (w : FileSeen W). TakesChunks known memory a w []) (sym h) (takes_none known memory a)
   takes_all a b [] (x ∷ rs) h = absurd h
   takes_all a b (c ∷ cs) [] h = absurd h
   takes_all a b (c ∷ cs) (r ∷ rs) h =
       subst (λ (xs : List Chunk). TakesChunks known memory a b xs) (sym (taken_one c cs r rs))
       (takes_both known memory a h.0 b (taken_of (c ∷ []) (r ∷ [])) (taken_of cs rs) h.1.0.takes (takes_all h.0 b cs rs h.1.1))
+
+  -- no call of the device failed, where the writer is still started
+  pub done_all : (a b : FileSeen W) (cs : List (List AnyArray)) (rs : List (Result (Unit {0}) Fault)) → AreWritten known failures memory a cs rs b → b.state ≡ Started → failures b.device ≡ failures a.device
+  done_all a b [] [] h s = ap (λ (w : FileSeen W). failures w.device) h
+  done_all a b [] (x ∷ rs) h s = absurd h
+  done_all a b (c ∷ cs) [] h s = absurd h
+  done_all a b (c ∷ cs) (r ∷ rs) h s =
+      let rest = takes_all h.0 b cs rs h.1.1 in
+      done_all h.0 b cs rs h.1.1 s ∙ h.1.0.done (rest.was s)

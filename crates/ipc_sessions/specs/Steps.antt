@@ -53,19 +53,22 @@ pub record Leaves {W : Type 0} (known : Bool) (memory : W → Memory) (a : FileS
 
 -- ---- which calls are made
 
--- A write of these columns answers this: it is Ok exactly where the writer may take them, memory and devices aside; a dictionary that it names is
--- one that is refused. The writer fails where its device did, and is started as before where it was refused.
-pub record WritesNext {W : Type 0} (known : Bool) (memory : W → Memory) (a : FileSeen W) (columns : List AnyArray) (r : Result Unit Fault) (b : FileSeen W) : Type 0 where
+-- A write of these columns answers this: it is Ok exactly where the writer may take them, memory and
+-- devices aside; a dictionary that it names is one that is refused. The writer fails where its device
+-- did, and is started as before where it was refused. While it is started, no call of its device
+-- failed.
+pub record WritesNext {W : Type 0} (known : Bool) (failures : W → ℕ) (memory : W → Memory) (a : FileSeen W) (columns : List AnyArray) (r : Result Unit Fault) (b : FileSeen W) : Type 0 where
   pub exact : WritesExactly a columns None r
   pub named : IfErr r (NamesOne a columns)
   pub state : state_seen b.state ≡ state_after (write_call (chunk_written columns)) (outcome r) (state_seen a.state)
+  pub done : b.state ≡ Started → failures b.device ≡ failures a.device
   pub takes : TakesChunks known memory a b (taken_of (columns ∷ []) (r ∷ []))
 
 -- writes one after the other, each of the writer that the one before it left
-abbrev pub AreWritten : {W : Type 0} → Bool → (W → Memory) → FileSeen W → List (List AnyArray) → List (Result Unit Fault) → FileSeen W → Type 0
-AreWritten known memory a [] [] b = b ≡ a
-AreWritten {W = W} known memory a (c ∷ cs) (r ∷ rs) b = (m : FileSeen W) × (WritesNext known memory a c r m × AreWritten known memory m cs rs b)
-AreWritten known memory a _ _ b = ⊥
+abbrev pub AreWritten : {W : Type 0} → Bool → (failures : W → ℕ) → (W → Memory) → FileSeen W → List (List AnyArray) → List (Result Unit Fault) → FileSeen W → Type 0
+AreWritten known failures memory a [] [] b = b ≡ a
+AreWritten {W = W} known failures memory a (c ∷ cs) (r ∷ rs) b = (m : FileSeen W) × (WritesNext known failures memory a c r m × AreWritten known failures memory m cs rs b)
+AreWritten known failures memory a _ _ b = ⊥
 
 -- A session that creates a file in memory: its writer was started over an empty memory, with this schema, these ids and these pairs, and
 -- each chunk was written.
@@ -75,7 +78,7 @@ pub record IsCreation (fields : FieldTrees) (metadata : Pairs) (ids : IdTrees) (
   pub file : IsFileOf opened fields metadata ids order pairs
   pub empty : Agrees vector opened [] []
   pub last : FileSeen (Vec ℕ Global)
-  pub writes : AreWritten true vector opened chunks answers last
+  pub writes : AreWritten true (λ v. 0) vector opened chunks answers last
 
 -- with some answers one leaves a writer of which this holds
 pub record MayCreate (fields : FieldTrees) (metadata : Pairs) (ids : IdTrees) (order : Endianness) (pairs : Pairs) (chunks : List (List AnyArray)) (P : FileSeen (Vec ℕ Global) → Type 0) : Type 0 where
@@ -94,20 +97,24 @@ RefusesCreation fs es is order ps chunks (Argument TooLarge) = (¬ (file_weight 
 RefusesCreation fs es is order ps chunks (State faults.Failed) = MayCreate fs es is order ps chunks (λ w. w.state ≡ Failed)
 RefusesCreation fs es is order ps chunks _ = ⊥
 
--- The calls of a started writer: each chunk is written, and `finish` is called last, which answers `end`. The device is what that call left.
+-- The calls of a started writer: each chunk is written, and `finish` is called last, which answers
+-- `end`. The device is what that call left. If the end is Ok, no call of the device failed.
 pub record EndsSession {W : Type 0} (known grows : Bool) (failures room : W → ℕ) (memory : W → Memory) (opened : FileSeen W) (chunks : List (List AnyArray)) (answers : List (Result Unit Fault)) (end : Result Unit Fault) (left : W) : Type 0 where
   pub last : FileSeen W
-  pub writes : AreWritten known memory opened chunks answers last
+  pub writes : AreWritten known failures memory opened chunks answers last
   pub finished : FileSeen W
   pub ends : DoesFinish known grows failures room memory last end finished
   pub left_is : left ≡ finished.device
   pub leaves : Leaves known memory opened left end (taken_of chunks answers)
+  pub done : OnOk end (failures left ≡ failures opened.device)
 
--- A session by metadata that were read before: a writer goes on with the file, and these are its calls.
+-- A session by metadata that were read before: a writer goes on with the file, and these are its
+-- calls. If the end is Ok, no call of the device failed.
 pub record IsSession {W : Type 0} (known grows : Bool) (failures room : W → ℕ) (memory : W → Memory) (m : FileMetadata) (device : W) (chunks : List (List AnyArray)) (answers : List (Result Unit Fault)) (end : Result Unit Fault) (left : W) : Type 0 where
   pub opened : FileSeen W
   pub goes_on : GoesOn known memory m device opened
   pub calls : EndsSession known grows failures room memory opened chunks answers end left
+  pub done : OnOk end (failures left ≡ failures device)
 
 -- one by the metadata that the file has
 pub record IsSessionOn {W : Type 0} (known grows : Bool) (failures room : W → ℕ) (memory : W → Memory) (device : W) (chunks : List (List AnyArray)) (answers : List (Result Unit Fault)) (end : Result Unit Fault) (left : W) : Type 0 where
@@ -116,6 +123,7 @@ pub record IsSessionOn {W : Type 0} (known grows : Bool) (failures room : W → 
   pub metadata : FileMetadata
   pub metadata_is : IsTrue known → metadata_of (memory device).whole ≡ Some metadata
   pub session : IsSession known grows failures room memory metadata read chunks answers end left
+  pub done : OnOk end (failures left ≡ failures device)
 
 -- the bytes of a file in memory, and the place in it
 abbrev pub in_memory : MemFile (Vec ℕ Global) → Memory

@@ -42,7 +42,8 @@ fn write_chunk<W: Writes + Drop>(
     writer: &mut FileWriter<W>,
     chunk: &Chunk<AnyArray>,
 ) -> Result<(), Fault>
-    ensures { WritesNext W.known W.memory (seen writer.old) chunk.now result (seen writer.new) }
+    ensures { WritesNext W.known W.failures W.memory (seen writer.old) chunk.now result
+        (seen writer.new) }
 {
     writer.write(chunk, None)
 }
@@ -56,7 +57,8 @@ pub fn write_chunks<W: Writes + Drop>(
     writer: &mut FileWriter<W>,
     chunks: &[Chunk<AnyArray>],
 ) -> Result<Vec<Result<(), Fault>>, AllocError>
-    ensures made { IfOk result (λ answers. AreWritten W.known W.memory (seen writer.old) chunks.now answers.items (seen writer.new)) }
+    ensures made { IfOk result (λ answers. AreWritten W.known W.failures W.memory
+        (seen writer.old) chunks.now answers.items (seen writer.new)) }
     ensures nothing { OnErr result (seen writer.new ≡ seen writer.old) }
     ensures takes { IfOk result (λ answers. TakesChunks W.known W.memory (seen writer.old) (seen writer.new) (taken_of chunks.now answers.items)) }
 {

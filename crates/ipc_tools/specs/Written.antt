@@ -1,5 +1,5 @@
 -- What `ipconvert` has written, where it ended well.
-use Rattle.std.specs.Prelude.{◌≡◌, Bool, IsTrue, [], Option, None, Some}
+use Rattle.std.specs.Prelude.{◌≡◌, ℕ, Bool, IsTrue, [], Option, None, Some}
 use Rattle.ipc_devices.specs.Device.{Memory}
 use Rattle.ipc_devices.specs.Gives.{Gives}
 use Rattle.ipc_encode.specs.declared.common.WriteOptions.{WriteOptions}
@@ -29,9 +29,10 @@ module _ {R F : Type 0} (gives : Gives R) (known : Bool) (memory : F → Memory)
   CopiesAsAsked (copy (Some path) target options) a b None old new = ⊥
   CopiesAsAsked (append path) a b file old new = Unit {0}
 
-  -- where it was asked to go on with a file, one was opened, and to it, in a state of its device, the stream was appended that the input gave
-  abbrev pub Appended : Wanted → (a b : R) → Option F → Type 0
-  Appended (copy from target options) a b file = Unit {0}
-  Appended (append path) a b None = ⊥
-  Appended (append path) a b (Some device) = IsTrue known → (memory device).place ≡ 0
-      → (last : F) × CopiesStream gives a b (λ schema cs _. AppendsTo (memory device).whole (memory last).whole schema cs)
+  -- where it was asked to go on with a file, one was opened, and to it, in a state of its device,
+  -- the stream was appended that the input gave; up to that state no call of the device failed
+  abbrev pub Appended : (failures : F → ℕ) → Wanted → (a b : R) → Option F → Type 0
+  Appended failures (copy from target options) a b file = Unit {0}
+  Appended failures (append path) a b None = ⊥
+  Appended failures (append path) a b (Some device) = (last : F) × (failures last ≡ failures device)
+      × (IsTrue known → (memory device).place ≡ 0 → CopiesStream gives a b (λ schema cs _. AppendsTo (memory device).whole (memory last).whole schema cs))

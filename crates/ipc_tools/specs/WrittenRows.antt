@@ -20,4 +20,4 @@ pub record WrittenRows {R F : Type 0} (gives : Gives R) (known : Bool) (memory :
   pub path_to_file : CopiesAsAsked gives known memory (copy (Some path) FileTarget little) a b (Some file) old new
       → CopiesFileOf known memory file (WritesFile (order_of little) old new)
   pub no_file_to_copy : ¬ CopiesAsAsked gives known memory (copy (Some path) Stream little) a b None old new
-  pub no_file_to_append : ¬ Appended gives known memory (append path) a b None
+  pub no_file_to_append : ¬ Appended gives known memory (λ f. 0) (append path) a b None

@@ -1,6 +1,7 @@
 //! `ipconvert`: copies an Arrow IPC stream or file as a stream or a file, in either byte order; or appends a stream to a file.
 ghost use Rattle.std.specs.Prelude.{◌≡◌, ◌⊎◌, ◌≤◌, codes, ◌↔◌, map, option_and_then, option_map, string_bytes, false, true, None, Some, Ok, Err, IfErr, IfOk, IfSome, IsSome, IsTrue, OnOk};
 ghost use Rattle.ipc_devices.specs.Faults.{IsIo, OwnFault};
+ghost use Rattle.ipc_convert.specs.Chunks.{NoneFailed};
 ghost use Rattle.ipc_convert.specs.Copies.{TakesStream};
 ghost use Rattle.ipc_plan.specs.Sending.{seen_by};
 ghost use Rattle.ipc_tools.specs.Lines.{TellsWhy, Told};
@@ -13,7 +14,7 @@ mod forms;
 mod lent;
 
 use crate::class::tell;
-use arrow2_ipc::io::ipc::fault::{Fault, Reads, Seeks, Writes};
+use arrow2_ipc::io::ipc::fault::{Failures, Fault, Reads, Seeks, Writes};
 use copies::{append_input, copy_file, copy_input};
 pub use forms::Place;
 use forms::{Form, Source, form_of, place_in};
@@ -32,8 +33,9 @@ pub fn place_of(words: &[String]) -> Option<Place<'_>>
 }
 
 /// Does what the words ask for, and answers the exit status: 0 where all was written, also of a stream that waits for more; 1 after
-/// a fault, whose class stands on `err` then; and 2 for wrong words, where `err` has the usage. The words are
-/// judged before anything is read. A failed write to `err` is ignored.
+/// a fault, whose class stands on `err` then; and 2 for wrong words, where `err` has the usage. With
+/// status 0 no call of `input` or of `out` failed, flushes included, nor one of a file that was
+/// appended to. The words are judged before anything is read. A failed write to `err` is ignored.
 ///
 /// Each class but `no memory` and `input or output failed` tells a fault that names a condition which holds: of what `input` gave, or, where
 /// it is in memory, of `file`; or of what can't be written of the one or the other.
@@ -64,6 +66,8 @@ pub fn run<R: Reads, F: Reads + Writes + Seeks + Drop, O: Writes, E: Writes>(
         (RefusesAsAsked R.gives R.known R.memory F.known F.memory O.known O.memory form input.old file out.old e)))
         E.known E.grows (seen_by E.failures E.room E.memory err.old) (seen_by E.failures E.room E.memory err.new) }
     ensures silent { result ≡ 0 → err.new ≡ err.old }
+    ensures done { result ≡ 0 →
+        NoneFailed R.failures O.failures input.old out.old input.new out.new }
     ensures spared { IfSome (option_and_then place_for (asked (map string_bytes words.now)))
         (λ place. file ≡ None → (input.new ≡ input.old) × (out.new ≡ out.old)) }
     ensures unopened_told { IfSome (option_and_then place_for (asked (map string_bytes words.now)))
@@ -74,7 +78,7 @@ pub fn run<R: Reads, F: Reads + Writes + Seeks + Drop, O: Writes, E: Writes>(
     ensures copied { result ≡ 0 → IsTrue O.known → IfSome (asked (map string_bytes words.now))
         (λ form. CopiesAsAsked R.gives F.known F.memory form input.old input.new file (O.memory out.old) (O.memory out.new)) }
     ensures appended { result ≡ 0 → IfSome (asked (map string_bytes words.now))
-        (λ form. Appended R.gives F.known F.memory form input.old input.new file) }
+        (λ form. Appended R.gives F.known F.memory F.failures form input.old input.new file) }
     ensures told { asked (map string_bytes words.now) ≡ None → Told E.known E.grows
         (seen_by E.failures E.room E.memory err.old) (seen_by E.failures E.room E.memory err.new) USAGE.now }
     ensures untouched { asked (map string_bytes words.now) ≡ None → (input.new ≡ input.old) × (out.new ≡ out.old) }
@@ -107,18 +111,22 @@ fn run_form<R: Reads, F: Reads + Writes + Seeks + Drop, O: Writes>(
     ensures taken { reads_input (wanted_by form.entry) ≡ true → OnOk result (TakesStream R.gives input.old input.new) }
     ensures copied { IsTrue O.known → OnOk result
         (CopiesAsAsked R.gives F.known F.memory (wanted_by form.entry) input.old input.new file (O.memory out.old) (O.memory out.new)) }
-    ensures appended { OnOk result (Appended R.gives F.known F.memory (wanted_by form.entry) input.old input.new file) }
+    ensures appended { OnOk result (Appended R.gives F.known F.memory F.failures
+        (wanted_by form.entry) input.old input.new file) }
+    ensures done { OnOk result
+        (NoneFailed R.failures O.failures input.old out.old input.new out.new) }
     ensures refused { IfErr result (λ e. OwnFault e
         (RefusesAsAsked R.gives R.known R.memory F.known F.memory O.known O.memory (wanted_by form.entry) input.old file out.old e)) }
 {
+    let failures = out.failures();
     match form {
         Form::Convert(Source::Input, target, write_options) => {
             let copied = copy_input(alloc, input, &mut *out, target, write_options);
-            flushed(copied, out)
+            flushed(copied, out, failures)
         }
         Form::Convert(Source::File(_), target, write_options) => {
             let copied = copy_file(alloc, opened(file)?, &mut *out, target, write_options);
-            flushed(copied, out)
+            flushed(copied, out, failures)
         }
         Form::Append(_) => {
             append_input(alloc, opened(file)?, input)?;
@@ -138,15 +146,24 @@ pub(crate) fn opened<F>(file: Option<F>) -> Result<F, Fault>
     }
 }
 
-// What came of a copy, once all is sent that was written.
-fn flushed<O: Writes>(copied: Result<(), Fault>, out: &mut O) -> Result<(), Fault>
+// What came of a copy, once all is sent that was written. The copy was lent the device, and can say
+// what failed only of the one that it gave back: so the device itself is asked.
+fn flushed<O: Writes>(
+    copied: Result<(), Fault>,
+    out: &mut O,
+    failures_before: u64,
+) -> Result<(), Fault>
     ensures same { IfOk result (λ done. copied ≡ Ok done) }
     ensures both { OnOk result (O.failures out.new ≡ O.failures out.old) }
+    ensures done { OnOk result (O.failures out.new ≡ failures_before) }
     ensures memory { IsTrue O.known → O.memory out.new ≡ O.memory out.old }
     ensures fault { IfErr result (λ e. (copied ≡ Err e) ⊎ IsIo e) }
 {
     let sent = out.flush();
     copied?;
     sent?;
+    if out.failures() != failures_before {
+        return Err(Fault::Io(io::Error::from(ErrorKind::Other)));
+    }
     Ok(())
 }

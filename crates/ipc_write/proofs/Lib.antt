@@ -1,6 +1,7 @@
 pub mod Acceptance
 pub mod Agreements
 pub mod CallLists
+pub mod Deliveries
 pub mod MessageLists
 pub mod MessageSends
 pub mod Messages

@@ -21,11 +21,11 @@ some_none m bytes = record { count = 0; most = omega arith; over = writes_none m
 
 -- all was sent, whatever is answered
 pub sent_as : {X Y : Type 0} (known grows : Bool) (d d' : DeviceSeen) (x : X) (y : Y) (bytes : List ℕ) → Sends {X = X} known grows d d' (Ok x) bytes → Sends {X = Y} known grows d d' (Ok y) bytes
-sent_as known grows d d' x y bytes f = record { monotone = f.monotone; failed = tt; only = tt; memory = f.memory; part = f.part; room = f.room }
+sent_as known grows d d' x y bytes f = record { monotone = f.monotone; failed = tt; only = tt; done = f.done; memory = f.memory; part = f.part; room = f.room }
 
 -- the same fault, of a call that answers something else
 pub failed_as : {X Y : Type 0} (known grows : Bool) (d d' : DeviceSeen) (e : Fault) (bytes : List ℕ) → Sends {X = X} known grows d d' (Err e) bytes → Sends {X = Y} known grows d d' (Err e) bytes
-failed_as known grows d d' e bytes f = record { monotone = f.monotone; failed = f.failed; only = f.only; memory = f.memory; part = f.part; room = f.room }
+failed_as known grows d d' e bytes f = record { monotone = f.monotone; failed = f.failed; only = f.only; done = tt; memory = f.memory; part = f.part; room = f.room }
 
 -- what is sent after other bytes
 pub both_sent : {X Y : Type 0} (known grows : Bool) (d d' d'' : DeviceSeen) (x : X) (r : Result Y Fault) (xs ys : List ℕ) → Sends {X = X} known grows d d' (Ok x) xs → Sends {X = Y} known grows d' d'' r ys

@@ -21,10 +21,11 @@ use Rattle.ipc_plan.specs.Sending.{Sends, seen_by}
 use Rattle.ipc_tracker.specs.Listings.{remembering_all}
 use Rattle.ipc_tracker.specs.Trackers.{IsSameMemory}
 use Rattle.ipc_write.specs.Messages.{messages_bytes}
-use Rattle.ipc_write.specs.Sending.{FailsOrIsFull, HandsMessages, OnSent, SendsOrRefuses}
+use Rattle.ipc_write.specs.Sending.{Delivers, FailsOrIsFull, HandsMessages, OnSent, SendsOrRefuses}
 use Rattle.ipc_write.specs.Writers.{Kept, LeavesState, MayList, RefusesStart, RefusesState, SendStep, SendsStep, SendsSchema, StateComesFirst, WriterSeen, chosen_ids}
 use Rattle.ipc_write.specs.declared.stream.WriterState.{WriterState}
 use Rattle.ipc_write.specs.declared.stream.WriterState.TheVariants.{Failed}
+use Rattle.ipc_write.proofs.Deliveries.{delivered}
 use Rattle.ipc_write.proofs.Sends.{some_none}
 
 -- What refuses a schema is no device.
@@ -74,6 +75,7 @@ refused_step known grows failures room memory a b bytes count e kept order not_i
   order = order;
   io = not_io _;
   refused = on_refused (Unit {0}) e _ kept;
+  done = tt;
   all_sent = λ k. tt;
   some_sent = λ k. rw kept.device (some_none (memory a.device) bytes);
 }
@@ -111,16 +113,17 @@ fuller grows old new room n count h (inr full) = inr (full.0, omega (arith, h, f
 -- all was sent
 pub ok_step : {W X : Type 0} (known grows : Bool) (failures room : W → ℕ) (memory : W → Memory) (a b : WriterSeen W) (x : X) (u : Unit {0}) (bytes : List ℕ) (count : ℕ)
     → Sends {X = X} known grows (seen_by failures room memory a.device) (seen_by failures room memory b.device) (Ok x) bytes → b.order ≡ a.order → SendStep known grows failures room memory a (Ok u) b bytes count
-ok_step known grows failures room memory a b x u bytes count h order = record { monotone = h.monotone; order = order; io = tt; refused = tt; all_sent = h.memory; some_sent = h.part }
+ok_step known grows failures room memory a b x u bytes count h order = record { monotone = h.monotone; order = order; io = tt; refused = tt; done = h.done; all_sent = h.memory; some_sent = h.part }
 
 -- the device failed on the way
 pub failed_step : {W X : Type 0} (known grows : Bool) (failures room : W → ℕ) (memory : W → Memory) (a b : WriterSeen W) (e : Fault) (bytes : List ℕ) (count : ℕ) → length bytes ≤ count
-    → Sends {X = X} known grows (seen_by failures room memory a.device) (seen_by failures room memory b.device) (Err e) bytes → b.state ≡ Failed → b.order ≡ a.order → SendStep known grows failures room memory a (Err e) b bytes count
+    → Delivers {X = X} known grows (seen_by failures room memory a.device) (seen_by failures room memory b.device) (Err e) bytes → b.state ≡ Failed → b.order ≡ a.order → SendStep known grows failures room memory a (Err e) b bytes count
 failed_step known grows failures room memory a b (Io x) bytes count most h state order = record {
   monotone = h.monotone;
   order = order;
   io = (state, fuller grows _ _ _ _ count most h.failed);
   refused = tt;
+  done = tt;
   all_sent = λ k. tt;
   some_sent = h.part;
 }
@@ -133,7 +136,8 @@ pub unsent_step : (X : Type 0) {W : Type 0} (known grows : Bool) (failures room 
 unsent_step X known grows failures room memory a b (Argument TooLarge) bytes count reason most h state order types ids same =
     refused_step known grows failures room memory a b bytes count (Argument TooLarge) (record { device = h.0; state = state; types = types; ids = ids; dictionaries = same }) order (λ P. tt)
 unsent_step X known grows failures room memory a b (Io x) bytes count reason most h state order types ids same =
-    failed_step {X = X} known grows failures room memory a b (Io x) bytes count most h state order
+    failed_step {X = X} known grows failures room memory a b (Io x) bytes count most
+    (delivered {X = X} known grows (seen_by failures room memory a.device) (seen_by failures room memory b.device) (Err (Io x)) bytes h) state order
 unsent_step X known grows failures room memory a b _ bytes count reason most h state order types ids same = absurd h.only
 
 -- ---- a chunk
@@ -163,7 +167,8 @@ chunk_unsent known grows failures room memory a b (Io x) columns ids list may h 
   lists = may.lists;
   are = h.are;
   remembers = tt;
-  step = failed_step {X = Unit {0}} known grows failures room memory a b (Io x) (messages_bytes (h.dictionaries ++ h.own ∷ [])) _ (omega arith) h.sends state order;
+  step = failed_step {X = Unit {0}} known grows failures room memory a b (Io x) (messages_bytes (h.dictionaries ++ h.own ∷ [])) _ (omega arith)
+      (delivered {X = Unit {0}} known grows (seen_by failures room memory a.device) (seen_by failures room memory b.device) (Err (Io x)) (messages_bytes (h.dictionaries ++ h.own ∷ [])) h.sends) state order;
 }
 chunk_unsent known grows failures room memory a b _ columns ids list may h state types same_ids same order =
     refused_chunk known grows failures room memory a b _ columns (record { device = h.sends; state = state; types = types; ids = same_ids; dictionaries = same }) order (λ P. tt)

@@ -1,19 +1,31 @@
 -- What the sending of messages to a device does.
-use Rattle.std.specs.Prelude.{◌≡◌, ℕ, ◌<◌, ◌⊎◌, Bool, IsTrue, List, [], ◌∷◌, ◌++◌, Result, Ok, Err}
+use Rattle.std.specs.Prelude.{◌≡◌, ℕ, ◌<◌, ◌≤◌, ◌⊎◌, Bool, IsTrue, List, [], ◌∷◌, ◌++◌, length, Result, Ok, Err, OnOk, OnErr, IfErr}
 use Rattle.lower_types.specs.declared.Endianness.{Endianness}
 use Rattle.lower_arrays.specs.Layouts.{Layout}
-use Rattle.ipc_devices.specs.Device.{Memory, Rises}
+use Rattle.ipc_devices.specs.Device.{Memory, Rises, WritesOver}
+use Rattle.ipc_devices.specs.Faults.{IsIo}
 use Rattle.ipc_devices.specs.declared.fault.Fault.{Fault}
 use Rattle.ipc_devices.specs.declared.fault.Fault.TheVariants.{Argument, Io}
 use Rattle.ipc_devices.specs.declared.fault.ArgFault.TheVariants.{TooLarge}
 use Rattle.ipc_model.specs.Offers.{FilledPlace}
-use Rattle.ipc_plan.specs.Sending.{Sends, seen_by}
+use Rattle.ipc_plan.specs.Sending.{DeviceSeen, Sends, WritesSome, seen_by}
 use Rattle.ipc_write.specs.Messages.{messages_bytes}
 use Rattle.ipc_chunks.specs.Messages.{AreMessages, Message}
 
 -- The device counted a failure, or it is memory that had no room for so many bytes and was refused its growth.
 abbrev pub FailsOrIsFull : (grows : Bool) → (old new room count : ℕ) → Type 0
 FailsOrIsFull grows old new room count = Rises old new ⊎ (IsTrue grows × (room < count))
+
+-- A call that sends these bytes to a device, and may flush it. It fails with `Io` alone, where the
+-- device counted a failure or has too little room; what went out are the first bytes. If it returns
+-- Ok, all of them went out, and no call of the device failed.
+pub record Delivers {X : Type 0} (known grows : Bool) (d d' : DeviceSeen) (r : Result X Fault) (bytes : List ℕ) : Type 0 where
+  pub monotone : d.failures ≤ d'.failures
+  pub failed : OnErr r (FailsOrIsFull grows d.failures d'.failures d.room (length bytes))
+  pub only : IfErr r (λ e. IsIo e)
+  pub done : OnOk r (d'.failures ≡ d.failures)
+  pub memory : IsTrue known → OnOk r (WritesOver d.memory d'.memory bytes)
+  pub part : IsTrue known → WritesSome d.memory d'.memory bytes
 
 -- A call that sends these bytes, or refuses them as too large, for this reason: then nothing is sent.
 abbrev pub SendsOrRefuses : {X W : Type 0} (known grows : Bool) (failures room : W → ℕ) (memory : W → Memory) → W → Result X Fault → W → List ℕ → Type 0 → Type 0

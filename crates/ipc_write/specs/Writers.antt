@@ -126,12 +126,14 @@ pub record Kept {W : Type 0} (a b : WriterSeen W) : Type 0 where
   pub ids : b.ids ≡ a.ids
   pub dictionaries : IsSameMemory a.dictionaries b.dictionaries
 
--- What a call that sends these bytes does to its device, and what a refused one leaves.
+-- What a call that sends these bytes does to its device, and what a refused one leaves. If it
+-- returns Ok, no call of the device failed.
 pub record SendStep {W : Type 0} (known grows : Bool) (failures room : W → ℕ) (memory : W → Memory) (a : WriterSeen W) (r : Result Unit Fault) (b : WriterSeen W) (bytes : List ℕ) (count : ℕ) : Type 0 where
   pub monotone : failures a.device ≤ failures b.device
   pub order : b.order ≡ a.order
   pub io : OnIo r ((b.state ≡ Failed) × FailsOrIsFull grows (failures a.device) (failures b.device) (room a.device) count)
   pub refused : OnRefused r (Kept a b)
+  pub done : OnOk r (failures b.device ≡ failures a.device)
   pub all_sent : IsTrue known → OnOk r (WritesOver (memory a.device) (memory b.device) bytes)
   pub some_sent : IsTrue known → WritesSome (memory a.device) (memory b.device) bytes
 

@@ -16,7 +16,8 @@ ghost use Rattle.ipc_write.specs.Agreement.{Appends, BeginsStream, IsFresh, Rema
 ghost use Rattle.ipc_write.specs.Framing.{message_bytes, prefix_bytes};
 ghost use Rattle.ipc_write.specs.Meaning.{chunk_written, normal_types};
 ghost use Rattle.ipc_write.specs.Messages.{RefusesHanding};
-ghost use Rattle.ipc_write.specs.Sending.{HandsMessages, SendsOrRefuses};
+ghost use Rattle.ipc_plan.specs.Sending.{seen_by};
+ghost use Rattle.ipc_write.specs.Sending.{Delivers, HandsMessages, SendsOrRefuses};
 ghost use Rattle.ipc_write.specs.Writers.{HaveTypes, LeavesState, MayList, RefusesChunk, RefusesFinish, RefusesStart, RefusesTypes, RefusesWrite, SendStep, SendsStep, SendsSchema, StartsWith, StateComesFirst, TakesChunk, WritesExactly, chosen_ids, fault_unless_new, fault_unless_started, normal_view, order_of, seen, seen_ids};
 
 mod writer;
@@ -106,6 +107,16 @@ fn send_chunk<W: Writes>(
     let messages = encode_messages(alloc, columns, dictionaries, is_little_endian(order))?;
     let sent = write_messages(writer, &messages);
     note_failure(state, sent)
+}
+
+// Sends the mark that ends a stream, and then what the device may have kept back.
+fn send_mark<W: Writes>(writer: &mut W) -> Result<(), Fault>
+    ensures sends { Delivers W.known W.grows (seen_by W.failures W.room W.memory writer.old)
+        (seen_by W.failures W.room W.memory writer.new) result (prefix_bytes (pos 0)) }
+{
+    write_continuation(writer, 0)?;
+    writer.flush()?;
+    Ok(())
 }
 
 // The types of the fields.
@@ -261,12 +272,12 @@ impl<W: Writes + Drop> StreamWriter<W> {
         Ok(())
     }
 
-    /// Writes the mark that ends a stream.
+    /// Writes the mark that ends a stream, and flushes the device.
     ///
     /// Faults: `State(NotStarted)`, `State(Finished)`, `State(Failed)` by the writer's state, after
-    /// which nothing was sent and the writer is as it was; `Io` where the device failed, or where it is
-    /// memory whose growth was refused, after which each later `start`, `write` and `finish` answers
-    /// `State(Failed)`.
+    /// which nothing was sent and the writer is as it was; `Io` where a write or the flush failed,
+    /// or where the device is memory whose growth was refused, after which each later `start`,
+    /// `write` and `finish` answers `State(Failed)`.
     pub fn finish(&mut self) -> Result<(), Fault>
         ensures first { StateComesFirst (fault_unless_started (seen self.old).state) (seen self.old) result (seen self.new) }
         ensures step { SendStep W.known W.grows W.failures W.room W.memory (seen self.old) result (seen self.new)
@@ -276,7 +287,7 @@ impl<W: Writes + Drop> StreamWriter<W> {
         ensures means { Remains W.known W.memory (seen self.old) (seen self.new) }
     {
         check_started(self.state)?;
-        match write_continuation(&mut self.writer, 0) {
+        match send_mark(&mut self.writer) {
             Ok(_) => {
                 self.state = WriterState::Finished;
                 Ok(())

@@ -73,10 +73,12 @@ fn open_stream<R: Reads + Drop>(
 }
 
 impl<'a, W: Writes> Sink for Printer<'a, W> {
-    // Nothing is said of what it printed.
+    // Nothing is said of what it printed, nor of its device.
     ghost took = { λ a chunks b. Unit {0} };
 
     ghost refuses = { λ a columns e. ⊥ };
+
+    ghost failures = { λ a. 0 };
 
     ghost took_nothing = { λ a. tt };
 

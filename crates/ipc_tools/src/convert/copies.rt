@@ -3,6 +3,7 @@ ghost use Rattle.std.specs.Prelude.{◌≡◌, [], IfErr, IfOk, IsTrue, OnOk};
 ghost use Rattle.ipc_devices.specs.Faults.{OwnFault};
 ghost use Rattle.ipc_model.specs.Streams.{marked};
 ghost use Rattle.ipc_write.specs.Writers.{order_of};
+ghost use Rattle.ipc_convert.specs.Chunks.{NoneFailed};
 ghost use Rattle.ipc_convert.specs.Copies.{AppendsTo, CopiesFileOf, CopiesStream, TakesStream, WritesFile, WritesStream};
 ghost use Rattle.ipc_tools.specs.Refusals.{AppendsNone, CopiesNoInput, CopiesNoOpened};
 ghost use Rattle.ipc_tools.specs.Written.{CopiesInput, CopiesOpened};
@@ -25,6 +26,7 @@ pub fn copy_input<R: Reads, O: Writes>(
     write_options: WriteOptions,
 ) -> Result<(), Fault>
     ensures takes { OnOk result (TakesStream R.gives input.old input.new) }
+    ensures done { OnOk result (R.failures input.new ≡ R.failures input.old) }
     ensures copies { IsTrue O.known → OnOk result
         (CopiesInput R.gives input.old input.new target write_options (O.memory out.old) (O.memory out.new)) }
     ensures refused { IfErr result (λ e. OwnFault e
@@ -62,6 +64,8 @@ pub fn append_input<F: Reads + Writes + Seeks + Drop, R: Reads>(
     input: &mut R,
 ) -> Result<F, Fault>
     ensures takes { IfOk result (λ device. TakesStream R.gives input.old input.new) }
+    ensures done { IfOk result (λ device.
+        NoneFailed F.failures R.failures file input.old device input.new) }
     ensures appends { IsTrue F.known → (F.memory file).place ≡ 0 → IfOk result (λ device. CopiesStream R.gives input.old input.new
         (λ schema chunks _. AppendsTo (F.memory file).whole (F.memory device).whole schema chunks)) }
     ensures refused { IfErr result (λ e. OwnFault e (AppendsNone R.gives R.known R.memory input.old F.known F.memory file e)) }
@@ -78,6 +82,7 @@ fn input_to_stream<R: Reads, O: Writes>(
     write_options: WriteOptions,
 ) -> Result<(), Fault>
     ensures takes { OnOk result (TakesStream R.gives input.old input.new) }
+    ensures done { OnOk result (R.failures input.new ≡ R.failures input.old) }
     ensures copies { IsTrue O.known → OnOk result (CopiesStream R.gives input.old input.new
         (WritesStream (order_of write_options) (O.memory out.old) (O.memory out.new))) }
     ensures refused { IfErr result (λ e. OwnFault e
@@ -101,6 +106,7 @@ fn input_to_file<R: Reads, O: Writes>(
     write_options: WriteOptions,
 ) -> Result<(), Fault>
     ensures takes { OnOk result (TakesStream R.gives input.old input.new) }
+    ensures done { OnOk result (R.failures input.new ≡ R.failures input.old) }
     ensures copies { IsTrue O.known → OnOk result (CopiesStream R.gives input.old input.new
         (λ schema chunks _. WritesFile (order_of write_options) (O.memory out.old) (O.memory out.new) schema [] chunks)) }
     ensures refused { IfErr result (λ e. OwnFault e
@@ -128,7 +134,8 @@ fn opened_to_stream<F: Reads + Seeks + Drop, O: Writes>(
     ensures refused { IfErr result (λ e. OwnFault e
         (CopiesNoOpened F.known F.memory file O.known O.memory out.old Target.Stream write_options e)) }
 {
-    let out = file_to_stream(alloc, file, LentWriter::new(out), write_options)?;
+    let (file, out) = file_to_stream(alloc, file, LentWriter::new(out), write_options)?;
+    drop(file);
     out.into_inner();
     Ok(())
 }
@@ -144,7 +151,8 @@ fn opened_to_file<F: Reads + Seeks + Drop, O: Writes>(
     ensures refused { IfErr result (λ e. OwnFault e
         (CopiesNoOpened F.known F.memory file O.known O.memory out.old Target.File write_options e)) }
 {
-    let out = file_to_file(alloc, file, LentWriter::new(out), write_options)?;
+    let (file, out) = file_to_file(alloc, file, LentWriter::new(out), write_options)?;
+    drop(file);
     out.into_inner();
     Ok(())
 }

@@ -12,6 +12,7 @@ use Rattle.ipc_convert.proofs.Conversions.{stream_taken_so}
 use Rattle.ipc_convert.proofs.CopyFaults.{memory_alone, stream_blocks_stop}
 use Rattle.ipc_convert.proofs.Refused.{front_refused}
 use Rattle.ipc_convert.specs.Refusals.{RefusesBehind}
+use Rattle.ipc_convert.proofs.Unfailed.{takes_unfailed, where_ok}
 use Rattle.ipc_convert.proofs.append.append_stream.Goals as goal
 
 pub returns-clause-takes : goal.returns-clause-takes
@@ -28,9 +29,9 @@ returns-clause-appends g c = λ k front.
     stream_appended g.R.Reads.gives g.F.Failures.known g.F.Writes.grows g.F.Failures.failures g.F.Writes.room g.F.Failures.memory g.met.R.Reads.gives_in_order
     c.args.file c.read_file_metadata.new.reader _ c.args.input c.read_stream_metadata.new.reader _ (file_seen c.in_ok-metadata.metadata) c.in_ok-metadata-2.metadata c.in_ok-reader.reader c.copy_chunks-copied.new.source
     c.in_ok-writer.writer c.copy_chunks-copied.new.sink c.finish_file.new.writer c.copy_chunks-copied.result c.in_ok-finish_file.field-0
-    k (c.in_ok-metadata.ensures.memory k front) (c.in_ok-metadata.ensures.whole (g.met.F.Seeks.known_still k)) made.ok made.means made.again
+    k (c.in_ok-metadata.ensures.memory k front) (c.in_ok-metadata.ensures.whole (g.met.F.Seeks.known_still k)) made.ok.goes_on made.means made.again
     c.in_ok-metadata-2.ensures.gives c.in_ok-reader.ensures.ok c.in_ok-reader.ensures.asked
-    (same.0.0 ∙ ap norm_schema (c.schema.ensures ∙ (λ i. (made.ok.fields i, made.ok.metadata i))), same.0.1 ∙ ap all_ids_view c.deref.ensures.value ∙ ap (λ x. x.0) c.in_ok-ids.ensures)
+    (same.0.0 ∙ ap norm_schema (c.schema.ensures ∙ (λ i. (made.ok.goes_on.fields i, made.ok.goes_on.metadata i))), same.0.1 ∙ ap all_ids_view c.deref.ensures.value ∙ ap (λ x. x.0) c.in_ok-ids.ensures)
     c.copy_chunks-copied.ensures.copied c.in_ok-finish_file.ensures.ends c.into_inner-2.ensures c.into_inner.ensures
 
 pub returns-in_err-metadata-clause-refused : goal.returns-in_err-metadata-clause-refused
@@ -60,7 +61,7 @@ returns-in_err-check_schema-clause-refused g c = λ k front.
     rw (p.1, p.2) (appended_refused g.F.Failures.known g.F.Failures.memory c.args.file c.read_file_metadata.new.reader (file_seen c.in_ok-metadata.metadata) g.R.Reads.gives g.R.Failures.known g.R.Failures.memory c.args.input c.in_err-check_schema.field-0.0 _
     (c.in_ok-metadata.ensures.memory k front) (c.in_ok-metadata.ensures.whole (g.met.F.Seeks.known_still k))
     (other_schema g.F.Failures.known g.F.Failures.memory (file_seen c.in_ok-metadata.metadata) c.read_file_metadata.new.reader g.R.Reads.gives g.R.Failures.known g.R.Failures.memory g.met.R.Reads.gives_ahead c.args.input _ c.in_ok-metadata-2.metadata c.in_err-check_schema.field-0.0
-    _ _ c.in_ok-metadata-2.ensures.gives (c.schema.ensures ∙ (λ i. (made.ok.fields i, made.ok.metadata i))) (ap all_ids_view c.deref.ensures.value ∙ ap (λ x. x.0) c.in_ok-ids.ensures)
+    _ _ c.in_ok-metadata-2.ensures.gives (c.schema.ensures ∙ (λ i. (made.ok.goes_on.fields i, made.ok.goes_on.metadata i))) (ap all_ids_view c.deref.ensures.value ∙ ap (λ x. x.0) c.in_ok-ids.ensures)
     c.in_err-check_schema.ensures.only c.in_err-check_schema.ensures.exact))
 
 pub returns-in_err-reader-clause-refused : goal.returns-in_err-reader-clause-refused
@@ -76,7 +77,15 @@ returns-in_err-finish_file-clause-refused g c = λ k front.
     rw (p.1, p.2) (appended_refused g.F.Failures.known g.F.Failures.memory c.args.file device m g.R.Reads.gives g.R.Failures.known g.R.Failures.memory c.args.input c.in_err-finish_file.field-0.0 _
     (c.in_ok-metadata.ensures.memory k front) (c.in_ok-metadata.ensures.whole (g.met.F.Seeks.known_still k))
     (stream_blocks_stop g.F.Failures.known g.F.Failures.memory (GoesOn g.F.Failures.known g.F.Failures.memory m device)
-    c.in_ok-writer.writer c.copy_chunks-copied.new.sink c.finish_file.new.writer c.in_err-finish_file.field-0.0 c.in_ok-writer.ensures.ok
+    c.in_ok-writer.writer c.copy_chunks-copied.new.sink c.finish_file.new.writer c.in_err-finish_file.field-0.0 c.in_ok-writer.ensures.ok.goes_on
     g.R.Reads.gives g.R.Failures.known g.R.Failures.memory g.met.R.Reads.gives_in_order g.met.R.Reads.gives_ahead c.args.input c.read_stream_metadata.new.reader c.in_ok-metadata-2.metadata c.in_ok-reader.reader c.copy_chunks-copied.new.source
     c.in_ok-metadata-2.ensures.gives c.in_ok-reader.ensures.ok c.in_ok-reader.ensures.asked (RefusesBehind g.F.Failures.known g.F.Failures.memory m device) (λ first no. inr no)
     c.copy_chunks-copied.result c.copy_chunks-copied.ensures.stops c.copy_chunks-copied.ensures.copied c.in_err-finish_file.ensures.anyway))
+
+pub returns-clause-done : goal.returns-clause-done
+returns-clause-done g c =
+    let ends = c.in_ok-finish_file.ensures.ends in
+    let copied = where_ok _ c.copy_chunks-copied.result c.in_ok-finish_file.field-0 ends.all c.copy_chunks-copied.ensures.done in (
+      ap g.F.Failures.failures c.into_inner.ensures ∙ ends.sends.step.done ∙ copied.1 ∙ c.in_ok-writer.ensures.ok.done ∙ c.in_ok-metadata.ensures.told,
+      takes_unfailed g.R.Reads.gives g.R.Failures.failures g.met.R.Reads.gives_fails c.args.input _ (returns-clause-takes g c),
+    )

@@ -1,4 +1,4 @@
-use Rattle.std.proofs.Common.{◌∙◌}
+use Rattle.std.proofs.Common.{ap, ◌∙◌}
 use Rattle.std.proofs.lemmas.Result.{err_from_is_err_and}
 use Rattle.lower.specs.TypeViews.{fields_view, pairs_of}
 use Rattle.ipc_base.specs.IdTrees.{all_ids_view}
@@ -27,3 +27,6 @@ returns-in_err-start-clause-only g c =
     let takes = c.in_ok-set_custom_metadata.ensures.ok in
     rw (p.1, p.2) (begin_refused (seen c.set_custom_metadata.new.self) _ _ (all_ids_view c.args.ids.items) (pairs_of c.args.pairs.entries) c.in_err-start.field-0.0
     (takes.state ∙ made.state) (takes.fields ∙ made.file.fields_are) (takes.metadata ∙ made.file.metadata_are) (takes.chosen ∙ made.file.chosen_are) c.in_err-start.ensures.only)
+
+pub returns-clause-done : goal.returns-clause-done
+returns-clause-done g c = c.in_ok-start.ensures.step.step.done ∙ ap g.W.Failures.failures (c.in_ok-set_custom_metadata.ensures.ok.device ∙ c.in_ok-writer.ensures.device)

@@ -1,4 +1,4 @@
-use Rattle.std.proofs.Common.{ap, inl, inr, subst}
+use Rattle.std.proofs.Common.{ap, inl, inr, subst, ◌∙◌}
 use Rattle.std.proofs.lemmas.Result.{err_from_is_err_and}
 use Rattle.ipc_devices.proofs.Claims.{claims_through}
 use Rattle.ipc_devices.specs.Faults.{OwnFault}
@@ -10,6 +10,7 @@ use Rattle.ipc_convert.proofs.CopyFaults.{file_blocks_stop, file_front_refused, 
 use Rattle.ipc_convert.proofs.Refused.{file_schema_refused}
 use Rattle.ipc_convert.specs.Refusals.{RefusesAsFile}
 use Rattle.ipc_convert.specs.Steps.{BeginsFile}
+use Rattle.ipc_convert.proofs.Unfailed.{where_ok}
 use Rattle.ipc_convert.proofs.files.file_to_file.Goals as goal
 
 pub returns-clause-copies : goal.returns-clause-copies
@@ -55,3 +56,11 @@ returns-in_err-finish_file-clause-refused g c = λ there front.
     (c.in_ok-metadata.ensures.memory there front) (c.in_ok-metadata.ensures.whole (g.met.F.Seeks.known_still there)) c.in_ok-reader.ensures.ok
     (λ first schema pairs. RefusesAsFile g.W.Failures.known g.W.Failures.memory c.args.out (order_of c.args.write_options) pairs first schema) (λ first no. inr no)
     c.copy_chunks-copied.result c.copy_chunks-copied.ensures.stops c.copy_chunks-copied.ensures.copied c.in_err-finish_file.ensures.anyway)
+
+pub returns-clause-done : goal.returns-clause-done
+returns-clause-done g c =
+    let ends = c.in_ok-finish_file.ensures.ends in
+    let copied = where_ok _ c.copy_chunks-copied.result c.in_ok-finish_file.field-0 ends.all c.copy_chunks-copied.ensures.done in (
+      ap g.F.Failures.failures c.into_inner-file.ensures ∙ copied.0 ∙ ap g.F.Failures.failures c.in_ok-reader.ensures.ok.device ∙ c.in_ok-metadata.ensures.told,
+      ap g.W.Failures.failures c.into_inner.ensures ∙ ends.sends.step.done ∙ copied.1 ∙ c.in_ok-writer.ensures.done,
+    )

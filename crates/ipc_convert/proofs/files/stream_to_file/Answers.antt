@@ -1,4 +1,4 @@
-use Rattle.std.proofs.Common.{[], ap, inl, inr}
+use Rattle.std.proofs.Common.{[], ap, inl, inr, ◌∙◌}
 use Rattle.std.proofs.lemmas.Result.{err_from_is_err_and}
 use Rattle.lower.specs.TypeViews.{pairs_of}
 use Rattle.ipc_devices.proofs.Claims.{claims_through}
@@ -9,6 +9,7 @@ use Rattle.ipc_convert.proofs.CopyFaults.{memory_alone, same_begun, same_refused
 use Rattle.ipc_convert.proofs.Refused.{front_refused, schema_refused}
 use Rattle.ipc_convert.specs.Refusals.{RefusesAsFile}
 use Rattle.ipc_convert.specs.Steps.{BeginsFile}
+use Rattle.ipc_convert.proofs.Unfailed.{takes_unfailed, where_ok}
 use Rattle.ipc_convert.proofs.files.stream_to_file.Goals as goal
 
 pub returns-clause-takes : goal.returns-clause-takes
@@ -57,3 +58,11 @@ returns-in_err-finish_file-clause-refused g c =
     g.R.Reads.gives g.R.Failures.known g.R.Failures.memory g.met.R.Reads.gives_in_order g.met.R.Reads.gives_ahead c.args.input c.read_stream_metadata.new.reader m c.in_ok-reader.reader c.copy_chunks-copied.new.source
     c.in_ok-metadata.ensures.gives c.in_ok-reader.ensures.ok c.in_ok-reader.ensures.asked (RefusesAsFile g.W.Failures.known g.W.Failures.memory c.args.out (order_of c.args.write_options) []) (λ first no. inr no)
     c.copy_chunks-copied.result c.copy_chunks-copied.ensures.stops c.copy_chunks-copied.ensures.copied c.in_err-finish_file.ensures.anyway)
+
+pub returns-clause-done : goal.returns-clause-done
+returns-clause-done g c =
+    let ends = c.in_ok-finish_file.ensures.ends in
+    let copied = where_ok _ c.copy_chunks-copied.result c.in_ok-finish_file.field-0 ends.all c.copy_chunks-copied.ensures.done in (
+      takes_unfailed g.R.Reads.gives g.R.Failures.failures g.met.R.Reads.gives_fails c.args.input _ (returns-clause-takes g c),
+      ap g.W.Failures.failures c.into_inner-2.ensures ∙ ends.sends.step.done ∙ copied.1 ∙ c.in_ok-writer.ensures.done,
+    )

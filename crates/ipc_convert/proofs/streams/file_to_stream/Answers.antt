@@ -2,11 +2,12 @@ use Rattle.std.proofs.Common.{ap, subst, ◌∙◌}
 use Rattle.ipc_devices.specs.Faults.{OwnFault}
 use Rattle.ipc_files.specs.Files.{FileReason}
 use Rattle.std.proofs.lemmas.Result.{err_from_is_err_and}
-use Rattle.ipc_write.specs.Writers.{order_of}
+use Rattle.ipc_write.specs.Writers.{order_of, seen}
 use Rattle.ipc_convert.proofs.Conversions.{file_streamed}
 use Rattle.ipc_convert.proofs.CopyFaults.{file_copy_stops, file_front_refused, file_start_stops, memory_alone}
 use Rattle.ipc_convert.proofs.Refused.{mark_refused}
 use Rattle.ipc_convert.specs.Refusals.{RefusesAsStream}
+use Rattle.ipc_convert.proofs.Unfailed.{handed_unfailed}
 use Rattle.ipc_convert.proofs.streams.file_to_stream.Goals as goal
 
 pub returns-clause-copies : goal.returns-clause-copies
@@ -51,3 +52,10 @@ pub returns-in_err-end_stream-clause-refused : goal.returns-in_err-end_stream-cl
 returns-in_err-end_stream-clause-refused g c = λ there front.
     let p = err_from_is_err_and c.from_residual-in_err-end_stream.result c.from_residual-in_err-end_stream.ensures.1 in
     rw (p.1, p.2) (mark_refused _ c.in_err-end_stream.field-0.0 _ (c.in_ok-ending.ensures.copied.handed.took_all.state ∙ c.in_ok-start.ensures.ok.is) c.in_err-end_stream.ensures.only)
+
+pub returns-clause-done : goal.returns-clause-done
+returns-clause-done g c = (
+  ap g.F.Failures.failures c.into_inner-file.ensures ∙ c.in_ok-ending.ensures.done.0 ∙ ap g.F.Failures.failures c.in_ok-reader.ensures.ok.device ∙ c.in_ok-metadata.ensures.told,
+  handed_unfailed g.W.Failures.failures c.args.out (seen c.new-writer.result).device (seen c.start.new.self).device (seen c.copy_chunks.new.sink).device (seen c.end_stream.new.writer).device _
+      c.new-writer.ensures.device c.in_ok-start.ensures.step.step.done c.in_ok-ending.ensures.done.1 c.in_ok-end_stream.ensures.done c.into_inner.ensures,
+)

@@ -1,11 +1,12 @@
 use Rattle.std.proofs.Common.{ap, ◌∙◌}
 use Rattle.std.proofs.lemmas.Result.{err_from_is_err_and}
-use Rattle.ipc_write.specs.Writers.{order_of}
+use Rattle.ipc_write.specs.Writers.{order_of, seen}
 use Rattle.ipc_convert.proofs.Conversions.{stream_streamed, stream_taken}
 use Rattle.ipc_convert.proofs.CopyFaults.{memory_alone, stream_copy_stops, stream_start_stops}
 use Rattle.ipc_convert.proofs.Refused.{front_refused, mark_refused}
 use Rattle.ipc_convert.specs.Refusals.{RefusesAsStream}
 use Rattle.ipc_convert.specs.Sinks.{StreamTook}
+use Rattle.ipc_convert.proofs.Unfailed.{handed_unfailed, takes_unfailed}
 use Rattle.ipc_convert.proofs.streams.stream_to_stream.Goals as goal
 
 pub returns-clause-takes : goal.returns-clause-takes
@@ -55,3 +56,10 @@ pub returns-in_err-end_stream-clause-refused : goal.returns-in_err-end_stream-cl
 returns-in_err-end_stream-clause-refused g c =
     let p = err_from_is_err_and c.from_residual-in_err-end_stream.result c.from_residual-in_err-end_stream.ensures.1 in
     rw (p.1, p.2) (mark_refused _ c.in_err-end_stream.field-0.0 _ (c.in_ok-ending.ensures.copied.handed.took_all.state ∙ c.in_ok-start.ensures.ok.is) c.in_err-end_stream.ensures.only)
+
+pub returns-clause-done : goal.returns-clause-done
+returns-clause-done g c = (
+  takes_unfailed g.R.Reads.gives g.R.Failures.failures g.met.R.Reads.gives_fails c.args.input _ (returns-clause-takes g c),
+  handed_unfailed g.W.Failures.failures c.args.out (seen c.new-writer.result).device (seen c.start.new.self).device (seen c.copy_chunks.new.sink).device (seen c.end_stream.new.writer).device _
+      c.new-writer.ensures.device c.in_ok-start.ensures.step.step.done c.in_ok-ending.ensures.done.1 c.in_ok-end_stream.ensures.done c.into_inner-2.ensures,
+)

@@ -1,4 +1,4 @@
-use Rattle.ipc_file_write.proofs.Deliveries.{delivered}
+use Rattle.ipc_write.proofs.Deliveries.{delivered}
 use Rattle.ipc_file_write.proofs.sending.send.Goals as goal
 
 pub returns-clause-sends : goal.returns-clause-sends

@@ -1,4 +1,4 @@
-use Rattle.ipc_file_write.proofs.Deliveries.{delivered}
+use Rattle.ipc_write.proofs.Deliveries.{delivered}
 use Rattle.ipc_write.specs.Messages.{all_seen, messages_bytes}
 use Rattle.ipc_file_write.proofs.sending.send_messages.Goals as goal
 

@@ -15,7 +15,7 @@ loop-at-preserved g c =
     record {
       within = omega (arith, room, length-drop at bytes, c.loop-at.invariant.within);
       sent = before_more _ _ _ _ _ tt _ _ (drop (at + n) bytes) bytes c.loop-at.invariant.sent (split_drop at n bytes _ rest)
-          (one_write _ _ _ _ n _ e.bound e.monotone e.memory e.room);
+          (one_write _ _ _ _ n _ e.bound e.done e.memory e.room);
     }
 
 pub returns-in_err-at : goal.returns-in_err-at

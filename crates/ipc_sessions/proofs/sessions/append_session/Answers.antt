@@ -4,6 +4,7 @@ use Rattle.ipc_devices.proofs.Claims.{claims_through}
 use Rattle.ipc_files.specs.Footers.{file_seen}
 use Rattle.ipc_model.specs.Files.{FileMetadata, metadata_of}
 use Rattle.ipc_sessions.specs.Sessions.{GainsChunks, KeepsOld, RefusesNoOld, taken_of}
+use Rattle.ipc_sessions.proofs.Ends.{done_from}
 use Rattle.ipc_sessions.proofs.Going.{as_read, none_read, refused_as_read, refused_unread}
 use Rattle.ipc_sessions.proofs.sessions.append_session.Goals as goal
 
@@ -47,6 +48,8 @@ returns-clause-made g c = record {
   metadata = file_seen c.in_ok-metadata.metadata;
   metadata_is = λ k. let at = c.in_ok-seek_to.ensures.memory k in ap metadata_of (sym at.whole) ∙ c.in_ok-metadata.ensures.memory k at.place;
   session = c.in_ok-session.ensures.made;
+  done = done_from g.W.Failures.failures c.in_ok-session.session.end c.in_ok-session.session.device c.read_file_metadata.new.reader c.args.device c.in_ok-session.ensures.made.done
+      (c.in_ok-metadata.ensures.told ∙ c.in_ok-seek_to.ensures.done);
 }
 
 pub returns-in_err-metadata-clause-only : goal.returns-in_err-metadata-clause-only

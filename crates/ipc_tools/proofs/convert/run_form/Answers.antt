@@ -1,4 +1,4 @@
-use Rattle.std.proofs.Common.{◌≡◌, ◌⊎◌, Bool, Option, Some, Result, Err, IfErr, IsTrue, ap, ◌∙◌}
+use Rattle.std.proofs.Common.{◌≡◌, ◌⊎◌, ℕ, Bool, Option, Some, Result, Err, IfErr, IsTrue, ap, ◌∙◌}
 use Rattle.ipc_devices.specs.Faults.{IsIo, OwnFault}
 use Rattle.ipc_devices.specs.declared.fault.Fault.{Fault}
 use Rattle.ipc_encode.specs.declared.common.WriteOptions.{WriteOptions}
@@ -16,15 +16,15 @@ use Rattle.ipc_tools.specs.declared.convert.forms.Target.{Target}
 use Rattle.ipc_tools.proofs.Reasons.{copied_or_io}
 use Rattle.ipc_tools.proofs.convert.run_form.Goals as goal
 
-appended : {R F : Type 0} (gives : Gives R) (known : Bool) (memory : F → Memory) (form : Form) (path : _) (file : Option F) (device last : F) (a b : R) → form ≡ Append path → file ≡ Some device
+appended : {R F : Type 0} (gives : Gives R) (known : Bool) (memory : F → Memory) (failures : F → ℕ) (form : Form) (path : _) (file : Option F) (device last : F) (a b : R) → form ≡ Append path → file ≡ Some device → failures last ≡ failures device
     → (IsTrue known → (memory device).place ≡ 0 → CopiesStream gives a b (λ schema cs end. AppendsTo (memory device).whole (memory last).whole schema cs))
-    → Appended gives known memory (wanted_by form) a b file
-appended gives known memory form path file device last a b e f h = rw e (rw f (λ k at. (last, h k at)))
+    → Appended gives known memory failures (wanted_by form) a b file
+appended gives known memory failures form path file device last a b e f same h = rw e (rw f (last, (same, h)))
 
 pub returns-in_ok-append_input-in-Append-clause-appended : goal.returns-in_ok-append_input-in-Append-clause-appended
 returns-in_ok-append_input-in-Append-clause-appended g c =
-    appended g.R.Reads.gives g.F.Failures.known g.F.Failures.memory c.args.form _ c.args.file c.in_ok-opened-in-Append.field-0 c.in_ok-append_input-in-Append.field-0 _ _
-    c.in-Append.is c.in_ok-opened-in-Append.ensures.there c.in_ok-append_input-in-Append.ensures.appends
+    appended g.R.Reads.gives g.F.Failures.known g.F.Failures.memory g.F.Failures.failures c.args.form _ c.args.file c.in_ok-opened-in-Append.field-0 c.in_ok-append_input-in-Append.field-0 _ _
+    c.in-Append.is c.in_ok-opened-in-Append.ensures.there c.in_ok-append_input-in-Append.ensures.done.0 c.in_ok-append_input-in-Append.ensures.appends
 
 copied_opened : {R F O : Type 0} (gives : Gives R) (fills : Bool) (source : R → Memory) (held : Bool) (contents : F → Memory) (known : Bool) (memory : O → Memory) (form : Form) (from : Source) (path : _)
     (target : Target) (options : WriteOptions) (input : R) (file : Option F) (device : F) (out : O) (copied result : Result (Unit {0}) Fault) → form ≡ Convert from target options → from ≡ File path → file ≡ Some device

@@ -10,6 +10,9 @@ returns-clause-taken g c =
     c.write.ensures.exact c.write.ensures.named c.write.ensures.means)
     c.write.ensures.step
 
+pub returns-clause-done : goal.returns-clause-done
+returns-clause-done g c = c.write.ensures.step.step.done
+
 pub returns-clause-kept : goal.returns-clause-kept
 returns-clause-kept g c =
     file_kept g.W.Failures.known g.W.Writes.grows g.W.Failures.failures g.W.Writes.room g.W.Failures.memory (seen c.args.self.now) (seen c.write.new.self) _ c.write.result

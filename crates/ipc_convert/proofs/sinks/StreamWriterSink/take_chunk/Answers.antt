@@ -5,6 +5,9 @@ use Rattle.ipc_convert.proofs.sinks.StreamWriterSink.take_chunk.Goals as goal
 pub returns-clause-taken : goal.returns-clause-taken
 returns-clause-taken g c = stream_took g.W.Failures.known g.W.Failures.memory (seen c.args.self.now) (seen c.write.new.self) _ _ c.write.result c.write.ensures.means c.write.ensures.ok
 
+pub returns-clause-done : goal.returns-clause-done
+returns-clause-done g c = c.write.ensures.step.step.done
+
 pub returns-clause-kept : goal.returns-clause-kept
 returns-clause-kept g c =
     stream_kept g.W.Failures.known g.W.Writes.grows g.W.Failures.failures g.W.Writes.room g.W.Failures.memory (seen c.args.self.now) (seen c.write.new.self) _ c.write.result c.write.ensures.means c.write.ensures.step

@@ -24,13 +24,16 @@ returns-in_err-dictionaries-clause-only g c =
     c.in_err-dictionaries.ensures.reason)
 
 pub returns-clause-ok : goal.returns-clause-ok
-returns-clause-ok g c =
-    opened g.W.Failures.known g.W.Failures.memory (file_seen c.args.metadata) c.args.writer _ c.in_ok-place.place c.in_ok-dictionaries.dictionaries c.in_ok-place.ensures.ok c.in_ok-place.ensures.place
-    c.in_ok-dictionaries.ensures.place c.in_ok-dictionaries.ensures.memory (λ id. refl) refl
-    (record { state = refl; order = refl; fields = refl; metadata = refl; ids = refl; pairs = refl; dictionaries = search rules; blocks = refl; size = refl })
+returns-clause-ok g c = record {
+  goes_on =
+      opened g.W.Failures.known g.W.Failures.memory (file_seen c.args.metadata) c.args.writer _ c.in_ok-place.place c.in_ok-dictionaries.dictionaries c.in_ok-place.ensures.ok c.in_ok-place.ensures.place
+      c.in_ok-dictionaries.ensures.place c.in_ok-dictionaries.ensures.memory (λ id. refl) refl
+      (record { state = refl; order = refl; fields = refl; metadata = refl; ids = refl; pairs = refl; dictionaries = search rules; blocks = refl; size = refl });
+  done = c.in_ok-dictionaries.ensures.told;
+}
 
 pub returns-clause-means : goal.returns-clause-means
-returns-clause-means g c = goes_on_with g.W.Failures.known g.W.Failures.memory (file_seen c.args.metadata) c.args.writer _ (returns-clause-ok g c)
+returns-clause-means g c = goes_on_with g.W.Failures.known g.W.Failures.memory (file_seen c.args.metadata) c.args.writer _ (returns-clause-ok g c).goes_on
 
 pub returns-clause-again : goal.returns-clause-again
-returns-clause-again g c = goes_on_any g.W.Failures.known g.W.Failures.memory (file_seen c.args.metadata) c.args.writer _ (returns-clause-ok g c)
+returns-clause-again g c = goes_on_any g.W.Failures.known g.W.Failures.memory (file_seen c.args.metadata) c.args.writer _ (returns-clause-ok g c).goes_on

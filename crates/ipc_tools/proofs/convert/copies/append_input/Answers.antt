@@ -1,10 +1,14 @@
 use Rattle.std.proofs.Common.{rules, inl, inr}
 use Rattle.std.proofs.lemmas.Result.{err_from_is_err_and}
 use Rattle.ipc_tools.proofs.Lending.{copies_stream, file_refused, refuses_appended, takes_stream}
+use Rattle.ipc_convert.proofs.Unfailed.{takes_unfailed}
 use Rattle.ipc_tools.proofs.convert.copies.append_input.Goals as goal
 
 pub returns-clause-takes : goal.returns-clause-takes
 returns-clause-takes g c = takes_stream _ _ _ _ _ c.new.ensures.now (λ e. search rules) c.in_ok-file.ensures.takes
+
+pub returns-clause-done : goal.returns-clause-done
+returns-clause-done g c = (c.in_ok-file.ensures.done.0, takes_unfailed g.R.Reads.gives g.R.Failures.failures g.met.R.Reads.gives_fails _ _ (returns-clause-takes g c))
 
 pub returns-clause-appends : goal.returns-clause-appends
 returns-clause-appends g c known at = copies_stream _ _ _ _ _ _ _ c.new.ensures.now (λ e. search rules) (λ schema cs end h. h) (c.in_ok-file.ensures.appends known at)

@@ -1,10 +1,14 @@
 use Rattle.std.proofs.Common.{rules}
 use Rattle.std.proofs.lemmas.Result.{err_from_is_err_and}
 use Rattle.ipc_tools.proofs.Lending.{copies_stream, given_refused, takes_stream, writes_stream}
+use Rattle.ipc_convert.proofs.Unfailed.{takes_unfailed}
 use Rattle.ipc_tools.proofs.convert.copies.input_to_stream.Goals as goal
 
 pub returns-clause-takes : goal.returns-clause-takes
 returns-clause-takes g c = takes_stream _ _ _ _ _ c.new.ensures.now (λ e. search rules) c.in_ok-input.ensures.takes
+
+pub returns-clause-done : goal.returns-clause-done
+returns-clause-done g c = takes_unfailed g.R.Reads.gives g.R.Failures.failures g.met.R.Reads.gives_fails _ _ (returns-clause-takes g c)
 
 pub returns-clause-copies : goal.returns-clause-copies
 returns-clause-copies g c known =

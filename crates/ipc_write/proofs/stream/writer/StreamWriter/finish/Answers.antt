@@ -1,4 +1,4 @@
-use Rattle.std.proofs.Common.{refl, ℕ, pos, arith}
+use Rattle.std.proofs.Common.{refl, pos, arith}
 use Rattle.ipc_write.specs.Framing.{prefix_bytes}
 use Rattle.ipc_write.proofs.Agreements.{begun_mark, sent_mark}
 use Rattle.ipc_write.proofs.Messages.{length_prefix}
@@ -13,4 +13,4 @@ returns-in-Err-clause-means g c = begun_mark _ _ _ _ c.in_ok-check_started.ensur
 
 pub returns-in-Err-clause-step : goal.returns-in-Err-clause-step
 returns-in-Err-clause-step g c =
-    failed_step {X = ℕ} _ _ _ _ _ _ _ _ (prefix_bytes (pos 0)) 8 (omega (arith, length_prefix (pos 0))) c.in-Err.ensures.sends refl refl
+    failed_step {X = Unit {0}} _ _ _ _ _ _ _ _ (prefix_bytes (pos 0)) 8 (omega (arith, length_prefix (pos 0))) c.in-Err.ensures.sends refl refl
