@@ -6,6 +6,7 @@ mod appended;
 mod devices;
 mod encoded;
 mod frames;
+mod limits;
 mod messages;
 pub mod plain_streams;
 pub mod round_trips;
@@ -83,6 +84,8 @@ enum StreamCall {
     BytesBy,
     AreSameBytes,
     HeadOf,
+    CostOf,
+    HeadWithin,
     AnswersOf,
     RoundTripOf,
     WholeOf,
@@ -92,7 +95,7 @@ enum StreamCall {
     DamagedStreamsOf,
 }
 
-const STREAM_CALLS: [(&str, StreamCall); 16] = [
+const STREAM_CALLS: [(&str, StreamCall); 18] = [
     ("framed", StreamCall::Framed),
     ("continuation_of", StreamCall::ContinuationOf),
     ("frames_of", StreamCall::FramesOf),
@@ -102,6 +105,8 @@ const STREAM_CALLS: [(&str, StreamCall); 16] = [
     ("bytes_by", StreamCall::BytesBy),
     ("are_same_bytes", StreamCall::AreSameBytes),
     ("head_of", StreamCall::HeadOf),
+    ("cost_of", StreamCall::CostOf),
+    ("head_within", StreamCall::HeadWithin),
     ("answers_of", StreamCall::AnswersOf),
     ("round_trip_of", StreamCall::RoundTripOf),
     ("whole_of", StreamCall::WholeOf),
@@ -125,6 +130,8 @@ fn put_stream_call(d: &mut Decoder, out: &mut Text, name: &str, parts: &Value) -
         StreamCall::BytesBy => streams::bytes_by(d, out, parts),
         StreamCall::AreSameBytes => streams::are_same_bytes(d, out, parts),
         StreamCall::HeadOf => streams::head_of(d, out, parts),
+        StreamCall::CostOf => limits::cost_of(d, out, parts),
+        StreamCall::HeadWithin => limits::head_within(d, out, parts),
         StreamCall::AnswersOf => streams::answers_of(d, out, parts),
         StreamCall::RoundTripOf => round_trips::round_trip_of(d, out, parts),
         StreamCall::WholeOf => round_trips::whole_of(d, out, parts),

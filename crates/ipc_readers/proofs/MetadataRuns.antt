@@ -24,33 +24,33 @@ none_begun_yet b h = rw h refl
 
 -- ---- what a frame says of the metadata
 
-broken_says : (xs : List ℕ) (f : Frame) (e : Fault) (rest : List ℕ) → OwnFault e ((f ≡ broken) × (e ≡ frame_fault xs)) → GivesMetadata xs f (Err e) rest
+pub broken_says : (xs : List ℕ) (f : Frame) (e : Fault) (rest : List ℕ) → OwnFault e ((f ≡ broken) × (e ≡ frame_fault xs)) → GivesMetadata xs f (Err e) rest
 broken_says xs (message m behind) e rest h =
     claims_through e ((message m behind ≡ broken) × (e ≡ frame_fault xs)) ((metadata_at m ≡ None) × RefusesMetadata e m) (λ x. let no = x.0 in absurd (cc no)) h
 broken_says xs (mark behind) e rest h = claims_through e ((mark behind ≡ broken) × (e ≡ frame_fault xs)) (e ≡ BadSchema NotASchema) (λ x. let no = x.0 in absurd (cc no)) h
 broken_says xs (waiting bytes) e rest h = claims_through e ((waiting bytes ≡ broken) × (e ≡ frame_fault xs)) (e ≡ Ended) (λ x. let no = x.0 in absurd (cc no)) h
 broken_says xs broken e rest h = claims_through e ((broken ≡ broken) × (e ≡ frame_fault xs)) (e ≡ frame_fault xs) (λ x. x.1) h
 
-mark_says : (xs : List ℕ) (f : Frame) (m q rest : List ℕ) → IsFrame f frames.Mark m q rest → GivesMetadata xs f (Err (BadSchema NotASchema)) rest
+pub mark_says : (xs : List ℕ) (f : Frame) (m q rest : List ℕ) → IsFrame f frames.Mark m q rest → GivesMetadata xs f (Err (BadSchema NotASchema)) rest
 mark_says xs (message m' behind) m q rest h = absurd h
 mark_says xs (mark behind) m q rest h = refl
 mark_says xs (waiting bytes) m q rest h = absurd h
 mark_says xs broken m q rest h = absurd h
 
-waiting_says : (xs : List ℕ) (f : Frame) (m q rest : List ℕ) → IsFrame f frames.Waiting m q rest → GivesMetadata xs f (Err Ended) rest
+pub waiting_says : (xs : List ℕ) (f : Frame) (m q rest : List ℕ) → IsFrame f frames.Waiting m q rest → GivesMetadata xs f (Err Ended) rest
 waiting_says xs (message m' behind) m q rest h = absurd h
 waiting_says xs (mark behind) m q rest h = absurd h
 waiting_says xs (waiting bytes) m q rest h = refl
 waiting_says xs broken m q rest h = absurd h
 
-refused_says : (xs : List ℕ) (f : Frame) (m q rest : List ℕ) (e : Fault) → OwnFault e ((metadata_at m ≡ None) × RefusesMetadata e m) → IsFrame f frames.Message m q rest
+pub refused_says : (xs : List ℕ) (f : Frame) (m q rest : List ℕ) (e : Fault) → OwnFault e ((metadata_at m ≡ None) × RefusesMetadata e m) → IsFrame f frames.Message m q rest
     → GivesMetadata xs f (Err e) rest
 refused_says xs (message m' behind) m q rest e none h = subst (λ (l : List ℕ). OwnFault e ((metadata_at l ≡ None) × RefusesMetadata e l)) h.0 none
 refused_says xs (mark behind) m q rest e none h = absurd h
 refused_says xs (waiting bytes) m q rest e none h = absurd h
 refused_says xs broken m q rest e none h = absurd h
 
-made_says : (xs : List ℕ) (f : Frame) (m q rest : List ℕ) (x : StreamMetadata) → metadata_at m ≡ Some (metadata_seen x) → IsFrame f frames.Message m q rest
+pub made_says : (xs : List ℕ) (f : Frame) (m q rest : List ℕ) (x : StreamMetadata) → metadata_at m ≡ Some (metadata_seen x) → IsFrame f frames.Message m q rest
     → GivesMetadata xs f (Ok x) rest
 made_says xs (message m' behind) m q rest x some h = (subst (λ (l : List ℕ). metadata_at l ≡ Some (metadata_seen x)) h.0 some, h.2)
 made_says xs (mark behind) m q rest x some h = absurd h

@@ -1,3 +1,4 @@
+pub mod Counted
 pub mod FieldLists
 pub mod FieldSteps
 pub mod Found

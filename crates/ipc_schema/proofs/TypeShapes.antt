@@ -2,7 +2,7 @@
 use Rattle.std.proofs.Common.{◌≡◌, ℕ, ℤ, Bool, Option, Vec, Box, Global, ap, sym, ◌∙◌}
 use Rattle.lower.specs.TypeTrees.{TypeTree, FieldTree, single, list, large_list, fixed_list, entries, group, structure, choice}
 use Rattle.lower.specs.TypeViews.{type_step, field_step, type_view, field_view, fields_view, ids_of}
-use Rattle.lower.specs.declared.datatypes.DataType.{DataType, List, FixedSizeList, LargeList, Struct, Union, Map, fold-roll-DataType}
+use Rattle.lower.specs.declared.datatypes.DataType.{List, FixedSizeList, LargeList, Struct, Union, Map, fold-roll-DataType}
 use Rattle.lower.specs.declared.datatypes.DataType.TheVariants.{rolls-List, rolls-FixedSizeList, rolls-LargeList, rolls-Struct, rolls-Union, rolls-Map}
 use Rattle.lower.specs.declared.datatypes.DataType.TheOpen.{DataType-F}
 use Rattle.lower.specs.declared.datatypes.Field.{Field}

@@ -1,16 +1,17 @@
 -- What reading a schema answers.
 use Rattle.std.specs.Prelude.{◌≡◌, ℕ, ◌+◌, ◌<◌, ◌≤◌, nat_eq, Bool, false, if◌then◌else◌, List, option_map, Option, Some, None, IfSome, Result, Ok, Err}
+use Rattle.ipc_devices.specs.Faults.{OwnFault}
 use Rattle.ipc_devices.specs.declared.fault.TableFault.{TableFault}
 use Rattle.ipc_devices.specs.declared.fault.SchemaFault.TheVariants.{NotASchema, Table}
 use Rattle.ipc_devices.specs.declared.fault.Fault.{Fault}
 use Rattle.ipc_devices.specs.declared.fault.Fault.TheVariants.{Memory, OutOfSpec, Schema as BadSchema}
 use Rattle.ipc_devices.specs.declared.fault.OutOfSpecKind.TheVariants.{MissingFields}
 use Rattle.ipc_views.specs.MessageSlots.{message_header}
-use Rattle.ipc_views.specs.SchemaSlots.{schema_fields}
+use Rattle.ipc_views.specs.SchemaSlots.{schema_custom_metadata, schema_endianness, schema_fields}
 use Rattle.ipc_views.specs.Spot.{Spot, Vector}
 use Rattle.ipc_views.specs.Tables.{root_at}
 use Rattle.ipc_model.specs.Batches.{Schema as Meaning}
-use Rattle.ipc_model.specs.Schemas.{given, made, present, schema_at, schema_of}
+use Rattle.ipc_model.specs.Schemas.{given, made, pairs_at, present, schema_at, schema_of}
 
 -- Memory was refused, or a fault of a type, a field or their metadata: then P holds. No other fault comes.
 abbrev pub RefusesWith : Fault → Type 0 → Type 0
@@ -74,3 +75,22 @@ RefusesMessage e m = RefusesWith e (schema_of m ≡ None)
 abbrev pub GivesMessage : {X : Type 0} → (X → Meaning) → Result X Fault → List ℕ → Type 0
 GivesMessage view (Ok x) m = schema_of m ≡ Some (view x)
 GivesMessage view (Err e) m = RefusesMessage e m
+
+-- ---- what a refusal counts
+
+-- The vector of fields, if the schema's table is well made but for them: its byte order, its pairs
+-- and that vector.
+unfoldable pub fields_vector : Spot → Option Vector
+fields_vector t = given (made (schema_endianness t)) (λ order.
+    given (made (schema_custom_metadata t)) (λ v. given (pairs_at v) (λ es. present (schema_fields t))))
+
+abbrev pub header_vector : ℕ × Spot → Option Vector
+header_vector h = if nat_eq h.0 1 then fields_vector h.1 else None
+
+-- the same of a message whose header is a schema
+unfoldable pub message_vector : List ℕ → Option Vector
+message_vector m = given (made (root_at m)) (λ t. given (present (message_header t)) header_vector)
+
+-- A refusal for one of the fields counts at least one table that was opened.
+abbrev pub CountsRefused : Fault → Option Vector → (before after : ℕ) → Type 0
+CountsRefused e fields before after = OwnFault e (IfSome fields (λ _. before < after))

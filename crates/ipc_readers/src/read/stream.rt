@@ -4,5 +4,5 @@ mod next;
 mod reader;
 pub mod runs;
 
-pub use metadata::{StreamMetadata, read_stream_metadata};
+pub use metadata::{StreamMetadata, read_stream_metadata, version_of};
 pub use reader::{StreamReader, StreamState};

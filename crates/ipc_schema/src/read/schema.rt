@@ -2,7 +2,7 @@
 //!
 //! Arrow columnar format, "Schema message": the header of the first message of a stream is a table
 //! `Schema`, whose fields are tables `Field`.
-ghost use Rattle.std.specs.Prelude.{◌≡◌, ◌+◌, ◌<◌, ◌≤◌, ◌^◌, IfOk, length, option_map, string_bytes};
+ghost use Rattle.std.specs.Prelude.{◌≡◌, ◌+◌, ◌<◌, ◌≤◌, ◌^◌, IfErr, IfOk, length, option_map, string_bytes};
 ghost use Rattle.lower.specs.TypeViews.{fields_view, pairs_of, type_view};
 ghost use Rattle.ipc_base.specs.Fitting.{AllFit};
 ghost use Rattle.ipc_base.specs.IdTrees.{all_ids_view};
@@ -10,7 +10,7 @@ ghost use Rattle.ipc_views.specs.SchemaSlots.{field_children, field_dictionary, 
 ghost use Rattle.ipc_views.specs.Tables.{table_in};
 ghost use Rattle.ipc_views.specs.Unions.{type_parts};
 ghost use Rattle.ipc_model.specs.Schemas.{order_of, made, present, given, encoding_at, optional_encoding, encoded, id_of, field_with, field_at, fields_count, fields_from, first_field, some_fields, type_of_field};
-ghost use Rattle.ipc_schema.specs.Reading.{AnswersMeaning, GivesMessage, GivesTable, GivesWithin, IsWithin};
+ghost use Rattle.ipc_schema.specs.Reading.{AnswersMeaning, CountsRefused, GivesMessage, GivesTable, GivesWithin, IsWithin, fields_vector, message_vector};
 ghost use Rattle.ipc_schema.specs.Views.{below_number, byte_order, child_number, child_seen, encoding_seen, field_seen, fields_number, fields_seen, inner_number, schema_seen, type_seen, with_one_id};
 
 use crate::read::metadata::{read_metadata, read_schema_metadata, with_extension};
@@ -132,7 +132,7 @@ fn read_name(alloc: Global, field: &FieldRef<'_>) -> Result<String, Fault>
 }
 
 // The field's table at an index of a vector. Nowhere else is one opened, and each time it is a visit, of
-// which there are `most` at the end.
+// which there are `most` at the end: also where the table is ill-made.
 fn open_field<'a>(
     tables: &Tables<'a, FieldTable>,
     index: usize,
@@ -144,6 +144,7 @@ fn open_field<'a>(
     ensures meaning { GivesWithin (λ t. t) (λ _. 1) most visits.old visits.new result
         (made (table_in tables.now index)) }
     ensures within { IsWithin visits.old visits.new most }
+    ensures counted { visits.old < most → visits.new ≡ visits.old + 1 }
 {
     if *visits == most {
         return Err(Fault::Schema(SchemaFault::TooManyFields));
@@ -294,6 +295,7 @@ fn deserialize_fields(
     ensures meaning { GivesWithin fields_seen fields_number most visits.old visits.new result
         (fields_from (λ s. field_at levels s) tables.now 0 tables.now.count) }
     ensures within { IsWithin visits.old visits.new most }
+    ensures counted { IfErr result (λ _. visits.old < most → visits.old < visits.new) }
 {
     let mut fields = Vec::new(alloc);
     let mut ipc_fields = Vec::new(alloc);
@@ -315,13 +317,15 @@ fn is_little_endian(order: Endianness) -> bool
     }
 }
 
-/// The schema of a table, and what IPC adds to it. `visits` counts how many times the table of a field is
-/// opened, where it stands in the message of the table or wherever else such a table stands.
+/// The schema of a table, and what IPC adds to it. `visits` counts how many times the table of
+/// a field is opened, where it stands in the message of the table or wherever else such a table
+/// stands.
 ///
-/// Faults: those of [`deserialize_schema`] but `Schema(NotASchema)`. Whatever the answer, `visits` grows by
-/// no more than the message has bytes, and where it is Ok, by the number of fields at all levels. `visits` and
-/// the length of the message are together below `2^64`.
-#[tactic(auto, unfolding(ipc_model::specs::Schemas::schema_at))]
+/// Faults: those of [`deserialize_schema`] but `Schema(NotASchema)`. Whatever the answer,
+/// `visits` grows by no more than the message has bytes, and where it is Ok, by the number of
+/// fields at all levels. If the schema is refused for one of its fields, it grows by at least
+/// one. `visits` and the length of the message are together below `2^64`.
+#[tactic(auto, unfolding(ipc_model::specs::Schemas::schema_at, crate::specs::Reading::fields_vector))]
 pub fn fb_to_schema(
     alloc: Global,
     schema: &SchemaRef<'_>,
@@ -331,6 +335,8 @@ pub fn fb_to_schema(
     ensures meaning { GivesTable schema_seen result schema.now }
     ensures counted { IfOk result (λ r. visits.new ≡ visits.old + fields_count (fields_view r.0.fields.items)) }
     ensures within { IsWithin visits.old visits.new (visits.old + length schema.now.message) }
+    ensures refused { IfErr result (λ e.
+        CountsRefused e (fields_vector schema.now) visits.old visits.new) }
 {
     let is_little_endian = is_little_endian(in_schema(schema.endianness())?);
     let metadata = read_schema_metadata(alloc, schema)?;
@@ -348,7 +354,7 @@ pub fn fb_to_schema(
     ))
 }
 
-#[tactic(auto, unfolding(ipc_model::specs::Schemas::schema_of))]
+#[tactic(auto, unfolding(ipc_model::specs::Schemas::schema_of, crate::specs::Reading::message_vector))]
 fn read_message(
     alloc: Global,
     message: &[u8],
@@ -358,6 +364,8 @@ fn read_message(
     ensures meaning { GivesMessage schema_seen result message.now }
     ensures counted { IfOk result (λ r. visits.new ≡ visits.old + fields_count (fields_view r.0.fields.items)) }
     ensures within { IsWithin visits.old visits.new (visits.old + length message.now) }
+    ensures refused { IfErr result (λ e.
+        CountsRefused e (message_vector message.now) visits.old visits.new) }
 {
     let root = in_schema(MessageRef::read_as_root(message))?;
     match in_schema(root.header())? {
@@ -366,12 +374,14 @@ fn read_message(
     }
 }
 
-/// What [`deserialize_schema`] answers, with each visit counted: `visits` grows by one before the table of
-/// a field is opened.
+/// What [`deserialize_schema`] answers, with each visit counted: `visits` grows by one each
+/// time the table of a field is opened, whether that is well made or not.
 ///
-/// Whatever the answer, it grows by no more than the message has bytes, so a field table that is shared over and
-/// over is opened no more often than that. It counts no bytes: each field has a copy of its name, its pairs and its
-/// ids, also where tables share them. Where the answer is Ok, it grows by the number of fields at all levels.
+/// Whatever the answer, it grows by no more than the message has bytes, so a field table that
+/// is shared over and over is opened no more often than that. Where the answer is Ok, it grows
+/// by the number of fields at all levels. If the schema is refused for one of its fields, it
+/// grows by at least one. It counts no bytes: each field has a copy of its name, its pairs and
+/// its ids, also where tables share them.
 ///
 /// `visits` and the length of the message are together below `2^64`.
 pub fn deserialize_schema_counted(
@@ -386,6 +396,8 @@ pub fn deserialize_schema_counted(
         (all_ids_view r.1.fields.items)) }
     ensures counted { IfOk result (λ r. visits.new ≡ visits.old + fields_count (fields_view r.0.fields.items)) }
     ensures within { IsWithin visits.old visits.new (visits.old + length message.now) }
+    ensures refused { IfErr result (λ e.
+        CountsRefused e (message_vector message.now) visits.old visits.new) }
 {
     let read = read_message(alloc, message, visits)?;
     Ok(read)

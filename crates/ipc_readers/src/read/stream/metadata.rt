@@ -43,9 +43,12 @@ impl StreamMetadata {
     }
 }
 
-// The version that a message states.
+/// The version that a message states.
+///
+/// Errors: `Schema(Table(..))` if the message's own table is ill-made;
+/// `OutOfSpec(InvalidFlatbufferVersion)` if its version is.
 #[tactic(auto, unfolding(crate::specs::Metadata::version_at))]
-fn version_of(message: &[u8]) -> Result<MetadataVersion, Fault>
+pub fn version_of(message: &[u8]) -> Result<MetadataVersion, Fault>
     ensures version { result ≡ version_at message.now }
     ensures device { OnIo result ⊥ }
 {

@@ -1,4 +1,4 @@
-use Rattle.std.proofs.Common.{◌≡◌, ℕ, ◌∙◌, ap, String, Global, Bor, Option, Some, None, refl, string_bytes}
+use Rattle.std.proofs.Common.{◌≡◌, ◌∙◌, ap, String, Global, Bor, Option, Some, None, refl, string_bytes}
 use Rattle.std.specs.Option.{option_map, option_copied}
 use Rattle.ipc_schema.proofs.Found.{found}
 use Rattle.ipc_schema.proofs.read.metadata.value_under.Goals as goal

@@ -1,4 +1,4 @@
-use Rattle.std.proofs.Common.{◌≡◌, ◌∙◌, ◌+◌, ◌-◌, ◌<◌, suc, ap, sym, rules, arith, Some}
+use Rattle.std.proofs.Common.{◌≡◌, ◌∙◌, ◌+◌, ◌-◌, suc, ap, sym, rules, arith, Some}
 use Rattle.std.proofs.lemmas.Result.{err_from_is_err_and}
 use Rattle.std.specs.Prelude.{string_bytes}
 use Rattle.std.specs.Option.{option_map}
@@ -8,7 +8,7 @@ use Rattle.ipc_base.specs.IdTrees.{all_ids_view, ids_view}
 use Rattle.ipc_views.specs.SchemaSlots.{field_children}
 use Rattle.ipc_views.specs.Tables.{table_in}
 use Rattle.ipc_views.specs.Unions.{type_parts}
-use Rattle.ipc_model.specs.Schemas.{Read, field_at, field_with, fields_from, first_field, made, present, some_fields, single_at, group_at, size_of}
+use Rattle.ipc_model.specs.Schemas.{Read, field_at, field_with, fields_from, first_field, present, some_fields, single_at, group_at, size_of}
 use Rattle.ipc_schema.specs.Views.{below_number, encoding_seen, type_seen}
 use Rattle.ipc_model.proofs.FieldLists.{count-and, fields-more}
 use Rattle.ipc_model.proofs.Given.{made-some}

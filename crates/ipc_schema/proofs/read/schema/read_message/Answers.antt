@@ -1,4 +1,4 @@
-use Rattle.std.proofs.Common.{◌≡◌, ◌∙◌, ap, sym, Some, Ok, List, ℕ, length, arith}
+use Rattle.std.proofs.Common.{◌∙◌, ap, sym, Some, Ok, List, ℕ, length, arith}
 use Rattle.std.specs.Option.{option_map}
 use Rattle.ipc_views.specs.Tables.{map_ok}
 use Rattle.ipc_views.specs.Unions.{header_parts}

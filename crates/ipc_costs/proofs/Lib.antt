@@ -1,0 +1,4 @@
+pub mod Steps
+pub mod PairWeights
+pub mod TypeSizes
+pub mod Bounds

@@ -1,0 +1,43 @@
+-- How large a schema is that was read: its fields at all levels, its pairs, the ids of its unions,
+-- and the bytes of its texts.
+use Rattle.std.specs.Prelude.{ℕ, ◌+◌, ℤ, List, [], ◌∷◌, length, Option, Some, None}
+use Rattle.lower.specs.TypeTrees.{Pairs, Plain, timestamp, Group, structure, choice, TypeTree, plain, single, group, dictionary, extension, FieldTree, field, FieldTrees, no_fields, more_fields}
+use Rattle.ipc_model.specs.Batches.{Schema}
+
+abbrev pub text_size : Option (List ℕ) → ℕ
+text_size None = 0
+text_size (Some text) = length text
+
+abbrev pub ids_size : Option (List ℤ) → ℕ
+ids_size None = 0
+ids_size (Some ids) = length ids
+
+abbrev pub pairs_size : Pairs → ℕ
+pairs_size [] = 0
+pairs_size (e ∷ es) = 1 + length e.0 + length e.1 + pairs_size es
+
+abbrev pub plain_size : Plain → ℕ
+plain_size (timestamp unit zone) = text_size zone
+plain_size _ = 0
+
+abbrev pub group_size : Group → ℕ
+group_size structure = 0
+group_size (choice ids mode) = ids_size ids
+
+abbrev mutual
+  pub field_size : FieldTree → ℕ
+  field_size (field name t nullable es) = 1 + length name + pairs_size es + type_size t
+
+  pub type_size : TypeTree → ℕ
+  type_size (plain p) = plain_size p
+  type_size (single s f) = field_size f
+  type_size (group g fs) = group_size g + fields_size fs
+  type_size (dictionary keys t ordered) = type_size t
+  type_size (extension name t text) = length name + text_size text + type_size t
+
+  pub fields_size : FieldTrees → ℕ
+  fields_size no_fields = 0
+  fields_size (more_fields f fs) = field_size f + fields_size fs
+
+abbrev pub schema_size : Schema → ℕ
+schema_size schema = fields_size schema.fields + pairs_size schema.metadata

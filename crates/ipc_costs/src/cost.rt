@@ -1,0 +1,271 @@
+//! What reading a schema costs, counted by views of its tables: nothing is copied.
+//!
+//! Arrow columnar format, "Schema message". Tables of a message may share texts, pairs and other
+//! tables, so the schema that is read can be far larger than its message.
+ghost use Rattle.std.specs.Prelude.{◌≡◌, ◌<◌, ◌≤◌, IfSome, Some};
+ghost use Rattle.lower.specs.Normal.{is_extension_key};
+ghost use Rattle.ipc_views.specs.SchemaSlots.{field_custom_metadata, key_value_key, schema_custom_metadata};
+ghost use Rattle.ipc_views.specs.Tables.{table_in, texts};
+ghost use Rattle.ipc_views.specs.Unions.{type_parts};
+ghost use Rattle.ipc_model.specs.Schemas.{present, schema_of};
+ghost use Rattle.ipc_model.specs.Visits.{visits};
+ghost use Rattle.ipc_costs.specs.Costs.{IsCostWithin, Leaves, children_read, field_cost, is_extension, own_cost, pair_cost, schema_cost, schema_table_cost, table_cost, tables_cost, type_cost, typed_cost, vector_cost};
+ghost use Rattle.ipc_costs.specs.Sizes.{schema_size, text_size};
+
+use ipc_devices::fault::TableFault;
+use ipc_views::{
+    FieldRef, FieldTable, KeyValueRef, KeyValueTable, MessageHeaderRef, MessageRef, SchemaRef,
+    Tables, TypeRef, UnionRef,
+};
+
+/// How deep fields may go.
+const MAX_LEVELS: u64 = 64;
+
+// Each private function but three takes an amount, and returns what is left of it after a cost, or
+// None if the cost is greater. So no sum overflows, and no table is opened past the limit.
+
+fn text_left(text: Result<Option<&str>, TableFault>, left: u64) -> Option<u64>
+    ensures { Leaves left (text_size (present (texts text.entry))) result }
+{
+    match text {
+        Ok(Some(text)) => left.checked_sub(text.len() as u64),
+        Ok(None) => Some(left),
+        Err(_) => Some(left),
+    }
+}
+
+const NAME_KEY: &str = "ARROW:extension:name";
+
+const DATA_KEY: &str = "ARROW:extension:metadata";
+
+fn is_extension_key(key: &str) -> bool
+    ensures { result ≡ is_extension_key key.now }
+{
+    NAME_KEY.cmp(key).is_eq() || DATA_KEY.cmp(key).is_eq()
+}
+
+// Whether the key of a pair is one of extensions.
+fn is_extension(pair: &KeyValueRef<'_>) -> bool
+    ensures { result ≡ is_extension (present (key_value_key pair.now)) }
+{
+    match pair.key() {
+        Ok(Some(key)) => is_extension_key(key),
+        Ok(None) => false,
+        Err(_) => false,
+    }
+}
+
+fn pair_left(pair: &KeyValueRef<'_>, left: u64) -> Option<u64>
+    ensures { Leaves left (pair_cost pair.now) result }
+{
+    let left = text_left(pair.key(), left)?;
+    let left = text_left(pair.value(), left)?;
+    if is_extension(pair) {
+        text_left(pair.value(), left)
+    } else {
+        Some(left)
+    }
+}
+
+// The pair's table at an index of a vector, which is opened here.
+fn pair_table_left(tables: &Tables<'_, KeyValueTable>, index: usize, left: u64) -> Option<u64>
+    requires { index < tables.now.count }
+    ensures { Leaves left (table_cost pair_cost (table_in tables.now index)) result }
+{
+    let left = left.checked_sub(1)?;
+    match tables.get(index) {
+        Ok(pair) => pair_left(&pair, left),
+        Err(_) => Some(left),
+    }
+}
+
+#[tactic(auto, using(crate::proofs::Steps::costs))]
+fn pairs_left(tables: &Tables<'_, KeyValueTable>, left: u64) -> Option<u64>
+    ensures { Leaves left (tables_cost pair_cost tables.now 0 tables.now.count) result }
+{
+    let mut left = left;
+    for i in 0..tables.len() {
+        left = pair_table_left(tables, i, left)?;
+    }
+    Some(left)
+}
+
+fn field_pairs_left(field: &FieldRef<'_>, left: u64) -> Option<u64>
+    ensures { Leaves left
+        (vector_cost pair_cost (present (field_custom_metadata field.now))) result }
+{
+    match field.custom_metadata() {
+        Ok(Some(tables)) => pairs_left(&tables, left),
+        Ok(None) => Some(left),
+        Err(_) => Some(left),
+    }
+}
+
+fn schema_pairs_left(schema: &SchemaRef<'_>, left: u64) -> Option<u64>
+    ensures { Leaves left
+        (vector_cost pair_cost (present (schema_custom_metadata schema.now))) result }
+{
+    match schema.custom_metadata() {
+        Ok(Some(tables)) => pairs_left(&tables, left),
+        Ok(None) => Some(left),
+        Err(_) => Some(left),
+    }
+}
+
+// The name and the pairs of a field.
+fn own_left(field: &FieldRef<'_>, left: u64) -> Option<u64>
+    ensures { Leaves left (own_cost field.now) result }
+{
+    let left = text_left(field.name(), left)?;
+    field_pairs_left(field, left)
+}
+
+fn ids_left(union: &UnionRef<'_>, left: u64) -> Option<u64>
+    ensures { Leaves left (type_cost (14, union.now)) result }
+{
+    match union.type_ids() {
+        Ok(Some(ids)) => left.checked_sub(ids.len() as u64),
+        Ok(None) => Some(left),
+        Err(_) => Some(left),
+    }
+}
+
+// What a type itself has to be copied.
+fn type_left(type_: &TypeRef<'_>, left: u64) -> Option<u64>
+    ensures { Leaves left (type_cost (type_parts type_.now)) result }
+{
+    match type_ {
+        TypeRef::Timestamp(timestamp) => text_left(timestamp.timezone(), left),
+        TypeRef::Union(union) => ids_left(union, left),
+        _ => Some(left),
+    }
+}
+
+// How many of its children are read of a field of a type.
+fn children_read(type_: &TypeRef<'_>, count: usize) -> usize
+    ensures value { result ≡ children_read (type_parts type_.now).0 count }
+    ensures within { result ≤ count }
+{
+    match type_ {
+        TypeRef::List(_) => count.min(1),
+        TypeRef::LargeList(_) => count.min(1),
+        TypeRef::FixedSizeList(_) => count.min(1),
+        TypeRef::Map(_) => count.min(1),
+        TypeRef::Struct(_) => count,
+        TypeRef::Union(_) => count,
+        _ => 0,
+    }
+}
+
+// A field of as many levels at most.
+#[cycle(fields)]
+#[tactic(auto, using(crate::proofs::Steps::levels))]
+fn field_left(field: &FieldRef<'_>, levels: u64, left: u64) -> Option<u64>
+    ensures { Leaves left (field_cost levels field.now) result }
+{
+    if levels == 0 {
+        return Some(left);
+    }
+    let left = own_left(field, left)?;
+    match field.type_() {
+        Ok(Some(type_)) => typed_left(field, &type_, levels - 1, left),
+        Ok(None) => Some(left),
+        Err(_) => Some(left),
+    }
+}
+
+// The type of a field, and the children that are read.
+#[cycle(fields)]
+fn typed_left(field: &FieldRef<'_>, type_: &TypeRef<'_>, levels: u64, left: u64) -> Option<u64>
+    ensures { Leaves left (typed_cost (λ s. field_cost levels s) field.now
+        (Some (type_parts type_.now))) result }
+{
+    let left = type_left(type_, left)?;
+    match field.children() {
+        Ok(Some(tables)) => {
+            let count = children_read(type_, tables.len());
+            fields_left(&tables, count, levels, left)
+        }
+        Ok(None) => Some(left),
+        Err(_) => Some(left),
+    }
+}
+
+// The first fields of a vector.
+#[cycle(fields)]
+#[tactic(auto, using(crate::proofs::Steps::costs))]
+fn fields_left(tables: &Tables<'_, FieldTable>, count: usize, levels: u64, left: u64) -> Option<u64>
+    requires { count ≤ tables.now.count }
+    ensures { Leaves left (tables_cost (λ s. field_cost levels s) tables.now 0 count) result }
+{
+    let mut left = left;
+    for i in 0..count {
+        left = field_table_left(tables, i, levels, left)?;
+    }
+    Some(left)
+}
+
+// The field's table at an index of a vector, which is opened here.
+#[cycle(fields)]
+fn field_table_left(
+    tables: &Tables<'_, FieldTable>,
+    index: usize,
+    levels: u64,
+    left: u64,
+) -> Option<u64>
+    requires { index < tables.now.count }
+    ensures { Leaves left
+        (table_cost (λ s. field_cost levels s) (table_in tables.now index)) result }
+{
+    let left = left.checked_sub(1)?;
+    match tables.get(index) {
+        Ok(table) => field_left(&table, levels, left),
+        Err(_) => Some(left),
+    }
+}
+
+fn schema_left(schema: &SchemaRef<'_>, left: u64) -> Option<u64>
+    ensures { Leaves left (schema_table_cost schema.now) result }
+{
+    let left = schema_pairs_left(schema, left)?;
+    match schema.fields() {
+        Ok(Some(tables)) => fields_left(&tables, tables.len(), MAX_LEVELS, left),
+        Ok(None) => Some(left),
+        Err(_) => Some(left),
+    }
+}
+
+#[tactic(auto, unfolding(crate::specs::Costs::schema_cost))]
+fn message_left(message: &[u8], left: u64) -> Option<u64>
+    ensures { Leaves left (schema_cost message.now) result }
+{
+    let Ok(root) = MessageRef::read_as_root(message) else {
+        return Some(left);
+    };
+    match root.header() {
+        Ok(Some(MessageHeaderRef::Schema(schema))) => schema_left(&schema, left),
+        _ => Some(left),
+    }
+}
+
+/// What it costs to read the schema of a message, or None if that is more than `limit`.
+///
+/// The cost is one for each table of a field or of a pair that is opened, one for each id of a
+/// union's children, and the bytes of each text. A value under a key of extensions counts twice. A
+/// table or a text that others share counts each time, as it is copied each time. A message without
+/// a schema costs nothing, and neither does an ill-made part of one.
+///
+/// It takes no memory, opens at most `limit` tables of fields and pairs, and stops at the first
+/// text that exceeds the limit. So the limit bounds its time too: choose it in proportion to the
+/// message.
+#[tactic(auto, using(crate::proofs::Bounds::bounds))]
+pub fn schema_cost(message: &[u8], limit: u64) -> Option<u64>
+    ensures exact { IsCostWithin limit (schema_cost message.now) result }
+    ensures visits { IfSome (schema_of message.now)
+        (λ schema. visits schema ≤ schema_cost message.now) }
+    ensures size { IfSome (schema_of message.now)
+        (λ schema. schema_size schema ≤ schema_cost message.now) }
+{
+    let left = message_left(message, limit)?;
+    Some(limit - left)
+}

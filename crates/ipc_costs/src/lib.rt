@@ -1,0 +1,4 @@
+//! What reading a schema costs.
+#![tactic(auto)]
+
+pub mod cost;
