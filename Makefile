@@ -23,15 +23,16 @@ build:
 mutations:
 	tools/mutations $(NAMES)
 
-# The tests of ipc_bench, ipc_bench_files and ipc_bench_programs with each allocation refused in its
-# turn, or make refused ONLY="WORD ..": those whose names have a word.
+# Proves and runs the tests of ipc_bench, ipc_bench_files and ipc_bench_programs with each of their
+# allocations refused in turn, or make refused ONLY="WORD ..": those whose names have a word.
 refused:
 	tools/refused $(ONLY)
 
 # CI: that each mutation applies, and that the README's program is the tour; then every proof and
 # the mutations of must-fail/ (of what changed, where earlier runs are kept), every test and every
-# program.
+# program; and the tests once more, with each of their allocations refused in turn.
 test:
 	tools/mutations --applies
 	tools/readme
 	rt ci
+	tools/refused --built

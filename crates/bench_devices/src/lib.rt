@@ -2,6 +2,7 @@
 //! file, and traces of what calls return.
 #![tactic(auto)]
 
+pub mod column_kinds;
 pub mod dictionary_chunks;
 pub mod dictionary_file;
 pub mod failing_runs;

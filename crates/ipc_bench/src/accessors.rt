@@ -1,13 +1,14 @@
 //! Constructors and accessors that no other test calls.
 
-use crate::null_slots::numbers;
 use arrow2_ipc::io::ipc::IpcField;
 use arrow2_ipc::io::ipc::fault::Watched;
 use arrow2_ipc::io::ipc::read::StreamState;
-use arrow2_ipc::io::ipc::write::{EncodedData, StreamWriter, WriteOptions, WriterState};
+use arrow2_ipc::io::ipc::write::{EncodedData, Record, StreamWriter, WriteOptions, WriterState};
+use bench_devices::column_kinds::numbers;
 use bench_devices::fixtures::make_example;
 use ipc_devices::Fault;
 use lower::datatypes::{DataType, Field, Metadata, Schema};
+use lower::types::{Endianness, append_bytes, numbers_from_bytes};
 use lower_arrays::array::AnyArray;
 use std::alloc::Global;
 
@@ -67,5 +68,32 @@ fn with_metadata_replaces_metadata(rt: HostRuntime) -> Result<(), Fault> {
     let field = field_with_a_pair(alloc)?;
     assert_eq!(rt; field.metadata.len(), 1);
     assert_eq!(rt; field.with_metadata(Metadata::new(alloc)).metadata.len(), 0);
+    Ok(())
+}
+
+// Whether a clone of a record has the columns of the example.
+fn is_cloned(alloc: Global, record: &Record<'_>) -> Result<bool, Fault> {
+    Ok(*record.clone()?.columns() == make_example(alloc)?.chunk)
+}
+
+#[test]
+fn records_are_cloned(rt: HostRuntime) -> Result<(), Fault> {
+    let alloc = rt.alloc();
+    let chunk = make_example(alloc)?.chunk;
+    assert!(rt; is_cloned(alloc, &Record::borrowed(&chunk, None))?);
+    assert!(rt; is_cloned(alloc, &Record::from(chunk))?);
+    Ok(())
+}
+
+#[test]
+fn numbers_come_back_from_their_bytes(rt: HostRuntime) -> Result<(), Fault> {
+    let mut bytes = Vec::new(rt.alloc());
+    append_bytes(&mut bytes, &[1i32, -2], Endianness::Big)?;
+    assert_eq!(rt;
+        bytes.as_slice(),
+        [0, 0, 0, 1, 255, 255, 255, 254].as_slice()
+    );
+    let numbers: Vec<i32> = numbers_from_bytes(rt.alloc(), &bytes, Endianness::Big)?;
+    assert_eq!(rt; numbers.as_slice(), [1, -2].as_slice());
     Ok(())
 }

@@ -1,10 +1,10 @@
 //! `Watched` devices that fail, that take nothing and that count their flushes, vectors that grow,
-//! and writers that flush.
+//! writers that flush, and runs of many bytes that are read.
 
 use arrow2_ipc::io::ipc::write::{FileWriter, StreamWriter, WriteOptions};
 use bench_devices::fixtures::{error_of, make_example};
 use ipc_devices::{
-    Failures, Fault, MemFile, Reads, Seeks, StateFault, Watched, Writes, read_bytes,
+    Failures, Fault, MemFile, Reads, Seeks, StateFault, Watched, Writes, read_bytes, read_into,
 };
 use std::alloc::Global;
 use std::io;
@@ -87,6 +87,27 @@ fn writes_grow_full_vectors(rt: HostRuntime) -> Result<(), Fault> {
     file.seek_to(3)?;
     assert_eq!(rt; file.write(b"xyz")?, 3);
     assert_eq!(rt; file.into_inner().as_slice(), b"abcxyz".as_slice());
+    Ok(())
+}
+
+// As many bytes as are read at once, twice, and one byte more.
+fn many_bytes(alloc: Global) -> Result<Vec<u8>, Fault> {
+    let mut bytes = Vec::new(alloc);
+    bytes.resize(65_536, 1)?;
+    bytes.resize(131_073, 2)?;
+    Ok(bytes)
+}
+
+// At most 65,536 bytes are read at once, whatever their number.
+#[test]
+fn many_bytes_are_read_in_pieces(rt: HostRuntime) -> Result<(), Fault> {
+    let alloc = rt.alloc();
+    let source = many_bytes(alloc)?;
+    let mut bytes = Vec::from_slice(alloc, b"old")?;
+    read_into(&mut MemFile::new(source.as_slice()), &mut bytes, 131_073)?;
+    assert!(rt; bytes == source);
+    let bytes = read_bytes(alloc, &mut MemFile::new(source.as_slice()), 65_537)?;
+    assert!(rt; bytes.as_slice() == source.get(..65_537).unwrap_or(&[]));
     Ok(())
 }
 

@@ -3,7 +3,7 @@
 use arrow2_ipc::array::{AnyArray, ListArray, ListOffsets};
 use arrow2_ipc::buffer::Buffer;
 use arrow2_ipc::chunk::Chunk;
-use arrow2_ipc::datatypes::{DataType, Field};
+use arrow2_ipc::datatypes::DataType;
 use arrow2_ipc::io::ipc::IpcField;
 use arrow2_ipc::io::ipc::fault::{ArgFault, Fault};
 use arrow2_ipc::io::ipc::write::{
@@ -11,6 +11,7 @@ use arrow2_ipc::io::ipc::write::{
     write_message,
 };
 use arrow2_ipc::offset::OffsetsBuffer;
+use bench_devices::column_kinds::field_of;
 use bench_devices::dictionary_chunks::{dictionary_chunk, dictionary_schema};
 use bench_devices::fixtures::{error_of, int32};
 use std::alloc::Global;
@@ -77,11 +78,6 @@ fn stream_has_the_messages_of_its_chunks(rt: HostRuntime) -> Result<(), Fault> {
     append_messages(alloc, &chunk, &mut bytes)?;
     assert!(rt; writer.into_inner() == bytes);
     Ok(())
-}
-
-// A field without a name of the type of this array.
-fn field_of(alloc: Global, array: &AnyArray) -> Result<Field, Fault> {
-    Ok(Field::new(String::new(alloc), array.data_type().clone()?, true))
 }
 
 // The offsets of no lists.

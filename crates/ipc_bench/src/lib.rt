@@ -8,7 +8,11 @@ mod accessors;
 #[cfg(test)]
 mod allocation_failure;
 #[cfg(test)]
+mod appended_arrays;
+#[cfg(test)]
 mod chunk;
+#[cfg(test)]
+mod column_kinds;
 #[cfg(test)]
 mod device_failure;
 #[cfg(test)]

@@ -1,56 +1,10 @@
 //! Null slots of arrays of each kind.
 
+use bench_devices::column_kinds::{binary, booleans, fixed_size_binary, numbers, texts};
 use ipc_devices::Fault;
-use lower::bitmap::Bitmap;
-use lower::buffer::Buffer;
 use lower::datatypes::DataType;
-use lower::offset::OffsetsBuffer;
-use lower::types::NativeType;
-use lower_arrays::array::{
-    AnyArray, BinaryArray, BooleanArray, FixedSizeBinaryArray, NullArray, PrimitiveArray, Utf8Array,
-};
-use std::alloc::{AllocError, Global};
-
-fn buffer<T: NativeType>(alloc: Global, values: &[T]) -> Result<Buffer<T>, AllocError> {
-    Buffer::new(Vec::from_slice(alloc, values)?)
-}
-
-// The offsets of the texts `a` and `b`.
-fn offsets(alloc: Global) -> Result<OffsetsBuffer<i32>, Fault> {
-    Ok(OffsetsBuffer::try_new(buffer(alloc, &[0, 1, 2])?)?)
-}
-
-// The validity of two slots, of which the second is null.
-fn validity(alloc: Global) -> Result<Option<Bitmap>, Fault> {
-    Ok(Some(Bitmap::try_new(buffer(alloc, &[0b01])?, 2)?))
-}
-
-/// The numbers 7 and null.
-pub fn numbers(alloc: Global) -> Result<PrimitiveArray<i32>, Fault> {
-    let values = buffer(alloc, &[7, 8])?;
-    Ok(PrimitiveArray::try_new(DataType::Int32, values, validity(alloc)?)?)
-}
-
-fn booleans(alloc: Global) -> Result<BooleanArray, Fault> {
-    let values = Bitmap::try_new(buffer(alloc, &[0b11])?, 2)?;
-    Ok(BooleanArray::try_new(DataType::Boolean, values, validity(alloc)?)?)
-}
-
-fn texts(alloc: Global) -> Result<Utf8Array<i32>, Fault> {
-    let values = buffer(alloc, b"ab")?;
-    Ok(Utf8Array::try_new(DataType::Utf8, offsets(alloc)?, values, validity(alloc)?)?)
-}
-
-fn binary(alloc: Global) -> Result<BinaryArray<i32>, Fault> {
-    let values = buffer(alloc, b"ab")?;
-    Ok(BinaryArray::try_new(DataType::Binary, offsets(alloc)?, values, validity(alloc)?)?)
-}
-
-fn fixed_size_binary(alloc: Global) -> Result<FixedSizeBinaryArray, Fault> {
-    let values = buffer(alloc, b"ab")?;
-    let data_type = DataType::FixedSizeBinary(1);
-    Ok(FixedSizeBinaryArray::try_new(data_type, values, validity(alloc)?)?)
-}
+use lower_arrays::array::{AnyArray, NullArray};
+use std::alloc::Global;
 
 fn second_is_null_in_numbers(alloc: Global) -> Result<bool, Fault> {
     let array = numbers(alloc)?;

@@ -44,6 +44,22 @@ fn is_fifteen_and_sixteen(part: &Option<Buffer<u32>>) -> bool {
     }
 }
 
+// Whether a part of no value is empty, at either end.
+fn has_empty_parts(all: &Buffer<u32>) -> Result<bool, AllocError> {
+    let front = all.part(0, 0)?;
+    let end = all.part(all.len(), 0)?;
+    Ok(front.is_empty() && end.is_empty())
+}
+
+#[test]
+fn part_of_no_value_is_empty(rt: HostRuntime) -> Result<(), Fault> {
+    let numbers = buffer(rt.alloc(), &[7u32, 8, 9])?;
+    assert!(rt; has_empty_parts(&numbers)?);
+    let none = buffer(rt.alloc(), &[])?;
+    assert!(rt; has_empty_parts(&none)?);
+    Ok(())
+}
+
 // The buffer, where `into_vec` fails because there is another owner.
 fn if_shared<T: Copy>(all: Buffer<T>) -> Option<Buffer<T>> {
     all.into_vec().err()

@@ -4,11 +4,13 @@ use crate::example_file::make_example_file;
 use crate::scenario::FileFixture;
 use crate::sessions::add_writes;
 use arrow2_ipc::io::ipc::fault::{ArgFault, Failures, Fault, MemFile, Watched};
-use arrow2_ipc::io::ipc::read::{FileMetadata, read_file_metadata};
-use arrow2_ipc::io::ipc::write::{FileWriter, Session, WriteOptions, append_session};
+use arrow2_ipc::io::ipc::read::{FileMetadata, read_file, read_file_metadata};
+use arrow2_ipc::io::ipc::write::{
+    FileWriter, Session, WriteOptions, append_session, append_to_file,
+};
 use bench_devices::dictionary_file::add_kept;
 use bench_devices::faulty::TestFile;
-use bench_devices::fixtures::error_of;
+use bench_devices::fixtures::{error_of, make_example};
 use bench_devices::trace::{Answer, Call, Trace};
 use std::alloc::Global;
 
@@ -170,4 +172,25 @@ fn file_of_two_to_the_63_bytes_is_refused(rt: HostRuntime) -> Result<(), Fault> 
     assert!(rt; is_too_large(start_appending_at(alloc, 1 << 63))?);
     assert!(rt; is_too_large(start_appending_at(alloc, u64::MAX))?);
     start_appending_at(alloc, (1 << 63) - 1)
+}
+
+// The example's file, to which its chunk is appended once more. A write that fails for want of
+// memory leaves its chunk out, and then this is `Memory`.
+fn example_appended(alloc: Global) -> Result<Vec<u8>, Fault> {
+    let bytes = make_example_file(alloc)?;
+    let metadata = read_file_metadata(alloc, &mut MemFile::new(bytes.as_slice()))?;
+    let chunks = vec![in alloc; make_example(alloc)?.chunk]?;
+    let session = append_to_file(alloc, MemFile::new(bytes), metadata, &chunks)?;
+    match (session.answers.first(), &session.end) {
+        (Some(Ok(())), Ok(())) => Ok(session.device.into_inner()),
+        _ => Err(Fault::Memory),
+    }
+}
+
+#[test]
+fn chunk_is_appended_by_metadata_that_were_read(rt: HostRuntime) -> Result<(), Fault> {
+    let alloc = rt.alloc();
+    let bytes = example_appended(alloc)?;
+    assert_eq!(rt; read_file(alloc, &bytes)?.chunks.len(), 2);
+    Ok(())
 }

@@ -14,6 +14,8 @@ mod append_sessions;
 #[cfg(test)]
 mod batch_read;
 #[cfg(test)]
+mod column_kinds;
+#[cfg(test)]
 mod device_failure;
 #[cfg(test)]
 mod example_file;
@@ -25,6 +27,8 @@ mod file_read;
 mod file_write;
 #[cfg(test)]
 mod no_allocation;
+#[cfg(test)]
+mod projection;
 #[cfg(test)]
 mod round_trip;
 #[cfg(test)]

@@ -1,8 +1,10 @@
-//! Tests of what `ipcat` and `ipconvert` do where a device fails, which no run of a program can
-//! show.
+//! Tests of what `ipcat` and `ipconvert` do where a device or an allocation fails, which no run of
+//! a program can show.
 #![tactic(auto)]
 
 #[cfg(test)]
 mod append;
 #[cfg(test)]
 mod printing;
+#[cfg(test)]
+mod runs;

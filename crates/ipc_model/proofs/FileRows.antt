@@ -36,6 +36,7 @@ pub footer_rows : FooterRows
 unfolding number_at table_at slot_at spot_at target_at text_at vector_at table_in structs_at signed32 signed64 is_utf8 chars encode integer_at decimal_at plain_at single_at group_at pairs_at encoding_at field_from field_at schema_at schema_of head_of frame sized marked lists_of entries_of batch record_meaning dictionary_meaning header_of body_item item meant_within meaning stream_of footer_at metadata_of block_header chunk_at dictionaries_at
 footer_rows = record {
   cut_off = refl;
+  cut_by_a_byte = refl;
   a_byte_before = refl;
   negative_length = λ bytes. refl;
   no_schema = refl;
@@ -63,6 +64,8 @@ block_rows = record {
   fourth_version = refl;
   first_version = refl;
   no_version = refl;
+  to_the_last_byte = refl;
+  a_byte_short = refl;
   negative_in_the_message = refl;
 }
 

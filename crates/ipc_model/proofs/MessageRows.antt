@@ -19,6 +19,9 @@ frame_rows = record {
   minus_one = λ bytes. refl;
   one_byte_short = refl;
   to_the_last = refl;
+  a_byte_behind = refl;
+  behind_the_marker = refl;
+  cut_length = refl;
   behind_a_mark = refl;
 }
 
@@ -41,8 +44,11 @@ record_rows = record {
   listed_past_the_end = refl;
   reaches_past_the_end = refl;
   shorter_body = refl;
+  body_a_byte_short = refl;
   longer_body = refl;
   negative_body = refl;
+  values_to_the_last = refl;
+  values_a_byte_short = refl;
   a_schema = refl;
   a_tensor = refl;
   a_sparse_tensor = refl;

@@ -78,6 +78,8 @@ without_slot place = metadata_of (slice_set demo_file (length demo_file - 250 + 
 -- blocks of records are there; where no blocks of dictionaries are listed, there are none.
 pub record FooterRows : Type 0 where
   pub cut_off : metadata_of (before_footer ++ take 236 footer ++ (236 ∷ 0 ∷ 0 ∷ 0 ∷ []) ++ magic) ≡ None
+  pub cut_by_a_byte : metadata_of
+      (before_footer ++ take 239 footer ++ (239 ∷ 0 ∷ 0 ∷ 0 ∷ []) ++ magic) ≡ None
   pub a_byte_before : metadata_of (before_footer ++ footer ++ 0 ∷ (240 ∷ 0 ∷ 0 ∷ 0 ∷ []) ++ magic) ≡ None
   pub negative_length : (bytes : List ℕ) → footer_of_length bytes (2 ^ 31) ≡ None
   pub no_schema : without_slot 10 ≡ None
@@ -146,7 +148,7 @@ extra_of_block version = option_map (λ (h : BlockHeader). h.extra) (block_heade
 
 -- Dictionary blocks are read in the footer's order, and the last of an id counts; records by their index. A block's message has either prefix, its header is due, its own version
 -- counts, and neither of its two numbers that are used is below 0. What the message itself says of its body
--- isn't used.
+-- isn't used. Its buffers are there to their last byte.
 pub record BlockRows : Type 0 where
   pub in_order : file_dictionaries text_blocks messages ≡ Some both_known
   pub in_other_order : file_dictionaries (blocks_are (second_block ∷ first_block ∷ []) []) messages
@@ -164,4 +166,6 @@ pub record BlockRows : Type 0 where
   pub fourth_version : extra_of_block 3 ≡ Some 1
   pub first_version : extra_of_block 0 ≡ Some 1
   pub no_version : extra_of_block 5 ≡ None
+  pub to_the_last_byte : file_chunk demo_metadata [] (take 472 demo_file) None None 0 ≡ Some demo_chunk
+  pub a_byte_short : file_chunk demo_metadata [] (take 471 demo_file) None None 0 ≡ None
   pub negative_in_the_message : file_chunk demo_metadata [] (slice_set demo_file 247 0xFF) None None 0 ≡ Some demo_chunk

@@ -10,13 +10,13 @@ use Rattle.lower_arrays.specs.Slots.{Slot}
 use Rattle.ipc_base.specs.IdTrees.{IdTree, ids, no_ids, more_ids}
 use Rattle.ipc_model.specs.Batches.{Chunk, Place, places, extra_of}
 use Rattle.ipc_model.specs.ColumnRows.{number, numbers_of, padded, word}
-use Rattle.ipc_model.specs.DictionaryRows.{message_bytes, framed, dictionary_message, record_message, text_head, head_of_field, a, b, a_and_b, chunk_is, values_are, known_texts, faulty_after}
+use Rattle.ipc_model.specs.DictionaryRows.{message_bytes, framed, dictionary_message, record_message, text_head, two_texts, head_of_field, a, b, a_and_b, chunk_is, values_are, known_texts, faulty_after}
 use Rattle.ipc_model.specs.Entries.{Dictionary}
 use Rattle.ipc_model.specs.Frame.{message, mark, waiting, broken, frame, sized}
 use Rattle.ipc_model.specs.Schemas.{head_of}
 use Rattle.ipc_model.specs.SchemaBytes.{four, table_bytes}
-use Rattle.ipc_model.specs.StreamRows.{smallest}
-use Rattle.ipc_model.specs.Streams.{Head, Known, nothing_known, waits, Meant, meaning}
+use Rattle.ipc_model.specs.StreamRows.{smallest, marker}
+use Rattle.ipc_model.specs.Streams.{Head, Known, nothing_known, marked, waits, Meant, meaning}
 use Rattle.ipc_model.specs.WeightRows.{named, alone}
 use Rattle.ipc_views.specs.declared.schema.MetadataVersion.{MetadataVersion}
 use Rattle.ipc_views.specs.declared.schema.MetadataVersion.TheVariants.{V1, V2, V3, V4, V5}
@@ -31,6 +31,9 @@ pub record FrameRows : Type 0 where
   pub minus_one : (rest : List ℕ) → sized (2 ^ 32 - 1) rest ≡ broken
   pub one_byte_short : frame (2 ∷ 0 ∷ 0 ∷ 0 ∷ 7 ∷ []) ≡ broken
   pub to_the_last : frame (2 ∷ 0 ∷ 0 ∷ 0 ∷ 7 ∷ 8 ∷ []) ≡ message (7 ∷ 8 ∷ []) []
+  pub a_byte_behind : frame (2 ∷ 0 ∷ 0 ∷ 0 ∷ 7 ∷ 8 ∷ 9 ∷ []) ≡ message (7 ∷ 8 ∷ []) (9 ∷ [])
+  pub behind_the_marker : frame (marker ++ 2 ∷ 0 ∷ 0 ∷ 0 ∷ 7 ∷ 8 ∷ 9 ∷ []) ≡ message (7 ∷ 8 ∷ []) (9 ∷ [])
+  pub cut_length : frame (marker ++ 0 ∷ 0 ∷ 0 ∷ []) ≡ broken
   pub behind_a_mark : frame (0 ∷ 0 ∷ 0 ∷ 0 ∷ 7 ∷ []) ≡ mark (7 ∷ [])
 
 -- ---- records
@@ -74,6 +77,13 @@ nothing_read = faulty_after []
 abbrev pub minus_one : ℕ
 minus_one = 2 ^ 64 - 1
 
+-- The values "a" and a zero byte, in a body that is said to have so many bytes: they take 66.
+-- What is behind these is zeros, which are a mark.
+abbrev pub values_in : ℕ → Meant
+values_in n = meaning text_head nothing_known
+    (slice_set (dictionary_message 0 ((2, 0) ∷ []) ((0, 0) ∷ (0, 12) ∷ (64, 2) ∷ [])
+    (two_texts (0x61 ∷ 0 ∷ []))) 32 n)
+
 -- A batch that names a compression, or lists no nodes or no buffers, has no meaning. What is left over isn't used, and yet a listed length is at least 0,
 -- and the sum at most the body. A body has the stated length, which is at least 0, and nothing behind it is the batch's. Other messages have no place.
 pub record RecordRows : Type 0 where
@@ -94,8 +104,12 @@ pub record RecordRows : Type 0 where
       ≡ record { chunks = chunk_is (plain int32) (number 0 ∷ []) ∷ []; end = waits nothing_known [] }
   pub reaches_past_the_end : five_by usual ((1, 0) ∷ []) ((0, 0) ∷ (0, 4) ∷ (60, 60) ∷ []) ≡ five
   pub shorter_body : in_message 3 60 (batch_with usual ((1, 0) ∷ []) ((0, 0) ∷ (60, 4) ∷ [])) (padded (word 5)) ≡ nothing_read
+  pub body_a_byte_short : in_message 3 63
+      (batch_with usual ((1, 0) ∷ []) ((0, 0) ∷ (60, 4) ∷ [])) (padded (word 5)) ≡ nothing_read
   pub longer_body : in_message 3 65 (batch_with usual ((1, 0) ∷ []) ((0, 0) ∷ (0, 4) ∷ [])) (padded (word 5)) ≡ nothing_read
   pub negative_body : meaning integer_head nothing_known (framed (slice_set (message_bytes 3 0 (batch_with usual ((0, 0) ∷ []) ((0, 0) ∷ (0, 0) ∷ []))) 31 0xFF) []) ≡ nothing_read
+  pub values_to_the_last : values_in 66 ≡ record { chunks = []; end = marked }
+  pub values_a_byte_short : values_in 65 ≡ nothing_read
   pub a_schema : in_message 1 64 (batch_with usual ((1, 0) ∷ []) ((0, 0) ∷ (0, 4) ∷ [])) (padded (word 5)) ≡ nothing_read
   pub a_tensor : in_message 4 64 (batch_with usual ((1, 0) ∷ []) ((0, 0) ∷ (0, 4) ∷ [])) (padded (word 5)) ≡ nothing_read
   pub a_sparse_tensor : in_message 5 64 (batch_with usual ((1, 0) ∷ []) ((0, 0) ∷ (0, 4) ∷ [])) (padded (word 5)) ≡ nothing_read

@@ -2,7 +2,7 @@
 use Rattle.std.proofs.Common.{◌≡◌, ℤ, Bool, true, false, List, ◌∷◌, map, Ok, Err, Option, None, Result, true≢false, sym, ap, ◌∙◌, subst}
 use Rattle.std.specs.Prelude.{is_some, IsSome}
 use Rattle.ipc_devices.specs.declared.fault.ArgFault.TheVariants.{DictionaryReplaced}
-use Rattle.ipc_devices.specs.declared.fault.Fault.TheVariants.{Argument}
+use Rattle.ipc_devices.specs.declared.fault.Fault.TheVariants.{Argument, Memory}
 use Rattle.ipc_model.specs.Entries.{Dictionary}
 use Rattle.ipc_devices.specs.declared.fault.Fault.{Fault}
 use Rattle.lower_arrays.specs.AnyLayouts.{layout_of}
@@ -34,6 +34,13 @@ inserted m after fixed id j b r l k n i e f was g asks same = record {
   asks = asked m fixed id j b true r l k i e was g asks;
   memory = subst (λ (z : ℤ). IsSameMemory (remembering z (dictionary_of l) m) after) i (subst (λ (x : Layout). IsSameMemory (remembering j (dictionary_of x) m) after) f same);
 }
+
+-- an allocation failed for values that are new, or others: nothing is remembered
+pub refused : (m after : Remembered) (fixed : Bool) (id j : ℤ) (b : Bool) (r s : Result Bool Fault) (l k : Layout) → j ≡ id → k ≡ l → r ≡ Ok b → b ≡ true → Asks m fixed j (dictionary_of k) r
+    → s ≡ Err Memory → IsSameMemory m after → Inserts m fixed id (dictionary_of l) s after
+refused m after fixed id j b r s l k i e was g asks failed same =
+    let new = asked m fixed id j b true r l k i e was g asks in
+    subst (λ (x : Result Bool Fault). Inserts m fixed id (dictionary_of l) x after) (sym failed) (record { asks = new.0; memory = same })
 
 -- ---- what is told of values that have to stay
 

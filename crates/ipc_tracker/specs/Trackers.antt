@@ -25,13 +25,14 @@ abbrev pub values_in : Layout → Layout
 values_in (layout h no_layouts) = layout h no_layouts
 values_in (layout h (more_layouts c cs)) = c
 
--- What is answered of the values of an id: they are new, or others, which those of a file can't be; they are those that are remembered;
--- they are others, and those that are remembered have to stay.
+-- What is answered of the values of an id: they are new, or others, which those of a file can't be;
+-- they are those that are remembered; they are others, and those that are remembered have to stay;
+-- they are new, or others, and an allocation failed.
 abbrev pub Asks : Remembered → Bool → ℤ → Dictionary → Result Bool Fault → Type 0
 Asks m fixed id d (Ok true) = (m id ≢ Some d) × (IsTrue fixed → m id ≡ None)
 Asks m fixed id d (Ok false) = m id ≡ Some d
 Asks m fixed id d (Err (Argument (DictionaryReplaced j))) = (j ≡ id) × IsTrue fixed × (m id ≢ Some d) × (m id ≢ None)
-Asks m fixed id d (Err Memory) = Unit {0}
+Asks m fixed id d (Err Memory) = m id ≢ Some d
 Asks m fixed id d (Err _) = ⊥
 
 -- where other values come than those that are remembered and have to stay, just this is answered, and no want of memory

@@ -65,7 +65,8 @@ impl DictionaryTracker {
     /// normal form. The array is one of keys ([`is_dictionary`]).
     ///
     /// Faults: `Argument(DictionaryReplaced)` with the id where they are others and those that are
-    /// remembered have to stay; `Memory`. After a fault the tracker is as it was.
+    /// remembered have to stay; `Memory` where an allocation failed, which none does for values
+    /// that are remembered already. After a fault the tracker is as it was.
     pub fn insert(&mut self, dict_id: i64, array: &AnyArray) -> Result<bool, Fault>
         requires { HasKeys (level (layout_of array.now)).parts }
         ensures inserted { Inserts (remembered self.old) self.old.cannot_replace dict_id (dictionary_of (values_in (layout_of array.now))) result (remembered self.new) }
