@@ -10,6 +10,8 @@ mod append;
 #[cfg(test)]
 mod append_in_memory;
 #[cfg(test)]
+mod append_refused;
+#[cfg(test)]
 mod append_sessions;
 #[cfg(test)]
 mod batch_read;

@@ -5,6 +5,8 @@
 #[cfg(test)]
 mod append;
 #[cfg(test)]
+mod append_refused;
+#[cfg(test)]
 mod printing;
 #[cfg(test)]
 mod runs;

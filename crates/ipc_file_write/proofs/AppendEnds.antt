@@ -1,8 +1,8 @@
--- Where the blocks of a file that is gone on with end, and why it is refused.
-use Rattle.std.proofs.Common.{◌≡◌, ◌==◌, false, inl, inr, ℕ, pos, ◌+◌, ◌-◌, ◌^◌, ◌<◌, ◌≤◌, min, max, Bool, IsTrue, List, [], ◌∷◌, ◌++◌, length, drop, get_or, None, sym, ap, ◌∙◌, subst, arith}
+-- Where the blocks of a file that is appended to end, and why it is refused.
+use Rattle.std.proofs.Common.{◌≡◌, ◌==◌, false, inl, inr, ℕ, pos, ◌+◌, ◌-◌, ◌^◌, ◌<◌, ◌≤◌, min, max, Bool, IsTrue, List, [], ◌∷◌, ◌++◌, length, drop, get_or, None, Err, sym, ap, ◌∙◌, subst, arith}
 use Rattle.std.proofs.lemmas.List.{drop_all, drop_more}
-use Rattle.ipc_devices.specs.Device.{Memory}
-use Rattle.ipc_devices.specs.Faults.{OwnFault}
+use Rattle.ipc_devices.specs.Device.{Rises}
+use Rattle.ipc_devices.specs.Faults.{OnIo, OwnFault, UnlessIo}
 use Rattle.ipc_devices.specs.declared.fault.Fault.{Fault}
 use Rattle.ipc_devices.specs.declared.fault.Fault.TheVariants.{Io, Memory as NoMemory, OutOfSpec}
 use Rattle.ipc_devices.specs.declared.fault.OutOfSpecKind.TheVariants.{UnexpectedNegativeInteger}
@@ -11,8 +11,7 @@ use Rattle.ipc_model.specs.Files.{FileMetadata, file_dictionaries}
 use Rattle.ipc_files.specs.Dictionaries.{DictionariesReason, IsDictionaryBlockFault}
 use Rattle.ipc_file_laws.proofs.Ends.{back-has, ends-both, front-has, none_has}
 use Rattle.ipc_file_laws.specs.Appending.{HasNegative, HaveNegative, end_of, goes_on, greatest_end}
-use Rattle.ipc_file_write.specs.Appends.{CanBeWritten, MayGoOn, RefusesFile, RefusesNoWhole, RefusesToGoOn}
-use Rattle.ipc_file_write.proofs.Appends.{never_refused}
+use Rattle.ipc_file_write.specs.Appends.{CanBeWritten, DeviceFails, MayGoOn, RefusesFile, RefusesToGoOn}
 
 -- ---- block after block
 
@@ -80,10 +79,10 @@ back_refused m bs e same h =
 
 -- ---- why a file is refused
 
-own-first : (known : Bool) (m : FileMetadata) (bytes : List ℕ) (e : Fault) → RefusesToGoOn m e → RefusesFile known m bytes e
-own-first known m bytes NoMemory h = tt
-own-first known m bytes (Io x) h = tt
-own-first known m bytes _ h = inl h
+pub own_refused : (known : Bool) (m : FileMetadata) (bytes : List ℕ) (e : Fault) → RefusesToGoOn m e → RefusesFile known m bytes e
+own_refused known m bytes NoMemory h = tt
+own_refused known m bytes (Io x) h = tt
+own_refused known m bytes _ h = inl h
 
 pub dictionaries_refused : (known : Bool) (m : FileMetadata) (bytes : List ℕ) (e : Fault) → OwnFault e (IsDictionaryBlockFault e) → (IsTrue known → OwnFault e (file_dictionaries m bytes ≡ None))
     → (IsTrue known → OwnFault e (DictionariesReason m bytes [] m.dictionaries e)) → RefusesFile known m bytes e
@@ -91,9 +90,18 @@ dictionaries_refused known m bytes NoMemory h none reason = tt
 dictionaries_refused known m bytes (Io x) h none reason = tt
 dictionaries_refused known m bytes _ h none reason = inr (record { kind = h; none = none; reason = reason })
 
-pub never_for_itself : {W : Type 0} (known : Bool) (memory : W → Memory) (m : FileMetadata) (device : W) (e : Fault) → RefusesToGoOn m e → RefusesNoWhole known memory m device e
-never_for_itself known memory m device e h = never_refused known memory m device e (own-first known m (memory device).whole e h)
+-- ---- where its device fails
 
-pub never_for_dictionaries : {W : Type 0} (known : Bool) (memory : W → Memory) (m : FileMetadata) (device : W) (e : Fault) → OwnFault e (IsDictionaryBlockFault e)
-    → (IsTrue known → OwnFault e (file_dictionaries m (memory device).whole ≡ None)) → (IsTrue known → OwnFault e (DictionariesReason m (memory device).whole [] m.dictionaries e)) → RefusesNoWhole known memory m device e
-never_for_dictionaries known memory m device e h none reason = never_refused known memory m device e (dictionaries_refused known m (memory device).whole e h none reason)
+-- a file that can't be appended to is refused by no device
+pub own_not_io : (m : FileMetadata) (e : Fault) (P : Type 0) → RefusesToGoOn m e → OnIo {X = Unit {0}} (Err e) P
+own_not_io m (Io x) P h = absurd h
+own_not_io m _ P h = tt
+
+pub told_of : (e : Fault) (P : Type 0) → P → UnlessIo {X = Unit {0}} (Err e) P
+told_of (Io x) P h = tt
+told_of _ P h = h
+
+-- a failure that was counted in some state
+pub device_fails : {W : Type 0} (failures : W → ℕ) (device after : W) (e : Fault) → OnIo {X = Unit {0}} (Err e) (Rises (failures device) (failures after)) → OnIo {X = Unit {0}} (Err e) (DeviceFails failures device)
+device_fails failures device after (Io x) h = record { after = after; rises = h }
+device_fails failures device after _ h = tt

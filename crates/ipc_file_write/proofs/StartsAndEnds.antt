@@ -1,8 +1,9 @@
 -- A file's writer starts, and ends its file, just where it may.
-use Rattle.std.proofs.Common.{◌≡◌, ◌⊎◌, Result, Ok, Err, Option, None, Some, IfSome, refl, sym, ap, subst, inl, inr}
+use Rattle.std.proofs.Common.{◌≡◌, ◌⊎◌, ℕ, Bool, Result, Ok, Err, Option, None, Some, IfSome, refl, sym, ap, subst, inl, inr}
 use Rattle.std.proofs.lemmas.Grind.{merely}
 use Rattle.ipc_base.specs.IdTrees.{IdTrees, all_ids_view}
-use Rattle.ipc_devices.specs.Faults.{IsIo}
+use Rattle.ipc_devices.specs.Device.{Memory as DeviceMemory}
+use Rattle.ipc_devices.specs.Faults.{IsIo, OnIo}
 use Rattle.ipc_devices.specs.declared.fault.ArgFault.TheVariants.{FieldsShape, NotWritable, TooLarge}
 use Rattle.ipc_devices.specs.declared.fault.Fault.{Fault}
 use Rattle.ipc_devices.specs.declared.fault.Fault.TheVariants.{Argument, Io, Memory, State}
@@ -12,7 +13,8 @@ use Rattle.ipc_model.specs.Writable.{IsWritable}
 use Rattle.ipc_write.specs.Writers.{fault_unless_new, fault_unless_started}
 use Rattle.ipc_write.specs.declared.stream.WriterState.{WriterState}
 use Rattle.ipc_write.specs.declared.stream.WriterState.TheVariants.{New, Started, Finished, Failed}
-use Rattle.ipc_file_write.specs.FileWriters.{AnswersFinish, AnswersStart, FileSeen, MayStart, RefusesFinish, RefusesStart, StateComesFirst}
+use Rattle.ipc_file_write.specs.Beginnings.{BeginningFails}
+use Rattle.ipc_file_write.specs.FileWriters.{AnswersFinish, AnswersStart, FileSeen, MayStart, RefusesFinish, RefusesStart, SendsBeginning, StateComesFirst}
 use Rattle.ipc_file_write.specs.Keeping.{StaysWritable}
 use Rattle.ipc_file_write.specs.declared.writer.Starting.{Starting}
 use Rattle.ipc_file_write.proofs.Keeping.{started_keeps}
@@ -51,6 +53,12 @@ start_refused w _ h = absurd h
 pub start_failed : {W : Type 0} (w : FileSeen W) (e : Fault) → IsIo e → AnswersStart w (Err e)
 start_failed w (Io x) h = (tt, tt)
 start_failed w _ h = absurd h
+
+-- the device that failed there is that of the writer that is left
+pub begin_fails : {W : Type 0} (known grows : Bool) (failures room : W → ℕ) (memory : W → DeviceMemory) (a b : FileSeen W) (e : Fault) → SendsBeginning known grows failures room memory a (Err e) b
+    → OnIo {X = Unit {0}} (Err e) (BeginningFails grows failures room a)
+begin_fails known grows failures room memory a b (Io x) s = record { bytes = s.bytes; begins = s.is; after = b.device; fails = s.step.io.1 }
+begin_fails known grows failures room memory a b _ s = tt
 
 pub start_taken : {W : Type 0} (w : FileSeen W) (s : Starting) → MayStart w s → AnswersStart w (Ok tt)
 start_taken w s may = record { new = may.was; writable = record { schema = may.writable; light = may.light } }

@@ -1,24 +1,30 @@
 -- Files that are appended to: which ones can be, and the writer of one.
 -- (Arrow columnar format, "IPC File Format"; the limits are this project's own.)
 use Rattle.std.specs.Prelude.{◌≡◌, ◌⊎◌, ℕ, ℤ, ◌^◌, ◌<◌, ◌≤◌, Bool, IsTrue, List, [], ◌++◌, map, Some, None}
-use Rattle.ipc_devices.specs.Device.{GoesTo, Memory}
+use Rattle.lower.specs.TypeViews.{fields_view, pairs_of}
+use Rattle.ipc_devices.specs.Device.{GoesTo, Memory, Rises}
 use Rattle.ipc_devices.specs.Faults.{OwnFault}
 use Rattle.ipc_devices.specs.declared.fault.ArgFault.TheVariants.{FieldsShape, NoRecordBlocks, NotWritable, TooLarge}
 use Rattle.ipc_devices.specs.declared.fault.Fault.{Fault}
 use Rattle.ipc_devices.specs.declared.fault.Fault.TheVariants.{Argument, Memory as NoMemory, OutOfSpec}
 use Rattle.ipc_devices.specs.declared.fault.OutOfSpecKind.TheVariants.{UnexpectedNegativeInteger}
 use Rattle.ipc_base.specs.Fitting.{AllFit}
+use Rattle.ipc_base.specs.IdTrees.{all_ids_view}
 use Rattle.ipc_model.specs.Batches.{Chunk}
 use Rattle.ipc_model.specs.Entries.{Dictionaries, dictionary_at}
 use Rattle.ipc_model.specs.Files.{FileMetadata, file_dictionaries, metadata_of}
 use Rattle.ipc_model.specs.Writable.{IsWritable, file_weight}
 use Rattle.ipc_laws.specs.Agreement.{AreAlike}
 use Rattle.ipc_laws.specs.Remembered.{Remembered}
-use Rattle.ipc_schema_write.specs.WriterAnswers.{max_weight}
+use Rattle.ipc_encode.specs.declared.common.EncodedData.{EncodedData}
+use Rattle.ipc_tracker.specs.Trackers.{remembered}
+use Rattle.ipc_schema_write.specs.WriterAnswers.{byte_order, max_weight}
+use Rattle.ipc_write.specs.Writers.{chosen_ids}
 use Rattle.ipc_write.specs.declared.stream.WriterState.TheVariants.{Started}
 use Rattle.ipc_files.specs.Dictionaries.{DictionariesReason, IsDictionaryBlockFault}
 use Rattle.ipc_file_laws.specs.Appending.{HaveNegative, MeansBefore, goes_on, normal_chunk}
 use Rattle.ipc_file_write.specs.FileWriters.{AgreesAlone, FileSeen, HoldsBytes, IsWholeFile}
+use Rattle.ipc_file_write.specs.declared.prepared.Prepared.{Prepared}
 
 -- ---- which files
 
@@ -57,7 +63,37 @@ pub record HasNoDictionaries (known : Bool) (m : FileMetadata) (bytes : List ℕ
 abbrev pub RefusesFile : Bool → FileMetadata → List ℕ → Fault → Type 0
 RefusesFile known m bytes e = OwnFault e (RefusesToGoOn m e ⊎ HasNoDictionaries known m bytes e)
 
+-- ---- its device
+
+-- A call on this device failed: in some state after it the device has counted one failure more. Memory never does.
+pub record DeviceFails {W : Type 0} (failures : W → ℕ) (device : W) : Type 0 where
+  pub after : W
+  pub rises : Rises (failures device) (failures after)
+
 -- ---- the writer
+
+-- the writer of this device that a prepared file gives: it is started, and has written nothing yet
+abbrev pub resumed : {W : Type 0} → W → Prepared → FileSeen W
+resumed device p = record {
+  device = device;
+  state = Started;
+  order = byte_order p.metadata.ipc_schema.is_little_endian;
+  fields = fields_view p.metadata.schema.fields.items;
+  metadata = pairs_of p.metadata.schema.metadata.entries;
+  chosen = chosen_ids None (fields_view p.metadata.schema.fields.items);
+  ids = all_ids_view p.metadata.ipc_schema.fields.items;
+  pairs = pairs_of p.metadata.custom_metadata.entries;
+  remembers = remembered p.dictionary_tracker;
+  dictionaries = p.dictionary_blocks.items;
+  blocks = p.metadata.blocks.items;
+  place = p.block_offsets;
+  size = p.metadata.size;
+}
+
+-- scratch memory without a byte in it
+pub record AreEmptyScratches (scratches : EncodedData) : Type 0 where
+  pub no_message : scratches.ipc_message.items ≡ []
+  pub no_data : scratches.arrow_data.items ≡ []
 
 -- what is remembered are the dictionaries of the file
 pub record RemembersFile (m : FileMetadata) (bytes : List ℕ) (r : Remembered) : Type 0 where

@@ -1,15 +1,23 @@
 -- What making a writer of a file that is started answers.
 -- (Arrow columnar format, "IPC File Format".)
-use Rattle.std.specs.Prelude.{◌≡◌, ℕ, Bool, [], Result, Ok, IfErr, IfOk, OnOk}
+use Rattle.std.specs.Prelude.{◌≡◌, ℕ, Bool, List, [], length, Result, Ok, IfErr, IfOk, OnOk}
 use Rattle.lower.specs.TypeTrees.{FieldTrees, Pairs}
 use Rattle.lower_types.specs.declared.Endianness.{Endianness}
 use Rattle.ipc_base.specs.IdTrees.{IdTrees}
 use Rattle.ipc_devices.specs.Device.{Memory}
-use Rattle.ipc_devices.specs.Faults.{OwnFault}
+use Rattle.ipc_devices.specs.Faults.{OnIo, OwnFault}
 use Rattle.ipc_devices.specs.declared.fault.Fault.{Fault}
+use Rattle.ipc_write.specs.Sending.{FailsOrIsFull}
 use Rattle.ipc_write.specs.declared.stream.WriterState.TheVariants.{New}
-use Rattle.ipc_file_write.specs.FileWriters.{FileSeen, HasNothing, IsFileOf, MayBeStarted, MissesStart, OrFails, RefusesStart, SendsBeginning, StartsWith, seen}
+use Rattle.ipc_file_write.specs.FileWriters.{FileSeen, HasNothing, IsBeginning, IsFileOf, MayBeStarted, MissesStart, OrFails, RefusesStart, SendsBeginning, StartsWith, seen}
 use Rattle.ipc_file_write.specs.declared.file.FileWriter.{FileWriter}
+
+-- Some of what a file begins with was sent, and then the device failed, or was memory without room for all of it.
+pub record BeginningFails {W : Type 0} (grows : Bool) (failures room : W → ℕ) (new : FileSeen W) : Type 0 where
+  pub bytes : List ℕ
+  pub begins : IsBeginning new bytes
+  pub after : W
+  pub fails : FailsOrIsFull grows (failures new.device) (failures after) (room new.device) (length bytes)
 
 -- It is `start` of a new writer of this file: that one is Ok just where a file of this schema with these ids may be started, memory and
 -- devices aside, and has sent then what a file begins with; a refusal names a condition that isn't met.
@@ -23,5 +31,6 @@ pub record StartsNew {W : Type 0} (known grows : Bool) (failures room : W → �
   pub sends : IfOk r (λ w. SendsBeginning known grows failures room memory new (Ok tt) (seen w))
   pub starts : IfOk r (λ w. StartsWith new (seen w))
   pub may : OnOk r (MayBeStarted new)
+  pub failed : OnIo r (BeginningFails grows failures room new)
   pub only : IfErr r (OrFails (RefusesStart new))
   pub misses : IfErr r (λ e. MissesStart new e × OwnFault e (¬ MayBeStarted new))

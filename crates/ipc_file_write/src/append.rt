@@ -10,9 +10,10 @@ ghost use Rattle.ipc_files.specs.Dictionaries.{DictionariesReason, GivesKnown, I
 ghost use Rattle.ipc_files.specs.Footers.{file_seen};
 ghost use Rattle.ipc_file_laws.specs.Appending.{HasNegative, HaveNegative, end_of, goes_on, greatest_end};
 ghost use Rattle.ipc_file_write.specs.FileWriters.{scratches_of, seen};
-ghost use Rattle.ipc_file_write.specs.Appends.{CanBeWritten, GoesOnAgain, GoesOnWith, MayGoOn, OpensFile, RefusesFile, RefusesNoWhole, RefusesToGoOn};
+ghost use Rattle.ipc_file_write.specs.Appends.{AreEmptyScratches, CanBeWritten, DeviceFails, GoesOn, GoesOnAgain, GoesOnWith, MayGoOn, OpensFile, RefusesFile, RefusesNoWhole, RefusesToGoOn, resumed};
 
 use crate::file::FileWriter;
+pub use crate::prepared::Prepared;
 use ipc_devices::fault::{ArgFault, Fault, OutOfSpecKind};
 use ipc_devices::{Reads, Seeks, Writes};
 use ipc_encode::common::{EncodedData, WriteOptions};
@@ -121,20 +122,107 @@ fn dictionaries_of<W: Reads + Seeks>(
     Ok(dictionaries)
 }
 
+/// Prepares to append to a file, by metadata that were read from this device.
+///
+/// The file must begin where the device does. The device is only read: if reading doesn't change
+/// the bytes of such a device, they are as they were, whatever is answered. On `Ok` the device is
+/// at the offset where writing goes on, and after an error at any offset. [`FileWriter::resume`]
+/// makes the writer.
+///
+/// Writing goes on behind the block that ends last, or at the end of the file if a block ends
+/// behind that. It never goes on in the first 8 bytes.
+///
+/// # Errors
+/// - `Argument(NoRecordBlocks)` if the file has no record block
+/// - `OutOfSpec(UnexpectedNegativeInteger)` if one of the three numbers of a block is negative
+/// - `Argument(TooLarge)` if the file has more than `2^63 - 1` bytes, or if its schema and its
+///   pairs
+///   weigh more than `2^30`
+/// - `Argument(NotWritable)` if the schema can't be written, `Argument(FieldsShape)` if its ids
+///   don't
+///   fit
+/// - those of [`read_file_dictionaries`]
+/// - `Io` if and only if a call of the device failed
+/// - `Memory`
+pub fn prepare<W: Reads + Seeks>(
+    alloc: Global,
+    device: &mut W,
+    metadata: FileMetadata,
+) -> Result<Prepared, Fault>
+    ensures ok { IfOk result (λ prepared.
+        GoesOn W.known W.memory (file_seen metadata) device.old (resumed device.new prepared)) }
+    ensures only { IfErr result
+        (RefusesFile W.known (file_seen metadata) (W.memory device.old).whole) }
+    ensures whole { IsTrue W.still → (W.memory device.new).whole ≡ (W.memory device.old).whole }
+    ensures failed { OnIo result (Rises (W.failures device.old) (W.failures device.new)) }
+    ensures told { UnlessIo result (W.failures device.new ≡ W.failures device.old) }
+{
+    let place = place_to_go_on(alloc, &metadata)?;
+    let mut dictionary_blocks = Vec::new(alloc);
+    dictionary_blocks.extend_from_slice(metadata.dictionary_blocks())?;
+    let dictionaries = dictionaries_of(alloc, device, &metadata, place)?;
+    Ok(Prepared {
+        alloc,
+        metadata,
+        dictionary_blocks,
+        block_offsets: place,
+        dictionary_tracker: DictionaryTracker {
+            dictionaries,
+            cannot_replace: true,
+        },
+    })
+}
+
+impl<W> FileWriter<W> {
+    /// The writer that appends to a prepared file, already started.
+    ///
+    /// The device must be the one that was handed to [`prepare`], at the offset where that left it.
+    /// This takes no memory, makes no call of the device and cannot fail. The writer keeps the
+    /// file's byte order and, unless others are set, its pairs. A dictionary whose values the file
+    /// has isn't written again. [`finish`](FileWriter::finish) writes a footer with all blocks, old
+    /// and new.
+    pub fn resume(device: W, prepared: Prepared) -> FileWriter<W>
+        ensures writer { seen result ≡ resumed device prepared }
+        ensures scratches { AreEmptyScratches (scratches_of result) }
+    {
+        // The borrow checker wants each nested field moved by itself, and no call in the literal.
+        let alloc = prepared.alloc;
+        let encoded_message = EncodedData::empty(alloc);
+        let block_offsets = prepared.block_offsets;
+        let dictionary_blocks = prepared.dictionary_blocks;
+        let dictionary_tracker = prepared.dictionary_tracker;
+        let metadata = prepared.metadata;
+        let is_little_endian = metadata.ipc_schema.is_little_endian;
+        let ipc_fields = metadata.ipc_schema.fields;
+        FileWriter {
+            alloc,
+            writer: device,
+            state: WriterState::Started,
+            is_little_endian,
+            schema: metadata.schema,
+            given: None,
+            ipc_fields,
+            dictionary_blocks,
+            record_blocks: metadata.blocks,
+            block_offsets,
+            size: metadata.size,
+            custom_metadata: metadata.custom_metadata,
+            dictionary_tracker,
+            encoded_message,
+        }
+    }
+}
+
 impl<W: Reads + Writes + Seeks + Drop> FileWriter<W> {
-    /// A writer that goes on with a file, whose metadata were read from this device, and which has to begin where the device does: it is
-    /// started, and each chunk comes behind those that the file has. [`finish`](FileWriter::finish) writes a footer with all blocks, old
-    /// and new. The file's byte order stays, whatever the options say, and so do its pairs, unless others are set. A dictionary whose
-    /// values the file has isn't written again.
+    /// The writer that appends to a file, already started, by metadata that were read from this
+    /// device: [`prepare`], and then [`resume`](FileWriter::resume). It ignores the options.
     ///
-    /// Writing goes on behind all blocks of the file, or at its end where a block ends behind that. What stands before that place is never
-    /// changed, and the file never gets shorter: so whatever a later call answers, these metadata still give the chunks that they gave, where
-    /// these need no byte behind that place.
+    /// Bytes before the offset where writing goes on are never changed, and the file never gets
+    /// shorter. So whatever a later call answers, these metadata still give the chunks that they
+    /// gave, if these need no byte behind that offset.
     ///
-    /// Faults: `Argument(NoRecordBlocks)` where the file has no record block; `OutOfSpec(UnexpectedNegativeInteger)` where one of the three
-    /// numbers of a block is below 0; `Argument(TooLarge)` where the file has more than `2^63 - 1` bytes, or where its schema and its pairs
-    /// weigh more than `2^30`; `Argument(NotWritable)` where the schema can't be written, and `Argument(FieldsShape)` where its ids don't
-    /// fit; those of [`read_file_dictionaries`]; `Io` and `Memory`. No fault changes the file, whose device is only read, and is dropped.
+    /// # Errors
+    /// Those of [`prepare`]. They leave the file as it was, and drop the device.
     pub fn try_from_file(
         alloc: Global,
         mut writer: W,
@@ -144,34 +232,13 @@ impl<W: Reads + Writes + Seeks + Drop> FileWriter<W> {
         ensures ok { IfOk result (λ w.
             OpensFile W.known W.failures W.memory (file_seen metadata) writer (seen w)) }
         ensures only { IfErr result (RefusesFile W.known (file_seen metadata) (W.memory writer).whole) }
+        ensures failed { OnIo result (DeviceFails W.failures writer) }
         ensures always { IfErr result (RefusesNoWhole W.known W.memory (file_seen metadata) writer) }
         ensures means { IfOk result (λ w. GoesOnWith W.known W.memory (file_seen metadata) writer (seen w)) }
         ensures again { IfOk result (λ w. GoesOnAgain W.known W.memory (file_seen metadata) writer (seen w)) }
-        ensures message { IfOk result (λ w. (scratches_of w).ipc_message.items ≡ []) }
-        ensures data { IfOk result (λ w. (scratches_of w).arrow_data.items ≡ []) }
+        ensures scratches { IfOk result (λ w. AreEmptyScratches (scratches_of w)) }
     {
-        let place = place_to_go_on(alloc, &metadata)?;
-        let mut dictionary_blocks = Vec::new(alloc);
-        dictionary_blocks.extend_from_slice(metadata.dictionary_blocks())?;
-        let dictionaries = dictionaries_of(alloc, &mut writer, &metadata, place)?;
-        Ok(FileWriter {
-            alloc,
-            writer,
-            state: WriterState::Started,
-            is_little_endian: metadata.ipc_schema.is_little_endian,
-            schema: metadata.schema,
-            given: None,
-            ipc_fields: metadata.ipc_schema.fields,
-            dictionary_blocks,
-            record_blocks: metadata.blocks,
-            block_offsets: place,
-            size: metadata.size,
-            custom_metadata: metadata.custom_metadata,
-            dictionary_tracker: DictionaryTracker {
-                dictionaries,
-                cannot_replace: true,
-            },
-            encoded_message: EncodedData::empty(alloc),
-        })
+        let prepared = prepare(alloc, &mut writer, metadata)?;
+        Ok(FileWriter::resume(writer, prepared))
     }
 }

@@ -6,5 +6,6 @@ pub mod blocks;
 pub mod calls;
 pub mod file;
 pub mod laws;
+pub mod prepared;
 pub mod sending;
 pub mod writer;

@@ -1,12 +1,13 @@
 -- What a session does that goes on with a file.
-use Rattle.std.proofs.Common.{◌≡◌, ◌⊎◌, inl, inr, ℕ, ◌+◌, ◌≤◌, Bool, false, IsTrue, List, [], ◌∷◌, ◌++◌, length, map, take, Some, None, Result, Ok, Err, OnOk, refl, sym, ap, ◌∙◌, subst, arith, append_assoc, append-nil, length-drop}
+use Rattle.std.proofs.Common.{◌≡◌, ◌⊎◌, inl, inr, ℕ, ◌+◌, ◌≤◌, Bool, false, IsTrue, List, [], ◌∷◌, ◌++◌, drop, length, map, take, Some, None, Result, Ok, Err, OnOk, refl, sym, ap, ◌∙◌, subst, arith, append_assoc, append-nil, length-drop}
+use Rattle.std.proofs.lemmas.List.{take-append-drop}
 use Rattle.std.specs.Prelude.{Vec}
 use Rattle.std.specs.declared.alloc.Global.{Global}
 use Rattle.lower.specs.TypeTrees.{Pairs}
 use Rattle.lower_arrays.specs.declared.array.AnyArray.{AnyArray}
-use Rattle.ipc_devices.proofs.Claims.{claims_through}
-use Rattle.ipc_devices.specs.Device.{Memory}
-use Rattle.ipc_devices.specs.Faults.{OwnFault}
+use Rattle.ipc_devices.proofs.Claims.{claims_own, claims_through}
+use Rattle.ipc_devices.specs.Device.{Memory, Rises}
+use Rattle.ipc_devices.specs.Faults.{IsIo, OnIo, OwnFault, UnlessIo}
 use Rattle.ipc_devices.specs.declared.fault.ArgFault.TheVariants.{FieldsShape, NoRecordBlocks, NotWritable, TooLarge}
 use Rattle.ipc_devices.specs.declared.fault.Fault.{Fault}
 use Rattle.ipc_devices.specs.declared.fault.Fault.TheVariants.{Argument, Io, Memory as NoMemory, OutOfSpec}
@@ -190,16 +191,41 @@ refused_unread known old mid place e same at =
       reason = λ k. subst (λ (n : ℕ). FileReason n old e) (at k) (subst (λ (xs : List ℕ). FileReason place xs e) (same k) (reason k));
     }))
 
--- nothing refuses one of itself that isn't there
-pub none_read : (old mid : List ℕ) (e : Fault) → mid ≡ old → OwnFault e (metadata_of mid ≡ None) → (m : FileMetadata) → metadata_of old ≡ Some m → RefusesNoOld m old e
-none_read old mid e same none m is =
-    claims_through e (metadata_of mid ≡ None) _
-    (λ no may is_stream schema pairs before h.
-    let both : None ≡ Some m = sym no ∙ ap metadata_of same ∙ is in
-    absurd cc)
-    none
+-- ---- sessions that are refused
+
+-- no old file is refused that may be appended to
+pub session_refuses_no_old : (known : Bool) (bytes : List ℕ) (e : Fault) → IsTrue known → RefusesSession known bytes e → (m : FileMetadata) → metadata_of bytes ≡ Some m → RefusesNoOld m bytes e
+session_refuses_no_old known bytes e k refused m is =
+    claims_own e (HasNoMetadata known bytes e ⊎ CantGoOn known bytes e) _
+    (λ why. elim why [
+      | inl none ↦ let both : None ≡ Some m = sym (none.none k) ∙ is in absurd cc
+      | inr cant ↦
+          let same = some-same cant.metadata m (sym (cant.is k) ∙ is) in
+          subst (λ (x : FileMetadata). RefusesNoOld x bytes e) same (refuses_no_old cant.metadata bytes known e k (cant.is k) cant.refused)
+    ])
+    refused
+
+-- a failure that an error of a device tells of
+pub io_fails : (e : Fault) (P : Type 0) → OnIo {X = Unit {0}} (Err e) P → IsIo e → P
+io_fails (Io x) P h io = h
+io_fails _ P h io = absurd io
+
+-- by the count that a device had before calls that counted none
+pub fails_from : (e : Fault) (old mid new : ℕ) → mid ≡ old → OnIo {X = Unit {0}} (Err e) (Rises mid new) → OnIo {X = Unit {0}} (Err e) (Rises old new)
+fails_from (Io x) old mid new same h = subst (λ (n : ℕ). Rises n new) same h
+fails_from _ old mid new same h = tt
+
+pub told_from : (e : Fault) (old mid new : ℕ) → mid ≡ old → UnlessIo {X = Unit {0}} (Err e) (new ≡ mid) → UnlessIo {X = Unit {0}} (Err e) (new ≡ old)
+told_from (Io x) old mid new same h = tt
+told_from _ old mid new same h = h ∙ same
 
 -- ---- one after the other
+
+-- one of some sessions, those before it and those behind it
+pub at_index : (sessions : List (Vec (List AnyArray) Global)) (i : ℕ) (x : Vec (List AnyArray) Global) → take (i + 1) sessions ≡ take i sessions ++ x ∷ [] → sessions ≡ take i sessions ++ x ∷ drop (i + 1) sessions
+at_index sessions i x next =
+    let rest = drop (i + 1) sessions in
+    sym (take-append-drop (i + 1) sessions) ∙ ap (λ (xs : List (Vec (List AnyArray) Global)). xs ++ rest) next ∙ append_assoc (take i sessions) (x ∷ []) rest
 
 pub in_turn_none : (bytes : List ℕ) → AddsInTurn 0 bytes bytes []
 in_turn_none bytes = record {

@@ -1,6 +1,6 @@
 -- The calls of a session: what its writes do, what its end leaves, and which calls are made of which writers.
 -- (Arrow columnar format, "IPC File Format".)
-use Rattle.std.specs.Prelude.{◌≡◌, ◌⊎◌, ℕ, ◌-◌, ◌≤◌, Bool, IsTrue, true, List, [], ◌∷◌, ◌++◌, length, Some, None, Result, Ok, Err, IfErr, OnOk, Vec, vec_capacity}
+use Rattle.std.specs.Prelude.{◌≡◌, ◌⊎◌, ℕ, ◌-◌, ◌<◌, ◌≤◌, Bool, IsTrue, true, List, [], ◌∷◌, ◌++◌, length, Some, None, Result, Ok, Err, IfErr, OnOk, Vec, vec_capacity, vec_len}
 use Rattle.std.specs.declared.alloc.Global.{Global}
 use Rattle.lower.specs.TypeTrees.{FieldTrees, Pairs}
 use Rattle.lower_types.specs.declared.Endianness.{Endianness}
@@ -24,9 +24,9 @@ use Rattle.ipc_write.specs.Calls.{outcome, state_seen}
 use Rattle.ipc_write.specs.Meaning.{chunk_written}
 use Rattle.ipc_write.specs.declared.stream.WriterState.TheVariants.{Failed, Started}
 use Rattle.ipc_file_write.specs.AppendLaws.{NoMore, Onward}
-use Rattle.ipc_file_write.specs.Appends.{GoesOn}
+use Rattle.ipc_file_write.specs.Appends.{DeviceFails, GoesOn, OpensFile}
 use Rattle.ipc_file_write.specs.Calls.{DoesFinish, vector}
-use Rattle.ipc_file_write.specs.FileWriters.{Agrees, FileSeen, HoldsBytes, IsFileOf, IsSameFile, head_of_file}
+use Rattle.ipc_file_write.specs.FileWriters.{Agrees, FileSeen, HoldsBytes, IsBeginning, IsEnding, IsFileOf, IsSameFile, head_of_file}
 use Rattle.ipc_file_write.specs.Writes.{NamesOne, WritesExactly}
 use Rattle.ipc_file_write.specs.WrittenFiles.{HasTooMany}
 use Rattle.ipc_sessions.specs.Sessions.{CantGoOn, HasNoMetadata, IsEndedFile, taken_of}
@@ -86,11 +86,28 @@ pub record MayCreate (fields : FieldTrees) (metadata : Pairs) (ids : IdTrees) (o
   pub creation : IsCreation fields metadata ids order pairs chunks answers
   pub holds : P creation.last
 
--- Why a file isn't created: memory, of which a device that is memory tells by its own fault; ids that don't fit the schema, one that can't
--- be written, or one that is too heavy with the pairs; or a writer that the writes left failed, or with too many blocks.
+-- how much a vector has room for behind what it holds
+abbrev pub vector_room : Vec ℕ Global → ℕ
+vector_room v = vec_capacity v - vec_len v
+
+-- a vector has no room for bytes that are to be sent, of which P holds
+pub record HasNoRoom (v : Vec ℕ Global) (P : List ℕ → Type 0) : Type 0 where
+  pub bytes : List ℕ
+  pub are : P bytes
+  pub full : vector_room v < length bytes
+
+-- the vector of a new writer has none for what its file begins with
+pub record BeginsFull (fields : FieldTrees) (metadata : Pairs) (ids : IdTrees) (order : Endianness) (pairs : Pairs) : Type 0 where
+  pub new : FileSeen (Vec ℕ Global)
+  pub file : IsFileOf new fields metadata ids order pairs
+  pub full : HasNoRoom new.device (IsBeginning new)
+
+-- Why a file isn't created: memory, of which a device that is memory tells by its own fault, where it has no room for the beginning or the end;
+-- ids that don't fit the schema, one that can't be written, or one that is too heavy with the pairs; or a writer that the writes left failed,
+-- or with too many blocks.
 abbrev pub RefusesCreation : FieldTrees → Pairs → IdTrees → Endianness → Pairs → List (List AnyArray) → Fault → Type 0
 RefusesCreation fs es is order ps chunks NoMemory = Unit {0}
-RefusesCreation fs es is order ps chunks (Io e) = Unit {0}
+RefusesCreation fs es is order ps chunks (Io e) = BeginsFull fs es is order ps ⊎ MayCreate fs es is order ps chunks (λ w. HasNoRoom w.device (IsEnding w))
 RefusesCreation fs es is order ps chunks (Argument FieldsShape) = ¬ AllFit fs is
 RefusesCreation fs es is order ps chunks (Argument NotWritable) = ¬ IsWritable fs es is
 RefusesCreation fs es is order ps chunks (Argument TooLarge) = (¬ (file_weight fs es ps ≤ max_weight)) ⊎ MayCreate fs es is order ps chunks HasTooMany
@@ -125,6 +142,15 @@ pub record IsSessionOn {W : Type 0} (known grows : Bool) (failures room : W → 
   pub session : IsSession known grows failures room memory metadata read chunks answers end left
   pub done : OnOk end (failures left ≡ failures device)
 
+-- A writer goes on with the file that begins where this device does, by the metadata that the file
+-- has. No call of the device failed since these were read.
+pub record ResumesFile {W : Type 0} (known : Bool) (failures : W → ℕ) (memory : W → Memory) (device : W) (w : FileSeen W) : Type 0 where
+  pub read : W
+  pub same : IsTrue known → (memory read).whole ≡ (memory device).whole
+  pub metadata : FileMetadata
+  pub metadata_is : IsTrue known → metadata_of (memory device).whole ≡ Some metadata
+  pub opens : OpensFile known failures memory metadata read w
+
 -- the bytes of a file in memory, and the place in it
 abbrev pub in_memory : MemFile (Vec ℕ Global) → Memory
 in_memory f = record { whole = f.inner.items; place = f.position }
@@ -150,8 +176,8 @@ abbrev pub RefusesWhole : {W : Type 0} → (known grows : Bool) (failures room :
 RefusesWhole known grows failures room memory device chunks e =
     (HasNoMetadata known (memory device).whole e ⊎ CantGoOn known (memory device).whole e) ⊎ EndsRefused known grows failures room memory device chunks e
 
--- Why some sessions are refused: those in front of one of them ended their file, and on what they left that one is refused.
-pub record RefusesInTurn {W : Type 0} (known grows : Bool) (failures room : W → ℕ) (memory : W → Memory) (device : W) (sessions : List (Vec (List AnyArray) Global)) (e : Fault) : Type 0 where
+-- Of some sessions, those in front of one of them ended their file, and on what they left that one doesn't, for this reason.
+pub record StopsInTurn {W : Type 0} (known grows : Bool) (failures room : W → ℕ) (memory : W → Memory) (device : W) (sessions : List (Vec (List AnyArray) Global)) (reason : W → List (List AnyArray) → Type 0) : Type 0 where
   pub done : List (Vec (List AnyArray) Global)
   pub refused : Vec (List AnyArray) Global
   pub rest : List (Vec (List AnyArray) Global)
@@ -159,7 +185,21 @@ pub record RefusesInTurn {W : Type 0} (known grows : Bool) (failures room : W �
   pub answers : List (Vec (Result Unit Fault) Global)
   pub left : W
   pub made : AreSessions known grows failures room memory device done answers left
-  pub why : RefusesWhole known grows failures room memory left refused.items e
+  pub why : reason left refused.items
+
+-- why some sessions are refused: one of them is
+abbrev pub RefusesInTurn : {W : Type 0} → (known grows : Bool) (failures room : W → ℕ) (memory : W → Memory) → W → List (Vec (List AnyArray) Global) → Fault → Type 0
+RefusesInTurn known grows failures room memory device sessions e =
+    StopsInTurn known grows failures room memory device sessions (λ left chunks. RefusesWhole known grows failures room memory left chunks e)
+
+-- Why one session answers `Io`: a call failed that reads its device, or this is what its end answered, behind its writes.
+abbrev pub FailsWhole : {W : Type 0} → (known grows : Bool) (failures room : W → ℕ) (memory : W → Memory) → W → List (List AnyArray) → Fault → Type 0
+FailsWhole known grows failures room memory device chunks e = DeviceFails failures device ⊎ EndsRefused known grows failures room memory device chunks e
+
+-- why some sessions do: one of them does
+abbrev pub FailsInTurn : {W : Type 0} → (known grows : Bool) (failures room : W → ℕ) (memory : W → Memory) → W → List (Vec (List AnyArray) Global) → Fault → Type 0
+FailsInTurn known grows failures room memory device sessions e =
+    StopsInTurn known grows failures room memory device sessions (λ left chunks. FailsWhole known grows failures room memory left chunks e)
 
 -- All sessions on a file in memory: the first created it, and each later one went on with it; these bytes are what the last one left.
 pub record AreAllSessions (fields : FieldTrees) (metadata : Pairs) (ids : IdTrees) (order : Endianness) (pairs : Pairs) (first : List (List AnyArray)) (answers : List (Result Unit Fault))
@@ -171,14 +211,28 @@ pub record AreAllSessions (fields : FieldTrees) (metadata : Pairs) (ids : IdTree
   pub sessions : AreSessions true true (λ f. 0) room_behind in_memory created later others left
   pub bytes_are : left.inner.items ≡ bytes
 
--- Why a later one is refused: the first created the file.
-pub record RefusesLater (fields : FieldTrees) (metadata : Pairs) (ids : IdTrees) (order : Endianness) (pairs : Pairs) (first : List (List AnyArray)) (later : List (Vec (List AnyArray) Global)) (e : Fault) : Type 0 where
+-- The first session created the file, and of what that left this holds.
+pub record IsCreatedThen (fields : FieldTrees) (metadata : Pairs) (ids : IdTrees) (order : Endianness) (pairs : Pairs) (first : List (List AnyArray)) (P : MemFile (Vec ℕ Global) → Type 0) : Type 0 where
   pub answers : List (Result Unit Fault)
   pub creation : IsCreation fields metadata ids order pairs first answers
   pub created : MemFile (Vec ℕ Global)
   pub file : IsEndedFile true created.inner.items (written_as order fields metadata ids) pairs (taken_of first answers)
-  pub refused : RefusesInTurn true true (λ f. 0) room_behind in_memory created later e
+  pub refused : P created
+
+-- why a later one is refused
+abbrev pub RefusesLater : FieldTrees → Pairs → IdTrees → Endianness → Pairs → List (List AnyArray) → List (Vec (List AnyArray) Global) → Fault → Type 0
+RefusesLater fs es is order ps first later e =
+    IsCreatedThen fs es is order ps first (λ created. RefusesInTurn true true (λ f. 0) room_behind in_memory created later e)
+
+-- why a later one answers `Io`
+abbrev pub FailsLater : FieldTrees → Pairs → IdTrees → Endianness → Pairs → List (List AnyArray) → List (Vec (List AnyArray) Global) → Fault → Type 0
+FailsLater fs es is order ps first later e =
+    IsCreatedThen fs es is order ps first (λ created. FailsInTurn true true (λ f. 0) room_behind in_memory created later e)
 
 -- Why they are refused, memory aside: the file isn't created, or a later one is refused.
 abbrev pub RefusesSessions : FieldTrees → Pairs → IdTrees → Endianness → Pairs → List (List AnyArray) → List (Vec (List AnyArray) Global) → Fault → Type 0
 RefusesSessions fs es is order ps first later e = OwnFault e (RefusesCreation fs es is order ps first e ⊎ RefusesLater fs es is order ps first later e)
+
+-- why one of them answers `Io`: the memory has no room for what creates the file, or a later one does
+abbrev pub FailsSessions : FieldTrees → Pairs → IdTrees → Endianness → Pairs → List (List AnyArray) → List (Vec (List AnyArray) Global) → Fault → Type 0
+FailsSessions fs es is order ps first later e = RefusesCreation fs es is order ps first e ⊎ FailsLater fs es is order ps first later e

@@ -1,11 +1,12 @@
 //! Files in memory that sessions write: the first one creates the file, each later one goes on with it.
 ghost use Rattle.std.specs.Prelude.{◌++◌, IfErr, IfOk, not, true};
 ghost use Rattle.lower.specs.TypeViews.{fields_view, pairs_of};
+ghost use Rattle.ipc_devices.specs.Faults.{IsIo};
 ghost use Rattle.ipc_schema_write.specs.WriterAnswers.{byte_order, written_as};
 ghost use Rattle.ipc_write.specs.Writers.{chosen_ids};
 ghost use Rattle.ipc_file_write.specs.Calls.{IsWrittenFile};
 ghost use Rattle.ipc_sessions.specs.Sessions.{IsEndedFile, all_taken_of, taken_of};
-ghost use Rattle.ipc_sessions.specs.Steps.{AreAllSessions, IsCreation, RefusesCreation, RefusesSessions};
+ghost use Rattle.ipc_sessions.specs.Steps.{AreAllSessions, FailsSessions, IsCreation, RefusesCreation, RefusesSessions};
 
 use crate::sessions::{Sessions, run_sessions, write_chunks};
 use ipc_base::chunk::Chunk;
@@ -86,6 +87,10 @@ pub fn write_sessions(
         (pairs_of custom_metadata.entries) (taken_of first.now f.first.items ++ all_taken_of later.now f.later.items)) }
     ensures only { let fields = fields_view schema.fields.items in
         IfErr result (RefusesSessions fields (pairs_of schema.metadata.entries) (chosen_ids ipc_fields fields) (byte_order (not options.big_endian)) (pairs_of custom_metadata.entries) first.now later.now) }
+    ensures failed { let fields = fields_view schema.fields.items in
+        IfErr result (λ e. IsIo e → FailsSessions fields (pairs_of schema.metadata.entries)
+        (chosen_ids ipc_fields fields) (byte_order (not options.big_endian))
+        (pairs_of custom_metadata.entries) first.now later.now e) }
 {
     let created = create_file(alloc, schema, ipc_fields, custom_metadata, options, first)?;
     let WrittenFile { bytes, answers } = created;

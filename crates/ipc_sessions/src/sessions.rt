@@ -1,17 +1,18 @@
 //! Sessions on a file that is there: chunks are written behind those that it has, and it is ended again.
 ghost use Rattle.std.specs.Prelude.{◌≡◌, length, IfErr, IfOk, IsTrue, Ok, OnErr, OnOk, Some};
-ghost use Rattle.ipc_devices.specs.Faults.{OwnFault};
+ghost use Rattle.ipc_devices.specs.Device.{Rises};
+ghost use Rattle.ipc_devices.specs.Faults.{IsIo, OnIo, OwnFault, UnlessIo};
 ghost use Rattle.ipc_devices.specs.declared.fault.Fault.TheVariants.{Memory};
 ghost use Rattle.ipc_files.specs.Footers.{file_seen};
 ghost use Rattle.ipc_model.specs.Files.{FileMetadata as FileMeaning, metadata_of};
-ghost use Rattle.ipc_file_write.specs.Appends.{RefusesFile};
+ghost use Rattle.ipc_file_write.specs.Appends.{DeviceFails, RefusesFile, resumed};
 ghost use Rattle.ipc_file_write.specs.FileWriters.{seen};
 ghost use Rattle.ipc_sessions.specs.Sessions.{GainsChunks, AddsInTurn, KeepsOld, RefusesNoOld, RefusesSession, all_taken_of, taken_of};
-ghost use Rattle.ipc_sessions.specs.Steps.{AreSessions, AreWritten, EndsSession, IsSession, IsSessionOn, RefusesInTurn, RefusesWhole, TakesChunks, WritesNext};
+ghost use Rattle.ipc_sessions.specs.Steps.{AreSessions, AreWritten, EndsSession, FailsInTurn, FailsWhole, IsSession, IsSessionOn, RefusesInTurn, RefusesWhole, ResumesFile, TakesChunks, WritesNext};
 
 use ipc_base::chunk::Chunk;
 use ipc_devices::{Fault, Reads, Seeks, Writes};
-use ipc_encode::common::WriteOptions;
+use ipc_file_write::append::{Prepared, prepare};
 use ipc_file_write::writer::FileWriter;
 use ipc_files::read::file::{FileMetadata, read_file_metadata};
 use lower_arrays::array::AnyArray;
@@ -90,19 +91,47 @@ fn end_session<W: Writes + Drop>(
     Ok(session)
 }
 
-/// A session by metadata that were read from this device, of a file that begins where the device does: the chunks are written behind
-/// those that the file has, one after the other, also those behind a refused one, and the file is ended.
+/// Prepares to append to the file that begins where its device begins: reads its metadata
+/// ([`read_file_metadata`]), and then is [`prepare`].
 ///
-/// In memory, where the end is Ok, the file has the schema and the pairs that it had, and behind its chunks exactly those of the writes
-/// that were Ok; it is a stream without its first eight bytes where it was one. And whatever the calls answer, the file is no shorter than
-/// it was, and these metadata give the dictionaries and the chunks that they gave, where these need no byte behind the place where writing
-/// goes on; also where the end is refused, and then too the device is handed back.
+/// The device is only read: if reading doesn't change the bytes of such a device, they are as they
+/// were, whatever is answered. On `Ok` the device is at the offset where writing goes on, and after
+/// an error at any offset. [`FileWriter::resume`] makes the writer.
 ///
-/// Faults: those of [`FileWriter::try_from_file`], which change nothing; `Memory` where there is none to keep the answers, and then nothing
-/// was written. After these the device is dropped; one that was lent may stand at any place.
+/// # Errors
+/// Those of [`read_file_metadata`] and of [`prepare`]; `Io` if and only if a call of the device
+/// failed.
+pub fn prepare_session<W: Reads + Seeks>(alloc: Global, device: &mut W) -> Result<Prepared, Fault>
+    ensures ok { IfOk result (λ prepared.
+        ResumesFile W.known W.failures W.memory device.old (resumed device.new prepared)) }
+    ensures only { IfErr result (RefusesSession W.known (W.memory device.old).whole) }
+    ensures whole { IsTrue W.still → (W.memory device.new).whole ≡ (W.memory device.old).whole }
+    ensures failed { OnIo result (Rises (W.failures device.old) (W.failures device.new)) }
+    ensures told { UnlessIo result (W.failures device.new ≡ W.failures device.old) }
+{
+    device.seek_to(0)?;
+    let metadata = read_file_metadata(alloc, device)?;
+    let prepared = prepare(alloc, device, metadata)?;
+    Ok(prepared)
+}
+
+/// A session by metadata that were read from this device, of a file that begins where the device
+/// does: the chunks are written behind those that the file has, one after the other, also those
+/// behind a refused one, and the file is ended.
+///
+/// In memory, if the end is `Ok`, the file has the schema and the pairs that it had, and behind its
+/// chunks exactly those of the writes that were `Ok`. It is a stream without its first eight bytes
+/// if it was one. Whatever the calls answer, the file is no shorter than it was. Its metadata then
+/// give the dictionaries and the chunks that they gave, if these need no byte behind the offset
+/// where writing goes on. The device is handed back even if the end is refused.
+///
+/// # Errors
+/// Those of [`prepare`], and `Memory` if there is none to keep the answers. Nothing is written
+/// then: the file is as it was, and the device is dropped. A device that was lent may be at any
+/// offset.
 pub fn append_to_file<W: Reads + Writes + Seeks + Drop>(
     alloc: Global,
-    device: W,
+    mut device: W,
     metadata: FileMetadata,
     chunks: &[Chunk<AnyArray>],
 ) -> Result<Session<W>, Fault>
@@ -114,17 +143,21 @@ pub fn append_to_file<W: Reads + Writes + Seeks + Drop>(
     ensures always { IsTrue W.known → metadata_of (W.memory device).whole ≡ Some (file_seen metadata)
         → IfErr result (RefusesNoOld (file_seen metadata) (W.memory device).whole) }
     ensures only { IfErr result (RefusesFile W.known (file_seen metadata) (W.memory device).whole) }
+    ensures failed { OnIo result (DeviceFails W.failures device) }
 {
-    let writer = FileWriter::try_from_file(alloc, device, metadata, WriteOptions::default())?;
+    let prepared = prepare(alloc, &mut device, metadata)?;
+    let writer = FileWriter::resume(device, prepared);
     let session = end_session(alloc, writer, chunks)?;
     Ok(session)
 }
 
-/// A session on the file that begins where its device begins: its metadata are read ([`read_file_metadata`]), and by them goes
-/// [`append_to_file`].
+/// A session on the file that begins where its device begins: [`append_to_file`] by the metadata
+/// that the file has.
 ///
-/// Faults: those of these two, and `Io` where the device can't go to its beginning. After them nothing was written, and the device is
-/// dropped; one that was lent may stand at any place.
+/// # Errors
+/// Those of [`prepare_session`], and `Memory` if there is none to keep the answers. Nothing is
+/// written then: the file is as it was, and the device is dropped. A device that was lent may be at
+/// any offset.
 pub fn append_session<W: Reads + Writes + Seeks + Drop>(
     alloc: Global,
     mut device: W,
@@ -137,10 +170,11 @@ pub fn append_session<W: Reads + Writes + Seeks + Drop>(
     ensures always { IsTrue W.known → IfErr result (λ e. (m : FileMeaning) → metadata_of (W.memory device).whole ≡ Some m
         → RefusesNoOld m (W.memory device).whole e) }
     ensures only { IfErr result (RefusesSession W.known (W.memory device).whole) }
+    ensures failed { OnIo result (DeviceFails W.failures device) }
 {
-    device.seek_to(0)?;
-    let metadata = read_file_metadata(alloc, &mut device)?;
-    let session = append_to_file(alloc, device, metadata, chunks)?;
+    let prepared = prepare_session(alloc, &mut device)?;
+    let writer = FileWriter::resume(device, prepared);
+    let session = end_session(alloc, writer, chunks)?;
     Ok(session)
 }
 
@@ -153,6 +187,8 @@ fn whole_session<W: Reads + Writes + Seeks + Drop>(
     ensures adds { IsTrue W.known → IfOk result (λ left. GainsChunks (W.memory device).whole (W.memory left.0).whole (taken_of chunks.now left.1.items)) }
     ensures made { IfOk result (λ left. IsSessionOn W.known W.grows W.failures W.room W.memory device chunks.now left.1.items (Ok tt) left.0) }
     ensures only { IfErr result (λ e. OwnFault e (RefusesWhole W.known W.grows W.failures W.room W.memory device chunks.now e)) }
+    ensures failed { IfErr result (λ e. IsIo e
+        → FailsWhole W.known W.grows W.failures W.room W.memory device chunks.now e) }
 {
     let session = append_session(alloc, device, chunks)?;
     let Session {
@@ -168,9 +204,12 @@ fn whole_session<W: Reads + Writes + Seeks + Drop>(
 /// that it had, and behind its chunks exactly those of the writes that were Ok, in order. It is a stream without its first eight bytes
 /// where it was one.
 ///
-/// Faults: those of [`append_session`], and of a `finish` that was refused. After them the device is dropped, with all that was written on
-/// it. On one that was lent, the chunks of the sessions before still stand where the metadata name them that the last of these sessions
-/// left; the file itself may be without a footer then.
+/// # Errors
+/// Those of [`append_session`], and of a `finish` that was refused; `Io` only if a call of the
+/// device failed, or if the file is in memory and its growth was refused. The device is dropped
+/// then, with all that was written on it. On one that was lent, the chunks of the sessions before
+/// are still at the blocks of the metadata that the last of these sessions left; the file may be
+/// without a footer.
 pub fn run_sessions<W: Reads + Writes + Seeks + Drop>(
     alloc: Global,
     mut device: W,
@@ -180,6 +219,8 @@ pub fn run_sessions<W: Reads + Writes + Seeks + Drop>(
     ensures adds { IsTrue W.known → IfOk result (λ left. AddsInTurn (length sessions.now) (W.memory device).whole (W.memory left.device).whole
         (all_taken_of sessions.now left.answers.items)) }
     ensures only { IfErr result (λ e. OwnFault e (RefusesInTurn W.known W.grows W.failures W.room W.memory device sessions.now e)) }
+    ensures failed { IfErr result (λ e. IsIo e
+        → FailsInTurn W.known W.grows W.failures W.room W.memory device sessions.now e) }
 {
     let mut answers = Vec::new(alloc);
     for chunks in sessions {

@@ -1,4 +1,5 @@
 //! Arrow's IPC streams and files.
+pub mod append;
 pub mod fault;
 pub mod format;
 pub mod read;

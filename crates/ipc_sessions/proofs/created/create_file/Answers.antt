@@ -5,7 +5,7 @@ use Rattle.lower.specs.TypeViews.{fields_view, pairs_of}
 use Rattle.ipc_schema_write.specs.WriterAnswers.{byte_order}
 use Rattle.ipc_write.specs.Writers.{chosen_ids}
 use Rattle.ipc_file_write.specs.FileWriters.{seen}
-use Rattle.ipc_sessions.proofs.Creation.{begun, created, creation, end_refused, pairs_refused, start_refused}
+use Rattle.ipc_sessions.proofs.Creation.{beginning_full, begun, created, creation, end_refused, ending_full, pairs_refused, start_refused}
 use Rattle.ipc_sessions.proofs.created.create_file.Goals as goal
 
 pub returns-clause-made : goal.returns-clause-made
@@ -42,7 +42,9 @@ returns-in_err-start-clause-only c =
     let p = err_from_is_err_and c.from_residual-in_err-start.result c.from_residual-in_err-start.ensures.1 in
     rw (p.1, p.2)
     (start_refused fields (pairs_of c.args.schema.metadata.entries) (chosen_ids c.args.ipc_fields fields) (byte_order (not c.args.options.big_endian)) (pairs_of c.args.custom_metadata.entries) c.args.chunks.now
-    (seen c.set_custom_metadata.new.self) _ (takes.state ∙ c.in_ok-writer.ensures.state) (takes.fields ∙ file.fields_are) (takes.metadata ∙ file.metadata_are) (takes.chosen ∙ file.chosen_are) c.in_err-start.ensures.exact.0)
+    (seen c.set_custom_metadata.new.self) c.in_err-start.field-0.0 (takes.state ∙ c.in_ok-writer.ensures.state)
+    (record { fields_are = takes.fields ∙ file.fields_are; metadata_are = takes.metadata ∙ file.metadata_are; chosen_are = takes.chosen ∙ file.chosen_are; order_is = takes.order ∙ file.order_is; pairs_are = takes.are })
+    c.in_err-start.ensures.exact.0 (beginning_full (seen c.set_custom_metadata.new.self) (seen c.start.new.self) c.in_err-start.field-0.0 c.in_err-start.ensures.step))
 
 pub returns-in_err-finish-clause-only : goal.returns-in_err-finish-clause-only
 returns-in_err-finish-clause-only c =
@@ -62,4 +64,5 @@ returns-in_err-finish-clause-only c =
     (begun new paired opened c.in_ok-writer.ensures.means empty takes.means starts.means) c.in_ok-answers.ensures.made in
     let e = c.in_err-finish.ensures in
     let p = err_from_is_err_and c.from_residual-in_err-finish.result c.from_residual-in_err-finish.ensures.1 in
-    rw (p.1, p.2) (end_refused fields es is order ps c.args.chunks.now c.in_ok-answers.answers.items made (seen c.finish.new.self) c.in_err-finish.field-0.0 e.first e.only e.exact.0)
+    rw (p.1, p.2) (end_refused fields es is order ps c.args.chunks.now c.in_ok-answers.answers.items made (seen c.finish.new.self) c.in_err-finish.field-0.0 e.first e.only e.exact.0
+    (ending_full (seen c.write_chunks.new.writer) (seen c.finish.new.self) c.in_err-finish.field-0.0 e.step))

@@ -47,3 +47,20 @@ returns-in_err-left-clause-only c =
       file = rw c.new.ensures c.in_ok-created.ensures.file;
       refused = why;
     })) c.in_err-left.ensures.only)
+
+pub returns-in_err-created-clause-failed : goal.returns-in_err-created-clause-failed
+returns-in_err-created-clause-failed c =
+    let p = err_from_is_err_and c.from_residual.result c.from_residual.ensures.1 in
+    rw (p.1, p.2) (λ io. inl c.in_err-created.ensures.only)
+
+pub returns-in_err-left-clause-failed : goal.returns-in_err-left-clause-failed
+returns-in_err-left-clause-failed c =
+    let p = err_from_is_err_and c.from_residual-in_err-left.result c.from_residual-in_err-left.ensures.1 in
+    rw (p.1, p.2)
+    (λ io. inr (record {
+      answers = c.in_ok-created.created.answers.items;
+      creation = c.in_ok-created.ensures.made;
+      created = c.new.result;
+      file = rw c.new.ensures c.in_ok-created.ensures.file;
+      refused = c.in_err-left.ensures.failed io;
+    }))

@@ -1,12 +1,10 @@
-use Rattle.std.proofs.Common.{◌≡◌, ◌+◌, ◌∷◌, [], ◌++◌, List, Vec, arith, length, length-append, append_assoc, drop, take, sym, ap, ◌∙◌, subst, refl}
-use Rattle.std.proofs.lemmas.List.{take-append-drop, take_all, take_more}
+use Rattle.std.proofs.Common.{◌≡◌, ◌+◌, ◌∷◌, [], ◌++◌, List, arith, length, length-append, drop, take, sym, ap, ◌∙◌, subst, refl}
+use Rattle.std.proofs.lemmas.List.{take_all, take_more}
 use Rattle.std.proofs.lemmas.Result.{err_from_is_err_and}
-use Rattle.std.specs.declared.alloc.Global.{Global}
-use Rattle.lower_arrays.specs.declared.array.AnyArray.{AnyArray}
 use Rattle.ipc_devices.proofs.Claims.{claims_through}
 use Rattle.ipc_model.specs.Batches.{Chunk}
 use Rattle.ipc_sessions.specs.Sessions.{AddsInTurn}
-use Rattle.ipc_sessions.proofs.Going.{in_turn_more, in_turn_none, sessions_more}
+use Rattle.ipc_sessions.proofs.Going.{at_index, in_turn_more, in_turn_none, sessions_more}
 use Rattle.ipc_sessions.proofs.Taken.{all_taken_more}
 use Rattle.ipc_sessions.proofs.sessions.run_sessions.Goals as goal
 
@@ -45,7 +43,6 @@ returns-in_err-ended-clause-only g c =
     let sessions = c.args.sessions.now in
     let i = c.loop-chunks.chunks-index in
     let chunks = c.chunks-item.result in
-    let rest = drop (i + 1) sessions in
     let next : take (i + 1) sessions ≡ take i sessions ++ chunks ∷ [] =
     take_more sessions i chunks c.loop-chunks-test.true ∙ sym (ap (λ x. take i sessions ++ x ∷ []) c.chunks-item.is) in
     let p = err_from_is_err_and c.from_residual.result c.from_residual.ensures.1 in
@@ -54,10 +51,30 @@ returns-in_err-ended-clause-only g c =
     (λ why. record {
       done = take i sessions;
       refused = chunks;
-      rest = rest;
-      sessions_are = sym (take-append-drop (i + 1) sessions) ∙ ap (λ (xs : List (Vec (List AnyArray) Global)). xs ++ rest) next ∙ append_assoc (take i sessions) (chunks ∷ []) rest;
+      rest = drop (i + 1) sessions;
+      sessions_are = at_index sessions i chunks next;
       answers = c.loop-chunks.answers.items;
       left = c.loop-chunks.device;
       made = c.loop-chunks.invariant.0;
       why = why;
     }) (rw c.deref.ensures.value at c.in_err-ended.ensures.only))
+
+pub returns-in_err-ended-clause-failed : goal.returns-in_err-ended-clause-failed
+returns-in_err-ended-clause-failed g c =
+    let sessions = c.args.sessions.now in
+    let i = c.loop-chunks.chunks-index in
+    let chunks = c.chunks-item.result in
+    let next : take (i + 1) sessions ≡ take i sessions ++ chunks ∷ [] =
+    take_more sessions i chunks c.loop-chunks-test.true ∙ sym (ap (λ x. take i sessions ++ x ∷ []) c.chunks-item.is) in
+    let p = err_from_is_err_and c.from_residual.result c.from_residual.ensures.1 in
+    rw (p.1, p.2)
+    (λ io. record {
+      done = take i sessions;
+      refused = chunks;
+      rest = drop (i + 1) sessions;
+      sessions_are = at_index sessions i chunks next;
+      answers = c.loop-chunks.answers.items;
+      left = c.loop-chunks.device;
+      made = c.loop-chunks.invariant.0;
+      why = (rw c.deref.ensures.value at c.in_err-ended.ensures.failed) io;
+    })

@@ -1,6 +1,7 @@
 use Rattle.std.proofs.Common.{◌∙◌}
 use Rattle.std.proofs.lemmas.Result.{err_from_is_err_and}
 use Rattle.ipc_file_write.specs.FileWriters.{seen}
+use Rattle.ipc_file_write.proofs.StartsAndEnds.{begin_fails}
 use Rattle.ipc_file_write.proofs.file.FileWriter.try_new.Goals as goal
 
 pub returns-in_err-start-clause-starts : goal.returns-in_err-start-clause-starts
@@ -17,6 +18,8 @@ returns-in_err-start-clause-starts g c =
       sends = tt;
       starts = tt;
       may = tt;
+      failed =
+          begin_fails g.W.Failures.known g.W.Writes.grows g.W.Failures.failures g.W.Writes.room g.W.Failures.memory (seen c.in_ok-file.file) (seen c.start.new.self) c.in_err-start.field-0.0 c.in_err-start.ensures.step;
       only = c.in_err-start.ensures.only;
       misses = c.in_err-start.ensures.exact;
     })
@@ -45,6 +48,7 @@ returns-clause-starts g c =
       sends = c.in_ok-start.ensures.step;
       starts = c.in_ok-start.ensures.ok;
       may = c.in_ok-start.ensures.exact;
+      failed = tt;
       only = tt;
       misses = tt;
     }
