@@ -8,15 +8,17 @@ demo:
 	&& cp data/example.arrows $$cases/stream && echo demo > $$cases/demo.args && echo stream > $$cases/stream.args && rt try --cases $$cases; \
 	status=$$?; rm -rf $$cases; exit $$status
 
-# The check for daily work, in minutes: all programs, cases and tests, built without proofs. With
-# make check WORD=flat: a crate, or files of cases.
+# The check for daily work, in minutes: all programs, cases and tests, built without proofs, and
+# the programs that make build built, run as a shell does. With make check WORD=flat: a crate, or
+# files of cases.
 check:
 	tools/check $(WORD)
 
-# Proves ipcat and all below it, and builds it.
+# Proves ipcat and ipconvert and all below them, and builds them.
 build:
 	@cd crates/ipcat && rt run -- demo > /dev/null
-	@echo "the proved program: crates/ipcat/out/ipcat"
+	@cd crates/ipconvert && rt run -- - stream < stdin > /dev/null
+	@echo "the proved programs: crates/ipcat/out/ipcat, crates/ipconvert/out/ipconvert"
 
 # Judges mutations: wrong bodies, which the prover must refuse. Takes the crates that differ from
 # origin/main, or make mutations NAMES="lower_rules ipc_views".

@@ -49,7 +49,15 @@ fn run_with<F: Reads + Writes + Seeks + Drop>(
     let mut input = MemFile::new(input);
     let status = match program {
         Program::Ipcat => cat::run(alloc, words, &mut input, file, &mut out, &mut err),
-        Program::Ipconvert => convert::run(alloc, words, &mut input, file, &mut out, &mut err),
+        Program::Ipconvert => {
+            let (file, append_to) = match convert::place_of(words) {
+                Some(place) if place.is_written => (None, file),
+                _ => (file, None),
+            };
+            convert::run(
+                alloc, words, &mut input, file, append_to, &mut out, &mut err,
+            )
+        }
     };
     Run { status, out, err }
 }

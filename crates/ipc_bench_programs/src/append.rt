@@ -78,8 +78,11 @@ fn append<D: TestFile>(
     let mut input = MemFile::new(fixture.file.get(8..).unwrap_or(&[]));
     let mut out = Vec::new(alloc);
     let mut err = empty_buffer(alloc)?;
-    let opened = Some(&mut device);
-    let status = run(alloc, &words, &mut input, opened, &mut out, &mut err);
+    let no_file: Option<MemFile<Vec<u8>>> = None;
+    let target = Some(&mut device);
+    let status = run(
+        alloc, &words, &mut input, no_file, target, &mut out, &mut err,
+    );
     let mut trace = Trace::new();
     trace.add(Call::Convert, answer_of(status, &err));
     trace.add_failures(device.failures());

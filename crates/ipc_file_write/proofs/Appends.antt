@@ -28,7 +28,8 @@ use Rattle.ipc_file_laws.proofs.FileSteps.{grow_law, size_law}
 use Rattle.ipc_file_laws.specs.FileBytes.{HoldsFile, HasStreamBehind, file_so_far}
 use Rattle.ipc_footers.specs.Footers.{file_written}
 use Rattle.ipc_views.specs.declared.file.Block.{Block}
-use Rattle.ipc_file_write.specs.Appends.{GoesOn, GoesOnAgain, GoesOnWith, HasNoDictionaries, MayGoOn, RefusesFile, RefusesNoWhole, RefusesToGoOn, RemembersFile}
+use Rattle.ipc_file_write.specs.Appends.{GoesOn, GoesOnAgain, GoesOnWith, HasNoDictionaries, MayGoOn, RefusesFile, RefusesNoWhole, RefusesToGoOn, RemembersFile, resumed}
+use Rattle.ipc_file_write.specs.declared.prepared.Prepared.{Prepared}
 use Rattle.ipc_file_write.specs.FileWriters.{FileSeen, HoldsBytes, IsOpenFile, IsWholeFile, head_of_file}
 use Rattle.ipc_file_write.proofs.FileHeads.{IsHeaded, is_headed}
 use Rattle.ipc_file_write.proofs.FileStates.{at_state, remembers_same, stream_same}
@@ -52,6 +53,10 @@ inside_file m bytes h = omega (arith, h.size, h.long)
 pub schema_same : {W : Type 0} (m : FileMetadata) (w : FileSeen W) → w.order ≡ m.schema.order → w.fields ≡ m.schema.fields → w.metadata ≡ m.schema.metadata → w.ids ≡ m.schema.ids
     → (head_of_file w).schema ≡ normal_schema m.schema
 schema_same m w order fields metadata ids = rw (order, fields, metadata, ids) refl
+
+-- a resumed writer has the device that was prepared
+pub same_failures : {W : Type 0} (failures : W → ℕ) (w : FileSeen W) (device : W) (p : Prepared) → w ≡ resumed device p → failures w.device ≡ failures device
+same_failures {W = W} failures w device p e = ap (λ (x : FileSeen W). failures x.device) e
 
 -- behind a file of some chunks, with the schema in the normal form
 pub goes_on_with : {W : Type 0} (known : Bool) (memory : W → Memory) (m : FileMetadata) (device : W) (w : FileSeen W) → GoesOn known memory m device w → GoesOnWith known memory m device w

@@ -20,15 +20,16 @@ io_line known grows d d' answer program TooManyDictionaries io h = absurd io
 io_line known grows d d' answer program NoMemory io h = absurd io
 io_line known grows d d' answer program (Lower error) io h = absurd io
 
-if_some : {P : Type 0} (o : Option P) (A B : Type 0) → (A → B) → IfSome o (λ p. A) → IfSome o (λ p. B)
+if_some : {P : Type 0} (o : Option P) (A B : P → Type 0) → ((p : P) → A p → B p) → IfSome o A → IfSome o B
 if_some None A B f h = tt
-if_some (Some p) A B f h = f h
+if_some (Some p) A B f h = f p h
 
--- It is told wherever the words ask for a file, none is there, and a device's fault came of that.
-pub unopened_line : {Asked Path F : Type 0} (path_of : Asked → Option Path) (asked : Option Asked) (form : Asked) (file : Option F) (fault : Fault) (known grows : Bool) (d d' : DeviceSeen) (answer : Result (Unit {0}) Fault) (program : List ℕ)
-    → Some form ≡ asked → IfSome (path_of form) (λ path. file ≡ None → IsIo fault) → Sends known grows d d' answer (line_of program fault)
-    → IfSome (option_and_then path_of asked) (λ path. file ≡ None → Told known grows d d' (program ++ codes ": input or output failed\n"))
-unopened_line {Asked = Asked} path_of asked form file fault known grows d d' answer program e missing sends =
-    let told : Type 0 = file ≡ None → Told known grows d d' (program ++ codes ": input or output failed\n") in
-    subst (λ (o : Option Asked). IfSome (option_and_then path_of o) (λ path. told)) e
-    (if_some (path_of form) (file ≡ None → IsIo fault) told (λ io none. record { answer = answer; sends = io_line known grows d d' answer program fault (io none) sends }) missing)
+-- It is told wherever the words ask for a file, that is missing, and a device's fault came of that.
+pub unopened_line : {Asked Path : Type 0} (path_of : Asked → Option Path) (Missing : Path → Type 0) (asked : Option Asked) (form : Asked) (fault : Fault) (known grows : Bool) (d d' : DeviceSeen) (answer : Result (Unit {0}) Fault) (program : List ℕ)
+    → Some form ≡ asked → IfSome (path_of form) (λ path. Missing path → IsIo fault) → Sends known grows d d' answer (line_of program fault)
+    → IfSome (option_and_then path_of asked) (λ path. Missing path → Told known grows d d' (program ++ codes ": input or output failed\n"))
+unopened_line {Asked = Asked} path_of Missing asked form fault known grows d d' answer program e missing sends =
+    let told : Type 0 = Told known grows d d' (program ++ codes ": input or output failed\n") in
+    subst (λ (o : Option Asked). IfSome (option_and_then path_of o) (λ path. Missing path → told)) e
+    (if_some (path_of form) (λ path. Missing path → IsIo fault) (λ path. Missing path → told)
+    (λ path io none. record { answer = answer; sends = io_line known grows d d' answer program fault (io none) sends }) missing)

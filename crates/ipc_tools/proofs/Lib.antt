@@ -9,6 +9,7 @@ mod LentFiles
 mod LineRows
 mod Numbers
 mod PositionRows
+mod PrintSteps
 mod Reasons
 mod RefusalRows
 mod Shown

@@ -5,9 +5,9 @@ use Rattle.ipc_devices.specs.Gives.{Gives}
 use Rattle.ipc_devices.specs.declared.fault.Fault.{Fault}
 use Rattle.ipc_tools.specs.RefusalRows.{RefusalRows}
 
-pub refusal_rows : {R F O : Type 0} (gives : Gives R) (fills : Bool) (source : R → Memory) (held : Bool) (contents : F → Memory) (known : Bool) (memory : O → Memory) (input : R) (file : F) (out : O) (path : List ℕ) (e : Fault)
-    → RefusalRows gives fills source held contents known memory input file out path e
-refusal_rows gives fills source held contents known memory input file out path e = record {
+pub refusal_rows : {R F A O : Type 0} (gives : Gives R) (fills : Bool) (source : R → Memory) (held : Bool) (contents : F → Memory) (kept : Bool) (bytes_of : A → Memory) (known : Bool) (memory : O → Memory) (input : R) (file : F) (target : A) (out : O) (path : List ℕ) (e : Fault)
+    → RefusalRows gives fills source held contents kept bytes_of known memory input file target out path e
+refusal_rows gives fills source held contents kept bytes_of known memory input file target out path e = record {
   input_to_stream = λ h. h;
   input_to_file = λ h. h;
   path_to_stream = λ h. h;

@@ -1,4 +1,4 @@
--- Words of `ipconvert` that are written out, and those that `ipc_append` hands on. Beside each form stand words that miss it by one word, or by one byte.
+-- Words of `ipconvert` that are written out. Beside each form stand words that miss it by one word, or by one byte.
 use Rattle.std.specs.Prelude.{◌≡◌, ℕ, eqb, true, false, List, [], ◌∷◌, codes, Option, Some, None}
 use Rattle.std.specs.Borrow.{Bor}
 use Rattle.std.specs.List.{slice_split}

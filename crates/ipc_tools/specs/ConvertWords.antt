@@ -1,5 +1,5 @@
 -- What the words of `ipconvert` ask for.
-use Rattle.std.specs.Prelude.{ℕ, List, [], ◌∷◌, Option, None, Some, Bool, true, false, codes, if◌then◌else◌, bytes_eq, option_and_then}
+use Rattle.std.specs.Prelude.{◌≡◌, ℕ, IsSome, List, [], ◌∷◌, Option, None, Some, Bool, true, false, codes, if◌then◌else◌, bytes_eq, option_and_then}
 use Rattle.ipc_encode.specs.declared.common.WriteOptions.{WriteOptions}
 use Rattle.ipc_tools.specs.declared.convert.forms.Form.{Form}
 use Rattle.ipc_tools.specs.declared.convert.forms.Form.TheVariants.{Convert, Append}
@@ -60,3 +60,12 @@ abbrev pub place_for : Wanted → Option (List ℕ × Bool)
 place_for (copy None target options) = None
 place_for (copy (Some path) target options) = Some (path, false)
 place_for (append path) = Some (path, true)
+
+-- whether that wasn't opened: the file that is read, or the one that is written to
+abbrev pub IsMissing : {F A : Type 0} → (is_written : Bool) → Option F → Option A → Type 0
+IsMissing false file append_to = file ≡ None
+IsMissing true file append_to = append_to ≡ None
+
+abbrev pub IsOpened : {F A : Type 0} → (is_written : Bool) → Option F → Option A → Type 0
+IsOpened false file append_to = IsSome file
+IsOpened true file append_to = IsSome append_to

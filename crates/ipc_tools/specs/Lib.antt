@@ -9,8 +9,10 @@ pub mod Demo
 pub mod LineRows
 pub mod Lines
 pub mod Named
+pub mod Outputs
 pub mod PositionRows
 pub mod Positions
+pub mod Printing
 pub mod RefusalRows
 pub mod Refusals
 pub mod Shown

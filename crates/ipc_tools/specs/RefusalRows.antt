@@ -14,17 +14,17 @@ use Rattle.ipc_tools.specs.Refusals.{RefusesAsAsked}
 
 -- Of the input where no path is named, and else of the file; by the target, with the pairs of a file, in the order that was named. Without its file nothing is broken
 -- and nothing was asked wrongly: only a device tells that, or memory.
-pub record RefusalRows {R F O : Type 0} (gives : Gives R) (fills : Bool) (source : R → Memory) (held : Bool) (contents : F → Memory) (known : Bool) (memory : O → Memory) (input : R) (file : F) (out : O) (path : List ℕ) (e : Fault) : Type 0 where
-  pub input_to_stream : RefusesAsAsked gives fills source held contents known memory (copy None Stream little) input (Some file) out e
+pub record RefusalRows {R F A O : Type 0} (gives : Gives R) (fills : Bool) (source : R → Memory) (held : Bool) (contents : F → Memory) (kept : Bool) (bytes_of : A → Memory) (known : Bool) (memory : O → Memory) (input : R) (file : F) (target : A) (out : O) (path : List ℕ) (e : Fault) : Type 0 where
+  pub input_to_stream : RefusesAsAsked gives fills source held contents kept bytes_of known memory (copy None Stream little) input (Some file) None out e
       → HoldsOfGiven gives fills source input (λ bytes. CopiesNoStream RefusesAsStream bytes e)
-  pub input_to_file : RefusesAsAsked gives fills source held contents known memory (copy None FileTarget big) input None out e
+  pub input_to_file : RefusesAsAsked gives fills source held contents kept bytes_of known memory (copy None FileTarget big) input None None out e
       → HoldsOfGiven gives fills source input (λ bytes. CopiesNoStream (RefusesAsFile known memory out (order_of big) []) bytes e)
-  pub path_to_stream : RefusesAsAsked gives fills source held contents known memory (copy (Some path) Stream big) input (Some file) out e
+  pub path_to_stream : RefusesAsAsked gives fills source held contents kept bytes_of known memory (copy (Some path) Stream big) input (Some file) None out e
       → IsTrue held → (contents file).place ≡ 0 → CopiesNoFile (λ first schema pairs fault. RefusesAsStream first schema fault) (contents file).whole e
-  pub path_to_file : RefusesAsAsked gives fills source held contents known memory (copy (Some path) FileTarget little) input (Some file) out e
+  pub path_to_file : RefusesAsAsked gives fills source held contents kept bytes_of known memory (copy (Some path) FileTarget little) input (Some file) None out e
       → IsTrue held → (contents file).place ≡ 0
       → CopiesNoFile (λ first schema pairs fault. RefusesAsFile known memory out (order_of little) pairs first schema fault) (contents file).whole e
-  pub append_to_path : RefusesAsAsked gives fills source held contents known memory (append path) input (Some file) out e
-      → IsTrue held → (contents file).place ≡ 0 → GoesOnWithNone held (contents file).whole e ⊎ RefusesAppended held contents file gives fills source input e
-  pub no_file_to_copy : ¬ OwnFault Ended (RefusesAsAsked gives fills source held contents known memory (copy (Some path) Stream little) input None out Ended)
-  pub no_file_to_append : (kind : _) → ¬ OwnFault (OutOfSpec kind) (RefusesAsAsked gives fills source held contents known memory (append path) input None out (OutOfSpec kind))
+  pub append_to_path : RefusesAsAsked gives fills source held contents kept bytes_of known memory (append path) input None (Some target) out e
+      → IsTrue kept → (bytes_of target).place ≡ 0 → GoesOnWithNone kept (bytes_of target).whole e ⊎ RefusesAppended kept bytes_of target gives fills source input e
+  pub no_file_to_copy : ¬ OwnFault Ended (RefusesAsAsked gives fills source held contents kept bytes_of known memory (copy (Some path) Stream little) input None (Some target) out Ended)
+  pub no_file_to_append : (kind : _) → ¬ OwnFault (OutOfSpec kind) (RefusesAsAsked gives fills source held contents kept bytes_of known memory (append path) input (Some file) None out (OutOfSpec kind))

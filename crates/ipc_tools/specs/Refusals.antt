@@ -32,12 +32,13 @@ abbrev pub AppendsNone : {R F : Type 0} → Gives R → Bool → (R → Memory) 
 AppendsNone gives fills source input held contents file e =
     IsTrue held → (contents file).place ≡ 0 → GoesOnWithNone held (contents file).whole e ⊎ RefusesAppended held contents file gives fills source input e
 
--- To who knows which bytes an input gives and has (`fills`), and which an opened file (`held`) and an output (`known`) hold where they are memory:
-module _ {R F O : Type 0} (gives : Gives R) (fills : Bool) (source : R → Memory) (held : Bool) (contents : F → Memory) (known : Bool) (memory : O → Memory) where
+-- To who knows which bytes an input gives and has (`fills`), and which a file that is read (`held`), one
+-- that is appended to (`kept`) and an output (`known`) hold where they are memory:
+module _ {R F A O : Type 0} (gives : Gives R) (fills : Bool) (source : R → Memory) (held : Bool) (contents : F → Memory) (kept : Bool) (bytes : A → Memory) (known : Bool) (memory : O → Memory) where
   -- why what was asked for isn't done; where its file couldn't be opened, no fault but a device's, or a want of memory, tells it
-  abbrev pub RefusesAsAsked : Wanted → R → Option F → O → Fault → Type 0
-  RefusesAsAsked (copy None target options) input file out e = CopiesNoInput gives fills source input known memory out target options e
-  RefusesAsAsked (copy (Some path) target options) input (Some device) out e = CopiesNoOpened held contents device known memory out target options e
-  RefusesAsAsked (copy (Some path) target options) input None out e = ⊥
-  RefusesAsAsked (append path) input (Some device) out e = AppendsNone gives fills source input held contents device e
-  RefusesAsAsked (append path) input None out e = ⊥
+  abbrev pub RefusesAsAsked : Wanted → R → Option F → Option A → O → Fault → Type 0
+  RefusesAsAsked (copy None target options) input file appended out e = CopiesNoInput gives fills source input known memory out target options e
+  RefusesAsAsked (copy (Some path) target options) input (Some device) appended out e = CopiesNoOpened held contents device known memory out target options e
+  RefusesAsAsked (copy (Some path) target options) input None appended out e = ⊥
+  RefusesAsAsked (append path) input file (Some device) out e = AppendsNone gives fills source input kept bytes device e
+  RefusesAsAsked (append path) input file None out e = ⊥

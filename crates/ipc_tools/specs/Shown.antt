@@ -3,10 +3,15 @@
 use Rattle.std.specs.Prelude.{◌≡◌, ℕ, Bool, IsTrue, List, Option, None, Some}
 use Rattle.lower_arrays.specs.declared.array.AnyArray.{AnyArray}
 use Rattle.ipc_devices.specs.Device.{Memory}
+use Rattle.ipc_convert.specs.Chunks.{Copied, CopiedOne, Moved, RefusesAt, StopsCopy}
+use Rattle.ipc_convert.specs.Sources.{StreamBreaks, StreamCame, StreamStopped}
+use Rattle.ipc_convert.specs.declared.chunks.Ending.{Ending}
 use Rattle.ipc_devices.specs.Gives.{Gives, Stop}
+use Rattle.ipc_devices.specs.declared.fault.Fault.{Fault}
 use Rattle.ipc_model.specs.Batches.{IsProjection, kinds}
 use Rattle.ipc_model.specs.Kinds.{count}
 use Rattle.ipc_file_readers.specs.declared.read.reader.state.FileReader.{FileReader}
+use Rattle.ipc_readers.specs.declared.read.stream.reader.StreamReader.{StreamReader}
 use Rattle.ipc_round_trip.specs.Choosing.{IsReadableBy}
 use Rattle.ipc_file_round_trip.specs.Reading.{FileMeant, file_by}
 use Rattle.ipc_file_round_trip.specs.Steps.{GivesAll}
@@ -19,6 +24,26 @@ pub record GivesReadable {R : Type 0} (gives : Gives R) (input : R) (asked : Opt
   pub left : R
   pub gave : gives input bytes stop left
   pub readable : IsReadableBy asked bytes
+
+-- Chunks that a reader gives go to something of which nothing is said: it takes them all.
+abbrev pub anything : Moved (Unit {0})
+anything a chunks b = Unit {0}
+
+abbrev pub nothing_refused : RefusesAt (Unit {0})
+nothing_refused a columns e = ⊥
+
+module _ {R : Type 0} (gives : Gives R) where
+  -- the next chunk came from a reader, or none, and so it ended
+  abbrev pub OneCame : StreamReader R → Option Ending → StreamReader R → Type 0
+  OneCame a ending b = CopiedOne (StreamCame gives) (StreamStopped gives) anything a tt ending b tt
+
+  -- all chunks came, and so it ended
+  abbrev pub AllCame : StreamReader R → Ending → StreamReader R → Type 0
+  AllCame a ending b = Copied (StreamCame gives) (StreamStopped gives) anything a tt ending b tt
+
+  -- behind some of the chunks this fault comes, or there are too many
+  abbrev pub StopsComing : StreamReader R → Fault → Type 0
+  StopsComing a e = StopsCopy (StreamCame gives) (StreamBreaks gives) anything nothing_refused a tt e
 
 -- A file has a meaning by the columns that are asked for, which it has, and up to the limit.
 pub record IsReadableFile (asked : Option (List ℕ)) (limit : Option ℕ) (bytes : List ℕ) : Type 0 where

@@ -1,8 +1,9 @@
 //! `ipcat`: writes the documented example as an Arrow IPC stream, and shows the streams and files that it is given.
-ghost use Rattle.std.specs.Prelude.{◌≡◌, ◌⊎◌, ◌≤◌, codes, map, option_and_then, option_map, string_bytes, false, None, Ok, Err, IfErr, IfOk, IfSome, IsSome};
+ghost use Rattle.std.specs.Prelude.{◌≡◌, ◌⊎◌, ◌≤◌, codes, map, option_and_then, option_map, string_bytes, false, None, Ok, Err, IfErr, IfOk, IfSome, IsSome, OnOk};
 ghost use Rattle.ipc_devices.specs.Faults.{IsIo, OwnFault};
 ghost use Rattle.ipc_plan.specs.Sending.{seen_by};
 ghost use Rattle.ipc_tools.specs.Lines.{TellsWhy, Told};
+ghost use Rattle.ipc_tools.specs.Printing.{Printed, Prints, PrintsAll};
 ghost use Rattle.ipc_tools.specs.CatRefusals.{AsksForOthers, FileHasOthers, ShowsNoFile, ShowsNothing};
 ghost use Rattle.ipc_tools.specs.CatWords.{HasNumbers, NamesNumbers, asked, columns_by, wanted_by, opened_for, reads_input};
 ghost use Rattle.ipc_tools.specs.Shown.{ReadsFile, Shows};
@@ -10,8 +11,10 @@ ghost use Rattle.ipc_tools.specs.declared.cat.show.Outcome.TheVariants.{Done, Wr
 
 mod chosen;
 mod demo;
+mod entry;
 mod file;
 mod forms;
+mod output;
 mod printer;
 mod show;
 mod slots;
@@ -19,7 +22,8 @@ mod slots;
 use crate::class::tell;
 use crate::convert::opened;
 use arrow2_ipc::io::ipc::fault::{Fault, Reads, Seeks, Writes};
-use demo::write_demo;
+use demo::put_demo;
+pub use entry::start;
 use file::show_file;
 use forms::{FileWords, Form, form_of};
 use ipc_write::common_sync::write_all;
@@ -47,6 +51,9 @@ pub fn path_of(words: &[String]) -> Option<&str>
 /// Each class but `no memory` and `input or output failed` tells a fault that names a condition which holds: of what `input` gave, or, where
 /// it is in memory, of `file`, as they are read by the columns, and up to the limit, that the words name. Positions are judged where the
 /// schema could be read, and before anything is printed (which rows test: no contract says what is printed). So what was shown whole, with status 0, can be read.
+///
+/// With status 0 no call of `out` failed: all that was printed was written to it, behind what was
+/// there, and flushed.
 pub fn run<R: Reads, F: Reads + Seeks + Drop, O: Writes, E: Writes>(
     alloc: Global,
     words: &[String],
@@ -72,8 +79,7 @@ pub fn run<R: Reads, F: Reads + Seeks + Drop, O: Writes, E: Writes>(
     ensures silent { result ≡ 0 → err.new ≡ err.old }
     ensures usage_told { result ≡ 2 → Told E.known E.grows
         (seen_by E.failures E.room E.memory err.old) (seen_by E.failures E.room E.memory err.new) USAGE.now }
-    ensures told { asked (map string_bytes words.now) ≡ None → Told E.known E.grows
-        (seen_by E.failures E.room E.memory err.old) (seen_by E.failures E.room E.memory err.new) USAGE.now }
+    ensures printed { result ≡ 0 → Printed O.known O.failures O.memory out.old out.new }
     ensures untouched { asked (map string_bytes words.now) ≡ None → (input.new ≡ input.old) × (out.new ≡ out.old) }
 {
     let outcome = match form_of(words) {
@@ -107,30 +113,72 @@ fn run_form<R: Reads, F: Reads + Seeks + Drop, O: Writes>(
     ensures wrong { IfOk result (λ outcome. outcome ≡ WrongWords → AsksForOthers R.gives R.known R.memory F.known F.memory (wanted_by form.entry) input.old file) }
     ensures unread { reads_input (wanted_by form.entry) ≡ false → input.new ≡ input.old }
     ensures refused { IfErr result (λ e. OwnFault e (ShowsNothing R.gives R.known R.memory F.known F.memory (wanted_by form.entry) input.old file e)) }
+    ensures printed { OnOk result (Printed O.known O.failures O.memory out.old out.new) }
+{
+    let mut printer = Printer::new(alloc, out);
+    let outcome = print_form(alloc, form, input, file, &mut printer);
+    printer.into_inner();
+    outcome
+}
+
+// Prints what a form asks for.
+fn print_form<R: Reads, F: Reads + Seeks + Drop, O: Writes>(
+    alloc: Global,
+    form: Form<'_>,
+    input: &mut R,
+    file: Option<F>,
+    printer: &mut Printer<O>,
+) -> Result<Outcome, Fault>
+    requires { HasNumbers form }
+    ensures unopened { IfSome (opened_for (wanted_by form.entry))
+        (λ path. IfOk result (λ _. IsSome file)) }
+    ensures missing { IfSome (opened_for (wanted_by form.entry))
+        (λ path. file ≡ None → IfErr result IsIo) }
+    ensures shown { IfOk result (λ outcome. outcome ≡ Done
+        → Shows R.gives F.known F.memory (wanted_by form.entry) input.old file) }
+    ensures wrong { IfOk result (λ outcome. outcome ≡ WrongWords
+        → AsksForOthers R.gives R.known R.memory F.known F.memory (wanted_by form.entry)
+        input.old file) }
+    ensures unread { reads_input (wanted_by form.entry) ≡ false → input.new ≡ input.old }
+    ensures refused { IfErr result (λ e. OwnFault e
+        (ShowsNothing R.gives R.known R.memory F.known F.memory (wanted_by form.entry)
+        input.old file e)) }
+    ensures prints { OnOk result (PrintsAll O.known O.failures O.memory printer.old printer.new) }
 {
     match form {
         Form::Demo => {
-            write_demo(alloc, out)?;
-            Ok(Outcome::Done)
+            let shown = show_demo(alloc, printer);
+            sent(shown, printer)
         }
         Form::Stream(columns) => {
-            let mut printer = Printer::new(alloc, out);
-            let shown = show_stream(alloc, input, columns, &mut printer);
+            let shown = show_stream(alloc, input, columns, printer);
             sent(shown, printer)
         }
         Form::File(words) => {
-            let mut printer = Printer::new(alloc, out);
-            let shown = show_opened(alloc, file, words, &mut printer);
+            let shown = show_opened(alloc, file, words, printer);
             sent(shown, printer)
         }
     }
 }
 
+fn show_demo<O: Writes>(alloc: Global, printer: &mut Printer<O>) -> Result<Outcome, Fault>
+    ensures done { IfOk result (λ outcome. outcome ≡ Done) }
+    ensures only { IfErr result (λ e. OwnFault e ⊥) }
+    ensures prints { OnOk result (Prints O.known O.failures O.memory printer.old printer.new) }
+{
+    put_demo(alloc, printer)?;
+    Ok(Outcome::Done)
+}
+
 // What came of a form, once all is sent that it printed.
-fn sent<O: Writes>(shown: Result<Outcome, Fault>, mut printer: Printer<O>) -> Result<Outcome, Fault>
+fn sent<O: Writes>(
+    shown: Result<Outcome, Fault>,
+    printer: &mut Printer<O>,
+) -> Result<Outcome, Fault>
     ensures same { IfOk result (λ outcome. shown ≡ Ok outcome) }
     ensures first { IfErr shown (λ fault. result ≡ Err fault) }
     ensures fault { IfErr result (λ e. (shown ≡ Err e) ⊎ OwnFault e ⊥) }
+    ensures all { OnOk result (PrintsAll O.known O.failures O.memory printer.old printer.new) }
 {
     let sent = printer.send();
     let outcome = shown?;
@@ -150,6 +198,7 @@ fn show_opened<F: Reads + Seeks + Drop, O: Writes>(
     ensures shown { IfSome file (λ device. IfOk result (λ outcome. outcome ≡ Done → ReadsFile F.known F.memory device (columns_by words.entry.columns) words.entry.limit)) }
     ensures wrong { IfSome file (λ device. IfOk result (λ outcome. outcome ≡ WrongWords → FileHasOthers F.known F.memory device (columns_by words.entry.columns))) }
     ensures refused { IfSome file (λ device. IfErr result (λ e. OwnFault e (ShowsNoFile F.known F.memory device (columns_by words.entry.columns) words.entry.limit e))) }
+    ensures prints { OnOk result (Prints O.known O.failures O.memory printer.old printer.new) }
 {
     show_file(alloc, opened(file)?, words, printer)
 }

@@ -1,11 +1,13 @@
 //! The documented example: two columns of whole numbers, written five times.
-ghost use Rattle.std.specs.Prelude.{◌≡◌, [], map, IfErr, IfOk};
+ghost use Rattle.std.specs.Prelude.{◌≡◌, [], map, IfErr, IfOk, OnOk};
 ghost use Rattle.lower.specs.TypeViews.{fields_view, pairs_of};
 ghost use Rattle.lower_arrays.specs.AnyLayouts.{layout_of};
 ghost use Rattle.ipc_devices.specs.Faults.{OwnFault};
 ghost use Rattle.ipc_model.specs.OfferRows.{demo, integers_are};
 ghost use Rattle.ipc_tools.specs.Demo.{demo_fields};
+ghost use Rattle.ipc_tools.specs.Printing.{Prints};
 
+use crate::cat::printer::Printer;
 use arrow2_ipc::array::{AnyArray, Int32Array};
 use arrow2_ipc::chunk::Chunk;
 use arrow2_ipc::datatypes::{DataType, Field, Schema};
@@ -13,8 +15,22 @@ use arrow2_ipc::io::ipc::fault::{Fault, Writes};
 use arrow2_ipc::io::ipc::write::{StreamWriter, WriteOptions};
 use std::alloc::Global;
 
-/// Writes the example as a stream, and has it sent on its way. `Memory` and `Io` are the only faults.
-pub fn write_demo<W: Writes + Drop>(alloc: Global, out: W) -> Result<(), Fault>
+// As many bytes as the example takes, and more.
+const ROOM: usize = 4096;
+
+/// Prints the example, as a stream. `Memory` and `Io` are the only faults.
+pub fn put_demo<W: Writes>(alloc: Global, printer: &mut Printer<W>) -> Result<(), Fault>
+    ensures only { IfErr result (λ e. OwnFault e ⊥) }
+    ensures prints { OnOk result (Prints W.known W.failures W.memory printer.old printer.new) }
+{
+    let mut stream = Vec::with_capacity(alloc, ROOM)?;
+    write_demo(alloc, &mut stream)?;
+    printer.put(&stream)
+}
+
+// Writes the example as a stream, and has it sent on its way. `Memory` and `Io` are the only
+// faults.
+fn write_demo<W: Writes + Drop>(alloc: Global, out: W) -> Result<(), Fault>
     ensures { IfErr result (λ e. OwnFault e ⊥) }
 {
     let schema = demo_schema(alloc)?;

@@ -1,10 +1,11 @@
 //! Prints a file: its schema, and the chunk at each of its blocks row by row.
-ghost use Rattle.std.specs.Prelude.{◌≡◌, ◌<◌, IfErr, IfOk, IfSome, IsTrue, List, None, Some, Err, Ok, false};
+ghost use Rattle.std.specs.Prelude.{◌≡◌, ◌<◌, IfErr, IfOk, IfSome, IsTrue, List, None, Some, Err, Ok, OnOk, false};
 ghost use Rattle.lower_arrays.specs.declared.array.AnyArray.{AnyArray as Array};
 ghost use Rattle.ipc_devices.specs.Faults.{OwnFault};
 ghost use Rattle.ipc_file_readers.specs.Readers.{NextStep, blocks_left};
 ghost use Rattle.ipc_file_readers.specs.declared.read.reader.state.FileReader.{FileReader as Reader};
 ghost use Rattle.ipc_file_round_trip.specs.Steps.{GivesThenFails};
+ghost use Rattle.ipc_tools.specs.Printing.{Prints};
 ghost use Rattle.ipc_tools.specs.Shown.{GaveBlocks, ReadsFile};
 ghost use Rattle.ipc_tools.specs.CatWords.{NamesNumbers, columns_by};
 ghost use Rattle.ipc_tools.specs.CatRefusals.{FileHasOthers, OpensFile, ShowsNoFile};
@@ -16,7 +17,6 @@ use crate::cat::printer::Printer;
 use crate::cat::show::{Outcome, put_schema};
 use arrow2_ipc::io::ipc::fault::{Fault, Reads, Seeks, Writes};
 use arrow2_ipc::io::ipc::read::{FileReader, read_file_metadata};
-use ipc_convert::chunks::Sink;
 use std::alloc::Global;
 
 /// Prints what the words ask of a file, block by block. Its metadata are read first, and then the positions of the columns are
@@ -31,6 +31,7 @@ pub fn show_file<F: Reads + Seeks + Drop, W: Writes>(
     ensures shown { IfOk result (λ outcome. outcome ≡ Done → ReadsFile F.known F.memory file (columns_by words.entry.columns) words.entry.limit) }
     ensures wrong { IfOk result (λ outcome. outcome ≡ WrongWords → FileHasOthers F.known F.memory file (columns_by words.entry.columns)) }
     ensures refused { IfErr result (λ e. OwnFault e (ShowsNoFile F.known F.memory file (columns_by words.entry.columns) words.entry.limit e)) }
+    ensures prints { OnOk result (Prints W.known W.failures W.memory printer.old printer.new) }
 {
     let Some(mut reader) = open_file(alloc, file, words)? else {
         return Ok(Outcome::WrongWords);
@@ -69,6 +70,7 @@ fn show_blocks<F: Reads + Seeks + Drop, W: Writes>(
 ) -> Result<(), Fault>
     ensures shown { IfOk result (λ _. GaveBlocks F.known F.still F.memory F.failures F.given reader.old) }
     ensures broken { IfErr result (λ e. OwnFault e (GivesThenFails F.known F.still F.memory F.failures F.given reader.old e)) }
+    ensures prints { OnOk result (Prints W.known W.failures W.memory printer.old printer.new) }
 {
     while show_block(reader, printer)? {}
     Ok(())
@@ -83,6 +85,7 @@ fn show_block<F: Reads + Seeks + Drop, W: Writes>(
     ensures all { IfOk result (λ more. more ≡ false → NextStep F.known F.still F.memory F.failures F.given reader.old None reader.new) }
     ensures fewer { IfOk result (λ more. IsTrue more → blocks_left reader.new < blocks_left reader.old) }
     ensures broken { IfErr result (λ e. OwnFault e ((left : Reader F) × NextStep F.known F.still F.memory F.failures F.given reader.old (Some (Err e)) left)) }
+    ensures prints { OnOk result (Prints W.known W.failures W.memory printer.old printer.new) }
 {
     let Some(next) = reader.next() else {
         return Ok(false);

@@ -1,51 +1,70 @@
 //! What is printed, sent to the output in large writes.
-ghost use Rattle.std.specs.Prelude.{◌<◌, IfErr};
+ghost use Rattle.std.specs.Prelude.{◌≡◌, ◌<◌, [], IfErr, OnOk};
 ghost use Rattle.ipc_devices.specs.Faults.{OwnFault};
+ghost use Rattle.ipc_tools.specs.Printing.{Prints, PrintsAll, Puts, SendsKept};
 
+use crate::cat::output::Output;
 use arrow2_ipc::io::ipc::fault::{Fault, Writes};
-use ipc_write::common_sync::write_all;
 use itoa::{Buffer, Integer};
 use std::alloc::Global;
 
 // How much is kept before it is sent.
 const KEPT: usize = 65_536;
 
-/// Collects bytes for an output.
+/// Collects bytes for an output. What was sent and what is kept, joined, is what was put, in order.
 #[derive(Drop)]
 pub struct Printer<'a, W> {
-    out: &'a mut W,
+    out: Output<'a, W>,
     kept: Vec<u8>,
 }
 
 impl<'a, W: Writes> Printer<'a, W> {
     /// A printer that has nothing to send.
-    pub fn new(alloc: Global, out: &'a mut W) -> Self {
+    pub fn new(alloc: Global, out: &'a mut W) -> Self
+        ensures same_reference { result.out.device.ghost_name ≡ out.entry.ghost_name }
+        ensures now { result.out.device.now ≡ out.entry.now }
+        ensures none { result.kept.items ≡ [] }
+    {
         Printer {
-            out,
+            out: Output::new(out),
             kept: Vec::new(alloc),
         }
     }
 
-    /// Adds these bytes: many at once are sent without being kept. `Io` where sending fails, `Memory` where they can't be kept.
+    /// The output that was lent. What is kept is given up.
+    pub fn into_inner(self) -> &'a mut W
+        ensures same_reference { result.ghost_name ≡ self.entry.out.device.ghost_name }
+        ensures now { result.now ≡ self.entry.out.device.now }
+    {
+        self.out.into_inner()
+    }
+
+    /// Adds these bytes: many at once are sent without being kept. `Memory` where they can't be
+    /// kept, which changes nothing. `Io` where sending fails: nothing is kept then.
     pub fn put(&mut self, bytes: &[u8]) -> Result<(), Fault>
-        ensures { IfErr result (λ e. OwnFault e ⊥) }
+        ensures puts { Puts W.known W.grows W.failures W.memory self.old result self.new bytes.now }
+        ensures only { IfErr result (λ e. OwnFault e ⊥) }
+        ensures prints { OnOk result (Prints W.known W.failures W.memory self.old self.new) }
     {
         if KEPT <= bytes.len() {
             self.send()?;
-            return write_all(&mut *self.out, bytes);
+            return self.out.write_all(bytes);
         }
         self.kept.extend_from_slice(bytes)?;
         if KEPT <= self.kept.len() {
-            self.send()?;
+            return self.send();
         }
         Ok(())
     }
 
-    /// Sends what is kept. What couldn't be sent is given up: a failed call isn't tried again.
+    /// Sends what is kept, and flushes the output. `Io` where that fails. What couldn't be sent is
+    /// given up: it isn't sent again.
     pub fn send(&mut self) -> Result<(), Fault>
-        ensures { IfErr result (λ e. OwnFault e ⊥) }
+        ensures sends { SendsKept W.known W.grows W.failures W.memory self.old result self.new }
+        ensures only { IfErr result (λ e. OwnFault e ⊥) }
+        ensures all { OnOk result (PrintsAll W.known W.failures W.memory self.old self.new) }
     {
-        let sent = write_all(&mut *self.out, &self.kept);
+        let sent = self.out.write_all(&self.kept);
         self.kept.clear();
         sent?;
         self.out.flush()?;
@@ -54,7 +73,8 @@ impl<'a, W: Writes> Printer<'a, W> {
 
     /// Adds a byte as two hexadecimal digits.
     pub fn put_byte(&mut self, byte: u8) -> Result<(), Fault>
-        ensures { IfErr result (λ e. OwnFault e ⊥) }
+        ensures only { IfErr result (λ e. OwnFault e ⊥) }
+        ensures prints { OnOk result (Prints W.known W.failures W.memory self.old self.new) }
     {
         self.put(&[hexadecimal(byte / 16), hexadecimal(byte % 16)])
     }
@@ -62,14 +82,16 @@ impl<'a, W: Writes> Printer<'a, W> {
 
 /// Prints a whole number in decimal.
 pub fn put_number<W: Writes, N: Integer>(printer: &mut Printer<W>, number: N) -> Result<(), Fault>
-    ensures { IfErr result (λ e. OwnFault e ⊥) }
+    ensures only { IfErr result (λ e. OwnFault e ⊥) }
+    ensures prints { OnOk result (Prints W.known W.failures W.memory printer.old printer.new) }
 {
     printer.put(Buffer::new().format(number).as_bytes())
 }
 
 /// Prints a text in double quotes, in which quotes, backslashes and control bytes are `\x` and two digits.
 pub fn put_text<W: Writes>(printer: &mut Printer<W>, text: &[u8]) -> Result<(), Fault>
-    ensures { IfErr result (λ e. OwnFault e ⊥) }
+    ensures only { IfErr result (λ e. OwnFault e ⊥) }
+    ensures prints { OnOk result (Prints W.known W.failures W.memory printer.old printer.new) }
 {
     printer.put(b"\"")?;
     let mut start = 0;

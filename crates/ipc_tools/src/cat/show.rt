@@ -1,9 +1,11 @@
 //! Prints a stream: its schema, and each chunk row by row.
-ghost use Rattle.std.specs.Prelude.{◌≡◌, IfErr, IfOk, IfSome, None};
+ghost use Rattle.std.specs.Prelude.{◌≡◌, IfErr, IfOk, IfSome, None, OnOk};
+ghost use Rattle.ipc_convert.specs.Sources.{StreamBreaks};
 ghost use Rattle.ipc_devices.specs.Faults.{OwnFault};
+ghost use Rattle.ipc_tools.specs.Printing.{Prints, PrintsAll};
 ghost use Rattle.ipc_tools.specs.CatWords.{NamesNumbers, columns_by};
 ghost use Rattle.ipc_tools.specs.CatRefusals.{OpensStream, ShowsNoStream, StreamHasOthers};
-ghost use Rattle.ipc_tools.specs.Shown.{GivesReadable};
+ghost use Rattle.ipc_tools.specs.Shown.{AllCame, GivesReadable, OneCame, StopsComing};
 ghost use Rattle.ipc_tools.specs.declared.cat.show.Outcome.TheVariants.{Done, WrongWords};
 
 use crate::cat::chosen::{Chosen, chosen_among};
@@ -13,9 +15,9 @@ use crate::cat::slots::put_slot;
 use arrow2_ipc::array::AnyArray;
 use arrow2_ipc::chunk::Chunk;
 use arrow2_ipc::datatypes::Field;
-use arrow2_ipc::io::ipc::fault::{Fault, Reads, Writes};
+use arrow2_ipc::io::ipc::fault::{ArgFault, Fault, Reads, Writes};
 use arrow2_ipc::io::ipc::read::{StreamReader, read_stream_metadata};
-use ipc_convert::chunks::{Ending, Sink, copy_chunks};
+use ipc_convert::chunks::{Ending, Next, Source};
 use std::alloc::Global;
 
 /// What came of a form that met no fault.
@@ -39,15 +41,14 @@ pub fn show_stream<R: Reads + Drop, W: Writes>(
     ensures shown { IfOk result (λ outcome. outcome ≡ Done → GivesReadable R.gives input (columns_by columns.entry)) }
     ensures wrong { IfOk result (λ outcome. outcome ≡ WrongWords → StreamHasOthers R.gives R.known R.memory input (columns_by columns.entry)) }
     ensures refused { IfErr result (λ e. OwnFault e (ShowsNoStream R.gives R.known R.memory input (columns_by columns.entry) e)) }
+    ensures prints { OnOk result (Prints W.known W.failures W.memory printer.old printer.new) }
 {
     let Some(mut reader) = open_stream(alloc, input, columns)? else {
         return Ok(Outcome::WrongWords);
     };
     put_schema(printer, &reader.schema().fields)?;
-    match copy_chunks(&mut reader, printer)? {
-        Ending::Waits => printer.put(b"waiting\n")?,
-        Ending::Over => printer.put(b"end\n")?,
-    }
+    let ending = show_chunks(&mut reader, printer)?;
+    put_ending(printer, ending)?;
     Ok(Outcome::Done)
 }
 
@@ -72,20 +73,58 @@ fn open_stream<R: Reads + Drop>(
     Ok(Some(reader))
 }
 
-impl<'a, W: Writes> Sink for Printer<'a, W> {
-    // Nothing is said of what it printed, nor of its device.
-    ghost took = { λ a chunks b. Unit {0} };
+// Prints the chunks that come, each before the next is read, and answers how they ended.
+fn show_chunks<R: Reads + Drop, W: Writes>(
+    reader: &mut StreamReader<R>,
+    printer: &mut Printer<W>,
+) -> Result<Ending, Fault>
+    ensures came { IfOk result (λ ending. AllCame R.gives reader.old ending reader.new) }
+    ensures stops { IfErr result (λ e. OwnFault e (StopsComing R.gives reader.old e)) }
+    ensures prints { OnOk result (Prints W.known W.failures W.memory printer.old printer.new) }
+{
+    for _ in 0..u64::MAX {
+        if let Some(ending) = show_chunk(reader, printer)? {
+            return Ok(ending);
+        }
+    }
+    Err(Fault::Argument(ArgFault::TooLarge))
+}
 
-    ghost refuses = { λ a columns e. ⊥ };
+// Prints the next chunk, where one comes, else answers how they ended.
+fn show_chunk<R: Reads + Drop, W: Writes>(
+    reader: &mut StreamReader<R>,
+    printer: &mut Printer<W>,
+) -> Result<Option<Ending>, Fault>
+    ensures came { IfOk result (λ ending. OneCame R.gives reader.old ending reader.new) }
+    ensures broken { IfErr result (λ e. OwnFault e (StreamBreaks R.gives reader.old e)) }
+    ensures prints { OnOk result (Prints W.known W.failures W.memory printer.old printer.new) }
+{
+    match reader.next_chunk()? {
+        Next::Chunk(chunk) => {
+            printer.take_chunk(&chunk)?;
+            Ok(None)
+        }
+        Next::End(ending) => Ok(Some(ending)),
+    }
+}
 
-    ghost failures = { λ a. 0 };
+// Prints how the chunks ended.
+fn put_ending<W: Writes>(printer: &mut Printer<W>, ending: Ending) -> Result<(), Fault>
+    ensures only { IfErr result (λ e. OwnFault e ⊥) }
+    ensures prints { OnOk result (Prints W.known W.failures W.memory printer.old printer.new) }
+{
+    match ending {
+        Ending::Waits => printer.put(b"waiting\n"),
+        Ending::Over => printer.put(b"end\n"),
+    }
+}
 
-    ghost took_nothing = { λ a. tt };
-
-    ghost took_in_order = { λ a xs b ys c one more. tt };
-
+impl<'a, W: Writes> Printer<'a, W> {
     /// Prints a chunk row by row, and sends all that is kept.
-    fn take_chunk(&mut self, chunk: &Chunk<AnyArray>) -> Result<(), Fault> {
+    pub fn take_chunk(&mut self, chunk: &Chunk<AnyArray>) -> Result<(), Fault>
+        ensures only { IfErr result (λ e. OwnFault e ⊥) }
+        ensures all { OnOk result (PrintsAll W.known W.failures W.memory self.old self.new) }
+    {
         put_chunk(self, chunk)?;
         self.send()
     }
@@ -93,7 +132,8 @@ impl<'a, W: Writes> Sink for Printer<'a, W> {
 
 /// Prints the names of these fields.
 pub fn put_schema<W: Writes>(printer: &mut Printer<W>, fields: &[Field]) -> Result<(), Fault>
-    ensures { IfErr result (λ e. OwnFault e ⊥) }
+    ensures only { IfErr result (λ e. OwnFault e ⊥) }
+    ensures prints { OnOk result (Prints W.known W.failures W.memory printer.old printer.new) }
 {
     printer.put(b"schema ")?;
     put_number(printer, fields.len())?;
@@ -107,7 +147,8 @@ pub fn put_schema<W: Writes>(printer: &mut Printer<W>, fields: &[Field]) -> Resu
 
 /// Prints a chunk row by row.
 pub fn put_chunk<W: Writes>(printer: &mut Printer<W>, chunk: &Chunk<AnyArray>) -> Result<(), Fault>
-    ensures { IfErr result (λ e. OwnFault e ⊥) }
+    ensures only { IfErr result (λ e. OwnFault e ⊥) }
+    ensures prints { OnOk result (Prints W.known W.failures W.memory printer.old printer.new) }
 {
     printer.put(b"chunk ")?;
     put_number(printer, chunk.len())?;
@@ -123,20 +164,31 @@ fn put_row<W: Writes>(
     arrays: &[AnyArray],
     row: usize,
 ) -> Result<(), Fault>
-    ensures { IfErr result (λ e. OwnFault e ⊥) }
+    ensures only { IfErr result (λ e. OwnFault e ⊥) }
+    ensures prints { OnOk result (Prints W.known W.failures W.memory printer.old printer.new) }
 {
     for (column, array) in arrays.iter().enumerate() {
-        if column != 0 {
-            printer.put(b"\t")?;
-        }
+        put_tab(printer, column)?;
         put_cell(printer, array, row)?;
     }
     printer.put(b"\n")
 }
 
+// Prints what separates a column from the one before it.
+fn put_tab<W: Writes>(printer: &mut Printer<W>, column: usize) -> Result<(), Fault>
+    ensures only { IfErr result (λ e. OwnFault e ⊥) }
+    ensures prints { OnOk result (Prints W.known W.failures W.memory printer.old printer.new) }
+{
+    if column == 0 {
+        return Ok(());
+    }
+    printer.put(b"\t")
+}
+
 // Prints what stands in a row. A row that isn't there, which no column of a chunk lacks, prints as `null`.
 fn put_cell<W: Writes>(printer: &mut Printer<W>, array: &AnyArray, row: usize) -> Result<(), Fault>
-    ensures { IfErr result (λ e. OwnFault e ⊥) }
+    ensures only { IfErr result (λ e. OwnFault e ⊥) }
+    ensures prints { OnOk result (Prints W.known W.failures W.memory printer.old printer.new) }
 {
     if row < array.len() {
         put_slot(printer, array, row)

@@ -1,10 +1,11 @@
 //! Prints slots of arrays of any kind.
-ghost use Rattle.std.specs.Prelude.{◌+◌, ◌<◌, ◌≤◌, IfErr, length, map};
+ghost use Rattle.std.specs.Prelude.{◌+◌, ◌<◌, ◌≤◌, IfErr, OnOk, length, map};
 ghost use Rattle.ipc_devices.specs.Faults.{OwnFault};
 ghost use Rattle.lower_arrays.specs.AnyLayouts.{layout_of};
 ghost use Rattle.lower_arrays.specs.Children.{AllReach};
 ghost use Rattle.lower_arrays.specs.Layouts.{height, heights, layouts, len_of};
 ghost use Rattle.lower_arrays.specs.Values.{NestedFits};
+ghost use Rattle.ipc_tools.specs.Printing.{Prints};
 
 use crate::cat::printer::{Printer, put_number, put_text};
 use arrow2_ipc::array::AnyArray;
@@ -22,7 +23,8 @@ pub fn put_slot<W: Writes>(
     index: usize,
 ) -> Result<(), Fault>
     requires { index < len_of (layout_of array.now) }
-    ensures { IfErr result (λ e. OwnFault e ⊥) }
+    ensures only { IfErr result (λ e. OwnFault e ⊥) }
+    ensures prints { OnOk result (Prints W.known W.failures W.memory printer.old printer.new) }
 {
     match value_at(array, index) {
         Value::Null => printer.put(b"null"),
@@ -47,7 +49,8 @@ fn put_nested<W: Writes>(
     place: usize,
 ) -> Result<(), Fault>
     requires { NestedFits nesting children.now place }
-    ensures { IfErr result (λ e. OwnFault e ⊥) }
+    ensures only { IfErr result (λ e. OwnFault e ⊥) }
+    ensures prints { OnOk result (Prints W.known W.failures W.memory printer.old printer.new) }
 {
     match nesting {
         Nesting::List(len) => put_list(printer, &children[0], place, len),
@@ -69,7 +72,8 @@ fn put_list<W: Writes>(
     len: usize,
 ) -> Result<(), Fault>
     requires { place + len ≤ len_of (layout_of child.now) }
-    ensures { IfErr result (λ e. OwnFault e ⊥) }
+    ensures only { IfErr result (λ e. OwnFault e ⊥) }
+    ensures prints { OnOk result (Prints W.known W.failures W.memory printer.old printer.new) }
 {
     // So many slots there are: none behind `place + len` is asked for.
     let _slots = child.len();
@@ -100,7 +104,8 @@ fn put_record<W: Writes>(
     place: usize,
 ) -> Result<(), Fault>
     requires { AllReach (place + 1) (layouts (map layout_of children.now)) }
-    ensures { IfErr result (λ e. OwnFault e ⊥) }
+    ensures only { IfErr result (λ e. OwnFault e ⊥) }
+    ensures prints { OnOk result (Prints W.known W.failures W.memory printer.old printer.new) }
 {
     printer.put(b"{")?;
     for index in 0..children.len() {
@@ -112,7 +117,8 @@ fn put_record<W: Writes>(
 
 // What stands in front of all but the first.
 fn put_comma<W: Writes>(printer: &mut Printer<W>, index: usize) -> Result<(), Fault>
-    ensures { IfErr result (λ e. OwnFault e ⊥) }
+    ensures only { IfErr result (λ e. OwnFault e ⊥) }
+    ensures prints { OnOk result (Prints W.known W.failures W.memory printer.old printer.new) }
 {
     if index == 0 {
         return Ok(());
@@ -122,7 +128,8 @@ fn put_comma<W: Writes>(printer: &mut Printer<W>, index: usize) -> Result<(), Fa
 
 // Prints a whole number in decimal, 256 bits in hexadecimal, and the parts of others in parentheses.
 fn put_scalar<W: Writes>(printer: &mut Printer<W>, number: Scalar) -> Result<(), Fault>
-    ensures { IfErr result (λ e. OwnFault e ⊥) }
+    ensures only { IfErr result (λ e. OwnFault e ⊥) }
+    ensures prints { OnOk result (Prints W.known W.failures W.memory printer.old printer.new) }
 {
     match number {
         Scalar::Whole(number) => put_number(printer, number),
@@ -148,7 +155,8 @@ fn put_scalar<W: Writes>(printer: &mut Printer<W>, number: Scalar) -> Result<(),
 
 // Prints a number of 256 bits: `0x` and its 64 digits in two's complement, the highest first.
 fn put_wide<W: Writes>(printer: &mut Printer<W>, number: i256) -> Result<(), Fault>
-    ensures { IfErr result (λ e. OwnFault e ⊥) }
+    ensures only { IfErr result (λ e. OwnFault e ⊥) }
+    ensures prints { OnOk result (Prints W.known W.failures W.memory printer.old printer.new) }
 {
     printer.put(b"0x")?;
     put_digits(printer, &number.high.to_be_bytes())?;
@@ -157,7 +165,8 @@ fn put_wide<W: Writes>(printer: &mut Printer<W>, number: i256) -> Result<(), Fau
 
 // Prints each byte as two hexadecimal digits.
 fn put_digits<W: Writes>(printer: &mut Printer<W>, bytes: &[u8]) -> Result<(), Fault>
-    ensures { IfErr result (λ e. OwnFault e ⊥) }
+    ensures only { IfErr result (λ e. OwnFault e ⊥) }
+    ensures prints { OnOk result (Prints W.known W.failures W.memory printer.old printer.new) }
 {
     for byte in bytes {
         printer.put_byte(*byte)?;

@@ -13,6 +13,6 @@ returns-clause-unopened_told g c =
       | in-Some w ↦
           let came : w.run_form-outcome.result ≡ Err c.in-Err.fault = sym w.outcome-is ∙ c.in-Err.is in
           let missing = subst (λ (r : Result Outcome Fault). IfSome (opened_for (wanted_by w.in-Some.form)) (λ path. c.args.file ≡ None → IfErr r IsIo)) came w.run_form-outcome.ensures.missing in
-          unopened_line opened_for _ (wanted_by w.in-Some.form) c.args.file c.in-Err.fault _ _ _ _ _ (codes "ipcat") w.in-Some.ensures.is missing c.tell.ensures.sends
+          unopened_line opened_for (λ path. c.args.file ≡ None) _ (wanted_by w.in-Some.form) c.in-Err.fault _ _ _ _ _ (codes "ipcat") w.in-Some.ensures.is missing c.tell.ensures.sends
       | in-None w ↦ rw (sym w.in-None.ensures.is) tt
     ]

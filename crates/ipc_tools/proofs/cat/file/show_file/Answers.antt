@@ -1,5 +1,6 @@
 use Rattle.std.proofs.lemmas.Result.{err_from_is_err_and}
 use Rattle.ipc_tools.specs.CatWords.{columns_by}
+use Rattle.ipc_tools.proofs.PrintSteps.{nothing_printed, prints_then}
 use Rattle.ipc_tools.proofs.Shown.{blocks_not_shown, blocks_shown}
 use Rattle.ipc_tools.proofs.cat.file.show_file.Goals as goal
 
@@ -13,3 +14,9 @@ pub returns-clause-shown : goal.returns-clause-shown
 returns-clause-shown g c = λ done.
     blocks_shown g.F.Failures.known g.F.Failures.still g.F.Failures.memory g.F.Failures.failures g.F.Failures.given g.met.F.Seeks.known_still c.args.file (columns_by c.args.words.columns) c.args.words.limit
     c.in-Some.reader (rw c.in-Some.is at c.in_ok-reader.ensures.opens) c.in_ok-show_blocks.ensures.shown
+
+pub returns-in_default-clause-prints : goal.returns-in_default-clause-prints
+returns-in_default-clause-prints g c = nothing_printed _
+
+pub returns-clause-prints : goal.returns-clause-prints
+returns-clause-prints g c = prints_then c.in_ok-put_schema.ensures.prints (prints_then c.in_ok-show_blocks.ensures.prints c.in_ok-put.ensures.prints)
