@@ -30,11 +30,15 @@ mutations:
 refused:
 	tools/refused $(ONLY)
 
-# CI: that each mutation applies, and that the README's program is the tour; then every proof and
-# the mutations of must-fail/ (of what changed, where earlier runs are kept), every test and every
-# program; and the tests once more, with each of their allocations refused in turn.
+# CI: in seconds, that each mutation applies, that the README's program is the tour, that the pages
+# docs/api.md and docs/theorems.md are those of the sources, and that the counts of tools/house are
+# those of tools/house.counts; then every proof and the mutations of must-fail/ (of what changed,
+# where earlier runs are kept), every test and every program; and the tests once more, with each of
+# their allocations refused in turn.
 test:
 	tools/mutations --applies
 	tools/readme
+	tools/docs --check
+	tools/house
 	rt ci
 	tools/refused --built
