@@ -93,4 +93,4 @@ module _ (s : Entries) (vs : Option ℤ → Layout) (form : OffsetWidth) (t : Ki
       e ∙ ap (λ d. array_at s vs t d (a + 1) (b + 2) (Some last)) named
       ∙ ap (λ m. array_at s vs t (first_type (child_fields u)) (a + 1) (b + 2) (Some m)) at.ends
       in
-      made ∙ (λ i. layout (record { type = u; len = at.count i; validity = at.mask i; parts = lists (width i) (at.places i) }) (more_layouts (below i) no_layouts))
+      made ∙ (λ i. layout (record { type = u; len = at.count i; validity = at.mask i; parts = lists (width i) (width i) (at.places i) }) (more_layouts (below i) no_layouts))

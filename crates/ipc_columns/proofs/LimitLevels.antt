@@ -121,7 +121,7 @@ mutual
   array_same s vs (binary_kind f) u a b l m h w = ap (λ k. layout (masked_level s u a b k (cut_by bytes s (b + 1) f k)) no_layouts) (row_same s l m h a)
   array_same s vs (utf8_kind f) u a b l m h w = ap (λ k. layout (masked_level s u a b k (cut_by texts s (b + 1) f k)) no_layouts) (row_same s l m h a)
   array_same s vs (list_kind f t) u a b l m h w =
-      ap (λ k. layout (masked_level s u a b k (lists (offset_type f) (offsets_of s (b + 1) (offset_width f) k)))
+      ap (λ k. layout (masked_level s u a b k (lists (offset_type f) (offset_type f) (offsets_of s (b + 1) (offset_width f) k)))
       (only (array_at s vs t (first_type (child_fields u)) (a + 1) (b + 2) (Some (last_offset s (b + 1) (offset_width f) k))))) (row_same s l m h a)
   array_same s vs (map_kind t) u a b l m h w =
       ap (λ k. layout (masked_level s u a b k (maps (offsets_of s (b + 1) (offset_width offsets_32) k)))

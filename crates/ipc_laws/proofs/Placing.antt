@@ -229,7 +229,7 @@ nested_parts h (numbers p xs) c cs e fit = absurd fit
 nested_parts h (fixed_bytes n xs) c cs e fit = absurd fit
 nested_parts h (bytes p os xs) c cs e fit = absurd fit
 nested_parts h (texts p os xs) c cs e fit = absurd fit
-nested_parts h (lists p os) c cs e fit = record { not = ap is_keys fit.0 ∙ list_not p; types = fit.1 }
+nested_parts h (lists _ p os) c cs e fit = record { not = ap is_keys fit.0 ∙ list_not p; types = fit.1 }
 nested_parts h (fixed_lists n) c cs e fit = record { not = ap is_keys fit.0; types = fit.3 }
 nested_parts h (maps os) c cs e fit = record { not = ap is_keys fit.0; types = fit.2 }
 nested_parts h records c cs e fit = record { not = ap is_keys fit.0; types = fit.2 }

@@ -125,7 +125,7 @@ nested t below bs q lies own h =
 
 -- slots of each child go along
 abbrev takes_children : Parts → Bool
-takes_children (lists p os) = true
+takes_children (lists _ p os) = true
 takes_children (maps os) = true
 takes_children (fixed_lists size) = true
 takes_children records = true
@@ -133,7 +133,7 @@ takes_children (choices ids ts os) = true
 takes_children _ = false
 
 along_some : (p : Parts) (o n k : ℕ) → takes_children p ≡ true → (r : ℕ × ℕ) × (slots_along p o n k ≡ Some r)
-along_some (lists p os) o n k h = (_, refl)
+along_some (lists _ p os) o n k h = (_, refl)
 along_some (maps os) o n k h = (_, refl)
 along_some (fixed_lists size) o n k h = (_, refl)
 along_some records o n k h = (_, refl)
@@ -174,7 +174,7 @@ level_entries h (choices ids ts None) cs o n f below =
     nested h.type _ _ Physicals.Union f.2.lies (sym (sparse_one (union_mode h.type) (length ts) f.2.given)) (below refl f.2.types)
 level_entries h (choices ids ts (Some os)) cs o n f below =
     nested h.type _ _ Physicals.Union f.2.lies (sym (dense_two (union_mode h.type) os (length ts) f.2.given)) (below refl f.2.types)
-level_entries h (lists p os) cs o n f below =
+level_entries h (lists _ p os) cs o n f below =
     nested h.type _ _ (list_with p) f.0 (sym (lists_are p (union_mode h.type))) (below refl f.1)
 level_entries h (fixed_lists size) cs o n f below = nested h.type _ _ Physicals.FixedSizeList f.0 refl (below refl f.3)
 level_entries h (maps os) cs o n f below = nested h.type _ _ Physicals.Map f.0 refl (below refl f.2)

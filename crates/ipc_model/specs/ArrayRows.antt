@@ -6,7 +6,9 @@ use Rattle.lower.specs.declared.datatypes.IntegerType.{IntegerType}
 use Rattle.lower.specs.declared.datatypes.IntegerType.TheVariants as integers
 use Rattle.lower_types.specs.NumberTypes.{whole}
 use Rattle.lower_types.specs.declared.Endianness.TheVariants.{Little}
-use Rattle.lower_types.specs.declared.PrimitiveType.TheVariants.{Int16, Int64, Int128}
+use Rattle.lower_types.specs.declared.PrimitiveType.{PrimitiveType}
+use Rattle.lower_types.specs.declared.PrimitiveType.TheVariants.{Int16, Int32, Int64, Int128}
+use Rattle.lower_arrays.specs.Cases.{HasListCases}
 use Rattle.lower_arrays.specs.Layouts.{Parts, numbers, fixed_bytes, bytes, lists, keys, Layout, layout, no_layouts, records}
 use Rattle.ipc_base.specs.IdTrees.{IdTree, ids, no_ids, more_ids, IdTrees}
 use Rattle.ipc_model.specs.AcceptedRows.{column_is}
@@ -18,7 +20,7 @@ use Rattle.ipc_model.specs.KindRows.{large_lists_of, three_long_offsets, list_fi
 use Rattle.ipc_model.specs.ReadChunks.{IsArrayOf, HaveMeaning}
 use Rattle.ipc_model.specs.OfferRows.{array_is, one_child, field_is, list_of, dictionary_of_texts, keyed_texts, texts_are, lengths_of, lengths_are, both_fields, two_children, numbers_are, keyed_lists}
 use Rattle.ipc_model.specs.TypeKinds.{kind_of}
-use Rattle.lower_arrays.specs.Slots.{record_slot, slots_of, Slot}
+use Rattle.lower_arrays.specs.Slots.{list_slot, record_slot, slots_of, Slot}
 use Rattle.ipc_model.specs.Batches.{Column}
 
 abbrev pub own_parts : Layout → Parts
@@ -42,7 +44,10 @@ pub record KeyTypeRows : Type 0 where
   pub unsigned_32 : key_read integers.UInt32 ≡ keys integers.UInt32 (pos 2 ∷ [])
   pub unsigned_64 : key_read integers.UInt64 ≡ keys integers.UInt64 (pos 2 ∷ [])
   pub large_offsets : own_parts (read_array (kind_of (single large_list list_field) None no_ids) (single large_list list_field) None
-      (large_lists_of (three_long_offsets ++ word 3 ++ word 4))) ≡ lists Int64 (0 ∷ 1 ∷ 2 ∷ [])
+      (large_lists_of (three_long_offsets ++ word 3 ++ word 4))) ≡ lists Int64 Int64 (0 ∷ 1 ∷ 2 ∷ [])
+  pub small_offsets : own_parts (read_array (kind_of (single list list_field) None no_ids) (single list list_field) None
+      (entries Little 0 (node_is 2 0 ∷ node_is 2 0 ∷ []) (buffer_is 0 0 ∷ buffer_is 0 12 ∷ buffer_is 0 0 ∷ buffer_is 12 8 ∷ []) (word 0 ++ word 1 ++ word 2 ++ word 3 ++ word 4)))
+      ≡ lists Int32 Int32 (0 ∷ 1 ∷ 2 ∷ [])
 
 -- keys of a type with a validity, over one text
 abbrev pub keys_of : IntegerType → Layout
@@ -115,3 +120,32 @@ pub record KnownRows : Type 0 where
   pub one_array_missing : ¬ HaveMeaning known_texts both_ids (1 ∷ []) (column_is dictionary_of_texts (b ∷ []) ∷ []) []
   pub inner_values_aside : IsArrayOf ((pos 0, record { type = plain utf8; slots = p_and_q }) ∷ []) (ids (Some (pos 0)) (more_ids (ids (Some (pos 1)) no_ids) no_ids)) (column_is lists_of_texts p_and_q)
       (keyed_lists (pos 0 ∷ pos 1 ∷ []) (pos 0 ∷ pos 1 ∷ []) (codes "pq"))
+
+-- ---- cases
+
+-- a list of the number 1, with offsets of 64 bits, in the case that names such offsets
+abbrev pub large_list_in : PrimitiveType → Layout
+large_list_in named = array_is (single large_list (field_is (plain int32))) 1 None (lists named Int64 (0 ∷ 1 ∷ [])) (one_child (numbers_are (1 ∷ [])))
+
+-- a list of such a list, with offsets of 32 bits
+abbrev pub list_of_large : PrimitiveType → Layout
+list_of_large named = list_of 1 (0 ∷ 1 ∷ []) (large_list_in named) (single large_list (field_is (plain int32)))
+
+-- a key over such a list
+abbrev pub key_of_large : PrimitiveType → Layout
+key_of_large named =
+    array_is (dictionary integers.Int8 (single large_list (field_is (plain int32))) false) 1 None (keys integers.Int8 (pos 0 ∷ [])) (one_child (large_list_in named))
+
+-- Lists with 32-bit offsets are List, those with 64-bit offsets LargeList, at each level but in the
+-- values of dictionaries.
+pub record CaseRows : Type 0 where
+  pub numbers_have_none : HasListCases (numbers_are (1 ∷ []))
+  pub small : HasListCases (list_of 1 (0 ∷ 1 ∷ []) (numbers_are (1 ∷ [])) (plain int32))
+  pub large : HasListCases (large_list_in Int64)
+  pub large_as_small : ¬ HasListCases (large_list_in Int32)
+  pub large_in_small : HasListCases (list_of_large Int64)
+  pub large_as_small_in_small : ¬ HasListCases (list_of_large Int32)
+  pub large_in_values : HasListCases (key_of_large Int64)
+  pub values_aside : HasListCases (key_of_large Int32)
+  pub not_the_column : ¬ IsArrayOf [] no_id (column_is (single large_list (field_is (plain int32))) (list_slot (slots_of (number 1 ∷ [])) ∷ [])) (large_list_in Int32)
+  pub the_column : IsArrayOf [] no_id (column_is (single large_list (field_is (plain int32))) (list_slot (slots_of (number 1 ∷ [])) ∷ [])) (large_list_in Int64)

@@ -50,7 +50,7 @@ abbrev pub texts_are : ℕ → List ℕ → List ℕ → Layout
 texts_are n os xs = array_is (plain utf8) n None (texts Int32 os xs) no_layouts
 
 abbrev pub list_of : ℕ → List ℕ → Layout → TypeTree → Layout
-list_of n os c t = array_is (single list (field_is t)) n None (lists Int32 os) (one_child c)
+list_of n os c t = array_is (single list (field_is t)) n None (lists Int32 Int32 os) (one_child c)
 
 -- the lengths of the nodes and of the buffers of one column, without dictionaries
 pub record Lengths : Type 0 where
@@ -172,7 +172,7 @@ second_text = keyed_texts (pos 0 ∷ []) (texts_are 1 (1 ∷ 2 ∷ []) (codes "x
 -- lists of one text each, by keys, themselves by the keys given
 abbrev pub keyed_lists : List ℤ → List ℤ → List ℕ → Layout
 keyed_lists outer inner text = keys_are (single list (field (codes "item") dictionary_of_texts true [])) outer
-    (array_is (single list (field (codes "item") dictionary_of_texts true [])) (length inner) None (lists Int32 (0 ∷ 1 ∷ 2 ∷ []))
+    (array_is (single list (field (codes "item") dictionary_of_texts true [])) (length inner) None (lists Int32 Int32 (0 ∷ 1 ∷ 2 ∷ []))
     (one_child (keyed_texts inner (texts_are 2 (0 ∷ 1 ∷ 2 ∷ []) text))))
 
 abbrev pub one_then_zero : IdTrees

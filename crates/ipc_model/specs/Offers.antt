@@ -25,7 +25,7 @@ between os o n = (slice_index os o, slice_index os (o + n) - slice_index os o)
 -- The slots of a child of k slots that go along with n slots from place o on. A dense union's children are whole, and a dictionary's
 -- values stand in a message of their own.
 abbrev pub slots_along : Parts → ℕ → ℕ → ℕ → Option (ℕ × ℕ)
-slots_along (lists p os) o n k = Some (between os o n)
+slots_along (lists _ p os) o n k = Some (between os o n)
 slots_along (maps os) o n k = Some (between os o n)
 slots_along (fixed_lists size) o n k = Some (o * size, n * size)
 slots_along records o n k = Some (o, n)
@@ -73,7 +73,7 @@ buffer_lengths (numbers p xs) v n = validity_length v n ∷ (width_of p * n) ∷
 buffer_lengths (fixed_bytes size xs) v n = validity_length v n ∷ (size * n) ∷ []
 buffer_lengths (bytes p os xs) v n = validity_length v n ∷ offsets_length p n ∷ cut_length os n ∷ []
 buffer_lengths (texts p os xs) v n = validity_length v n ∷ offsets_length p n ∷ cut_length os n ∷ []
-buffer_lengths (lists p os) v n = validity_length v n ∷ offsets_length p n ∷ []
+buffer_lengths (lists _ p os) v n = validity_length v n ∷ offsets_length p n ∷ []
 buffer_lengths (fixed_lists size) v n = validity_length v n ∷ []
 buffer_lengths (maps os) v n = validity_length v n ∷ offsets_length Int32 n ∷ []
 buffer_lengths records v n = validity_length v n ∷ []

@@ -98,7 +98,7 @@ abbrev mutual
   array_at s vs (utf8_kind w) u a b limit =
       layout (masked_level s u a b (rows s a limit) (cut_by texts s (b + 1) w (rows s a limit))) no_layouts
   array_at s vs (list_kind w t) u a b limit =
-      layout (masked_level s u a b (rows s a limit) (lists (offset_type w) (offsets_of s (b + 1) (offset_width w) (rows s a limit))))
+      layout (masked_level s u a b (rows s a limit) (lists (offset_type w) (offset_type w) (offsets_of s (b + 1) (offset_width w) (rows s a limit))))
       (only (array_at s vs t (first_type (child_fields u)) (a + 1) (b + 2) (Some (last_offset s (b + 1) (offset_width w) (rows s a limit)))))
   array_at s vs (map_kind t) u a b limit =
       layout (masked_level s u a b (rows s a limit) (maps (offsets_of s (b + 1) (offset_width offsets_32) (rows s a limit))))

@@ -1,9 +1,11 @@
--- The arrays that a batch is read to: of each column its type and its slots, and at its dictionary places the values that are known.
+-- The arrays that a batch is read to: of each column its type, its slots and its cases of AnyArray,
+-- and at its dictionary places the values that are known.
 -- (Arrow columnar format, "RecordBatch message" and "Dictionary messages".)
 use Rattle.std.specs.Prelude.{◌≡◌, ℕ, zero, suc, ℤ, List, [], ◌∷◌, ◌++◌, if◌then◌else◌, Option, Some, None}
 use Rattle.std.specs.List.{AllByRecursion}
 use Rattle.std.specs.Option.{option_map}
 use Rattle.lower.specs.TypeTrees.{TypeTree}
+use Rattle.lower_arrays.specs.Cases.{HasListCases}
 use Rattle.lower_arrays.specs.Layouts.{Layout, layout, Layouts, no_layouts, more_layouts, type_of}
 use Rattle.lower_arrays.specs.Slots.{slots}
 use Rattle.ipc_base.specs.IdTrees.{IdTree, ids, IdTrees, no_ids, more_ids}
@@ -32,10 +34,12 @@ values_at l i = outer_values (more_layouts l no_layouts) (more_ids i no_ids)
 abbrev pub IsKnown : Dictionaries → FilledPlace → Type 0
 IsKnown known p = option_map (λ d. d.slots) (dictionary_at known p.id) ≡ Some (slots p.values)
 
--- an array of a column: it has its type and its slots, and at each dictionary place, those inside values aside, the values that are known
+-- an array of a column: it has its type and its slots, List where offsets have 32 bits and
+-- LargeList where they have 64, and at each dictionary place, those inside values aside, the values that are known
 pub record IsArrayOf (known : Dictionaries) (i : IdTree) (c : Column) (l : Layout) : Type 0 where
   pub type : type_of l ≡ c.type
   pub slots_are : slots l ≡ c.slots
+  pub cases : HasListCases l
   pub values : AllByRecursion (IsKnown known) (values_at l i)
 
 abbrev pub ids_at : IdTrees → ℕ → IdTree

@@ -2,7 +2,7 @@
 //! each limit.
 
 ghost use Rattle.ipc_model.specs.AcceptedRows.{EdgeRows, EncodedRows};
-ghost use Rattle.ipc_model.specs.ArrayRows.{KeyTypeRows, KnownRows, OfferWidthRows};
+ghost use Rattle.ipc_model.specs.ArrayRows.{CaseRows, KeyTypeRows, KnownRows, OfferWidthRows};
 ghost use Rattle.ipc_model.specs.BatchRows.{BehindRows, BodyRows, OrderBatchRows, VersionBatchRows};
 ghost use Rattle.ipc_model.specs.FileRows.{BlockRows, FooterPairRows, FooterRows};
 ghost use Rattle.ipc_model.specs.KindRows.{FixedRows, KeyRows, NestedKindRows, OffsetRows, PairRows, UnionEdgeRows, WidthRows};
@@ -97,10 +97,11 @@ pub fn chunks_at_the_edges()
 {}
 
 /// The arrays that columns of keys and large lists are read to, the values that they have, and what arrays of each width bring to a writer.
-#[tactic(auto, using(crate::proofs::ArrayRows::key_type_rows, crate::proofs::ArrayRows::known_rows, crate::proofs::ArrayRows::offer_width_rows))]
+#[tactic(auto, using(crate::proofs::ArrayRows::key_type_rows, crate::proofs::ArrayRows::known_rows, crate::proofs::ArrayRows::case_rows, crate::proofs::ArrayRows::offer_width_rows))]
 pub fn arrays_of_types()
     ensures keys { KeyTypeRows }
     ensures known { KnownRows }
+    ensures cases { CaseRows }
     ensures widths { OfferWidthRows }
 {}
 

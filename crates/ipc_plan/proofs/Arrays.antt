@@ -34,7 +34,7 @@ level_means s h (numbers p ns) (more_layouts c cs) o n a b limit id is own fit a
 level_means s h (fixed_bytes z xs) (more_layouts c cs) o n a b limit id is own fit arrays mean r st = absurd fit
 level_means s h (bytes p os xs) (more_layouts c cs) o n a b limit id is own fit arrays mean r st = absurd fit
 level_means s h (texts p os xs) (more_layouts c cs) o n a b limit id is own fit arrays mean r st = absurd fit
-level_means s h (lists p os) cs o n a b limit id is own fit arrays mean r st = lists_mean s h p os cs o n a b limit id is own fit mean r st
+level_means s h (lists named p os) cs o n a b limit id is own fit arrays mean r st = lists_mean s h named p os cs o n a b limit id is own fit mean r st
 level_means s h (fixed_lists z) cs o n a b limit id is own fit arrays mean r st = fixed_lists_mean s h z cs o n a b limit id is own fit mean r st
 level_means s h (maps os) cs o n a b limit id is own fit arrays mean r st = maps_mean s h os cs o n a b limit id is own fit mean r st
 level_means s h records cs o n a b limit id is own fit arrays mean r st = records_mean s h cs o n a b limit id is own fit arrays mean r st

@@ -157,8 +157,8 @@ pub bytes_adds : (p q : Plan) (n : ℕ) (u : TypeTree) (t : PrimitiveType) (os x
 bytes_adds p q n u t os xs v a = adds_one p q (record { type = u; len = n; validity = v; parts = bytes t os xs })
     (record { own = a.validity_bytes ∷ a.offset_bytes ∷ cut_out os xs ∷ []; are = (a.validity, a.offsets, refl); grows = a.grows })
 
-pub lists_adds : (p q : Plan) (n : ℕ) (u : TypeTree) (t : PrimitiveType) (os : List ℕ) (v : Validity) → AddsHead p q n t os v → Adds p q (record { type = u; len = n; validity = v; parts = lists t os } ∷ [])
-lists_adds p q n u t os v a = adds_one p q (record { type = u; len = n; validity = v; parts = lists t os })
+pub lists_adds : (p q : Plan) (n : ℕ) (u : TypeTree) (named t : PrimitiveType) (os : List ℕ) (v : Validity) → AddsHead p q n t os v → Adds p q (record { type = u; len = n; validity = v; parts = lists named t os } ∷ [])
+lists_adds p q n u named t os v a = adds_one p q (record { type = u; len = n; validity = v; parts = lists named t os })
     (record { own = a.validity_bytes ∷ a.offset_bytes ∷ []; are = (a.validity, a.offsets); grows = a.grows })
 
 pub records_adds : (p q : Plan) (n : ℕ) (u : TypeTree) (v : Validity) → AddsStart p q n v → Adds p q (record { type = u; len = n; validity = v; parts = records } ∷ [])

@@ -98,9 +98,9 @@ list_slots s a b w t os o n g it i h =
 one_full : (k : ℕ) → min k k ≡ k
 one_full k = omega arith
 
-pub lists_mean : (s : Entries) (h : Level) (p : PrimitiveType) (os : List ℕ) (cs : Layouts) (o n a b : ℕ) (limit : Limit) (id : Option ℤ) (is : IdTrees) (own : List (List ℕ)) → PartsFit h (lists p os) cs
-    → ChildrenMean s cs is → Row s h (lists p os) o n a b limit own → StandsAmong s (a + 1) (b + length own) (levels_below cs (lists p os) o n) → RowMeans s h (lists p os) cs o n a b limit id is
-lists_mean s h p os (more_layouts c cs) o n a b limit id is (m ∷ x ∷ []) fit mean r st =
+pub lists_mean : (s : Entries) (h : Level) (named p : PrimitiveType) (os : List ℕ) (cs : Layouts) (o n a b : ℕ) (limit : Limit) (id : Option ℤ) (is : IdTrees) (own : List (List ℕ)) → PartsFit h (lists named p os) cs
+    → ChildrenMean s cs is → Row s h (lists named p os) o n a b limit own → StandsAmong s (a + 1) (b + length own) (levels_below cs (lists named p os) o n) → RowMeans s h (lists named p os) cs o n a b limit id is
+lists_mean s h named p os (more_layouts c cs) o n a b limit id is (m ∷ x ∷ []) fit mean r st =
     let w = offset_width (wide_of p) in
     let mask = masked_row s h o n a b m r.fits r.inside r.node_is r.stand.0 r.are.0 in
     let rows_are = rows_of s a n limit (ap (λ (x : FieldNode). x.length) r.node_is) r.full in
@@ -112,7 +112,7 @@ lists_mean s h p os (more_layouts c cs) o n a b limit id is (m ∷ x ∷ []) fit
     let f = λ (i : ℕ). slot_where (array_valid h.validity (o + i)) (list_slot (slots_of (slots_from g (slice_index os (o + i)) (slice_index os (o + i + 1) - slice_index os (o + i))))) in
     let items : Items s a b w t os o n g = record {
       offsets = cut_offsets s (b + 1) p os o n x fit.2.offsets.rising has.few r.stand.1.0 r.are.1;
-      child = mean.0 first k (a + 1) (b + 2) (Some k) has.inside (one_full k) (stands_both s (a + 1) (b + 2) (written_levels c first k) (levels_below cs (lists p os) o n) st).here;
+      child = mean.0 first k (a + 1) (b + 2) (Some k) has.inside (one_full k) (stands_both s (a + 1) (b + 2) (written_levels c first k) (levels_below cs (lists named p os) o n) st).here;
     } in
     means_by s (list_with p) h.type id is a b limit n f fit.0
     (subst (λ (q : Kind). Means s q a b limit n f) (sym (list_by p h.type id is ∙ ap (list_kind (wide_of p)) (first_kind_is (child_fields h.type) is c cs fit.1)))
@@ -121,8 +121,8 @@ lists_mean s h p os (more_layouts c cs) o n a b limit id is (m ∷ x ∷ []) fit
       rows_are = rows_are;
       each = λ i l. masked_is s a b o n h.validity i _ _ mask l (λ _. list_slots s a b w t os o n g items i l);
     }))
-lists_mean s h p os no_layouts o n a b limit id is own fit mean r st = absurd (never_childless h.type (list_with p) (one_list p) fit.0 fit.1)
-lists_mean s h p os cs o n a b limit id is _ fit mean r st = absurd r.are
+lists_mean s h named p os no_layouts o n a b limit id is own fit mean r st = absurd (never_childless h.type (list_with p) (one_list p) fit.0 fit.1)
+lists_mean s h named p os cs o n a b limit id is _ fit mean r st = absurd r.are
 
 -- a map's child is a record of two
 pair_kind : (t : TypeTree) (id : Option ℤ) (is : IdTrees) → IsPairType t → IsPairKind (kind_of t id is)

@@ -1,9 +1,11 @@
--- The arrays that are read have the values that are known at their dictionary places.
+-- The arrays that are read have the values that are known at their dictionary places, and the cases
+-- of their offsets.
 use Rattle.std.proofs.Common.{◌≡◌, refl, ℕ, zero, suc, ℤ, List, [], ◌∷◌, map, Option, IfOk, Result, Ok, Err, sym, ap, subst, ◌∙◌}
 use Rattle.std.specs.List.{AllByRecursion}
 use Rattle.lower.specs.TypeTrees.{TypeTree, plain, null, field, FieldTrees, no_fields, more_fields}
 use Rattle.lower_types.specs.declared.Endianness.{Endianness}
 use Rattle.lower_arrays.specs.AnyLayouts.{layout_of}
+use Rattle.lower_arrays.specs.Cases.{HasListCases}
 use Rattle.lower_arrays.specs.Layouts.{Layout}
 use Rattle.lower_arrays.specs.declared.array.AnyArray.{AnyArray}
 use Rattle.ipc_base.specs.IdTrees.{IdTree, ids, IdTrees, no_ids, more_ids}
@@ -17,6 +19,7 @@ use Rattle.ipc_model.specs.Kinds.{Kind, null_kind}
 use Rattle.ipc_model.specs.ReadArrays.{array_at, AreValues}
 use Rattle.ipc_model.specs.ReadChunks.{values_at, IsKnown, ids_at, HaveMeaning}
 use Rattle.ipc_model.specs.TypeKinds.{kind_of, kinds_of}
+use Rattle.ipc_read.proofs.ReadCases.{read_cases}
 use Rattle.ipc_read.specs.Chunks.{chunk_seen}
 use Rattle.ipc_read.specs.Columns.{HasColumns, IsColumnAt, AreColumns}
 
@@ -66,6 +69,8 @@ module _ (s : Entries) (vs : Option ℤ → Layout) (fs : FieldTrees) (is : IdTr
     record {
       type = refl;
       slots_are = refl;
+      cases = subst HasListCases (sym are.0.array)
+          (read_cases s vs (kind_at (kinds_of fs is) j) (type_at fs j) (nodes_before (kinds_of fs is) j) (buffers_before s.extra (kinds_of fs is) j) limit);
       values = subst (λ (ds : Dictionaries). AllByRecursion (IsKnown ds) (values_at (layout_of x) (ids_at is j))) same
           (column_values s vs fs is limit j x values has.0 are.0);
     },

@@ -1,5 +1,6 @@
 -- A map of arrays, as the dictionaries that are known.
-use Rattle.std.proofs.Common.{◌≡◌, ℤ, Bool, false, cond, [], ◌∷◌, map, Option, Some, IsTrue, sym, ap, ◌∙◌}
+use Rattle.std.proofs.Common.{◌≡◌, ℤ, Bool, false, cond, [], ◌∷◌, map, Option, Some, IsTrue, sym, ap, subst, ◌∙◌}
+use Rattle.std.specs.Prelude.{IfSome}
 use Rattle.std.specs.HashMap.{HashMap, get, IsEmpty, IsUnchanged, Updates}
 use Rattle.std.specs.Option.{option_map}
 use Rattle.std.specs.Ordering.{int_eq}
@@ -7,16 +8,17 @@ use Rattle.std.specs.declared.rc.Rc.{Rc}
 use Rattle.lower.specs.Normal.{norm}
 use Rattle.lower.specs.TypeTrees.{TypeTree}
 use Rattle.lower_arrays.specs.AnyLayouts.{layout_of}
+use Rattle.lower_arrays.specs.Cases.{HasListCases}
 use Rattle.lower_arrays.specs.Layouts.{type_of}
 use Rattle.lower_arrays.specs.declared.array.AnyArray.{AnyArray}
 use Rattle.ipc_views.specs.Spot.{Spot}
 use Rattle.ipc_model.specs.Batches.{Schema, Place, places, place_of}
 use Rattle.ipc_model.specs.Entries.{Dictionary, dictionary_at}
-use Rattle.ipc_flat_columns.specs.Bodies.{dictionary_of, known_entry, known_dictionaries}
+use Rattle.ipc_flat_columns.specs.Bodies.{array_found, array_under, dictionary_of, known_entry, known_dictionaries}
 use Rattle.ipc_flat_columns.proofs.KnownValues.{dictionary_found, found_first, found_under}
 use Rattle.ipc_laws.specs.Agreement.{KnowAlike}
 use Rattle.ipc_read.proofs.Meanings.{some_is}
-use Rattle.ipc_read.specs.DictionaryBatches.{dictionary_head, PutsValues}
+use Rattle.ipc_read.specs.DictionaryBatches.{dictionary_head, PutsCases, PutsValues}
 
 -- of a map without entries none are known
 pub empty_known : {Z S : Type 0} (m : HashMap ℤ (Rc AnyArray Z) S) → IsEmpty m → known_dictionaries m ≡ []
@@ -46,6 +48,12 @@ module _ {Z S : Type 0} (m n : HashMap ℤ (Rc AnyArray Z) S) (id : ℤ) (x : Rc
 
   pub put_beside : (q : ℤ) → int_eq id q ≡ false → dictionary_at (known_dictionaries n) q ≡ dictionary_at (known_dictionaries m) q
   put_beside q e = found_under n q ∙ ap dictionary_found (put.2 q e) ∙ sym (found_under m q)
+
+  -- its cases are those of the array that a dictionary batch puts under its id
+  pub puts_cases : (t values : Spot) → dictionary_head t ≡ Some (id, values) → HasListCases (layout_of x.value) → PutsCases t (λ i. array_under n i)
+  puts_cases t values head has =
+      subst (λ (o : Option (ℤ × Spot)). IfSome o (λ h. HasListCases (array_under n (Some h.0)))) (sym head)
+      (subst (λ (o : Option (Rc AnyArray Z)). HasListCases (array_found o)) (sym put.1) has)
 
   -- it is what a dictionary batch puts under its id
   pub puts_values : (known : Bool) (schema : Schema) (t values : Spot) (p : Place) → dictionary_head t ≡ Some (id, values)

@@ -11,6 +11,7 @@ pub mod ColumnPlaces
 pub mod Batches
 pub mod Listed
 pub mod Meanings
+pub mod ReadCases
 pub mod KnownArrays
 pub mod ValueReads
 pub mod PlaceLists

@@ -1,8 +1,9 @@
 -- The one column of a batch of a dictionary's values.
-use Rattle.std.proofs.Common.{arith, ◌≡◌, refl, ℕ, zero, suc, ℤ, ◌+◌, ◌<◌, ◌≤◌, [], ◌∷◌, get_or, Option, None, Some, Ok, Err, inl, inr}
+use Rattle.std.proofs.Common.{arith, ◌≡◌, refl, ℕ, zero, suc, ℤ, ◌+◌, ◌<◌, ◌≤◌, [], ◌∷◌, get_or, Option, None, Some, Ok, Err, inl, inr, sym, subst}
 use Rattle.lower.specs.TypeTrees.{TypeTree}
 use Rattle.lower_types.specs.declared.Endianness.{Endianness}
 use Rattle.lower_arrays.specs.AnyLayouts.{layout_of}
+use Rattle.lower_arrays.specs.Cases.{HasListCases}
 use Rattle.lower_arrays.specs.Layouts.{Layout}
 use Rattle.lower_arrays.specs.declared.array.AnyArray.{AnyArray}
 use Rattle.ipc_devices.proofs.Claims.{claims_through, denies_through}
@@ -23,6 +24,7 @@ use Rattle.ipc_flat_columns.specs.declared.read.body.Body.{Body as Read}
 use Rattle.ipc_devices.specs.Device.{Memory}
 use Rattle.ipc_read.proofs.Listed.{given_total}
 use Rattle.ipc_read.proofs.Meanings.{IsListed, any_rows, some_is, equal_rows, fetched_meaning, judged}
+use Rattle.ipc_read.proofs.ReadCases.{read_cases}
 use Rattle.ipc_read.proofs.Refusals.{counts_tell, entries_in_list, lengths_tell, values_tell}
 use Rattle.ipc_read.specs.Chunks.{HasMeaning}
 use Rattle.ipc_read.specs.DictionaryBatches.{GivesColumn, IsValuesFault}
@@ -69,7 +71,10 @@ module _ (extra : ℕ) (known : Dictionaries) (b : Body) (t : Spot) (u : TypeTre
       let means =
       fetched_meaning (schema_of u is order) extra known vs b t None None lists (x ∷ []) (record { listed = listed; judged = judged; prepared = tt; has = (well, tt); are = (column, tt) })
       (equal_rows (any_rows x) (x ∷ []) (one_row x))
-      in (some_is _ _ means, (means, column.type))
+      in (
+        some_is _ _ means,
+        (means, column.type, subst HasListCases (sym column.array) (read_cases (entries_of lists b order extra known) vs (kind_of u None is) u 0 0 None)),
+      )
 
 -- ---- what a device gives
 

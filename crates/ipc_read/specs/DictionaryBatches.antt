@@ -8,7 +8,8 @@ use Rattle.lower.specs.Normal.{norm}
 use Rattle.lower.specs.TypeTrees.{TypeTree}
 use Rattle.lower_types.specs.declared.Endianness.{Endianness}
 use Rattle.lower_arrays.specs.AnyLayouts.{layout_of}
-use Rattle.lower_arrays.specs.Layouts.{type_of}
+use Rattle.lower_arrays.specs.Cases.{HasListCases}
+use Rattle.lower_arrays.specs.Layouts.{Layout, type_of}
 use Rattle.lower_arrays.specs.declared.array.AnyArray.{AnyArray}
 use Rattle.ipc_devices.specs.Faults.{Answers}
 use Rattle.ipc_devices.specs.declared.fault.Fault.{Fault}
@@ -30,11 +31,12 @@ use Rattle.ipc_read.specs.Sizes.{chosen_listed}
 
 -- ---- the values
 
--- A batch of one column was read: exactly where it has a meaning, and then the array is that column, of the type u.
+-- A batch of one column was read: exactly where it has a meaning, and then the array is that
+-- column, of the type u, List where offsets have 32 bits and LargeList where they have 64.
 abbrev pub GivesColumn : Schema → ℕ → Dictionaries → Body → Spot → TypeTree → Result AnyArray Fault → Type 0
 GivesColumn schema extra known b t u r =
     Answers r (HasMeaning schema extra known b t None None)
-    (λ x. (record_meaning schema extra known b t None None ≡ Some (column_seen x ∷ [])) × (type_of (layout_of x) ≡ u))
+    (λ x. (record_meaning schema extra known b t None None ≡ Some (column_seen x ∷ [])) × (type_of (layout_of x) ≡ u) × HasListCases (layout_of x))
 
 -- ---- the head
 
@@ -77,6 +79,11 @@ pub record PutsValues (known : Bool) (schema : Schema) (t : Spot) (before after 
   pub there : IsSome (dictionary_at after id)
   pub typed : IsTrue known → option_map (λ (d : Dictionary). d.type) (dictionary_at after id) ≡ Some (norm place.type)
   pub others : (other : ℤ) → int_eq id other ≡ false → dictionary_at after other ≡ dictionary_at before other
+
+-- The array that a dictionary batch has put under its id is List where its offsets have 32 bits,
+-- and LargeList where they have 64.
+abbrev pub PutsCases : Spot → (Option ℤ → Layout) → Type 0
+PutsCases t after = IfSome (dictionary_head t) (λ h. HasListCases (after (Some h.0)))
 
 -- ---- faults
 

@@ -193,7 +193,7 @@ parts-cut h (keys k ks) cs o n f d = dictionary-cut h k ks cs o n f d
 parts-cut h (choices zs ts os) cs o n f k =
     let room : o + n ≤ length ts = omega (arith, f, k.1) in
     (ap (cut_validity o n) k.0, length-part o n ts room, choices-cut h.type zs ts os cs o n room k.2)
-parts-cut h (lists p os) cs o n f k = (k.0, k.1, items-cut os o n h.len f cs k.2)
+parts-cut h (lists _ p os) cs o n f k = (k.0, k.1, items-cut os o n h.len f cs k.2)
 parts-cut h (fixed_lists size) cs o n f k = (k.0, k.1, k.2, types-cut _ cs (o * size) (n * size) k.3, have-cut cs (o * size) (n * size))
 parts-cut h (maps os) cs o n f k = (k.0, k.1, k.2, items-cut os o n h.len f cs k.3)
 parts-cut h records cs o n f k = (k.0, some-cut cs o n k.1, types-cut _ cs o n k.2, have-cut cs o n)
@@ -220,7 +220,7 @@ below-cut h (texts p os xs) cs o n f k a g = a
 below-cut h (keys k ks) cs o n f d a g = a
 below-cut h (choices zs ts None) cs o n f k a g = g o n h.len f (subst (λ m. AllHave m cs) k.1 k.2.places)
 below-cut h (choices zs ts (Some os)) cs o n f k a g = a
-below-cut h (lists p os) cs o n f k a g = a
+below-cut h (lists _ p os) cs o n f k a g = a
 below-cut h (fixed_lists size) cs o n f k a g = g (o * size) (n * size) (h.len * size) (sizes_within o n h.len size f) k.4
 below-cut h (maps os) cs o n f k a g = a
 below-cut h records cs o n f k a g = g o n h.len f k.3

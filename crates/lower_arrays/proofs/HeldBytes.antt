@@ -41,7 +41,7 @@ parts-cut (numbers p xs) o n = fewer_items (width_of p) o n xs
 parts-cut (fixed_bytes size xs) o n = fewer (o * size) (n * size) xs
 parts-cut (bytes p os xs) o n = let le = fewer_items (width_of p) o (n + 1) os in omega (arith, le)
 parts-cut (texts p os xs) o n = let le = fewer_items (width_of p) o (n + 1) os in omega (arith, le)
-parts-cut (lists p os) o n = fewer_items (width_of p) o (n + 1) os
+parts-cut (lists _ p os) o n = fewer_items (width_of p) o (n + 1) os
 parts-cut (fixed_lists size) o n = omega arith
 parts-cut (maps os) o n = fewer_items (width_of Named.Int32) o (n + 1) os
 parts-cut records o n = omega arith
@@ -61,7 +61,7 @@ below-cut (numbers p xs) cs o n e = omega arith
 below-cut (fixed_bytes size xs) cs o n e = omega arith
 below-cut (bytes p os xs) cs o n e = omega arith
 below-cut (texts p os xs) cs o n e = omega arith
-below-cut (lists p os) cs o n e = omega arith
+below-cut (lists _ p os) cs o n e = omega arith
 below-cut (fixed_lists size) cs o n e = e (o * size) (n * size)
 below-cut (maps os) cs o n e = omega arith
 below-cut records cs o n e = e o n

@@ -16,7 +16,7 @@ use Rattle.lower_flat.proofs.Cuts.{get_or-part, length-part}
 use Rattle.lower_arrays.specs.Layouts.{Parts, nothing, truths, numbers, fixed_bytes, bytes, texts, lists, fixed_lists, maps, records, Layout, layout, Layouts, no_layouts, more_layouts, len_of, keys, choices, layouts}
 use Rattle.lower_arrays.specs.Slots.{Slot, null_slot, truth_slot, number_slot, bytes_slot, text_slot, list_slot, record_slot, slots_of, slot_where, first_child, list_at, each_at, value_at, slot_at, children_at, slots_from, slots, variant_slot, variant_at}
 use Rattle.lower_arrays.specs.Cuts.{cut_parts, cut_below, cut, cut_each}
-use Rattle.lower_arrays.proofs.NestedParts.{list_part, fixed_list_part, struct_part, map_part}
+use Rattle.lower_arrays.proofs.NestedParts.{list_part, large_list_part, fixed_list_part, struct_part, map_part}
 use Rattle.lower_arrays.specs.Primitives.{numbers_layout}
 use Rattle.lower_arrays.specs.Flat.{null_layout, boolean_layout, fixed_layout, bytes_layout, texts_layout}
 use Rattle.lower.specs.TypeTrees.{TypeTree}
@@ -134,7 +134,7 @@ value_at-cut (numbers _ xs) cs o n i h e = ap number_slot (get_or-part o n xs i 
 value_at-cut (fixed_bytes size xs) cs o n i h e = ap bytes_slot (fixed-cut o n size xs i h)
 value_at-cut (bytes _ os xs) cs o n i h e = ap bytes_slot (span-part o n os xs i h)
 value_at-cut (texts _ os xs) cs o n i h e = ap text_slot (span-part o n os xs i h)
-value_at-cut (lists _ os) cs o n i h e = span-ends (λ a b. list_at (children_at cs) a (b - a)) o n os i h
+value_at-cut (lists _ _ os) cs o n i h e = span-ends (λ a b. list_at (children_at cs) a (b - a)) o n os i h
 value_at-cut (fixed_lists size) cs o n i h e = fixed_list-cut cs size o n i h e
 value_at-cut (maps os) cs o n i h e = span-ends (λ a b. list_at (children_at cs) a (b - a)) o n os i h
 value_at-cut records cs o n i h e = ap (λ s. record_slot (slots_of s)) (e o n i h)
@@ -252,4 +252,4 @@ pub slots_of_part : (l m : Layout) (o n : ℕ) → m ≡ cut o n l → o + n ≤
 slots_of_part l m o n e h = ap slots e ∙ slots-cut l o n h
 
 -- what slicing is proved by, kind by kind
-pub ruleset slicing = (numbers_part, null_part, boolean_part, fixed_part, bytes_part, texts_part, list_part, fixed_list_part, struct_part, map_part, dictionary_part, union_part)
+pub ruleset slicing = (numbers_part, null_part, boolean_part, fixed_part, bytes_part, texts_part, list_part, large_list_part, fixed_list_part, struct_part, map_part, dictionary_part, union_part)

@@ -9,7 +9,7 @@ use Rattle.lower_rules.specs.AnyNumbers.{numbers_seen}
 use Rattle.lower_rules.specs.declared.numbers.AnyPrimitive.{AnyPrimitive}
 use Rattle.lower_arrays.specs.declared.array.AnyArray.{AnyArray}
 use Rattle.lower_arrays.specs.declared.array.AnyArray.TheVariants.{Null, Boolean, Primitive, FixedSizeBinary, Binary, LargeBinary, Utf8, LargeUtf8, Dictionary, Union, List as ListOf, LargeList, FixedSizeList, Struct, Map}
-use Rattle.lower_arrays.specs.Lists.{list_layout}
+use Rattle.lower_arrays.specs.Lists.{list_layout_as}
 use Rattle.lower_arrays.specs.FixedLists.{fixed_list_layout}
 use Rattle.lower_arrays.specs.Structs.{struct_layout}
 use Rattle.lower_arrays.specs.Maps.{map_layout}
@@ -17,7 +17,8 @@ use Rattle.lower_arrays.specs.Maps.{map_layout}
 abbrev pub any_primitive_layout : AnyPrimitive → Layout
 any_primitive_layout a = numbers_layout (numbers_seen a)
 
--- the large forms have offsets of 64 bits
+-- List names offsets of 32 bits and LargeList offsets of 64 bits, whichever the array has; the
+-- other large forms have offsets of 64 bits
 abbrev pub layout_of : AnyArray → Layout
 layout_of (Null a) = null_layout a
 layout_of (Boolean a) = boolean_layout a
@@ -27,8 +28,8 @@ layout_of (Binary a) = bytes_layout Named.Int32 a
 layout_of (LargeBinary a) = bytes_layout Named.Int64 a
 layout_of (Utf8 a) = texts_layout Named.Int32 a
 layout_of (LargeUtf8 a) = texts_layout Named.Int64 a
-layout_of (ListOf a) = list_layout a
-layout_of (LargeList a) = list_layout a
+layout_of (ListOf a) = list_layout_as Named.Int32 a
+layout_of (LargeList a) = list_layout_as Named.Int64 a
 layout_of (FixedSizeList a) = fixed_list_layout a
 layout_of (Struct a) = struct_layout a
 layout_of (Union a) = union_layout a

@@ -108,7 +108,7 @@ parts_to (bytes p os xs) = tagged 4 (gcons (primitive_to p) (gcons (nats.to os) 
 parts_to (texts p os xs) = tagged 5 (gcons (primitive_to p) (gcons (nats.to os) (nats.to xs)))
 parts_to (keys k ks) = tagged 6 (gcons (integer_to k) (ints.to ks))
 parts_to (choices ids ts os) = tagged 7 (gcons (stored_ids.to ids) (gcons (ints.to ts) (stored_ids.to os)))
-parts_to (lists p os) = tagged 8 (gcons (primitive_to p) (nats.to os))
+parts_to (lists named p os) = tagged 8 (gcons (primitive_to named) (gcons (primitive_to p) (nats.to os)))
 parts_to (fixed_lists size) = tagged 9 (gnum size)
 parts_to (maps os) = tagged 10 (nats.to os)
 parts_to records = tagged 11 gnil
@@ -122,7 +122,7 @@ parts_in g =
     ∷ texts (primitive_from (first g)) (nats.from (first (second g))) (nats.from (second (second g)))
     ∷ keys (integer_from (first g)) (ints.from (second g))
     ∷ choices (stored_ids.from (first g)) (ints.from (first (second g))) (stored_ids.from (second (second g)))
-    ∷ lists (primitive_from (first g)) (nats.from (second g)) ∷ fixed_lists (number g) ∷ maps (nats.from g) ∷ records ∷ []
+    ∷ lists (primitive_from (first g)) (primitive_from (first (second g))) (nats.from (second (second g))) ∷ fixed_lists (number g) ∷ maps (nats.from g) ∷ records ∷ []
 
 abbrev pub parts_from : Gv → Parts
 parts_from g = get_or (parts_in (second g)) (tag g) nothing
@@ -136,7 +136,7 @@ parts_back (bytes p os xs) = λ i. bytes (primitive_back p i) (nats.back os i) (
 parts_back (texts p os xs) = λ i. texts (primitive_back p i) (nats.back os i) (nats.back xs i)
 parts_back (keys k ks) = λ i. keys (integer_back k i) (ints.back ks i)
 parts_back (choices ids ts os) = λ i. choices (stored_ids.back ids i) (ints.back ts i) (stored_ids.back os i)
-parts_back (lists p os) = λ i. lists (primitive_back p i) (nats.back os i)
+parts_back (lists named p os) = λ i. lists (primitive_back named i) (primitive_back p i) (nats.back os i)
 parts_back (fixed_lists size) = refl
 parts_back (maps os) = λ i. maps (nats.back os i)
 parts_back records = refl

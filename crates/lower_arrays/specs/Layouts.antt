@@ -10,7 +10,8 @@ pub use Rattle.lower_flat.specs.Validities.{Validity, null_count_of}
 
 -- what a level has beside its type, its length and its validity, by its kind: nothing; a bit for each slot; the numbers of a type; for
 -- each slot so many bytes; offsets of a type (of 32 bits, or of 64 in the large forms) and the bytes that they cut into slots, as bytes
--- or as texts; such offsets into the child; for each slot so many of the child's; offsets into the child, whose slots are pairs; nothing,
+-- or as texts; the type of the offsets that its case of AnyArray names, and
+-- such offsets into the child; for each slot so many of the child's; offsets into the child, whose slots are pairs; nothing,
 -- where a slot is one of each child; the ids of the children, where they have any, the id of each slot's child, and where each slot stands
 -- in its child at a place of its own, these places; the keys of a type, places among the slots of the one child
 pub data Parts : Type 0 where
@@ -20,7 +21,7 @@ pub data Parts : Type 0 where
   fixed_bytes : ℕ → List ℕ → Parts
   bytes : PrimitiveType → List ℕ → List ℕ → Parts
   texts : PrimitiveType → List ℕ → List ℕ → Parts
-  lists : PrimitiveType → List ℕ → Parts
+  lists : PrimitiveType → PrimitiveType → List ℕ → Parts
   fixed_lists : ℕ → Parts
   maps : List ℕ → Parts
   records : Parts

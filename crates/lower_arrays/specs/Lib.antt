@@ -4,6 +4,7 @@ pub mod Children
 pub mod Choices
 pub mod Slots
 pub mod Cuts
+pub mod Cases
 pub mod Primitives
 pub mod Flat
 pub mod Lists

@@ -31,11 +31,16 @@ coded_list_seen =
     (λ a. (a.type, (a.width, (a.offsets, (a.child, a.validity)))))
     (λ p. record { type = p.0; width = p.1.0; offsets = p.1.1.0; child = p.1.1.1.0; validity = p.1.1.1.1 }) (λ _. refl)
 
--- slot i is a list of the child's slots from offset i to offset i + 1
-abbrev pub list_layout : ListSeen → Layout
-list_layout a =
-    layout (record { type = a.type; len = span_count a.offsets; validity = a.validity; parts = lists a.width a.offsets })
+-- slot i is a list of the child's slots from offset i to offset i + 1; its case of AnyArray names
+-- offsets of this type
+abbrev pub list_layout_as : PrimitiveType → ListSeen → Layout
+list_layout_as named a =
+    layout (record { type = a.type; len = span_count a.offsets; validity = a.validity; parts = lists named a.width a.offsets })
     (more_layouts a.child no_layouts)
+
+-- in the case of its own offsets: List of 32-bit offsets, LargeList of 64-bit offsets
+abbrev pub list_layout : ListSeen → Layout
+list_layout a = list_layout_as a.width a
 
 -- the rule that the error names is broken
 abbrev pub BreaksList : ListSeen → Error → Type 0

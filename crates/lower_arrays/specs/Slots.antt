@@ -47,7 +47,7 @@ value_at (bytes _ os xs) fs i = bytes_slot (span os xs i)
 value_at (texts _ os xs) fs i = text_slot (span os xs i)
 value_at (keys _ ks) fs i = first_child fs (place_of (get_or ks i (pos 0)))
 value_at (choices ids ts os) fs i = variant_at fs (get_or ts i (pos 0)) (child_number ids (get_or ts i (pos 0))) (place_in os i)
-value_at (lists _ os) fs i = list_at fs (slice_index os i) (slice_index os (i + 1) - slice_index os i)
+value_at (lists _ _ os) fs i = list_at fs (slice_index os i) (slice_index os (i + 1) - slice_index os i)
 value_at (fixed_lists size) fs i = list_at fs (i * size) size
 value_at (maps os) fs i = list_at fs (slice_index os i) (slice_index os (i + 1) - slice_index os i)
 value_at records fs i = record_slot (slots_of (each_at fs i))
@@ -99,7 +99,7 @@ PartsFit h (bytes p os xs) no_layouts = (physical h.type ≡ bytes_with p) × Sp
 PartsFit h (texts p os xs) no_layouts = (physical h.type ≡ texts_with p) × SpansFit os xs h.len × AreTexts os xs
 PartsFit h (keys k ks) cs = DictionaryFits h k ks cs
 PartsFit h (choices ids ts os) cs = (h.validity ≡ None) × (length ts ≡ h.len) × ChoicesFit h.type ids ts os cs
-PartsFit h (lists p os) cs = (physical h.type ≡ list_with p) × ChildTypes (child_fields h.type) cs × ItemsFit os h.len cs
+PartsFit h (lists _ p os) cs = (physical h.type ≡ list_with p) × ChildTypes (child_fields h.type) cs × ItemsFit os h.len cs
 PartsFit h (fixed_lists size) cs =
     (physical h.type ≡ Physicals.FixedSizeList) × (list_size h.type ≡ size) × (0 < size) × ChildTypes (child_fields h.type) cs
     × AllHave (h.len * size) cs

@@ -40,8 +40,10 @@ pub use union::UnionArray;
 
 /// An array of any kind: a case for each physical type.
 ///
-/// One struct serves `List` and `LargeList`, and both stand for the same slots: which of them an array
-/// of lists belongs to is said by its offsets, and [`ListArray::boxed`] chooses by them.
+/// `List` is for lists with 32-bit offsets, `LargeList` for lists with 64-bit offsets; both hold a
+/// [`ListArray`]. [`ListArray::boxed`] and `AnyArray::from` choose the case by the offsets, and
+/// slices and clones keep it. Either case can be made of any `ListArray`: `==` and what is written don't
+/// depend on it.
 #[cycle(arrays)]
 #[derive(Drop)]
 pub enum AnyArray {

@@ -1,7 +1,8 @@
 //! Plans arrays of lists (Arrow columnar format, "Variable-size List Layout").
 ghost use Rattle.std.specs.Prelude.{◌+◌, ◌^◌, ◌<◌, ◌≤◌, OnOk};
+ghost use Rattle.lower_types.specs.declared.PrimitiveType.TheVariants.{Int32, Int64};
 ghost use Rattle.lower_flat.specs.Spans.{span_count};
-ghost use Rattle.lower_arrays.specs.Lists.{list_layout};
+ghost use Rattle.lower_arrays.specs.Lists.{list_layout, list_layout_as};
 ghost use Rattle.ipc_model.specs.Offers.{written_levels};
 ghost use Rattle.ipc_plan.specs.Taking.{TakesLevels};
 ghost use Rattle.ipc_plan.specs.Plans.{Adds};
@@ -12,7 +13,8 @@ use crate::plan::Plan;
 use ipc_devices::Fault;
 use lower_arrays::array::ListArray;
 
-// Plans lists: their own level, and of the child the slots that the offsets cut out.
+// Plans lists: their own level, and of the child the slots that the offsets cut out. What is
+// written doesn't depend on the case of `AnyArray`.
 #[cycle(plans)]
 pub(crate) fn plan_list<'a>(
     plan: &mut Plan<'a>,
@@ -22,7 +24,8 @@ pub(crate) fn plan_list<'a>(
 ) -> Result<(), Fault>
     requires small { plan.old.end < 2 ^ 63 }
     requires inside { offset + len ≤ span_count array.now.offsets }
-    ensures grows { OnOk result (Adds plan.old plan.new (written_levels (list_layout array.now) offset len)) }
+    ensures small { OnOk result (Adds plan.old plan.new (written_levels (list_layout_as Int32 array.now) offset len)) }
+    ensures large { OnOk result (Adds plan.old plan.new (written_levels (list_layout_as Int64 array.now) offset len)) }
     ensures takes { TakesLevels result (written_levels (list_layout array.now) offset len) plan.old.end plan.new.end }
 {
     let offsets = list_offsets(array.offsets());

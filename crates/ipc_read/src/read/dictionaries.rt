@@ -10,7 +10,7 @@ ghost use Rattle.ipc_model.specs.Batches.{kinds, extra_of, lists_of, own_place, 
 ghost use Rattle.ipc_model.specs.TypeKinds.{kind_of};
 ghost use Rattle.ipc_flat_columns.specs.Bodies.{array_under, known_dictionaries};
 ghost use Rattle.ipc_read.specs.Chunks.{batch_schema, order_of};
-ghost use Rattle.ipc_read.specs.DictionaryBatches.{GivesColumn, GivesDictionary, PutsValues, dictionary_head, values_listed, BlamesDictionary, IsHeadFault, IsValuesFault, IsDictionaryFault, RefusesHead, TellsValues, TellsOfValues};
+ghost use Rattle.ipc_read.specs.DictionaryBatches.{GivesColumn, GivesDictionary, PutsCases, PutsValues, dictionary_head, values_listed, BlamesDictionary, IsHeadFault, IsValuesFault, IsDictionaryFault, RefusesHead, TellsValues, TellsOfValues};
 ghost use Rattle.ipc_read.specs.HeldChunks.{HoldChosen, HoldsValues};
 ghost use Rattle.ipc_read.specs.Refusals.{IsEntriesFault, TellsColumns, TellsCounts, TellsLists};
 ghost use Rattle.ipc_read.specs.Sizes.{chosen_listed};
@@ -227,6 +227,8 @@ pub fn read_dictionary<R: Reads + Seeks>(
         (record { source = (R.memory reader.old).whole; base = block_offset; size = file_size }) batch.entry result (known_dictionaries dictionaries.new) }
     ensures held { OnOk result (HoldsValues file_size (batch_schema fields.now ipc_schema.now) (extra_of version) batch.entry
         (λ id. array_under dictionaries.old id) (λ id. array_under dictionaries.new id)) }
+    ensures cases { OnOk result (IsTrue R.known
+        → PutsCases batch.entry (λ id. array_under dictionaries.new id)) }
     ensures put { OnOk result (PutsValues R.known (batch_schema fields.now ipc_schema.now) batch.entry (known_dictionaries dictionaries.old) (known_dictionaries dictionaries.new)) }
     ensures kept { OnErr result (IsUnchanged dictionaries.old dictionaries.new) }
     ensures idle { _scratch.new ≡ _scratch.old }

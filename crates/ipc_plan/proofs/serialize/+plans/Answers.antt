@@ -1,11 +1,11 @@
-use Rattle.std.proofs.Common.{arith, rules, ◌≡◌, ◌+◌, ◌-◌, ◌*◌, ℕ, List, [], ◌∷◌, ◌++◌, map, take, length, refl, sym, ap, ap₂, ◌∙◌, subst, All, None, Some, Option, ℤ}
+use Rattle.std.proofs.Common.{arith, rules, ◌≡◌, ◌+◌, ◌-◌, ◌*◌, ℕ, List, [], ◌∷◌, ◌++◌, map, take, length, refl, sym, ap, ap₂, ◌∙◌, subst, All, None, Some, Option, ℤ, Result}
 use Rattle.std.specs.List.{flat_map}
 use Rattle.std.specs.Option.{option_copied}
-use Rattle.std.specs.Prelude.{slice_index}
+use Rattle.std.specs.Prelude.{slice_index, OnOk}
 use Rattle.std.proofs.lemmas.List.{take_all}
 use Rattle.std.proofs.lemmas.List.Elements.{All-more}
 use Rattle.lower_types.specs.declared.PrimitiveType.{PrimitiveType}
-use Rattle.lower_types.specs.declared.PrimitiveType.TheVariants.{Int32}
+use Rattle.lower_types.specs.declared.PrimitiveType.TheVariants.{Int32, Int64}
 use Rattle.lower_flat.specs.Validities.{Validity, part, cut_validity}
 use Rattle.lower_arrays.specs.AnyLayouts.{layout_of}
 use Rattle.lower_arrays.specs.Children.{AllHave, AllReach, lens_of}
@@ -14,7 +14,7 @@ use Rattle.lower_rules.specs.Places.{PlacesFit}
 use Rattle.lower_arrays.specs.Cuts.{cut_level}
 use Rattle.lower_arrays.specs.declared.array.AnyArray.{AnyArray}
 use Rattle.lower_arrays.specs.Layouts.{Layout, Level, heights, layouts, level, records, choices}
-use Rattle.lower_arrays.specs.Lists.{list_layout}
+use Rattle.lower_arrays.specs.Lists.{ListSeen, list_layout, list_layout_as}
 use Rattle.lower_arrays.specs.Maps.{map_layout}
 use Rattle.lower_arrays.specs.FixedLists.{fixed_list_layout}
 use Rattle.lower_arrays.specs.Slots.{IsArray}
@@ -22,40 +22,56 @@ use Rattle.lower_arrays.specs.Structs.{struct_layout}
 use Rattle.lower_arrays.specs.Unions.{union_layout}
 use Rattle.lower_arrays.proofs.Children.{height_at, reach_at}
 use Rattle.lower_arrays.proofs.CutRules.{have-reach}
+use Rattle.ipc_devices.specs.declared.fault.Fault.{Fault}
 use Rattle.ipc_model.specs.Accepted.{IsSayable, body_length}
 use Rattle.ipc_model.specs.Offers.{written_levels, whole_levels, levels_below, offsets_length, validity_length}
 use Rattle.ipc_plan.specs.Plans.{Adds, AddsHead, AddsStart}
 use Rattle.ipc_plan.specs.OffsetViews.{places_of, type_of_offsets}
 use Rattle.ipc_plan.specs.Taking.{AreShort, RefusesLength, TakesLevels}
+use Rattle.ipc_plan.specs.declared.plan.Plan.{Plan}
 use Rattle.ipc_plan.proofs.Growing.{on_ok, adds_then, adds_none, child_then, lists_adds, maps_adds, fixed_lists_adds, scaled_wide, records_adds, levels_more, columns_more}
 use Rattle.ipc_plan.proofs.Taking.{room, own_room, room-both, short-both, start_exit, level_exit, child_takes, levels_then, levels_exit, beside_rest, whole_rest, sparse_children, dense_children}
 use Rattle.ipc_plan.proofs.serialize.+plans.Goals as goal
 
-pub list::plan_list-returns-clause-grows : goal.list::plan_list-returns-clause-grows
-list::plan_list-returns-clause-grows t c =
-    let a = c.args.array.now in
-    let o = c.args.offset in
-    let n = c.args.len in
-    let p = c.args.plan.now in
-    let q = c.plan_head.new.plan in
-    let r = c.plan_array.new.plan in
-    let v = cut_validity o n a.validity in
-    let places : places_of c.list_offsets-offsets.result ≡ a.offsets = c.list_offsets-offsets.ensures.places ∙ c.offsets.ensures.places in
-    let width : type_of_offsets c.list_offsets-offsets.result ≡ a.width = c.list_offsets-offsets.ensures.width ∙ c.offsets.ensures.width in
-    let from : c.range_of-from.result.0 ≡ slice_index a.offsets o = c.range_of-from.ensures.from ∙ ap (λ (os : List ℕ). slice_index os o) places in
-    let to : c.range_of-from.result.1 ≡ slice_index a.offsets (o + n) = c.range_of-from.ensures.to ∙ ap (λ (os : List ℕ). slice_index os (o + n)) places in
-    let head : AddsHead p q n a.width (part o (n + 1) a.offsets) v =
-    subst (λ (w : PrimitiveType). AddsHead p q n w (part o (n + 1) a.offsets) v) width
-    (subst (λ (os : List ℕ). AddsHead p q n (type_of_offsets c.list_offsets-offsets.result) (part o (n + 1) os) v) places
-    (subst (λ (w : Validity). AddsHead p q n (type_of_offsets c.list_offsets-offsets.result) (part o (n + 1) (places_of c.list_offsets-offsets.result)) (cut_validity o n w)) c.validity.ensures.bits c.in_ok-plan_head.ensures.grows)) in
-    let own = lists_adds p q n a.type a.width (part o (n + 1) a.offsets) v head in
-    let same : written_levels (layout_of c.values.result.now) c.range_of-from.result.0 (c.range_of-from.result.1 - c.range_of-from.result.0)
-    ≡ written_levels a.child (slice_index a.offsets o) (slice_index a.offsets (o + n) - slice_index a.offsets o) =
-    ap (λ (l : Layout). written_levels l c.range_of-from.result.0 (c.range_of-from.result.1 - c.range_of-from.result.0)) c.values.ensures.child
-    ∙ ap₂ (λ (x y : ℕ). written_levels a.child x (y - x)) from to in
-    on_ok c.plan_array.result (λ x.
-    child_then p q r (cut_level o n (level (list_layout a))) (written_levels a.child (slice_index a.offsets o) (slice_index a.offsets (o + n) - slice_index a.offsets o)) own
-    (subst (λ (hs : List Level). Adds q r hs) same x)) c.plan_array.ensures.grows
+-- lists are planned alike in either case of AnyArray
+planned_list :
+    (named : PrimitiveType) (p q r : Plan) (a : ListSeen) (o n first last : ℕ) (w : PrimitiveType) (os : List ℕ) (v : Validity) (l : Layout) (x : Result Unit Fault)
+    → w ≡ a.width → os ≡ a.offsets → v ≡ a.validity → l ≡ a.child → first ≡ slice_index a.offsets o → last ≡ slice_index a.offsets (o + n)
+    → AddsHead p q n w (part o (n + 1) os) (cut_validity o n v) → OnOk x (Adds q r (written_levels l first (last - first)))
+    → OnOk x (Adds p r (written_levels (list_layout_as named a) o n))
+planned_list named p q r a o n first last w os v l x width places bits child starts ends head below =
+    let level_head : AddsHead p q n a.width (part o (n + 1) a.offsets) (cut_validity o n a.validity) =
+    subst (λ (y : PrimitiveType). AddsHead p q n y (part o (n + 1) a.offsets) (cut_validity o n a.validity)) width
+    (subst (λ (ys : List ℕ). AddsHead p q n w (part o (n + 1) ys) (cut_validity o n a.validity)) places
+    (subst (λ (y : Validity). AddsHead p q n w (part o (n + 1) os) (cut_validity o n y)) bits head)) in
+    let own = lists_adds p q n a.type named a.width (part o (n + 1) a.offsets) (cut_validity o n a.validity) level_head in
+    let same : written_levels l first (last - first) ≡ written_levels a.child (slice_index a.offsets o) (slice_index a.offsets (o + n) - slice_index a.offsets o) =
+    ap (λ (m : Layout). written_levels m first (last - first)) child ∙ ap₂ (λ (i j : ℕ). written_levels a.child i (j - i)) starts ends in
+    on_ok x (λ y.
+    child_then p q r (cut_level o n (level (list_layout_as named a))) (written_levels a.child (slice_index a.offsets o) (slice_index a.offsets (o + n) - slice_index a.offsets o)) own
+    (subst (λ (hs : List Level). Adds q r hs) same y)) below
+
+pub list::plan_list-returns-clause-small : goal.list::plan_list-returns-clause-small
+list::plan_list-returns-clause-small t c =
+    let places : places_of c.list_offsets-offsets.result ≡ c.args.array.now.offsets = c.list_offsets-offsets.ensures.places ∙ c.offsets.ensures.places in
+    planned_list Int32 c.args.plan.now c.plan_head.new.plan c.plan_array.new.plan c.args.array.now c.args.offset c.args.len
+    c.range_of-from.result.0 c.range_of-from.result.1 (type_of_offsets c.list_offsets-offsets.result) (places_of c.list_offsets-offsets.result)
+    (option_copied c.validity.result) (layout_of c.values.result.now) c.plan_array.result
+    (c.list_offsets-offsets.ensures.width ∙ c.offsets.ensures.width) places c.validity.ensures.bits c.values.ensures.child
+    (c.range_of-from.ensures.from ∙ ap (λ (os : List ℕ). slice_index os c.args.offset) places)
+    (c.range_of-from.ensures.to ∙ ap (λ (os : List ℕ). slice_index os (c.args.offset + c.args.len)) places)
+    c.in_ok-plan_head.ensures.grows c.plan_array.ensures.grows
+
+pub list::plan_list-returns-clause-large : goal.list::plan_list-returns-clause-large
+list::plan_list-returns-clause-large t c =
+    let places : places_of c.list_offsets-offsets.result ≡ c.args.array.now.offsets = c.list_offsets-offsets.ensures.places ∙ c.offsets.ensures.places in
+    planned_list Int64 c.args.plan.now c.plan_head.new.plan c.plan_array.new.plan c.args.array.now c.args.offset c.args.len
+    c.range_of-from.result.0 c.range_of-from.result.1 (type_of_offsets c.list_offsets-offsets.result) (places_of c.list_offsets-offsets.result)
+    (option_copied c.validity.result) (layout_of c.values.result.now) c.plan_array.result
+    (c.list_offsets-offsets.ensures.width ∙ c.offsets.ensures.width) places c.validity.ensures.bits c.values.ensures.child
+    (c.range_of-from.ensures.from ∙ ap (λ (os : List ℕ). slice_index os c.args.offset) places)
+    (c.range_of-from.ensures.to ∙ ap (λ (os : List ℕ). slice_index os (c.args.offset + c.args.len)) places)
+    c.in_ok-plan_head.ensures.grows c.plan_array.ensures.grows
 
 pub map::plan_map-returns-clause-grows : goal.map::plan_map-returns-clause-grows
 map::plan_map-returns-clause-grows t c =

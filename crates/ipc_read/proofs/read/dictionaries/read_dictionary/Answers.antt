@@ -4,6 +4,7 @@ use Rattle.std.specs.Int.{w64}
 use Rattle.std.specs.Ordering.{int_eq}
 use Rattle.lower.specs.TypeViews.{type_view, fields_view}
 use Rattle.lower_arrays.specs.AnyLayouts.{layout_of}
+use Rattle.lower_arrays.specs.Cases.{HasListCases}
 use Rattle.lower_arrays.specs.Layouts.{type_of}
 use Rattle.lower_arrays.specs.declared.array.AnyArray.{AnyArray}
 use Rattle.ipc_devices.proofs.Claims.{claimed, denies_through}
@@ -21,7 +22,7 @@ use Rattle.ipc_read.specs.DictionaryBatches.{dictionary_head}
 use Rattle.ipc_read.specs.HeldChunks.{HoldChosen}
 use Rattle.ipc_read.proofs.DictionaryMeanings.{head_there, no_place, values_there, dictionary_given, unplaced_blames, values_blame, values_told}
 use Rattle.ipc_read.proofs.HeldLists.{values_held}
-use Rattle.ipc_read.proofs.KnownDictionaries.{known_put, puts_values}
+use Rattle.ipc_read.proofs.KnownDictionaries.{known_put, puts_cases, puts_values}
 use Rattle.ipc_read.proofs.ValueReasons.{headless_tells, unplaced_say, values_say}
 use Rattle.ipc_read.proofs.read.dictionaries.read_dictionary.Goals as goal
 
@@ -179,6 +180,20 @@ returns-clause-put g c =
     subst (λ (j : ℤ). Updates int_eq c.args.dictionaries.now c.insert.new.self j (Some shared)) same_id c.in_ok-insert.ensures.updates in
     puts_values c.args.dictionaries.now c.insert.new.self id shared put g.R.Failures.known schema c.args.batch v p headed placed
     (λ k. ap (λ (y : AnyArray). type_of (layout_of y)) same_value ∙ (c.in_ok-values.ensures.memory k).1.1)
+
+pub returns-clause-cases : goal.returns-clause-cases
+returns-clause-cases g c = λ k.
+    let id = c.in_ok-id.id in
+    let v = c.in_ok-id.values in
+    let headed : dictionary_head c.args.batch ≡ Some (id, v) = c.in_ok-id.ensures.exact.1 in
+    let same_id : to_z w64 (of_z w64 id) ≡ id = search rules in
+    let x = c.in_ok-values.values in
+    let shared = c.in_ok-values-2.values in
+    let same_value : shared.value ≡ x = c.in_ok-values-2.ensures.ok in
+    let put : Updates int_eq c.args.dictionaries.now c.insert.new.self id (Some shared) =
+    subst (λ (j : ℤ). Updates int_eq c.args.dictionaries.now c.insert.new.self j (Some shared)) same_id c.in_ok-insert.ensures.updates in
+    puts_cases c.args.dictionaries.now c.insert.new.self id shared put c.args.batch v headed
+    (subst (λ (y : AnyArray). HasListCases (layout_of y)) (sym same_value) (c.in_ok-values.ensures.memory k).1.2)
 
 pub returns-clause-held : goal.returns-clause-held
 returns-clause-held g c =
