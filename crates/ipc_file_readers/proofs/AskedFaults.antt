@@ -1,5 +1,6 @@
 -- The faults of some columns, what their buffers list and what they hold don't tell their order.
 use Rattle.std.proofs.Common.{◌≡◌, ℕ, ◌+◌, List, length, Option, None, Some, Result, Ok, Err, refl, ap, ◌∙◌, inl, inr}
+use Rattle.std.specs.Prelude.{nat_eq, if◌then◌else◌}
 use Rattle.std.specs.List.Sorted.{IsPermutation}
 use Rattle.std.proofs.lemmas.List.Sorted.{IsPermutation-sym, length_permutation}
 use Rattle.lower_arrays.specs.declared.array.AnyArray.{AnyArray}
@@ -48,7 +49,7 @@ reason_asked (Some q) n m e source b same why = record_reason m e source q.colum
 
 header_same : (o : Option BlockHeader) (ts : Kinds) (xs ys : List ℕ) → IsPermutation xs ys → header_lists ts ys o ≡ header_lists ts xs o
 header_same None ts xs ys same = refl
-header_same (Some h) ts xs ys same = listed_same (lists_of h.table) h.extra ts xs ys same
+header_same (Some h) ts xs ys same = ap (λ (n : ℕ). if nat_eq h.tag 3 then n else 0) (listed_same (lists_of h.table) h.extra ts xs ys same)
 
 pub bytes_asked : (q : Option ChosenColumns) (n : ℕ) (ts : Kinds) (metadata : List ℕ) → AreShuffled q
     → needed_bytes ts (chosen (rising_by q) n) metadata ≡ needed_bytes ts (chosen (asked_by q) n) metadata

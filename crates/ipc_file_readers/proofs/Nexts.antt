@@ -6,7 +6,8 @@ use Rattle.ipc_devices.specs.Device.{Memory, Rises}
 use Rattle.ipc_devices.specs.Faults.{OnIo, UnlessIo, OwnFault}
 use Rattle.ipc_devices.specs.declared.fault.Fault.{Fault}
 use Rattle.ipc_devices.specs.declared.fault.Fault.TheVariants as faults
-use Rattle.std.specs.Prelude.{slice_get}
+use Rattle.std.specs.Prelude.{Vec, slice_get}
+use Rattle.std.specs.declared.alloc.Global.{Global}
 use Rattle.ipc_model.specs.Batches.{kinds}
 use Rattle.ipc_model.specs.Entries.{Dictionaries, Limit}
 use Rattle.ipc_model.specs.Files.{file_chunk}
@@ -18,6 +19,10 @@ use Rattle.ipc_files.specs.declared.read.file.metadata.FileMetadata.{FileMetadat
 use Rattle.ipc_file_readers.specs.Readers.{HasNext, HoldValues, NextStep, WasNext, asked_of, block_of, columns_asked, device_of, file_of, is_over, known_of, less, message_of, metadata_of, next_result, remaining_of, rows_given, values_of}
 use Rattle.ipc_file_readers.specs.Steps.{DictionariesGave, NextGave, WasChunk}
 use Rattle.ipc_file_readers.specs.declared.read.reader.state.FileReader.{FileReader}
+
+-- the rooms for data and for messages
+abbrev Rooms : Type 0
+Rooms = Vec ℕ Global × Vec ℕ Global
 
 rises_from : (a b c : ℕ) → a ≤ b → Rises b c → Rises a c
 rises_from a b c h r = omega (arith, h, r)
@@ -104,7 +109,8 @@ module _ {R : Type 0} (known still : Bool) (memory : R → Memory) (failures giv
     failed = failed_behind r _ _ _ first.asked.monotone second.asked.failed;
     told = told_behind r _ _ _ first.asked.told second.asked.told;
     whole = λ s. second.asked.whole s ∙ first.asked.whole s;
-    room = second.room ∙ first.room;
+    room = second.room ∙ ap (λ (p : Rooms). p.0) first.rooms;
     over = λ e. let no : true ≡ false = sym e ∙ more in absurd cc;
     next = λ _. has_next r was_next;
+    unread = λ _ none. let no : None ≡ Some first.are.0 = sym none ∙ second.held ∙ first.are.1 in absurd cc;
   }

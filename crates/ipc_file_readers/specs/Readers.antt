@@ -22,7 +22,7 @@ use Rattle.ipc_flat_columns.specs.Bodies.{array_under, known_dictionaries, no_va
 use Rattle.ipc_projections.specs.ChosenColumns.{ShowsColumns, asked_by, shown_by}
 use Rattle.ipc_read.specs.Chunks.{chunk_seen}
 use Rattle.ipc_files.specs.Batches.{HoldBatch, IsRecordFault, RecordReason, block_metadata, needed_bytes}
-use Rattle.ipc_files.specs.Dictionaries.{DictionariesReason, HoldListed, IsDictionaryBlockFault, ValuesGiven}
+use Rattle.ipc_files.specs.Dictionaries.{DictionariesReason, HoldListed, IsDictionaryBlockFault, RefusedValues, ValuesGiven}
 use Rattle.ipc_files.specs.Footers.{GivesPart, file_seen}
 use Rattle.ipc_files.specs.declared.read.file.metadata.FileMetadata.{FileMetadata}
 use Rattle.ipc_file_readers.specs.declared.read.reader.state.FileReader.{FileReader}
@@ -192,8 +192,16 @@ HasNext known memory given a None b = ⊥
 HasNext known memory given a (Some (Ok xs)) b = WasNext known memory given a (Ok xs) b
 HasNext known memory given a (Some (Err e)) b = WereRefused known memory a e b ⊎ WasNext known memory given a (Err e) b
 
+-- No block was asked for: both rooms and the rest of the limit are as they were, and no more was given
+-- than the dictionaries need that stand before the one that was refused, and than was given of that.
+pub record AskedNoBlock {R : Type 0} (known : Bool) (memory : R → Memory) (given : R → ℕ) (a b : FileReader R) : Type 0 where
+  pub rooms : scratches_of b ≡ scratches_of a
+  pub remaining : remaining_of b ≡ remaining_of a
+  pub bytes : RefusedValues known (file_of a).schema (memory (device_of a)).whole (file_of a).dictionaries (given (device_of a)) (given (device_of b))
+
 -- What a call of `next` takes and answers, and what stands then. A call of the device failed just where its fault is answered, and the room
--- for data stays. Where nothing comes any more, nothing is changed.
+-- for data stays. Where nothing comes any more, nothing is changed. As long as the dictionaries aren't known no block is asked for: so a
+-- fault of a block's, one of memory or of the device too, leaves them known, and the next block behind it (`WasNext`).
 pub record NextStep {R : Type 0} (known still : Bool) (memory : R → Memory) (failures given : R → ℕ) (a : FileReader R) (r : Answer) (b : FileReader R) : Type 0 where
   pub file : IsOfSameFile a b
   pub monotone : failures (device_of a) ≤ failures (device_of b)
@@ -203,3 +211,4 @@ pub record NextStep {R : Type 0} (known still : Bool) (memory : R → Memory) (f
   pub room : (scratches_of b).0 ≡ (scratches_of a).0
   pub over : is_over a ≡ true → (r ≡ None) × (b ≡ a)
   pub next : is_over a ≡ false → HasNext known memory given a r b
+  pub unread : is_over a ≡ false → known_of b ≡ None → AskedNoBlock known memory given a b

@@ -11,7 +11,7 @@ use Rattle.ipc_model.specs.Files.{file_dictionaries, file_chunk}
 use Rattle.ipc_laws.specs.Agreement.{KnowAlike}
 use Rattle.ipc_read.specs.Chunks.{chunk_seen}
 use Rattle.ipc_files.specs.Batches.{HoldBatch, IsRecordFault, RecordReason, block_metadata, needed_bytes}
-use Rattle.ipc_files.specs.Dictionaries.{DictionariesReason, IsDictionaryBlockFault, ValuesGiven}
+use Rattle.ipc_files.specs.Dictionaries.{DictionariesReason, IsDictionaryBlockFault, ValuesTaken}
 use Rattle.ipc_files.specs.Footers.{GivesPart, file_seen}
 use Rattle.ipc_files.specs.declared.read.file.metadata.FileMetadata.{FileMetadata}
 use Rattle.ipc_file_readers.specs.Readers.{AreKnown, HaveKnownValues, HoldValues, IsOfSameFile, asked_of, block_of, columns_asked, device_of, file_of, known_of, less, message_of, metadata_of, remaining_of, rows_given, scratches_of, values_of}
@@ -24,18 +24,18 @@ pub record WasAsked {R X : Type 0} (still : Bool) (memory : R → Memory) (failu
   pub told : UnlessIo r (failures (device_of b) ≡ failures (device_of a))
   pub whole : IsTrue still → (memory (device_of b)).whole ≡ (memory (device_of a)).whole
 
--- The dictionaries are known, or they were refused.
+-- The dictionaries are known, or they were refused, by memory or by the device too: then the reader is as it was, but for its device.
 pub record DictionariesGave {R : Type 0} (known still : Bool) (memory : R → Memory) (failures given : R → ℕ) (a : FileReader R) (r : Result Unit Fault) (b : FileReader R) : Type 0 where
   pub file : IsOfSameFile a b
   pub block : block_of b ≡ block_of a
   pub remaining : remaining_of b ≡ remaining_of a
-  pub room : (scratches_of b).0 ≡ (scratches_of a).0
+  pub rooms : scratches_of b ≡ scratches_of a
   pub asked : WasAsked still memory failures a r b
   pub are : IfOk r (λ _. (ds : Dictionaries) × (known_of b ≡ Some ds)
       × AreKnown known (known_of a) (file_dictionaries (file_of a) (memory (device_of a)).whole) ds)
   pub holds : IfOk r (λ _. HoldValues known (file_of a) (memory (device_of a)).whole (known_of a) (values_of a) (values_of b))
   pub left_alone : (ds : Dictionaries) → known_of a ≡ Some ds → device_of b ≡ device_of a
-  pub bytes : known_of a ≡ None → OnOk r (ValuesGiven known (file_of a) (memory (device_of a)).whole (given (device_of a)) (given (device_of b)))
+  pub bytes : known_of a ≡ None → ValuesTaken known (file_of a) (memory (device_of a)).whole r (given (device_of a)) (given (device_of b))
   pub some : IfErr r (λ e. (file_of a).dictionaries ≢ [])
   pub unread : IfErr r (λ e. known_of a ≡ None)
   pub stay_unread : IfErr r (λ e. known_of b ≡ None)
@@ -67,7 +67,8 @@ pub record BlockGave {R : Type 0} (known still : Bool) (memory : R → Memory) (
   pub chunk : (ds : Dictionaries) → known_of a ≡ Some ds
       → WasChunk known (metadata_of a) (asked_of a) (remaining_of a) i ds (memory (device_of a)).whole (given (device_of a)) (given (device_of b)) (message_of b) r
 
--- That of the next block was, and the reader stands behind it.
+-- That of the next block was, or its fault, and the reader stands behind it. After a fault, one of memory or of the device too, the
+-- dictionaries are known as before, and the limit is as it was.
 pub record NextGave {R : Type 0} (known still : Bool) (memory : R → Memory) (failures given : R → ℕ) (a : FileReader R) (r : Result (List AnyArray) Fault) (b : FileReader R) : Type 0 where
   pub file : IsOfSameFile a b
   pub block : block_of b ≡ block_of a + 1

@@ -11,3 +11,4 @@ pub mod Tails
 pub mod NeededValues
 pub mod Reasons
 pub mod HeldValues
+pub mod TakenBytes

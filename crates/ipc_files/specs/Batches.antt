@@ -1,6 +1,6 @@
 -- What reading the record batch at a block answers.
 -- (Arrow columnar format, "IPC File Format" and "RecordBatch message".)
-use Rattle.std.specs.Prelude.{◌≡◌, ◌⊎◌, ℕ, ◌+◌, List, length, Option, None, Some, IsSomeAnd, Result, Ok, Err}
+use Rattle.std.specs.Prelude.{◌≡◌, ◌⊎◌, ℕ, ◌+◌, ◌≤◌, nat_eq, if◌then◌else◌, Bool, List, length, drop, Option, None, Some, MatchOption, IsSomeAnd, Result, Ok, Err}
 use Rattle.std.specs.Option.{option_and_then}
 use Rattle.lower_arrays.specs.declared.array.AnyArray.{AnyArray}
 use Rattle.ipc_devices.specs.declared.fault.Fault.{Fault}
@@ -14,7 +14,7 @@ use Rattle.ipc_model.specs.Batches.{kinds, lists_of}
 use Rattle.ipc_model.specs.Files.{BlockHeader, FileMetadata, block_header, metadata_at, placed}
 use Rattle.ipc_model.specs.Kinds.{Kinds}
 use Rattle.ipc_model.specs.Schemas.{given}
-use Rattle.ipc_files.specs.Blocks.{IsFrameFault, IsHeaderFault, MessageReason, block_message}
+use Rattle.ipc_files.specs.Blocks.{IsFrameFault, IsHeaderFault, MessageGiven, MessageReason, block_message}
 use Rattle.ipc_read.specs.HeldChunks.{HoldChosen}
 use Rattle.ipc_read.specs.Refusals.{IsFaultOfBatch, TellsBatch}
 use Rattle.ipc_read.specs.Sizes.{chosen_listed}
@@ -30,14 +30,27 @@ block_metadata source b = option_and_then (λ x. given (placed x) (metadata_at s
 
 -- ---- how many bytes are needed
 
--- how many bytes the buffers of some columns list, as the header of their message has it
+-- how many bytes the buffers of some columns list, as the header of their message has it, if that is a record batch
 abbrev pub header_lists : Kinds → List ℕ → Option BlockHeader → ℕ
 header_lists ts js None = 0
-header_lists ts js (Some h) = chosen_listed (lists_of h.table) h.extra ts js
+header_lists ts js (Some h) = if nat_eq h.tag 3 then chosen_listed (lists_of h.table) h.extra ts js else 0
 
 -- those, the message that lists them, and its prefix
 abbrev pub needed_bytes : Kinds → List ℕ → List ℕ → ℕ
 needed_bytes ts js metadata = 8 + length metadata + header_lists ts js (block_header metadata)
+
+-- ---- how many bytes are taken
+
+-- Of a block that was refused no more was given than its message states of itself, or, where it was read and has these metadata, than is
+-- needed by them; nothing where a number of the block is below 0.
+abbrev pub RefusedGiven : Bool → (needed : List ℕ → ℕ) → List ℕ → Option Block → (metadata : List ℕ) → (old new : ℕ) → Type 0
+RefusedGiven known needed source b metadata old new =
+    MatchOption (option_and_then placed b) (new ≤ old) (λ p. MessageGiven known needed (drop p.message source) metadata old new)
+
+-- No more was given of a block than is needed by the metadata of its message, or where it was refused.
+abbrev pub BlockGiven : {X : Type 0} → Bool → (needed : List ℕ → ℕ) → List ℕ → Option Block → (metadata : List ℕ) → Result X Fault → (old new : ℕ) → Type 0
+BlockGiven known needed source b metadata (Ok x) old new = new ≤ old + needed metadata
+BlockGiven known needed source b metadata (Err e) old new = RefusedGiven known needed source b metadata old new
 
 -- ---- how many bytes are held
 

@@ -1,6 +1,6 @@
 -- What reading a file's block answers: its message, and what refuses it.
 -- (Arrow columnar format, "IPC File Format" and "Encapsulated message format"; Message.fbs.)
-use Rattle.std.specs.Prelude.{◌≡◌, ◌⊎◌, ◌==◌, ℕ, ◌^◌, nat_eq, nat_lt, if◌then◌else◌, List, [], length, drop, Option, Some, None, ok_or, Result, Ok, Err}
+use Rattle.std.specs.Prelude.{◌≡◌, ◌⊎◌, ◌==◌, ℕ, ◌+◌, ◌^◌, ◌<◌, ◌≤◌, nat_eq, nat_lt, if◌then◌else◌, Bool, IsTrue, List, [], length, drop, Option, Some, None, ok_or, Result, Ok, Err}
 use Rattle.ipc_devices.specs.Faults.{OwnFault}
 use Rattle.ipc_devices.specs.declared.fault.Fault.{Fault}
 use Rattle.ipc_devices.specs.declared.fault.Fault.TheVariants.{Ended, OutOfSpec}
@@ -43,6 +43,25 @@ prefix_of bytes =
     if nat_lt (length bytes) 4 then None
     else if word bytes == 0xFFFF_FFFF then (if nat_lt (length (drop 4 bytes)) 4 then None else Some (word (drop 4 bytes)))
     else Some (word bytes)
+
+-- ---- how many bytes are taken
+
+-- No more was given than the prefix of a message that wasn't read, and metadata of the length that this states.
+abbrev pub PrefixGiven : Bool → (bytes : List ℕ) → (old new : ℕ) → Type 0
+PrefixGiven known bytes old new =
+    (new ≤ old + 8) ⊎ ((n : ℕ) × (n < 2 ^ 31) × (IsTrue known → prefix_of bytes ≡ Some n) × (new ≤ old + (8 + n)))
+
+-- No more was given than the prefix of a message and its metadata, which were read or weren't.
+abbrev pub MetadataGiven : Bool → (bytes : List ℕ) → Result Unit Fault → (metadata : List ℕ) → (old new : ℕ) → Type 0
+MetadataGiven known bytes (Ok _) metadata old new = new ≤ old + (8 + length metadata)
+MetadataGiven known bytes (Err e) metadata old new = PrefixGiven known bytes old new
+
+-- No more was given of a message than it states of itself, or, where it was read and has these metadata, than is needed by them.
+abbrev pub MessageGiven : Bool → (needed : List ℕ → ℕ) → (bytes metadata : List ℕ) → (old new : ℕ) → Type 0
+MessageGiven known needed bytes metadata old new =
+    PrefixGiven known bytes old new ⊎ ((IsTrue known → stated_metadata (frame bytes) ≡ Some metadata) × (new ≤ old + needed metadata))
+
+-- ---- why there is none
 
 -- of a frame: fewer bytes than stated, or a length below 0, which has the name that is handed
 abbrev pub IsFrameFault : OutOfSpecKind → Fault → Type 0

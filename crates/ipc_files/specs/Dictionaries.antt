@@ -1,6 +1,6 @@
 -- What reading the dictionaries of a file answers.
 -- (Arrow columnar format, "IPC File Format" and "Dictionary messages".)
-use Rattle.std.specs.Prelude.{◌≡◌, ◌⊎◌, ℕ, ℤ, ◌+◌, ◌≤◌, Bool, IsTrue, List, [], ◌∷◌, length, Option, None, Some, MatchOption, Result, Ok, Err}
+use Rattle.std.specs.Prelude.{◌≡◌, ◌⊎◌, ℕ, ℤ, ◌+◌, ◌≤◌, nat_eq, if◌then◌else◌, Bool, IsTrue, List, [], ◌∷◌, length, Option, None, Some, MatchOption, Result, Ok, Err}
 use Rattle.lower_arrays.specs.Held.{held}
 use Rattle.lower_arrays.specs.Layouts.{Layout}
 use Rattle.ipc_devices.specs.Faults.{OwnFault}
@@ -15,7 +15,7 @@ use Rattle.ipc_model.specs.Batches.{Schema}
 use Rattle.ipc_model.specs.Entries.{Dictionaries}
 use Rattle.ipc_model.specs.Files.{BlockHeader, FileMetadata, block_header, dictionaries_at}
 use Rattle.ipc_laws.specs.Agreement.{AreAlike}
-use Rattle.ipc_files.specs.Batches.{block_metadata}
+use Rattle.ipc_files.specs.Batches.{RefusedGiven, block_metadata}
 use Rattle.ipc_files.specs.Blocks.{IsFrameFault, IsHeaderFault, MessageReason, block_message}
 use Rattle.ipc_read.specs.DictionaryBatches.{BlamesDictionary, IsDictionaryFault, dictionary_head, values_listed, TellsValues}
 use Rattle.ipc_read.specs.HeldChunks.{values_empty, HoldsValues}
@@ -54,10 +54,10 @@ DictionariesReason m source known (b ∷ bs) e =
 
 -- ---- how many bytes are needed
 
--- how many bytes the buffers of a dictionary batch's values list, as the header of their message has it
+-- how many bytes the buffers of a dictionary batch's values list, as the header of their message has it, if that is one
 abbrev pub header_values : Schema → Option BlockHeader → ℕ
 header_values schema None = 0
-header_values schema (Some h) = values_listed schema h.extra h.table
+header_values schema (Some h) = if nat_eq h.tag 2 then values_listed schema h.extra h.table else 0
 
 -- those, the message that lists them, and its prefix
 abbrev pub needed_values : Schema → List ℕ → ℕ
@@ -75,6 +75,18 @@ pub record ValuesGiven (known : Bool) (m : FileMetadata) (source : List ℕ) (ol
   pub bytes : ℕ
   pub needed : NeedValues known m.schema source m.dictionaries bytes
   pub most : new ≤ old + bytes
+
+-- Of some blocks one was refused. No more was given than those before it need, and than was given of the refused one.
+abbrev pub RefusedValues : Bool → Schema → List ℕ → List Block → (old new : ℕ) → Type 0
+RefusedValues known schema source [] old new = ⊥
+RefusedValues known schema source (b ∷ bs) old new =
+    (metadata : List ℕ) × (RefusedGiven known (needed_values schema) source (Some b) metadata old new
+    ⊎ ((IsTrue known → block_metadata source (Some b) ≡ Some metadata) × RefusedValues known schema source bs (old + needed_values schema metadata) new))
+
+-- No more was given than the dictionaries of a file need, or than those before the one that was refused.
+abbrev pub ValuesTaken : {X : Type 0} → Bool → FileMetadata → List ℕ → Result X Fault → (old new : ℕ) → Type 0
+ValuesTaken known m source (Ok x) old new = ValuesGiven known m source old new
+ValuesTaken known m source (Err e) old new = RefusedValues known m.schema source m.dictionaries old new
 
 -- ---- how many bytes are held
 

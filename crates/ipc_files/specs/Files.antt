@@ -1,9 +1,10 @@
 -- What a file means that begins in the midst of a device, which faults refuse a file, and what stands at its end.
 -- (Arrow columnar format, "IPC File Format".)
-use Rattle.std.specs.Prelude.{◌≡◌, ◌⊎◌, ℕ, ◌+◌, ◌-◌, ◌<◌, ◌≤◌, ◌^◌, nat_lt, ◌&&◌, if◌then◌else◌, List, [], ◌∷◌, length, take, drop, Option, None, Result, Ok, Err, Bool, IsTrue}
+use Rattle.std.specs.Prelude.{◌≡◌, ◌⊎◌, ℕ, ◌+◌, ◌-◌, ◌<◌, ◌≤◌, ◌^◌, nat_lt, ◌&&◌, if◌then◌else◌, List, [], ◌∷◌, length, take, drop, Option, None, Some, Result, Ok, Err, Bool, IsTrue}
 use Rattle.std.specs.Int.{w32, from_le_bytes}
 use Rattle.std.specs.Str.{bytes_eq}
-use Rattle.ipc_devices.specs.Faults.{OwnFault}
+use Rattle.ipc_devices.specs.Device.{Memory, Rises}
+use Rattle.ipc_devices.specs.Faults.{OnIo, OwnFault, UnlessIo}
 use Rattle.ipc_devices.specs.declared.fault.Fault.{Fault}
 use Rattle.ipc_devices.specs.declared.fault.Fault.TheVariants.{Ended, NotYetImplemented, OutOfSpec, Schema as BadSchema}
 use Rattle.ipc_devices.specs.declared.fault.Nyi.TheVariants.{FeatherV1}
@@ -13,24 +14,32 @@ use Rattle.ipc_views.specs.Tables.{root_at}
 use Rattle.ipc_model.specs.Files.{FileMetadata, footer_at, last, magic, metadata_of}
 use Rattle.ipc_model.specs.Schemas.{made, given}
 use Rattle.ipc_files.specs.Footers.{RootFault}
+use Rattle.ipc_files.specs.declared.read.file.metadata.FileFooter.{FileFooter}
 
 -- ---- a file that begins at a place
 
 -- The bytes of a device from a place on are a file: it begins there, and its size is counted from there. Its tail and its footer stand
 -- at the end of the device.
-abbrev pub footer_from : ℕ → List ℕ → ℕ → Option FileMetadata
-footer_from start bytes n =
+
+-- the footer of n bytes, which ends 10 bytes before the end
+abbrev pub footer_before_tail : List ℕ → ℕ → Option (List ℕ)
+footer_before_tail bytes n =
     if nat_lt n (2 ^ 31)
-    then (if nat_lt (length bytes) (n + 10) then None else given (made (root_at (take n (last (n + 10) bytes))))
-    (footer_at (length bytes - start)))
+    then (if nat_lt (length bytes) (n + 10) then None else Some (take n (last (n + 10) bytes)))
     else None
 
-unfoldable pub metadata_from : ℕ → List ℕ → Option FileMetadata
-metadata_from start bytes =
+-- the bytes of the footer of a file that begins at an offset
+unfoldable pub footer_bytes : ℕ → List ℕ → Option (List ℕ)
+footer_bytes start bytes =
     if nat_lt (length bytes) 10 then None
     else if bytes_eq (take 6 (drop start bytes)) magic
-    && bytes_eq (last 6 bytes) magic then footer_from start bytes (from_le_bytes w32 (take 4 (last 10 bytes)))
+    && bytes_eq (last 6 bytes) magic then footer_before_tail bytes (from_le_bytes w32 (take 4 (last 10 bytes)))
     else None
+
+-- what that footer says of the file
+unfoldable pub metadata_from : ℕ → List ℕ → Option FileMetadata
+metadata_from start bytes =
+    given (footer_bytes start bytes) (λ footer. given (made (root_at footer)) (footer_at (length bytes - start)))
 
 -- one that begins with the device means what its bytes mean
 abbrev pub BeginningLaw : Type 0
@@ -51,6 +60,15 @@ TailFault Ended = Unit {0}
 TailFault (OutOfSpec InvalidFooter) = Unit {0}
 TailFault (OutOfSpec NegativeFooterLength) = Unit {0}
 TailFault _ = ⊥
+
+-- of the head or the tail
+abbrev pub EndsFault : Fault → Type 0
+EndsFault Ended = Unit {0}
+EndsFault (NotYetImplemented FeatherV1) = Unit {0}
+EndsFault (OutOfSpec InvalidHeader) = Unit {0}
+EndsFault (OutOfSpec InvalidFooter) = Unit {0}
+EndsFault (OutOfSpec NegativeFooterLength) = Unit {0}
+EndsFault _ = ⊥
 
 -- of a file: of its head, its tail or its footer
 abbrev pub FileFault : Fault → Type 0
@@ -114,10 +132,25 @@ FooterReason bytes e =
 abbrev pub FileReason : ℕ → List ℕ → Fault → Type 0
 FileReason start bytes e = HeadReason (drop start bytes) e ⊎ (TailReason bytes e ⊎ FooterReason bytes e)
 
--- ---- how many bytes are read
+-- ---- reading the bytes of a footer
 
 -- No more was given than the head, the tail and the footer, whose length the tail states.
 pub record FooterGiven (known : Bool) (bytes : List ℕ) (old new : ℕ) : Type 0 where
   pub footer : ℕ
   pub stated : IsTrue known → footer_length (last 10 bytes) ≡ Ok footer
   pub most : new ≤ old + (16 + footer)
+
+-- From a to b: the bytes stay, a failure of the device is counted exactly if its error is returned,
+-- and it gave at most the head and the tail, or these and the footer.
+pub record ReadsFooter {R X : Type 0} (known still : Bool) (memory : R → Memory) (failures given : R → ℕ) (a : R) (r : Result X Fault) (b : R) : Type 0 where
+  pub monotone : failures a ≤ failures b
+  pub failed : OnIo r (Rises (failures a) (failures b))
+  pub told : UnlessIo r (failures b ≡ failures a)
+  pub whole : IsTrue still → (memory b).whole ≡ (memory a).whole
+  pub taken : (given b ≤ given a + 16) ⊎ FooterGiven known (memory a).whole (given a) (given b)
+
+-- The bytes of the footer and the size of the file, or why it has no footer: its head or its tail.
+abbrev pub GivesFooter : ℕ → List ℕ → Result FileFooter Fault → Type 0
+GivesFooter start bytes (Ok f) = (footer_bytes start bytes ≡ Some f.bytes.items) × (f.size ≡ length bytes - start)
+GivesFooter start bytes (Err e) =
+    OwnFault e ((footer_bytes start bytes ≡ None) × (HeadReason (drop start bytes) e ⊎ TailReason bytes e))

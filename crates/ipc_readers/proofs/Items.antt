@@ -19,7 +19,7 @@ use Rattle.ipc_devices.proofs.Stops.{fault_stop}
 
 -- ---- what a frame was
 
-is_message : (f : Frame) (m q rest : List ℕ) → IsFrame f frames.Message m q rest → f ≡ message m rest
+pub is_message : (f : Frame) (m q rest : List ℕ) → IsFrame f frames.Message m q rest → f ≡ message m rest
 is_message (message m' behind) m q rest h = cc (h.0, h.2)
 is_message (mark behind) m q rest h = absurd h
 is_message (waiting bytes) m q rest h = absurd h
@@ -38,7 +38,7 @@ is_waiting (waiting bytes) m q rest h = cc h
 is_waiting broken m q rest h = absurd h
 
 -- nothing is begun behind a message, nor behind the mark
-none_begun : (f : Frame) (m q rest : List ℕ) → IsFrame f frames.Message m q rest → q ≡ []
+pub none_begun : (f : Frame) (m q rest : List ℕ) → IsFrame f frames.Message m q rest → q ≡ []
 none_begun (message m' behind) m q rest h = h.1
 none_begun (mark behind) m q rest h = absurd h
 none_begun (waiting bytes) m q rest h = absurd h

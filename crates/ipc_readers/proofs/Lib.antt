@@ -16,3 +16,4 @@ pub mod Steps
 pub mod Waiting
 pub mod Runs
 pub mod Loops
+pub mod Kept

@@ -28,6 +28,7 @@ use Rattle.ipc_read.specs.HeldChunks.{HoldChosen}
 use Rattle.ipc_read.specs.Refusals.{TellsBatch, TellsColumns}
 use Rattle.ipc_readers.specs.ChosenStreams.{Request, chosen_body, chosen_item, chosen_meaning}
 use Rattle.ipc_readers.specs.Frames.{begun_bytes, due, frame_fault}
+use Rattle.ipc_readers.specs.KeptValues.{KeepsValues, values_of}
 use Rattle.ipc_readers.specs.Messages.{opened}
 use Rattle.ipc_readers.specs.Refusals.{IsDictionaryMessageFault, IsRecordFault, IsStreamFault}
 use Rattle.ipc_readers.specs.declared.read.stream.metadata.StreamMetadata.{StreamMetadata}
@@ -312,7 +313,9 @@ ends None = true
 ends (Some (Ok x)) = false
 ends (Some (Err e)) = true
 
--- What a call of `next` takes and answers, and what stands then. The dictionaries of a chunk are those that the reader knows. Where nothing comes any more, the device isn't asked.
+-- What a call of `next` takes and answers, and what stands then. The dictionaries of a chunk are those that
+-- the reader knows; their arrays are those from before, or within messages that were given in this call.
+-- Where nothing comes any more, the device isn't asked.
 pub record NextStep {R : Type 0} (gives : Gives R) (known : Bool) (memory : R → Memory) (a : StreamReader R) (r : Option (Result StreamState Fault)) (b : StreamReader R) : Type 0 where
   pub only : IfErr (next_result r) (λ e. OwnFault e (IsStreamFault (request_of a) e))
   pub described : metadata_of b ≡ metadata_of a
@@ -320,6 +323,7 @@ pub record NextStep {R : Type 0} (gives : Gives R) (known : Bool) (memory : R �
   pub over : is_over a ≡ true → (r ≡ None) × (is_over b ≡ true) × (device_of b ≡ device_of a)
   pub finished : is_over a ≡ false → is_over b ≡ ends r
   pub values : IfOk (next_result r) (StateHasValues b.batches)
+  pub held : KeepsValues gives (request_of a) (begun_of a) (device_of a) (device_of b) (values_of a) (values_of b)
   pub gave : is_over a ≡ false → NextGave gives (request_of a) (known_of a) (begun_of a) (device_of a) (next_result r) (known_of b) (begun_of b) (device_of b)
   pub next : IsTrue known → is_over a ≡ false
       → GivesNext (request_of a) (known_of a) (ahead memory a) (next_result r) (known_of b) (begun_of b) (ahead memory b)

@@ -10,4 +10,6 @@ mod pairs;
 pub use batch::read_batch;
 pub use dictionaries::read_file_dictionaries;
 pub use footer::deserialize_footer;
-pub use metadata::{FileMetadata, files_from_the_beginning, read_file_metadata};
+pub use metadata::{
+    FileFooter, FileMetadata, files_from_the_beginning, read_file_metadata, read_footer,
+};

@@ -107,7 +107,7 @@ impl<R: Reads + Seeks + Drop> FileReader<R> {
         (self.data_scratch, self.message_scratch) = scratches;
     }
 
-    // Reads the dictionaries, where they weren't read yet.
+    // Reads the dictionaries, where they weren't read yet. After any fault the reader is as it was, but for its device.
     fn read_dictionaries(&mut self) -> Result<(), Fault>
         ensures gave { DictionariesGave R.known R.still R.memory R.failures R.given self.old result self.new }
     {
@@ -147,7 +147,8 @@ impl<R: Reads + Seeks + Drop> FileReader<R> {
         in_order(self.alloc, &self.projection, chunk)
     }
 
-    // The chunk of the next block, behind which the reader stands then, also after a fault. The dictionaries were read.
+    // The chunk of the next block, behind which the reader stands then, also after a fault, one of memory or of the device too:
+    // the dictionaries stay known then, and the limit is as it was. The dictionaries were read.
     fn read_next(&mut self) -> Result<Chunk<AnyArray>, Fault>
         requires known { IsSome (known_of self.old) }
         requires more { is_over self.old ≡ false }

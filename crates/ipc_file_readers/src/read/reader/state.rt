@@ -19,7 +19,10 @@ use std::alloc::Global;
 ///
 /// Faults of `next`: those of [`read_file_dictionaries`] and [`read_batch`], and no other; `Io` exactly where a call of the device
 /// failed. A call that answers a chunk takes no more bytes of the device than the block's message, its prefix and what the buffers of the
-/// given columns list; the first one, over memory, no more than these and what the dictionaries need. The arrays of a chunk hold together
+/// given columns list; the first one, over memory, no more than these and what the dictionaries need. After a fault of a block, one of
+/// memory or of the device too, the reader goes on: it keeps the dictionaries and what is left of the limit. A fault of the
+/// dictionaries leaves the room for messages and the limit as they were, and takes, over memory, no more bytes than a
+/// refused [`read_file_dictionaries`]. The arrays of a chunk hold together
 /// no more than these buffers list, no more than the file has bytes, and one offset for each buffer of offsets that lists nothing; so does
 /// the array of each dictionary's values, by one of its blocks. The metadata of the message are left in the scratch memory for messages; that for data
 /// isn't used.

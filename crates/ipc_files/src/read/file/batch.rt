@@ -10,7 +10,7 @@ ghost use Rattle.ipc_model.specs.Files.{file_chunk, placed};
 ghost use Rattle.ipc_model.specs.ReadChunks.{HaveMeaning};
 ghost use Rattle.ipc_base.specs.IdTrees.{all_ids_view};
 ghost use Rattle.lower_arrays.specs.AnyLayouts.{layout_of};
-ghost use Rattle.ipc_files.specs.Batches.{HoldBatch, IsRecordFault, RecordReason, block_metadata, needed_bytes, needed_record};
+ghost use Rattle.ipc_files.specs.Batches.{BlockGiven, HoldBatch, IsRecordFault, RecordReason, block_metadata, needed_bytes, needed_record};
 ghost use Rattle.ipc_files.specs.Footers.{GivesPart, file_seen};
 ghost use Rattle.ipc_flat_columns.specs.Bodies.{known_dictionaries};
 ghost use Rattle.ipc_read.specs.Chunks.{chunk_seen};
@@ -93,8 +93,9 @@ fn read_record<R: Reads + Seeks>(
 /// Reads the record batch at one of the blocks of a file, any of them, in any order (Arrow columnar format, "IPC File Format"): the
 /// columns of the projection, in rising order, or all where there is none, and of each at most `limit` slots. The index is that of
 /// a block in `metadata`, and the dictionaries are those of [`read_file_dictionaries`]. Each version is that of the block's own
-/// message, and the lengths of bodies aren't used. Of a column that isn't chosen no byte is read, and nothing is judged. Where it is
-/// Ok, no more bytes are taken of the device than the message, its prefix and what the buffers of the chosen columns list, and the
+/// message, and the lengths of bodies aren't used. Of a column that isn't chosen no byte is read, and nothing is judged. No more
+/// bytes are taken of the device than the message, its prefix and what the buffers of the chosen columns list, where it is
+/// refused too; where the message can't be read, no more than its prefix and the length that this states. Where it is Ok, the
 /// arrays hold together no more than these list, no more than the file has bytes, and one offset for each buffer of offsets that lists nothing. At each dictionary
 /// place of a column, those inside the values of others aside, stand the values that the dictionaries have under its id.
 ///
@@ -131,7 +132,8 @@ pub fn read_batch<R: Reads + Seeks>(
     ensures told { UnlessIo result (R.failures reader.new ≡ R.failures reader.old) }
     ensures given { let m = file_seen metadata.now in
         let js = chosen (option_copied projection.entry) (length metadata.now.schema.fields.items) in
-        OnOk result (R.given reader.new ≤ R.given reader.old + needed_bytes (kinds m.schema) js message_scratch.new.items) }
+        BlockGiven R.known (needed_bytes (kinds m.schema) js) (R.memory reader.old).whole (slice_get metadata.now.blocks.items index)
+        message_scratch.new.items result (R.given reader.old) (R.given reader.new) }
     ensures held { let m = file_seen metadata.now in
         let js = chosen (option_copied projection.entry) (length metadata.now.schema.fields.items) in
         IfOk result (λ xs. HoldBatch m.size (kinds m.schema) js message_scratch.new.items xs) }

@@ -7,7 +7,7 @@ ghost use Rattle.ipc_views.specs.MessageSlots.{message_version};
 ghost use Rattle.ipc_model.specs.Files.{block_header, placed};
 ghost use Rattle.ipc_model.specs.Frame.{frame, word};
 ghost use Rattle.ipc_read.specs.Headers.{answered_as};
-ghost use Rattle.ipc_files.specs.Blocks.{GivesPrefix, IsFrameFault, IsHeaderFault, frame_fault, message_seen, opened_message, place_seen, prefix_of, stated_metadata, stated_version};
+ghost use Rattle.ipc_files.specs.Blocks.{GivesPrefix, IsFrameFault, IsHeaderFault, MetadataGiven, frame_fault, message_seen, opened_message, place_seen, prefix_of, stated_metadata, stated_version};
 ghost use Rattle.ipc_files.specs.Footers.{GivesPart};
 
 use crate::read::file::exact::read_exact;
@@ -84,7 +84,8 @@ fn read_prefix<R: Reads>(reader: &mut R) -> Result<u32, Fault>
 }
 
 // Reads the metadata of the message that stands at a place, instead of what `metadata` holds. A length below 0 is refused as
-// told. For a length that isn't there no more than 65,536 bytes of memory are taken.
+// told. No more bytes are taken than the prefix and the length that it states, whatever the answer. For a length that isn't
+// there no more than 65,536 bytes of memory are taken.
 pub(super) fn read_metadata<R: Reads + Seeks>(
     reader: &mut R,
     place: u64,
@@ -95,7 +96,8 @@ pub(super) fn read_metadata<R: Reads + Seeks>(
     ensures monotone { R.failures reader.old ≤ R.failures reader.new }
     ensures failed { OnIo result (Rises (R.failures reader.old) (R.failures reader.new)) }
     ensures told { UnlessIo result (R.failures reader.new ≡ R.failures reader.old) }
-    ensures given { OnOk result (R.given reader.new ≤ R.given reader.old + (8 + length metadata.new.items)) }
+    ensures given { MetadataGiven R.known (drop place (R.memory reader.old).whole) result metadata.new.items
+        (R.given reader.old) (R.given reader.new) }
     ensures reason { IsTrue R.known → IfErr result (λ e. OwnFault e (e ≡ frame_fault negative (prefix_of (drop place (R.memory reader.old).whole)))) }
     ensures memory { IsTrue R.known → GivesPart (λ _. metadata.new.items) result
         (stated_metadata (frame (drop place (R.memory reader.old).whole))) }

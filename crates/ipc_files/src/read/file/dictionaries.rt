@@ -6,8 +6,8 @@ ghost use Rattle.ipc_devices.specs.declared.fault.Fault.TheVariants.{OutOfSpec};
 ghost use Rattle.ipc_devices.specs.declared.fault.OutOfSpecKind.TheVariants.{UnexpectedNegativeInteger};
 ghost use Rattle.ipc_model.specs.Batches.{dictionary_meaning, extra_of};
 ghost use Rattle.ipc_model.specs.Files.{block_header, dictionaries_at, file_dictionaries, placed};
-ghost use Rattle.ipc_files.specs.Batches.{block_metadata};
-ghost use Rattle.ipc_files.specs.Dictionaries.{DictionariesReason, DictionaryReason, GivesKnown, HoldListed, HoldsHeader, IsDictionaryBlockFault, ValuesGiven, needed_dictionary, needed_values};
+ghost use Rattle.ipc_files.specs.Batches.{BlockGiven, block_metadata};
+ghost use Rattle.ipc_files.specs.Dictionaries.{DictionariesReason, DictionaryReason, GivesKnown, HoldListed, HoldsHeader, IsDictionaryBlockFault, ValuesTaken, needed_dictionary, needed_values};
 ghost use Rattle.ipc_files.specs.Footers.{file_seen};
 ghost use Rattle.ipc_flat_columns.specs.Bodies.{array_under, known_dictionaries};
 ghost use Rattle.ipc_read.specs.HeldChunks.{HoldsValues};
@@ -90,7 +90,8 @@ fn read_dictionary_block<R: Reads + Seeks>(
     ensures monotone { R.failures reader.old ≤ R.failures reader.new }
     ensures failed { OnIo result (Rises (R.failures reader.old) (R.failures reader.new)) }
     ensures told { UnlessIo result (R.failures reader.new ≡ R.failures reader.old) }
-    ensures given { OnOk result (R.given reader.new ≤ R.given reader.old + needed_values (file_seen metadata.now).schema message_scratch.new.items) }
+    ensures given { BlockGiven R.known (needed_values (file_seen metadata.now).schema) (R.memory reader.old).whole (Some block.now)
+        message_scratch.new.items result (R.given reader.old) (R.given reader.new) }
     ensures held { OnOk result (HoldsHeader metadata.now.size (file_seen metadata.now).schema (block_header message_scratch.new.items)
         (λ id. array_under dictionaries.old id) (λ id. array_under dictionaries.new id)) }
     ensures message { IsTrue R.known → OnOk result (block_metadata (R.memory reader.old).whole (Some block.now) ≡ Some message_scratch.new.items) }
@@ -123,7 +124,9 @@ fn read_dictionary_block<R: Reads + Seeks>(
 /// id that comes again the last values count. Each version is that of the block's own message, and the lengths of bodies aren't used.
 ///
 /// Where there are no blocks it is Ok. Over memory it is Ok exactly where the dictionaries have a meaning, and the values are then those.
-/// No more bytes are taken then than the messages of the blocks, their prefixes and what the buffers of the values list. The array under an id holds, whatever the device,
+/// No more bytes are taken then than the messages of the blocks, their prefixes and what the buffers of the values list. Where a
+/// block is refused, none are taken of those behind it, and of itself no more than these, or, where its message can't be read,
+/// than the prefix and the length that it states. The array under an id holds, whatever the device,
 /// no more than these list in one of its blocks, no more than the file has bytes, and one offset for each buffer of offsets that lists nothing. The scratch memory isn't used. Faults, of the
 /// first block that is refused: `OutOfSpec(UnexpectedNegativeInteger)` where a number of it is below 0; `Ended` where its message isn't
 /// there, and `OutOfSpec(NegativeFooterLength)` where the length of that is below 0; `InvalidFlatbufferMessage`, `MissingMessageHeader`,
@@ -141,7 +144,7 @@ pub fn read_file_dictionaries<R: Reads + Seeks>(
     ensures monotone { R.failures reader.old ≤ R.failures reader.new }
     ensures failed { OnIo result (Rises (R.failures reader.old) (R.failures reader.new)) }
     ensures told { UnlessIo result (R.failures reader.new ≡ R.failures reader.old) }
-    ensures given { OnOk result (ValuesGiven R.known (file_seen metadata.now) (R.memory reader.old).whole (R.given reader.old) (R.given reader.new)) }
+    ensures given { ValuesTaken R.known (file_seen metadata.now) (R.memory reader.old).whole result (R.given reader.old) (R.given reader.new) }
     ensures held { IfOk result (λ known. HoldListed R.known (file_seen metadata.now) (R.memory reader.old).whole (λ id. array_under known id)) }
     ensures none { (file_seen metadata.now).dictionaries ≡ [] → IsOk result }
     ensures reason { IsTrue R.known → let m = file_seen metadata.now in

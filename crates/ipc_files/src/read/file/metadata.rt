@@ -1,5 +1,5 @@
 //! The metadata of a file, which its footer holds.
-ghost use Rattle.std.specs.Prelude.{◌≡◌, ◌+◌, ◌≤◌, ◌<◌, ◌^◌, length, take, IsTrue, IfOk, IfErr, OnOk};
+ghost use Rattle.std.specs.Prelude.{◌≡◌, ◌+◌, ◌≤◌, ◌<◌, ◌^◌, ◌⊎◌, length, take, IsTrue, IfOk, IfErr, OnOk};
 ghost use Rattle.ipc_devices.specs.Device.{Rises, after};
 ghost use Rattle.ipc_devices.specs.Faults.{OnIo, UnlessIo, OwnFault, Answers};
 ghost use Rattle.ipc_devices.specs.declared.fault.Fault.TheVariants.{Ended};
@@ -8,7 +8,7 @@ ghost use Rattle.ipc_base.specs.Fitting.{AllFit};
 ghost use Rattle.ipc_base.specs.IdTrees.{all_ids_view, ipc_schema_view};
 ghost use Rattle.ipc_model.specs.Files.{magic, metadata_of, or_no_blocks};
 ghost use Rattle.ipc_files.specs.Footers.{file_seen, optional_blocks, GivesPart};
-ghost use Rattle.ipc_files.specs.Files.{BeginningLaw, FileFault, FileReason, FooterGiven, HeadFault, HeadReason, TailFault, TailReason, GivesTail, footer_length, metadata_from};
+ghost use Rattle.ipc_files.specs.Files.{BeginningLaw, EndsFault, FileFault, FileReason, FooterGiven, GivesFooter, HeadFault, HeadReason, ReadsFooter, TailFault, TailReason, GivesTail, footer_length, metadata_from};
 
 use crate::read::file::exact::read_exact;
 use crate::read::file::footer::deserialize_footer;
@@ -157,10 +157,51 @@ fn read_footer_len<R: Reads + Seeks>(reader: &mut R) -> Result<(u64, u32), Fault
     Ok((end, length))
 }
 
+/// The footer of a file, as its bytes.
+#[derive(Debug, Drop)]
+pub struct FileFooter {
+    /// The table `Footer` of `File.fbs`.
+    pub bytes: Vec<u8>,
+    /// The number of bytes of the file.
+    pub size: u64,
+}
+
+/// Reads the bytes of the footer of a file, which [`deserialize_footer`] takes. The file begins at
+/// the reader's position and ends where the device ends; its size is counted from that position.
+///
+/// Errors, when reading from memory each exactly for its cause:
+///
+/// - `Ended`: the file is shorter than its head, or the device is shorter than the tail, or than
+///   the tail and the footer whose length it states. No memory is taken for such a footer.
+/// - `NotYetImplemented(FeatherV1)`, `OutOfSpec(InvalidHeader)`: the file has 6 bytes and begins
+///   with `FEA1`, or with anything else but `ARROW1`.
+/// - `OutOfSpec(InvalidFooter)`: the device has 10 bytes and doesn't end with `ARROW1`.
+/// - `OutOfSpec(NegativeFooterLength)`: the stated length of the footer is below 0.
+/// - `Memory`; `Io` exactly if a call of the device failed.
+///
+/// After an error the reader may be at any position.
+pub fn read_footer<R: Reads + Seeks>(alloc: Global, reader: &mut R) -> Result<FileFooter, Fault>
+    ensures only { IfErr result (λ e. OwnFault e (EndsFault e)) }
+    ensures device { ReadsFooter R.known R.still R.memory R.failures R.given
+        reader.old result reader.new }
+    ensures memory { IsTrue R.known →
+        GivesFooter (R.memory reader.old).place (R.memory reader.old).whole result }
+{
+    let start = reader.position()?;
+    read_head(reader)?;
+    let (end, length) = read_footer_len(reader)?;
+    reader.seek_to(end - 10 - length as u64)?;
+    let bytes = read_bytes(alloc, reader, length as usize)?;
+    Ok(FileFooter {
+        bytes,
+        size: end.saturating_sub(start),
+    })
+}
+
 /// Reads what the footer of a file says. The file begins where the reader stands, and ends where the device does.
 ///
-/// Over memory it is Ok exactly where the file's metadata have a meaning; its size is counted from where it begins. No more bytes are
-/// taken then than the head, the tail and the footer. Faults, over memory each only where it is so: `Ended` where
+/// Over memory it is Ok exactly where the file's metadata have a meaning; its size is counted from where it begins. Whatever is
+/// answered, no more bytes are taken than the head, the tail and the footer. Faults, over memory each only where it is so: `Ended` where
 /// the file is shorter than its head, the device shorter than the tail, or than that and the footer that it states;
 /// `NotYetImplemented(FeatherV1)` and `OutOfSpec(InvalidHeader)` where it has 6 bytes and begins with `FEA1`, or with anything else
 /// but `ARROW1`; `OutOfSpec(InvalidFooter)` where the device has 10 bytes and doesn't end with that; `OutOfSpec(NegativeFooterLength)` where the
@@ -177,16 +218,14 @@ pub fn read_file_metadata<R: Reads + Seeks>(
     ensures failed { OnIo result (Rises (R.failures reader.old) (R.failures reader.new)) }
     ensures told { UnlessIo result (R.failures reader.new ≡ R.failures reader.old) }
     ensures given { OnOk result (FooterGiven R.known (R.memory reader.old).whole (R.given reader.old) (R.given reader.new)) }
+    ensures taken { (R.given reader.new ≤ R.given reader.old + 16)
+        ⊎ FooterGiven R.known (R.memory reader.old).whole (R.given reader.old) (R.given reader.new) }
     ensures reason { IsTrue R.known → IfErr result (λ e. OwnFault e (FileReason (R.memory reader.old).place (R.memory reader.old).whole e)) }
     ensures anywhere { IsTrue R.known → GivesPart file_seen result (metadata_from (R.memory reader.old).place (R.memory reader.old).whole) }
     ensures memory { IsTrue R.known → (R.memory reader.old).place ≡ 0
         → GivesPart file_seen result (metadata_of (R.memory reader.old).whole) }
     ensures whole { IsTrue R.still → (R.memory reader.new).whole ≡ (R.memory reader.old).whole }
 {
-    let start = reader.position()?;
-    read_head(reader)?;
-    let (end, length) = read_footer_len(reader)?;
-    reader.seek_to(end - 10 - length as u64)?;
-    let footer = read_bytes(alloc, reader, length as usize)?;
-    deserialize_footer(alloc, &footer, end.saturating_sub(start))
+    let footer = read_footer(alloc, reader)?;
+    deserialize_footer(alloc, &footer.bytes, footer.size)
 }

@@ -11,6 +11,7 @@ ghost use Rattle.ipc_model.specs.Streams.{most_dictionaries};
 ghost use Rattle.ipc_views.specs.Unions.{header_parts};
 ghost use Rattle.lower.specs.TypeViews.{fields_view};
 ghost use Rattle.ipc_projections.specs.ChosenColumns.{ShowsColumns, items_of};
+ghost use Rattle.ipc_readers.specs.KeptValues.{KeepsValues, KeptOfBatch, KeptOfBody, KeptOfItem, KeepsArrays, values_in, values_of};
 ghost use Rattle.ipc_readers.specs.Messages.{header_seen};
 ghost use Rattle.ipc_readers.specs.Refusals.{IsStreamFault};
 ghost use Rattle.ipc_readers.specs.Streams.{NextStep, IsWaiting, HasChunk, IsUnread, BodyGave, BodyHasValues, Counted, CountsOn, FrontHasValues, GivesHeld, HasKnownValues, IsAdmitted, ItemGave, NextGave, RefusesBody, StateHasValues, request_of, request_in, begun_of, chosen_of, device_of, is_over, known_in, known_of, metadata_of, of_dictionary, of_record, projection_of, schema_of};
@@ -68,6 +69,7 @@ impl Batches {
         ensures only { IfErr result (λ e. OwnFault e (IsStreamFault (request_in self.old) e)) }
         ensures own { OnIo result ⊥ }
         ensures values { IfOk result (λ chunk. HasKnownValues self.new chunk) }
+        ensures held { KeepsArrays (values_in self.old) (values_in self.new) }
         ensures memory { GivesHeld (request_in self.old) (known_in self.old) 3 batch.entry body.now
             (of_record result) (known_in self.new) }
     {
@@ -98,6 +100,8 @@ impl Batches {
         ensures described { self.new.metadata ≡ self.old.metadata }
         ensures projected { self.new.projection ≡ self.old.projection }
         ensures counted { OnOk result (self.new.count ≡ self.old.count + 1) }
+        ensures held { KeptOfBatch (request_in self.old) (record { tag = 2; table = batch.entry; body = length body.now })
+            (of_dictionary result) (values_in self.old) (values_in self.new) }
         ensures kept { OnErr result (AreAt (known_in self.old) (known_in self.new)) }
         ensures only { IfErr result (λ e. OwnFault e (IsStreamFault (request_in self.old) e)) }
         ensures own { OnIo result ⊥ }
@@ -133,6 +137,9 @@ impl Batches {
         ensures projected { self.new.projection ≡ self.old.projection }
         ensures counted { IfOk result (λ c. Counted c self.old.count self.new.count) }
         ensures values { IfOk result (λ c. BodyHasValues self.new c) }
+        ensures held { let u = header_parts header.entry in
+            KeptOfBatch (request_in self.old) (record { tag = u.0; table = u.1; body = length body.now })
+            result (values_in self.old) (values_in self.new) }
         ensures kept { OnErr result (AreAt (known_in self.old) (known_in self.new)) }
         ensures only { IfErr result (λ e. OwnFault e (IsStreamFault (request_in self.old) e)) }
         ensures own { OnIo result ⊥ }
@@ -184,6 +191,8 @@ impl Batches {
         ensures projected { self.new.projection ≡ self.old.projection }
         ensures counted { IfOk result (λ c. Counted c self.old.count self.new.count) }
         ensures values { IfOk result (λ c. BodyHasValues self.new c) }
+        ensures held { KeptOfBody R.gives (request_in self.old) (header_seen message.entry) reader.old result reader.new
+            (values_in self.old) (values_in self.new) }
         ensures kept { OnErr result (AreAt (known_in self.old) (known_in self.new)) }
         ensures only { IfErr result (λ e. OwnFault e (IsStreamFault (request_in self.old) e)) }
         ensures gives { BodyGave R.gives (request_in self.old) (known_in self.old) (header_seen message.entry)
@@ -282,6 +291,8 @@ impl<R: Reads + Drop> StreamReader<R> {
         ensures projected { chosen_of self.new ≡ chosen_of self.old }
         ensures counted { IfOk result (λ f. CountsOn f (known_of self.old).count (known_of self.new).count) }
         ensures values { IfOk result (λ f. FrontHasValues self.new.batches f) }
+        ensures held { KeptOfItem R.gives (request_of self.old) (begun_of self.old) (device_of self.old) result
+            (begun_of self.new) (device_of self.new) (values_of self.old) (values_of self.new) }
         ensures kept { OnErr result (AreAt (known_of self.old) (known_of self.new)) }
         ensures gives { ItemGave R.gives (request_of self.old) (known_of self.old) (begun_of self.old)
             (device_of self.old) result (known_of self.new) (begun_of self.new) (device_of self.new) }
@@ -309,6 +320,8 @@ impl<R: Reads + Drop> StreamReader<R> {
         ensures described { metadata_of self.new ≡ metadata_of self.old }
         ensures projected { chosen_of self.new ≡ chosen_of self.old }
         ensures values { IfOk result (λ state. StateHasValues self.new.batches state) }
+        ensures held { KeepsValues R.gives (request_of self.old) (begun_of self.old) (device_of self.old) (device_of self.new)
+            (values_of self.old) (values_of self.new) }
         ensures gives { NextGave R.gives (request_of self.old) (known_of self.old) (begun_of self.old)
             (device_of self.old) result (known_of self.new) (begun_of self.new) (device_of self.new) }
     {

@@ -25,7 +25,8 @@ use std::alloc::Global;
 /// None from then on. The dictionaries that a column has are those that were read before its record batch; chunks share their values.
 /// Where columns are asked for, the chunks are of these, in this order; another column isn't read, and isn't judged. The arrays of a chunk
 /// hold together no more than the buffers of its columns list, no more than the message's body has bytes, and one offset for each buffer
-/// of offsets that lists nothing.
+/// of offsets that lists nothing. So does the array of each dictionary's values, by its own message. After a fault the
+/// reader keeps the values that it had before the message at fault.
 ///
 /// Faults of `next`: those of [`read_frame`], [`open_message`], [`read_dictionary`] and [`read_record_batch`]; `Ended` where
 /// the body is shorter than stated; `OutOfSpec(UnexpectedMessageType)` where the message is neither a

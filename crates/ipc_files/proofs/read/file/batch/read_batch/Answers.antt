@@ -1,17 +1,19 @@
-use Rattle.std.proofs.Common.{rules, ◌≡◌, ◌∙◌, length, Ok, Err, sym, ap}
+use Rattle.std.proofs.Common.{rules, ◌≡◌, ◌∙◌, length, Ok, Err, sym, ap, arith}
 use Rattle.std.proofs.lemmas.Option.{slice_get_read}
-use Rattle.std.specs.Prelude.{vec_len}
+use Rattle.std.specs.Prelude.{slice_get, vec_len}
 use Rattle.std.specs.Option.{option_copied}
 use Rattle.ipc_devices.proofs.Claims.{claimed}
 use Rattle.ipc_devices.specs.declared.fault.OutOfSpecKind.TheVariants.{NegativeFooterLength, UnexpectedNegativeInteger}
-use Rattle.ipc_model.specs.Batches.{chosen}
+use Rattle.ipc_model.specs.Batches.{chosen, extra_of, kinds, lists_of}
 use Rattle.ipc_model.specs.Files.{block_header}
 use Rattle.ipc_flat_columns.specs.Bodies.{known_dictionaries}
-use Rattle.ipc_files.specs.Batches.{BlamesRecord}
+use Rattle.ipc_files.specs.Batches.{BlamesRecord, header_lists, needed_bytes}
 use Rattle.ipc_files.specs.Blocks.{message_seen, place_seen}
 use Rattle.ipc_files.specs.Footers.{file_seen}
 use Rattle.ipc_files.proofs.BlockFaults.{blames-record, ill-made, in-batch, no-message, other-kind, record-kind, unplaced}
 use Rattle.ipc_files.proofs.BlockRecords.{refused-record-place, refused-record-message, refused-record-header, refused-record-kind, read-record, has-place, message-read, on-ok}
+use Rattle.ipc_files.proofs.TakenBytes.{block_given, misread, record_needs, unasked, unread}
+use Rattle.ipc_read.specs.Sizes.{chosen_listed}
 use Rattle.ipc_files.proofs.read.file.batch.read_batch.Goals as goal
 
 pub returns-in_err-place-clause-memory : goal.returns-in_err-place-clause-memory
@@ -123,3 +125,54 @@ returns-clause-reason g c = λ k.
     (rw c.deref.ensures.value at c.in_ok-message.ensures.exact) c.read_record.result (record-kind c.in_ok-message.message (Ok c.in_ok-batch.batch) c.in_ok-batch.ensures)
     (blames-record (file_seen c.args.metadata.now) c.in_ok-message.message c.in_ok-batch.batch c.read_record.result (chosen (option_copied c.args.projection) (length c.args.metadata.now.schema.fields.items))
     c.in_ok-batch.ensures c.read_record.ensures.only c.read_record.ensures.lists)
+
+pub returns-in_err-place-clause-given : goal.returns-in_err-place-clause-given
+returns-in_err-place-clause-given g c =
+    let ts = kinds (file_seen c.args.metadata.now).schema in
+    let js = chosen (option_copied c.args.projection) (length c.args.metadata.now.schema.fields.items) in
+    let is : c.from_residual.result ≡ Err c.in_err-place.field-0.0 = search rules in
+    rw is (unasked g.R.Failures.known (needed_bytes ts js) (g.R.Failures.memory c.args.reader.now).whole c.args.message_scratch.now.items (g.R.Failures.given c.args.reader.now)
+    (g.R.Failures.given c.args.reader.now) (slice_get c.args.metadata.now.blocks.items c.args.index) (omega arith))
+
+pub returns-in_err-read_metadata-clause-given : goal.returns-in_err-read_metadata-clause-given
+returns-in_err-read_metadata-clause-given g c =
+    let ts = kinds (file_seen c.args.metadata.now).schema in
+    let js = chosen (option_copied c.args.projection) (length c.args.metadata.now.schema.fields.items) in
+    let is : c.from_residual-in_err-read_metadata.result ≡ Err c.in_err-read_metadata.field-0.0 = search rules in
+    rw is (unread g.R.Failures.known (needed_bytes ts js) (g.R.Failures.memory c.args.reader.now).whole c.read_metadata.new.metadata.items (g.R.Failures.given c.args.reader.now)
+    (g.R.Failures.given c.read_metadata.new.reader) (slice_get c.args.metadata.now.blocks.items c.args.index) c.index-block.result.now (place_seen c.in_ok-place.place)
+    (slice_get_read c.args.metadata.now.blocks.items (vec_len c.args.metadata.now.blocks) c.args.index c.index-block.result.now (search rules) c.requires.index c.index-block.ensures)
+    c.in_ok-place.ensures.place c.in_err-read_metadata.ensures.given)
+
+pub returns-in_err-message-clause-given : goal.returns-in_err-message-clause-given
+returns-in_err-message-clause-given g c =
+    let ts = kinds (file_seen c.args.metadata.now).schema in
+    let js = chosen (option_copied c.args.projection) (length c.args.metadata.now.schema.fields.items) in
+    let is : c.from_residual-in_err-message.result ≡ Err c.in_err-message.field-0.0 = search rules in
+    rw is (misread g.R.Failures.known (needed_bytes ts js) (g.R.Failures.memory c.args.reader.now).whole c.read_metadata.new.metadata.items (g.R.Failures.given c.args.reader.now)
+    (g.R.Failures.given c.read_metadata.new.reader) (slice_get c.args.metadata.now.blocks.items c.args.index) c.index-block.result.now (place_seen c.in_ok-place.place)
+    (slice_get_read c.args.metadata.now.blocks.items (vec_len c.args.metadata.now.blocks) c.args.index c.index-block.result.now (search rules) c.requires.index c.index-block.ensures)
+    c.in_ok-place.ensures.place c.in_ok-read_metadata.ensures.memory (omega (arith, c.in_ok-read_metadata.ensures.given)))
+
+pub returns-in_err-batch-clause-given : goal.returns-in_err-batch-clause-given
+returns-in_err-batch-clause-given g c =
+    let ts = kinds (file_seen c.args.metadata.now).schema in
+    let js = chosen (option_copied c.args.projection) (length c.args.metadata.now.schema.fields.items) in
+    let is : c.from_residual-in_err-batch.result ≡ Err c.in_err-batch.field-0.0 = search rules in
+    rw is (misread g.R.Failures.known (needed_bytes ts js) (g.R.Failures.memory c.args.reader.now).whole c.read_metadata.new.metadata.items (g.R.Failures.given c.args.reader.now)
+    (g.R.Failures.given c.read_metadata.new.reader) (slice_get c.args.metadata.now.blocks.items c.args.index) c.index-block.result.now (place_seen c.in_ok-place.place)
+    (slice_get_read c.args.metadata.now.blocks.items (vec_len c.args.metadata.now.blocks) c.args.index c.index-block.result.now (search rules) c.requires.index c.index-block.ensures)
+    c.in_ok-place.ensures.place c.in_ok-read_metadata.ensures.memory (omega (arith, c.in_ok-read_metadata.ensures.given)))
+
+pub returns-clause-given : goal.returns-clause-given
+returns-clause-given g c =
+    let ts = kinds (file_seen c.args.metadata.now).schema in
+    let js = chosen (option_copied c.args.projection) (length c.args.metadata.now.schema.fields.items) in
+    let items = c.read_metadata.new.metadata.items in
+    let needs : header_lists ts js (block_header items) ≡ chosen_listed (lists_of c.in_ok-batch.batch) (extra_of c.in_ok-message.message.version) ts js =
+    record_needs c.in_ok-message.message c.in_ok-batch.batch items (ap block_header (sym c.deref.ensures.value) ∙ c.in_ok-message.ensures.meaning) ts js c.in_ok-batch.ensures in
+    block_given g.R.Failures.known (needed_bytes ts js) (g.R.Failures.memory c.args.reader.now).whole items (g.R.Failures.given c.args.reader.now)
+    (g.R.Failures.given c.read_record.new.reader) (slice_get c.args.metadata.now.blocks.items c.args.index) c.index-block.result.now (place_seen c.in_ok-place.place)
+    (slice_get_read c.args.metadata.now.blocks.items (vec_len c.args.metadata.now.blocks) c.args.index c.index-block.result.now (search rules) c.requires.index c.index-block.ensures)
+    c.in_ok-place.ensures.place c.in_ok-read_metadata.ensures.memory
+    (omega (arith, needs, c.in_ok-read_metadata.ensures.given, c.read_record.ensures.given)) c.read_record.result

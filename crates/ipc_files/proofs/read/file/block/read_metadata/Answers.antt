@@ -1,4 +1,4 @@
-use Rattle.std.proofs.Common.{rules, ◌≡◌, ◌∙◌, ℕ, List, Err, sym, ap, subst, arith}
+use Rattle.std.proofs.Common.{rules, ◌≡◌, ◌∙◌, ℕ, List, Err, sym, ap, subst, arith, inl, inr}
 use Rattle.ipc_devices.specs.Device.{after}
 use Rattle.ipc_devices.specs.Faults.{OwnFault}
 use Rattle.ipc_model.specs.Frame.{frame}
@@ -47,3 +47,23 @@ returns-in_err-read_into-clause-reason g c = λ k.
     let there = gone-to (g.R.Failures.memory c.args.reader.now) (g.R.Failures.memory c.seek_to.new.self) c.args.place (c.in_ok-seek_to.ensures.memory k) in
     rw is (less-than-stated c.args.negative _ c.in_ok-length.length e (ap prefix_of (sym there) ∙ c.in_ok-length.ensures.number k)
     (omega (arith, c.if-length.false)) c.in_err-read_into.ensures.only)
+
+pub returns-in_err-length-clause-given : goal.returns-in_err-length-clause-given
+returns-in_err-length-clause-given g c =
+    let is : c.from_residual-in_err-length.result ≡ Err c.in_err-length.field-0.0 = search rules in
+    rw is (inl (omega (arith, c.in_ok-seek_to.ensures.given, c.in_err-length.ensures.given)))
+
+pub returns-then-length-clause-given : goal.returns-then-length-clause-given
+returns-then-length-clause-given g c = inl (omega (arith, c.in_ok-seek_to.ensures.given, c.in_ok-length.ensures.given))
+
+pub returns-in_err-read_into-clause-given : goal.returns-in_err-read_into-clause-given
+returns-in_err-read_into-clause-given g c =
+    let is : c.from_residual-in_err-read_into.result ≡ Err c.in_err-read_into.field-0.0 = search rules in
+    rw is (inr (
+      c.in_ok-length.length,
+      omega (arith, c.if-length.false),
+      λ k.
+          let there = gone-to (g.R.Failures.memory c.args.reader.now) (g.R.Failures.memory c.seek_to.new.self) c.args.place (c.in_ok-seek_to.ensures.memory k) in
+          ap prefix_of (sym there) ∙ c.in_ok-length.ensures.number k,
+      omega (arith, c.in_ok-seek_to.ensures.given, c.in_ok-length.ensures.given, c.in_err-read_into.ensures.given),
+    ))

@@ -1,14 +1,17 @@
-use Rattle.std.proofs.Common.{rules, ◌≡◌, ◌∙◌, [], ◌∷◌, Some, Ok, Err, refl, sym, ap}
+use Rattle.std.proofs.Common.{rules, ◌≡◌, ◌∙◌, [], ◌∷◌, Some, Ok, Err, refl, sym, ap, arith}
 use Rattle.ipc_devices.proofs.Claims.{claimed}
 use Rattle.ipc_devices.specs.declared.fault.OutOfSpecKind.TheVariants.{NegativeFooterLength, UnexpectedNegativeInteger}
+use Rattle.ipc_model.specs.Batches.{extra_of}
 use Rattle.ipc_model.specs.Files.{block_header}
 use Rattle.ipc_flat_columns.specs.Bodies.{known_dictionaries}
 use Rattle.ipc_files.specs.Blocks.{message_seen, place_seen}
-use Rattle.ipc_files.specs.Dictionaries.{BlamesValues}
+use Rattle.ipc_files.specs.Dictionaries.{BlamesValues, header_values, needed_values}
 use Rattle.ipc_files.specs.Footers.{file_seen}
 use Rattle.ipc_files.proofs.BlockDictionaries.{refused-dictionary-place, refused-dictionary-message, refused-dictionary-header, refused-dictionary-kind, read-dictionary}
 use Rattle.ipc_files.proofs.BlockFaults.{blames-values, dictionary-kind, ill-made, in-batch, no-message, other-kind, unplaced}
 use Rattle.ipc_files.proofs.BlockRecords.{message-read}
+use Rattle.ipc_files.proofs.TakenBytes.{dictionary_needs, misread, unasked, unread}
+use Rattle.ipc_read.specs.DictionaryBatches.{values_listed}
 use Rattle.ipc_files.proofs.read.file.dictionaries.read_dictionary_block.Goals as goal
 
 pub returns-in_err-place-clause-memory : goal.returns-in_err-place-clause-memory
@@ -101,3 +104,49 @@ returns-in_err-read_values-clause-reason g c = λ k.
     (dictionary-kind c.in_ok-message.message (Ok c.in_ok-batch.batch) c.in_ok-batch.ensures)
     (blames-values {X = Unit {0}} (file_seen c.args.metadata.now) c.in_ok-message.message c.in_ok-batch.batch (Err e) c.in_ok-batch.ensures
     c.in_err-read_values.ensures.blames c.in_err-read_values.ensures.lists))
+
+pub returns-in_err-place-clause-given : goal.returns-in_err-place-clause-given
+returns-in_err-place-clause-given g c =
+    let is : c.from_residual.result ≡ Err c.in_err-place.field-0.0 = search rules in
+    rw is (unasked g.R.Failures.known (needed_values (file_seen c.args.metadata.now).schema) (g.R.Failures.memory c.args.reader.now).whole c.args.message_scratch.now.items
+    (g.R.Failures.given c.args.reader.now) (g.R.Failures.given c.args.reader.now) (Some c.args.block.now) (omega arith))
+
+pub returns-in_err-read_metadata-clause-given : goal.returns-in_err-read_metadata-clause-given
+returns-in_err-read_metadata-clause-given g c =
+    let is : c.from_residual-in_err-read_metadata.result ≡ Err c.in_err-read_metadata.field-0.0 = search rules in
+    rw is (unread g.R.Failures.known (needed_values (file_seen c.args.metadata.now).schema) (g.R.Failures.memory c.args.reader.now).whole c.read_metadata.new.metadata.items
+    (g.R.Failures.given c.args.reader.now) (g.R.Failures.given c.read_metadata.new.reader) (Some c.args.block.now) c.args.block.now (place_seen c.in_ok-place.place) refl
+    c.in_ok-place.ensures.place c.in_err-read_metadata.ensures.given)
+
+pub returns-in_err-message-clause-given : goal.returns-in_err-message-clause-given
+returns-in_err-message-clause-given g c =
+    let is : c.from_residual-in_err-message.result ≡ Err c.in_err-message.field-0.0 = search rules in
+    rw is (misread g.R.Failures.known (needed_values (file_seen c.args.metadata.now).schema) (g.R.Failures.memory c.args.reader.now).whole c.read_metadata.new.metadata.items
+    (g.R.Failures.given c.args.reader.now) (g.R.Failures.given c.read_metadata.new.reader) (Some c.args.block.now) c.args.block.now (place_seen c.in_ok-place.place) refl
+    c.in_ok-place.ensures.place c.in_ok-read_metadata.ensures.memory (omega (arith, c.in_ok-read_metadata.ensures.given)))
+
+pub returns-in_err-batch-clause-given : goal.returns-in_err-batch-clause-given
+returns-in_err-batch-clause-given g c =
+    let is : c.from_residual-in_err-batch.result ≡ Err c.in_err-batch.field-0.0 = search rules in
+    rw is (misread g.R.Failures.known (needed_values (file_seen c.args.metadata.now).schema) (g.R.Failures.memory c.args.reader.now).whole c.read_metadata.new.metadata.items
+    (g.R.Failures.given c.args.reader.now) (g.R.Failures.given c.read_metadata.new.reader) (Some c.args.block.now) c.args.block.now (place_seen c.in_ok-place.place) refl
+    c.in_ok-place.ensures.place c.in_ok-read_metadata.ensures.memory (omega (arith, c.in_ok-read_metadata.ensures.given)))
+
+pub returns-in_err-read_values-clause-given : goal.returns-in_err-read_values-clause-given
+returns-in_err-read_values-clause-given g c =
+    let schema = (file_seen c.args.metadata.now).schema in
+    let items = c.read_metadata.new.metadata.items in
+    let needs : header_values schema (block_header items) ≡ values_listed schema (extra_of c.in_ok-message.message.version) c.in_ok-batch.batch =
+    dictionary_needs c.in_ok-message.message c.in_ok-batch.batch items (ap block_header (sym c.deref.ensures.value) ∙ c.in_ok-message.ensures.meaning) schema c.in_ok-batch.ensures in
+    let is : c.from_residual-in_err-read_values.result ≡ Err c.in_err-read_values.field-0.0 = search rules in
+    rw is (misread g.R.Failures.known (needed_values schema) (g.R.Failures.memory c.args.reader.now).whole items
+    (g.R.Failures.given c.args.reader.now) (g.R.Failures.given c.read_values.new.reader) (Some c.args.block.now) c.args.block.now (place_seen c.in_ok-place.place) refl
+    c.in_ok-place.ensures.place c.in_ok-read_metadata.ensures.memory (omega (arith, needs, c.in_ok-read_metadata.ensures.given, c.in_err-read_values.ensures.given)))
+
+pub returns-clause-given : goal.returns-clause-given
+returns-clause-given g c =
+    let schema = (file_seen c.args.metadata.now).schema in
+    let items = c.read_metadata.new.metadata.items in
+    let needs : header_values schema (block_header items) ≡ values_listed schema (extra_of c.in_ok-message.message.version) c.in_ok-batch.batch =
+    dictionary_needs c.in_ok-message.message c.in_ok-batch.batch items (ap block_header (sym c.deref.ensures.value) ∙ c.in_ok-message.ensures.meaning) schema c.in_ok-batch.ensures in
+    omega (arith, needs, c.in_ok-read_metadata.ensures.given, c.in_ok-read_values.ensures.given)

@@ -3,12 +3,13 @@ use Rattle.lower_arrays.specs.Layouts.{Layout}
 use Rattle.ipc_laws.specs.Agreement.{AreAlike}
 use Rattle.ipc_views.specs.declared.file.Block.{Block}
 use Rattle.ipc_model.specs.Files.{all_of, dictionaries_after}
-use Rattle.ipc_files.specs.Dictionaries.{DictionariesReason}
+use Rattle.ipc_files.specs.Dictionaries.{DictionariesReason, RefusedValues}
 use Rattle.ipc_files.specs.Footers.{file_seen}
 use Rattle.ipc_flat_columns.specs.Bodies.{array_under, known_dictionaries}
 use Rattle.ipc_files.proofs.FirstRefused.{behind, from-none, refused-first}
 use Rattle.ipc_files.proofs.HeldValues.{EachListed, none_listed, more_listed, each_listed}
 use Rattle.ipc_files.proofs.NeededValues.{GivenFor, all_given, more_given, none_given}
+use Rattle.ipc_files.proofs.TakenBytes.{refused_values}
 use Rattle.ipc_files.proofs.KnownAlike.{next-known, all-known}
 use Rattle.ipc_files.proofs.read.file.dictionaries.read_file_dictionaries.Goals as goal
 
@@ -95,3 +96,15 @@ returns-clause-held g c =
     let all = each_listed g.R.Failures.known m.size m.schema source c.dictionary_blocks-blocks.result.now c.loop-block.block-index values (omega (arith, c.loop-block-test.false)) c.loop-block.invariant.held in
     let named = subst (λ (blocks : List Block). EachListed g.R.Failures.known m.size m.schema source blocks values) c.dictionary_blocks-blocks.ensures all in
     record { each = named.each }
+
+pub returns-in_err-read_dictionary_block-clause-given : goal.returns-in_err-read_dictionary_block-clause-given
+returns-in_err-read_dictionary_block-clause-given g c =
+    let m = file_seen c.args.metadata.now in
+    let source = (g.R.Failures.memory c.args.reader.now).whole in
+    let old = g.R.Failures.given c.args.reader.now in
+    let new = g.R.Failures.given c.read_dictionary_block.new.reader in
+    let is : c.from_residual.result ≡ Err c.in_err-read_dictionary_block.field-0.0 = search rules in
+    rw is (subst (λ (blocks : List Block). RefusedValues g.R.Failures.known m.schema source blocks old new) c.dictionary_blocks-blocks.ensures
+    (refused_values g.R.Failures.known m.schema source (g.R.Failures.memory c.loop-block.reader).whole (λ k. c.loop-block.invariant.whole (g.met.R.Seeks.known_still k)) _
+    (g.R.Failures.given c.loop-block.reader) new c.read_dictionary_block.new.message_scratch.items c.dictionary_blocks-blocks.result.now c.loop-block.block-index old
+    c.loop-block-test.true c.loop-block.invariant.given c.in_err-read_dictionary_block.ensures.given))

@@ -9,7 +9,7 @@ returns-then-is_some g c = record {
     file = record { described = refl; asked = refl; shown = refl };
     block = refl;
     remaining = refl;
-    room = refl;
+    rooms = refl;
     asked = record { monotone = omega arith; failed = tt; told = refl; whole = λ _. refl };
     are = known_already known_dictionaries c.args.self.now.dictionaries g.R.Failures.known _ (search rules);
     holds = values_already c.args.self.now.dictionaries g.R.Failures.known _ _ (search rules);

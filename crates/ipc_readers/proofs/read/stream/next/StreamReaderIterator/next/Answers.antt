@@ -1,4 +1,5 @@
-use Rattle.std.proofs.Common.{◌∙◌, refl, Ok, Err, Some, None}
+use Rattle.std.proofs.Common.{[], ◌∙◌, refl, Ok, Err, Some, None, inl}
+use Rattle.ipc_devices.specs.Gives.{going}
 use Rattle.ipc_readers.proofs.Steps.{next_ahead}
 use Rattle.ipc_readers.specs.Streams.{NextGave, request_of, begun_of, device_of, known_of}
 use Rattle.ipc_readers.proofs.read.stream.next.StreamReaderIterator.next.Goals as goal
@@ -15,6 +16,7 @@ returns-in-Ok-Some-clause-steps g c =
       described = c.in-Ok-Some.ensures.described;
       projected = c.in-Ok-Some.ensures.projected;
       values = rw c.in-Ok-Some.field-0-is at c.in-Ok-Some.ensures.values;
+      held = c.in-Ok-Some.ensures.held;
       over = λ e. absurd (cc (e, c.if-self.false));
       finished = λ _. c.in-Ok-Some.ensures.finished ∙ c.if-self.false;
       gave = λ _. gave;
@@ -33,6 +35,7 @@ returns-in-Ok-None-clause-steps g c =
       described = c.in-Ok-None.ensures.described;
       projected = c.in-Ok-None.ensures.projected;
       values = tt;
+      held = c.in-Ok-None.ensures.held;
       over = λ e. absurd (cc (e, c.if-self.false));
       finished = λ _. refl;
       gave = λ _. gave;
@@ -51,8 +54,24 @@ returns-in-Err-clause-steps g c =
       described = c.in-Err.ensures.described;
       projected = c.in-Err.ensures.projected;
       values = tt;
+      held = c.in-Err.ensures.held;
       over = λ e. absurd (cc (e, c.if-self.false));
       finished = λ _. refl;
       gave = λ _. gave;
       next = λ k _. next_ahead g.R.Reads.gives g.R.Failures.known memory g.met.R.Reads.gives_ahead k h (known_of old) (known_of new) (begun_of old) (begun_of new) (Err c.in-Err.e) (device_of old) (device_of new) gave;
+    }
+
+pub returns-then-self-clause-steps : goal.returns-then-self-clause-steps
+returns-then-self-clause-steps g c =
+    let old = c.args.self.now in
+    record {
+      only = tt;
+      described = refl;
+      projected = refl;
+      values = tt;
+      held = record { bytes = []; stop = going; gave = g.met.R.Reads.gives_nothing (device_of old); each = λ id. inl refl };
+      over = λ e. (refl, e, refl);
+      finished = λ e. absurd (cc (e, c.if-self.true));
+      gave = λ e. absurd (cc (e, c.if-self.true));
+      next = λ k e. absurd (cc (e, c.if-self.true));
     }

@@ -3,6 +3,8 @@ use Rattle.ipc_devices.specs.Gives.{going}
 use Rattle.ipc_readers.specs.Messages.{header_seen}
 use Rattle.ipc_readers.specs.Streams.{request_in, known_in}
 use Rattle.ipc_readers.proofs.BodyRuns.{body_read, body_stopped, stopped_behind}
+use Rattle.ipc_readers.proofs.Kept.{kept_of_body}
+use Rattle.ipc_readers.specs.KeptValues.{values_in}
 use Rattle.ipc_readers.proofs.read.stream.reader.Batches.read_body.Goals as goal
 
 pub returns-in_err-read_into-clause-gives : goal.returns-in_err-read_into-clause-gives
@@ -31,3 +33,18 @@ returns-clause-gives g c =
     body_read g.R.Reads.gives (request_in old) (known_in old) m.tag m.table m.body c.args.reader.now new body c.read_batch-2.result (known_in c.read_batch-2.new.self)
     (subst (λ (l : List ℕ). length l ≡ m.body) same read.0) (subst (λ (l : List ℕ). g.R.Reads.gives c.args.reader.now l going new) same all)
     c.read_batch-2.ensures.own c.read_batch-2.ensures.memory
+
+pub returns-clause-held : goal.returns-clause-held
+returns-clause-held g c =
+    let items : List ℕ = c.read_into.new.bytes.items in
+    let body : List ℕ = c.as_slice.result.now in
+    let same : items ≡ body = search rules in
+    let old = c.args.self.now in
+    let m = header_seen c.args.message in
+    let mid = c.pass.follows.lender-at-none in
+    let new = c.read_into.new.reader in
+    let none : g.R.Reads.gives c.args.reader.now [] going mid = search rules in
+    let read = c.in_ok-read_into.ensures.gives in
+    let all : g.R.Reads.gives c.args.reader.now items going new = g.met.R.Reads.gives_in_order c.args.reader.now [] mid items going new none read.1 in
+    kept_of_body g.R.Reads.gives (request_in old) m c.args.reader.now new body c.read_batch-2.result (values_in old) (values_in c.read_batch-2.new.self)
+    (subst (λ (l : List ℕ). length l ≡ m.body) same read.0) (subst (λ (l : List ℕ). g.R.Reads.gives c.args.reader.now l going new) same all) c.read_batch-2.ensures.held

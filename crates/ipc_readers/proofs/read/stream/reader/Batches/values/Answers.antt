@@ -1,14 +1,17 @@
-use Rattle.std.proofs.Common.{true, rules, ◌≡◌, ◌+◌, refl, ℕ, List, length, subst, Result, Ok, Err}
+use Rattle.std.proofs.Common.{true, rules, ◌≡◌, ◌+◌, refl, ℕ, ℤ, List, length, subst, Option, Result, Ok, Err}
 use Rattle.lower.specs.TypeViews.{fields_view, pairs_of}
 use Rattle.lower.specs.declared.datatypes.Field.{Field}
 use Rattle.ipc_base.specs.IdTrees.{all_ids_view}
-use Rattle.ipc_flat_columns.specs.Bodies.{known_dictionaries}
+use Rattle.ipc_flat_columns.specs.Bodies.{array_under, known_dictionaries}
 use Rattle.ipc_devices.specs.Faults.{OwnFault}
 use Rattle.ipc_devices.specs.declared.fault.Fault.{Fault}
 use Rattle.ipc_model.specs.Batches.{extra_of}
 use Rattle.ipc_read.specs.Chunks.{batch_schema, order_of}
 use Rattle.ipc_read.specs.DictionaryBatches.{BlamesDictionary, GivesDictionary, TellsValues, TellsOfValues}
+use Rattle.ipc_read.specs.HeldChunks.{HoldsValues}
 use Rattle.ipc_readers.proofs.Bodies.{values_give}
+use Rattle.ipc_readers.proofs.Kept.{same_arrays}
+use Rattle.lower_arrays.specs.Layouts.{Layout}
 use Rattle.ipc_projections.specs.ChosenColumns.{asked_by}
 use Rattle.ipc_readers.specs.Streams.{known_in}
 use Rattle.ipc_readers.proofs.read.stream.reader.Batches.values.Goals as goal
@@ -55,3 +58,21 @@ returns-in_err-read_dictionary-clause-memory c =
     c.args.batch body r (record { dictionaries = after; count = old.count }) c.requires tt
     (subst (λ ds. Blames ds) fields_are blamed) (subst (λ ds. Tells ds) fields_are told) (subst (λ bs. Names fs bs) bytes_are (subst (λ ds. Names ds bytes) fields_are named))
     (subst (λ bs. Read fs bs) bytes_are (subst (λ ds. Read ds bytes) fields_are given)))
+
+pub returns-clause-held : goal.returns-clause-held
+returns-clause-held c =
+    let old = c.args.self.now in
+    let m = old.metadata in
+    let fs : List Field = m.schema.fields.items in
+    let fields_are : c.deref.result.now ≡ fs = search rules in
+    let before : Option ℤ → Layout = λ id. array_under old.dictionaries id in
+    let after : Option ℤ → Layout = λ id. array_under c.read_dictionary.new.dictionaries id in
+    let Put : List Field → Type 0 = λ ds. HoldsValues (length c.args.body.now) (batch_schema ds m.ipc_schema) (extra_of m.version) c.args.batch before after in
+    let there : Put c.deref.result.now = c.in_ok-read_dictionary.ensures.held in
+    let put : Put fs = subst Put fields_are there in
+    (refl, record { id = put.id; values = put.values; head = put.head; own_buffers = put.own_buffers; all_buffers = put.all_buffers; others = put.others })
+
+pub returns-in_err-read_dictionary-clause-held : goal.returns-in_err-read_dictionary-clause-held
+returns-in_err-read_dictionary-clause-held c =
+    let e : c.from_residual.result ≡ Err c.in_err-read_dictionary.field-0.0 = search rules in
+    rw e (same_arrays c.args.self.now.dictionaries c.read_dictionary.new.dictionaries c.in_err-read_dictionary.ensures.kept)

@@ -1,5 +1,7 @@
 use Rattle.std.proofs.Common.{rules, ◌≡◌, Err, Ok, Some, None, List, ℕ, subst, sym}
 use Rattle.ipc_model.specs.Streams.{header_of}
+use Rattle.ipc_readers.proofs.Kept.{kept_of_item}
+use Rattle.ipc_readers.specs.KeptValues.{values_in, values_of}
 use Rattle.ipc_readers.specs.Messages.{header_seen, opened}
 use Rattle.ipc_readers.specs.Streams.{request_of, begun_of, device_of, known_in, known_of}
 use Rattle.ipc_readers.specs.declared.read.message.Message.{Message}
@@ -74,3 +76,13 @@ returns-in-None-clause-gives g c =
     let opens : opened m ≡ Ok d = subst (λ (l : List ℕ). opened l ≡ Ok d) same (sym c.in_ok-message-in-Message.ensures.exact) in
     item_then g.R.Reads.gives g.met.R.Reads.gives_in_order (request_of old) (known_of old) (known_in c.read_body.new.self) (begun_of old) (begun_bytes c.read_frame.new.begun) m d (Ok None)
     (device_of old) c.read_frame.new.reader c.read_body.new.reader some opens (rw c.in-Message.is at c.in_ok-read_frame.ensures.gives) (rw c.in-None.is at c.in_ok-read-in-Message.ensures.gives)
+
+pub returns-in-None-clause-held : goal.returns-in-None-clause-held
+returns-in-None-clause-held g c =
+    let old = c.args.self.now in
+    let m = c.read_frame.new.metadata.items in
+    let d = header_seen c.in_ok-message-in-Message.message in
+    let same : c.deref.result.now ≡ m = search rules in
+    let some : header_of m ≡ Some d = subst (λ (l : List ℕ). header_of l ≡ Some d) same c.in_ok-message-in-Message.ensures.message in
+    kept_of_item g.R.Reads.gives g.met.R.Reads.gives_in_order (request_of old) d (begun_of old) (begun_bytes c.read_frame.new.begun) m (device_of old) c.read_frame.new.reader c.read_body.new.reader
+    (values_of old) (values_in c.read_body.new.self) some (rw c.in-Message.is at c.in_ok-read_frame.ensures.gives) (rw c.in-None.is at c.in_ok-read-in-Message.ensures.held)
