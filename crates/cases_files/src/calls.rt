@@ -13,6 +13,7 @@ use serde_json::Value;
 #[derive(Clone, Copy)]
 enum Call {
     FileOf,
+    FileWithin,
     FileSchemaOf,
     DictionariesOf,
     BatchesOf,
@@ -32,8 +33,9 @@ enum Call {
     SessionsOn,
 }
 
-const CALLS: [(&str, Call); 18] = [
+const CALLS: [(&str, Call); 19] = [
     ("file_of", Call::FileOf),
+    ("file_within", Call::FileWithin),
     ("file_schema_of", Call::FileSchemaOf),
     ("dictionaries_of", Call::DictionariesOf),
     ("batches_of", Call::BatchesOf),
@@ -60,6 +62,7 @@ pub fn put_call(d: &mut Decoder, out: &mut Text, name: &str, parts: &Value) -> b
     };
     match call {
         Call::FileOf => files::file_of(d, out, parts),
+        Call::FileWithin => files::file_within(d, out, parts),
         Call::FileSchemaOf => files::file_schema_of(d, out, parts),
         Call::DictionariesOf => files::dictionaries_of(d, out, parts),
         Call::BatchesOf => files::batches_of(d, out, parts),

@@ -85,6 +85,7 @@ enum StreamCall {
     AreSameBytes,
     HeadOf,
     CostOf,
+    FooterCostOf,
     HeadWithin,
     AnswersOf,
     RoundTripOf,
@@ -95,7 +96,7 @@ enum StreamCall {
     DamagedStreamsOf,
 }
 
-const STREAM_CALLS: [(&str, StreamCall); 18] = [
+const STREAM_CALLS: [(&str, StreamCall); 19] = [
     ("framed", StreamCall::Framed),
     ("continuation_of", StreamCall::ContinuationOf),
     ("frames_of", StreamCall::FramesOf),
@@ -106,6 +107,7 @@ const STREAM_CALLS: [(&str, StreamCall); 18] = [
     ("are_same_bytes", StreamCall::AreSameBytes),
     ("head_of", StreamCall::HeadOf),
     ("cost_of", StreamCall::CostOf),
+    ("footer_cost_of", StreamCall::FooterCostOf),
     ("head_within", StreamCall::HeadWithin),
     ("answers_of", StreamCall::AnswersOf),
     ("round_trip_of", StreamCall::RoundTripOf),
@@ -131,6 +133,7 @@ fn put_stream_call(d: &mut Decoder, out: &mut Text, name: &str, parts: &Value) -
         StreamCall::AreSameBytes => streams::are_same_bytes(d, out, parts),
         StreamCall::HeadOf => streams::head_of(d, out, parts),
         StreamCall::CostOf => limits::cost_of(d, out, parts),
+        StreamCall::FooterCostOf => limits::footer_cost_of(d, out, parts),
         StreamCall::HeadWithin => limits::head_within(d, out, parts),
         StreamCall::AnswersOf => streams::answers_of(d, out, parts),
         StreamCall::RoundTripOf => round_trips::round_trip_of(d, out, parts),

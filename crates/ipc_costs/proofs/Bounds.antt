@@ -199,7 +199,7 @@ mutual
   type-counted (dictionary keys t ordered) = type-counted t
   type-counted (extension name t text) = omega (arith, type-counted t)
 
-  fields-counted : (fs : FieldTrees) → fields_count fs ≤ fields_size fs
+  pub fields-counted : (fs : FieldTrees) → fields_count fs ≤ fields_size fs
   fields-counted no_fields = omega arith
   fields-counted (more_fields f fs) = omega (arith, field-counted f, fields-counted fs)
 

@@ -1,11 +1,13 @@
--- What reading a schema costs: one for each table of a field or of a pair that is opened, one for
--- each id of a union, and the bytes of each text. What tables share counts each time.
--- (Arrow columnar format, "Schema message"; Schema.fbs. The measure is this project's own.)
+-- What reading a schema or a footer costs: one for each table of a field or of a pair that is
+-- opened, one for each id of a union, and the bytes of each text. What tables share counts each time.
+-- (Arrow columnar format, "Schema message" and "IPC File Format"; Schema.fbs, File.fbs. The measure
+-- is this project's own.)
 use Rattle.std.specs.Prelude.{◌≡◌, ℕ, zero, suc, ◌+◌, ◌<◌, ◌≤◌, nat_eq, Bool, false, if◌then◌else◌, List, Option, Some, None, Result, Ok, Err}
 use Rattle.lower.specs.Normal.{is_extension_key}
 use Rattle.ipc_devices.specs.declared.fault.TableFault.{TableFault}
 use Rattle.ipc_views.specs.Spot.{Spot, Vector}
 use Rattle.ipc_views.specs.Tables.{root_at, table_in}
+use Rattle.ipc_views.specs.FileSlots.{footer_custom_metadata, footer_schema}
 use Rattle.ipc_views.specs.MessageSlots.{message_header}
 use Rattle.ipc_views.specs.SchemaSlots.{field_children, field_custom_metadata, field_name, field_type, key_value_key, key_value_value, schema_custom_metadata, schema_fields}
 use Rattle.ipc_views.specs.TypeSlots.{timestamp_timezone, union_type_ids}
@@ -91,6 +93,23 @@ header_cost (Some h) = if nat_eq h.0 1 then schema_table_cost h.1 else 0
 -- a message that holds a schema; any other costs nothing
 unfoldable pub schema_cost : List ℕ → ℕ
 schema_cost m = header_cost (given (made (root_at m)) (λ t. present (message_header t)))
+
+-- ---- footers
+
+-- a table that may be absent
+abbrev pub optional_cost : (Spot → ℕ) → Option Spot → ℕ
+optional_cost cost None = 0
+optional_cost cost (Some t) = cost t
+
+-- the pairs of the file, and its schema
+abbrev pub footer_table_cost : Spot → ℕ
+footer_table_cost t =
+    vector_cost pair_cost (present (footer_custom_metadata t))
+    + optional_cost schema_table_cost (present (footer_schema t))
+
+-- the bytes of a footer; one whose root is ill-made costs nothing
+unfoldable pub footer_cost : List ℕ → ℕ
+footer_cost bytes = optional_cost footer_table_cost (made (root_at bytes))
 
 -- ---- answers
 

@@ -1,8 +1,11 @@
 -- How large a schema is that was read: its fields at all levels, its pairs, the ids of its unions,
--- and the bytes of its texts.
-use Rattle.std.specs.Prelude.{ℕ, ◌+◌, ℤ, List, [], ◌∷◌, length, Option, Some, None}
+-- and the bytes of its texts. The metadata of a file have its own pairs besides.
+use Rattle.std.specs.Prelude.{ℕ, ◌+◌, ℤ, List, [], ◌∷◌, length, Option, Some, None, IfSome}
 use Rattle.lower.specs.TypeTrees.{Pairs, Plain, timestamp, Group, structure, choice, TypeTree, plain, single, group, dictionary, extension, FieldTree, field, FieldTrees, no_fields, more_fields}
+use Rattle.ipc_views.specs.Tables.{root_at}
 use Rattle.ipc_model.specs.Batches.{Schema}
+use Rattle.ipc_model.specs.Files.{FileMetadata, footer_at}
+use Rattle.ipc_model.specs.Schemas.{given, made}
 
 abbrev pub text_size : Option (List ℕ) → ℕ
 text_size None = 0
@@ -41,3 +44,10 @@ abbrev mutual
 
 abbrev pub schema_size : Schema → ℕ
 schema_size schema = fields_size schema.fields + pairs_size schema.metadata
+
+abbrev pub metadata_size : FileMetadata → ℕ
+metadata_size m = schema_size m.schema + pairs_size m.pairs
+
+-- P holds of the metadata that the bytes of a footer mean, if any, in a file of any size.
+abbrev pub OfMetadata : List ℕ → (FileMetadata → Type 0) → Type 0
+OfMetadata footer P = (size : ℕ) → IfSome (given (made (root_at footer)) (footer_at size)) P

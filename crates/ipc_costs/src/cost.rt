@@ -1,21 +1,21 @@
-//! What reading a schema costs, counted by views of its tables: nothing is copied.
+//! What reading a schema or a footer costs, counted by views of its tables: nothing is copied.
 //!
-//! Arrow columnar format, "Schema message". Tables of a message may share texts, pairs and other
-//! tables, so the schema that is read can be far larger than its message.
+//! Arrow columnar format, "Schema message" and "IPC File Format". Tables may share texts, pairs and
+//! other tables, so the schema that is read can be far larger than its message or its footer.
 ghost use Rattle.std.specs.Prelude.{◌≡◌, ◌<◌, ◌≤◌, IfSome, Some};
 ghost use Rattle.lower.specs.Normal.{is_extension_key};
-ghost use Rattle.ipc_views.specs.SchemaSlots.{field_custom_metadata, key_value_key, schema_custom_metadata};
+ghost use Rattle.ipc_views.specs.SchemaSlots.{key_value_key};
 ghost use Rattle.ipc_views.specs.Tables.{table_in, texts};
 ghost use Rattle.ipc_views.specs.Unions.{type_parts};
 ghost use Rattle.ipc_model.specs.Schemas.{present, schema_of};
 ghost use Rattle.ipc_model.specs.Visits.{visits};
-ghost use Rattle.ipc_costs.specs.Costs.{IsCostWithin, Leaves, children_read, field_cost, is_extension, own_cost, pair_cost, schema_cost, schema_table_cost, table_cost, tables_cost, type_cost, typed_cost, vector_cost};
-ghost use Rattle.ipc_costs.specs.Sizes.{schema_size, text_size};
+ghost use Rattle.ipc_costs.specs.Costs.{IsCostWithin, Leaves, children_read, field_cost, footer_cost, footer_table_cost, is_extension, own_cost, pair_cost, schema_cost, schema_table_cost, table_cost, tables_cost, type_cost, typed_cost, vector_cost};
+ghost use Rattle.ipc_costs.specs.Sizes.{OfMetadata, metadata_size, schema_size, text_size};
 
 use ipc_devices::fault::TableFault;
 use ipc_views::{
-    FieldRef, FieldTable, KeyValueRef, KeyValueTable, MessageHeaderRef, MessageRef, SchemaRef,
-    Tables, TypeRef, UnionRef,
+    FieldRef, FieldTable, FooterRef, KeyValueRef, KeyValueTable, MessageHeaderRef, MessageRef,
+    SchemaRef, Tables, TypeRef, UnionRef,
 };
 
 /// How deep fields may go.
@@ -90,22 +90,14 @@ fn pairs_left(tables: &Tables<'_, KeyValueTable>, left: u64) -> Option<u64>
     Some(left)
 }
 
-fn field_pairs_left(field: &FieldRef<'_>, left: u64) -> Option<u64>
-    ensures { Leaves left
-        (vector_cost pair_cost (present (field_custom_metadata field.now))) result }
+// The pairs of a vector that may be absent.
+fn optional_pairs_left(
+    pairs: Result<Option<Tables<'_, KeyValueTable>>, TableFault>,
+    left: u64,
+) -> Option<u64>
+    ensures { Leaves left (vector_cost pair_cost (present pairs.entry)) result }
 {
-    match field.custom_metadata() {
-        Ok(Some(tables)) => pairs_left(&tables, left),
-        Ok(None) => Some(left),
-        Err(_) => Some(left),
-    }
-}
-
-fn schema_pairs_left(schema: &SchemaRef<'_>, left: u64) -> Option<u64>
-    ensures { Leaves left
-        (vector_cost pair_cost (present (schema_custom_metadata schema.now))) result }
-{
-    match schema.custom_metadata() {
+    match pairs {
         Ok(Some(tables)) => pairs_left(&tables, left),
         Ok(None) => Some(left),
         Err(_) => Some(left),
@@ -117,7 +109,7 @@ fn own_left(field: &FieldRef<'_>, left: u64) -> Option<u64>
     ensures { Leaves left (own_cost field.now) result }
 {
     let left = text_left(field.name(), left)?;
-    field_pairs_left(field, left)
+    optional_pairs_left(field.custom_metadata(), left)
 }
 
 fn ids_left(union: &UnionRef<'_>, left: u64) -> Option<u64>
@@ -227,7 +219,7 @@ fn field_table_left(
 fn schema_left(schema: &SchemaRef<'_>, left: u64) -> Option<u64>
     ensures { Leaves left (schema_table_cost schema.now) result }
 {
-    let left = schema_pairs_left(schema, left)?;
+    let left = optional_pairs_left(schema.custom_metadata(), left)?;
     match schema.fields() {
         Ok(Some(tables)) => fields_left(&tables, tables.len(), MAX_LEVELS, left),
         Ok(None) => Some(left),
@@ -267,5 +259,44 @@ pub fn schema_cost(message: &[u8], limit: u64) -> Option<u64>
         (λ schema. schema_size schema ≤ schema_cost message.now) }
 {
     let left = message_left(message, limit)?;
+    Some(limit - left)
+}
+
+fn footer_table_left(footer: &FooterRef<'_>, left: u64) -> Option<u64>
+    ensures { Leaves left (footer_table_cost footer.now) result }
+{
+    let left = optional_pairs_left(footer.custom_metadata(), left)?;
+    match footer.schema() {
+        Ok(Some(schema)) => schema_left(&schema, left),
+        Ok(None) => Some(left),
+        Err(_) => Some(left),
+    }
+}
+
+#[tactic(auto, unfolding(crate::specs::Costs::footer_cost))]
+fn footer_left(footer: &[u8], left: u64) -> Option<u64>
+    ensures { Leaves left (footer_cost footer.now) result }
+{
+    match FooterRef::read_as_root(footer) {
+        Ok(table) => footer_table_left(&table, left),
+        Err(_) => Some(left),
+    }
+}
+
+/// What it costs to read the schema and the pairs of a file's footer, or None if that is more than
+/// `limit`.
+///
+/// The schema costs what it costs in a message, by [`schema_cost`], and the pairs of the file what
+/// pairs of a schema cost. The blocks cost nothing: a footer has 24 bytes for each. A footer whose
+/// root is ill-made costs nothing, and neither does an ill-made part of one.
+///
+/// It takes no memory, and the limit bounds its time, as that of [`schema_cost`].
+#[tactic(auto, using(crate::proofs::FooterBounds::footer_bounds))]
+pub fn footer_cost(footer: &[u8], limit: u64) -> Option<u64>
+    ensures exact { IsCostWithin limit (footer_cost footer.now) result }
+    ensures visits { OfMetadata footer.now (λ m. visits m.schema ≤ footer_cost footer.now) }
+    ensures size { OfMetadata footer.now (λ m. metadata_size m ≤ footer_cost footer.now) }
+{
+    let left = footer_left(footer, limit)?;
     Some(limit - left)
 }

@@ -1,4 +1,4 @@
-//! What reading a schema costs.
+//! What reading a schema or a footer costs.
 #![tactic(auto)]
 
 pub mod cost;

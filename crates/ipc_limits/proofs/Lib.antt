@@ -1,1 +1,2 @@
 pub mod MetadataRuns
+pub mod FileMetadataRuns

@@ -1,1 +1,2 @@
 pub mod Metadata
+pub mod Files

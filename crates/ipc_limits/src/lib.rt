@@ -1,4 +1,5 @@
-//! Reads that refuse schemas which cost more than a limit.
+//! Reads that refuse schemas and footers which cost more than a limit.
 #![tactic(auto)]
 
+pub mod file;
 pub mod stream;

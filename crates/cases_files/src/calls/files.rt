@@ -2,7 +2,8 @@
 //!
 //! `"file_of": FILE` gives the metadata of a file: `{"blocks": [[8, 152, 64], ..], "columns": ["x:
 //! Int32", ..], "dictionary_blocks": [..], "metadata": [["k", "v"], ..], "order": "little", "size":
-//! 600}`. `"file_schema_of": FILE` gives its schema. `"dictionaries_of": FILE` with
+//! 600}`. `"file_within"` with `"limit": 5` beside the parts of a file gives the same, unless its
+//! footer costs more. `"file_schema_of": FILE` gives its schema. `"dictionaries_of": FILE` with
 //! `"shown": [0, ..]` gives `[SLOTS, ..]`, the values of these dictionary ids, null for an id
 //! without values.
 //!
@@ -36,6 +37,7 @@ use ipc_base::chunk::Chunk;
 use ipc_devices::fault::Fault;
 use ipc_devices::{MemFile, Reads};
 use ipc_files::read::file::{FileMetadata, read_batch, read_file_dictionaries, read_file_metadata};
+use ipc_limits::file::read_file_metadata_within;
 use ipc_read::read::Dictionaries;
 use ipc_views::Block;
 use lower::datatypes::{Field, Metadata};
@@ -70,6 +72,17 @@ pub fn file_of(d: &mut Decoder, out: &mut Text, value: &Value) {
         if let Some(copied) = d.take(copied) {
             put_metadata(d, out, &copied);
         }
+    }
+}
+
+/// Appends the metadata of a file whose footer costs at most the limit.
+pub fn file_within(d: &mut Decoder, out: &mut Text, value: &Value) {
+    let file = file(d, value);
+    let limit = d.count(value.get("limit"), "limit");
+    let mut input = MemFile::new(file.as_slice());
+    let read = read_file_metadata_within(d.alloc(), &mut input, limit as u64);
+    if let Some(metadata) = d.take(read) {
+        put_metadata(d, out, &metadata);
     }
 }
 

@@ -1,12 +1,13 @@
 //! Reading: the chunks of a stream (`StreamReader`) and of a file (`FileReader`), from any device; all of a stream or a file that lies
 //! in memory (`read_stream`, `read_file`); and the calls below them, for a schema, a batch, a dictionary, a footer.
-pub use ipc_costs::cost::schema_cost;
+pub use ipc_costs::cost::{footer_cost, schema_cost};
 pub use ipc_devices::OutOfSpecKind;
 pub use ipc_file_readers::read::reader::FileReader;
 pub use ipc_file_round_trip::read::{WholeFile, read_file, read_file_columns};
 pub use ipc_files::read::file::{
     FileMetadata, read_batch, read_file_dictionaries, read_file_metadata,
 };
+pub use ipc_limits::file::read_file_metadata_within;
 pub use ipc_limits::stream::read_stream_metadata_within;
 pub use ipc_projections::read::prepare::prepare_projection;
 pub use ipc_projections::read::projection::{
