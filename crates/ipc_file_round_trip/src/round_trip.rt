@@ -32,8 +32,8 @@ pub struct FileRoundTrip {
 /// these pairs, and exactly the chunks of the writes that were Ok.
 ///
 /// Faults: `Argument(TooLarge)` where the weight of the schema and the pairs is above `2^30`, before any call, or where the file has more
-/// than `2^25` blocks; `State(NotStarted)` where no `start` was Ok; `State(Failed)` where a call answered `Io`, and `Io` where the end
-/// can't be written, both of which come only where the memory that is written to was refused its growth; `Memory`. What was written is
+/// than `2^25` blocks; `State(NotStarted)` where no `start` was Ok; `State(Failed)` where a call answered `Io`, and `Io` where the vector
+/// has no room for the end, both of which come only where its growth was refused; `Memory`. What was written is
 /// never refused where it is read.
 pub fn file_round_trip(
     alloc: Global,

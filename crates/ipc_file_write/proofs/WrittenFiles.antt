@@ -6,6 +6,7 @@ use Rattle.lower.specs.TypeTrees.{FieldTrees, Pairs}
 use Rattle.lower_types.specs.declared.Endianness.{Endianness}
 use Rattle.ipc_base.specs.IdTrees.{IdTrees}
 use Rattle.ipc_devices.specs.Device.{before}
+use Rattle.ipc_devices.specs.Faults.{IsIo}
 use Rattle.ipc_devices.specs.declared.fault.ArgFault.{ArgFault}
 use Rattle.ipc_devices.specs.declared.fault.ArgFault.TheVariants as args
 use Rattle.ipc_devices.specs.declared.fault.Fault.{Fault}
@@ -14,13 +15,15 @@ use Rattle.ipc_devices.specs.declared.fault.StateFault.{StateFault}
 use Rattle.ipc_devices.specs.declared.fault.StateFault.TheVariants as states
 use Rattle.ipc_model.specs.WriterStates.{IsRun, Writer, new_writer}
 use Rattle.ipc_write.specs.Calls.{ended_as, state_seen}
+use Rattle.ipc_write.proofs.Vectors.{is_full}
+use Rattle.ipc_write.specs.Vectors.{HasNoRoom, vector_room}
 use Rattle.ipc_write.specs.Writers.{fault_unless_started}
 use Rattle.ipc_write.specs.declared.calls.StreamCall.{StreamCall}
 use Rattle.ipc_write.specs.declared.stream.WriterState.{WriterState}
 use Rattle.ipc_write.specs.declared.stream.WriterState.TheVariants.{New, Started, Finished, Failed}
 use Rattle.ipc_file_write.proofs.CallLists.{AllMove, moves_all, moves_follow, moves_run, vector_before}
 use Rattle.ipc_file_write.specs.Calls.{AreMade, vector, writer_seen}
-use Rattle.ipc_file_write.specs.FileWriters.{Agrees, FileSeen, HasNothing, IsFileOf, MissesFinish, OrFails, RefusesFinish, TakesNoPairs, Remains, StateComesFirst, TakesPairs, fault_if_over}
+use Rattle.ipc_file_write.specs.FileWriters.{Agrees, FileSeen, HasNothing, IsEnding, IsFileOf, MissesFinish, OrFails, RefusesFinish, SendsEnding, TakesNoPairs, Remains, StateComesFirst, TakesPairs, fault_if_over}
 use Rattle.ipc_file_write.specs.WrittenFiles.{Leave, RefusesEnd, RefusesWholeFile, writer_in}
 
 -- ---- the end
@@ -46,12 +49,17 @@ module _ (a b : FileSeen (Vec ℕ Global)) (going : a.state ≡ Finished → ⊥
     | inr h ↦ subst (λ (y : StateFault). RefusesEnd a (faults.State y)) (sym h.1) h.0
   ]
 
-  pub refuses_end : (e : Fault) → StateComesFirst (fault_unless_started a.state) a (Err e) b → OrFails (RefusesFinish a) e → MissesFinish a e → RefusesEnd a e
-  refuses_end faults.Memory first only misses = tt
-  refuses_end (faults.Io e) first only misses = tt
-  refuses_end (faults.State x) first only misses = refuses_state x only
-  refuses_end (faults.Argument args.TooLarge) first only misses = record { started = started_alone a.state a b args.TooLarge first; many = misses }
-  refuses_end _ first only misses = absurd misses
+  pub refuses_end : (e : Fault) → StateComesFirst (fault_unless_started a.state) a (Err e) b → OrFails (RefusesFinish a) e → MissesFinish a e → (IsIo e → HasNoRoom a.device (IsEnding a)) → RefusesEnd a e
+  refuses_end faults.Memory first only misses full = tt
+  refuses_end (faults.Io e) first only misses full = full tt
+  refuses_end (faults.State x) first only misses full = refuses_state x only
+  refuses_end (faults.Argument args.TooLarge) first only misses full = record { started = started_alone a.state a b args.TooLarge first; many = misses }
+  refuses_end _ first only misses full = absurd misses
+
+-- where it answers an error of its memory
+pub ending_full : (a b : FileSeen (Vec ℕ Global)) (e : Fault) → SendsEnding true true (λ v. 0) vector_room vector a (Err e) b → IsIo e → HasNoRoom a.device (IsEnding a)
+ending_full a b (faults.Io x) s io = record { bytes = s.bytes; are = s.is; full = is_full _ _ s.step.io.1 }
+ending_full a b _ s io = absurd io
 
 -- ---- the calls
 
@@ -114,7 +122,7 @@ module _ (order : Endianness) (fs : FieldTrees) (es : Pairs) (is : IdTrees) (ps 
   -- the end
   pub end_refused : (answers : List (Result (Unit {0}) Fault)) (w : FileSeen (Vec ℕ Global)) (e : Fault) → Leave order fs es is ps calls answers w → RefusesEnd w e → RefusesWholeFile order fs es is ps calls e
   end_refused answers w faults.Memory left h = tt
-  end_refused answers w (faults.Io x) left h = tt
+  end_refused answers w (faults.Io x) left h = record { answers = answers; last = w; leave = left; holds = h }
   end_refused answers w (faults.Argument args.TooLarge) left h = inr (record { answers = answers; last = w; leave = left; holds = h })
   end_refused answers w (faults.State states.NotStarted) left h = record { answers = answers; last = w; leave = left; holds = h }
   end_refused answers w (faults.State states.Failed) left h = record { answers = answers; last = w; leave = left; holds = h }

@@ -14,11 +14,12 @@ use Rattle.ipc_model.specs.WriterStates.{IsRun, State as Stage, Writer, answered
 use Rattle.ipc_model.specs.Writers.{taken}
 use Rattle.ipc_schema_write.specs.WriterAnswers.{max_weight}
 use Rattle.ipc_write.specs.Calls.{ended_as}
+use Rattle.ipc_write.specs.Vectors.{HasNoRoom}
 use Rattle.ipc_write.specs.declared.calls.StreamCall.{StreamCall}
 use Rattle.ipc_write.specs.declared.stream.WriterState.TheVariants.{New, Started, Finished, Failed}
 use Rattle.ipc_footers.specs.Footers.{AreFew}
 use Rattle.ipc_file_write.specs.Calls.{AreMade, vector, writer_seen}
-use Rattle.ipc_file_write.specs.FileWriters.{Agrees, FileSeen, IsFileOf}
+use Rattle.ipc_file_write.specs.FileWriters.{Agrees, FileSeen, IsEnding, IsFileOf}
 
 -- ---- the calls
 
@@ -62,15 +63,15 @@ abbrev pub RefusesEnd : FileSeen (Vec ℕ Global) → Fault → Type 0
 RefusesEnd w (State faults.NotStarted) = w.state ≡ New
 RefusesEnd w (State faults.Failed) = w.state ≡ Failed
 RefusesEnd w (Argument TooLarge) = HasTooMany w
-RefusesEnd w (Io e) = Unit {0}
+RefusesEnd w (Io e) = HasNoRoom w.device (IsEnding w)
 RefusesEnd w Memory = Unit {0}
 RefusesEnd w _ = ⊥
 
--- Why a file isn't written: memory, of which a device that is memory tells by its own fault; a schema and pairs that are too heavy; or a
--- writer that the calls left not started, failed, or with too many blocks.
+-- Why a file isn't written: memory, of which a device that is memory tells by its own fault, where it has no room for the end; a schema and
+-- pairs that are too heavy; or a writer that the calls left not started, failed, or with too many blocks.
 abbrev pub RefusesWholeFile : Endianness → FieldTrees → Pairs → IdTrees → Pairs → List StreamCall → Fault → Type 0
 RefusesWholeFile order fs es is ps calls Memory = Unit {0}
-RefusesWholeFile order fs es is ps calls (Io e) = Unit {0}
+RefusesWholeFile order fs es is ps calls (Io e) = MayLeave order fs es is ps calls (λ w. HasNoRoom w.device (IsEnding w))
 RefusesWholeFile order fs es is ps calls (Argument TooLarge) = (¬ (file_weight fs es ps ≤ max_weight)) ⊎ MayLeave order fs es is ps calls HasTooMany
 RefusesWholeFile order fs es is ps calls (State faults.NotStarted) = MayLeave order fs es is ps calls (λ w. w.state ≡ New)
 RefusesWholeFile order fs es is ps calls (State faults.Failed) = MayLeave order fs es is ps calls (λ w. w.state ≡ Failed)

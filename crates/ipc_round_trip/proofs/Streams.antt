@@ -1,8 +1,9 @@
 -- What is read of a whole stream is what its bytes mean.
 use Rattle.std.proofs.Common.{arith, inl, inr, ◌≡◌, ◌-◌, ℕ, length, append-nil, take_all, subst, List, [], ◌++◌, Option, None, Some, Result, Ok, Err, Bool, true, false, refl, sym, ap, ◌∙◌}
-use Rattle.std.specs.Prelude.{◌⊎◌, option_map, Vec, vec_capacity, vec_len}
+use Rattle.std.specs.Prelude.{◌⊎◌, option_map, pos, Vec, vec_capacity, vec_len}
 use Rattle.std.specs.declared.alloc.Global.{Global}
 use Rattle.std.specs.Result.{result_ok}
+use Rattle.std.specs.declared.io.Error.{Error}
 use Rattle.lower.specs.TypeViews.{schema_view}
 use Rattle.ipc_devices.proofs.Claims.{claimed, claims_through}
 use Rattle.ipc_base.specs.IdTrees.{IdTrees, ipc_schema_view}
@@ -13,6 +14,7 @@ use Rattle.ipc_devices.specs.Faults.{OnIo, OwnFault}
 use Rattle.ipc_devices.specs.Gives.{Gives, MemoryGives}
 use Rattle.ipc_devices.specs.declared.fault.Fault.{Fault}
 use Rattle.ipc_devices.specs.declared.fault.Fault.TheVariants as faults
+use Rattle.ipc_devices.specs.declared.fault.StateFault.{StateFault}
 use Rattle.ipc_devices.specs.declared.fault.StateFault.TheVariants.{NotStarted, Failed as StateFailed}
 use Rattle.ipc_devices.specs.declared.fault.TableFault.{TableFault}
 use Rattle.lower_types.specs.declared.Endianness.{Endianness}
@@ -38,9 +40,12 @@ use Rattle.ipc_readers.specs.declared.read.stream.metadata.StreamMetadata.{Strea
 use Rattle.ipc_readers.specs.declared.read.stream.reader.StreamReader.{StreamReader}
 use Rattle.ipc_round_trip.specs.Reading.{BlamesStream, EndsAs, IsReadable, MeansAhead, ReadsStream, RefusesAhead, RefusesStream}
 use Rattle.ipc_write.specs.Agreement.{Agrees, HasEnded, Remains, StreamIs}
+use Rattle.ipc_write.specs.Framing.{prefix_bytes}
 use Rattle.ipc_model.specs.WriterStates.{IsRun}
 use Rattle.ipc_write.specs.Calls.{AreMade, ended_as, state_seen, writer_in}
-use Rattle.ipc_write.specs.Writers.{WriterSeen}
+use Rattle.ipc_write.proofs.Vectors.{is_full}
+use Rattle.ipc_write.specs.Vectors.{vector_room}
+use Rattle.ipc_write.specs.Writers.{RefusesFinish, SendStep, StateComesFirst, WriterSeen, fault_unless_started}
 use Rattle.ipc_write.specs.declared.calls.StreamCall.{StreamCall}
 use Rattle.ipc_write.specs.declared.stream.WriterState.{WriterState}
 use Rattle.ipc_write.specs.declared.stream.WriterState.TheVariants.{Failed, Finished, New, Started}
@@ -313,11 +318,37 @@ runs_to_stream o a b fs es is calls answers new ordered empty made (inl left) = 
 runs_to_stream o a b fs es is calls answers new ordered empty made (inr left) = inr (runs_over_memory o a b fs es is calls answers Finished new ordered empty made left)
 
 pub refused_end : (o : Endianness) (a b : WriterSeen (Vec ℕ Global)) (fs : FieldTrees) (es : Pairs) (is : IdTrees) (calls : List StreamCall) (answers : List (Result (Unit {0}) Fault)) (e : Fault) → a.state ≡ New → a.order ≡ o → a.device.items ≡ []
-    → AreMade true true (λ v. 0) (λ v. vec_capacity v - vec_len v) vector fs es is a calls answers b → RefusesEnd b.state e → RefusesRoundTrip o fs es is calls e
-refused_end o a b fs es is calls answers (faults.State NotStarted) new ordered empty made h = record { answers = answers; runs = runs_over_memory o a b fs es is calls answers New new ordered empty made h }
-refused_end o a b fs es is calls answers (faults.State StateFailed) new ordered empty made h = record { answers = answers; runs = runs_over_memory o a b fs es is calls answers Failed new ordered empty made h }
-refused_end o a b fs es is calls answers (faults.Io x) new ordered empty made h = tt
+    → AreMade true true (λ v. 0) (λ v. vec_capacity v - vec_len v) vector fs es is a calls answers b → RefusesEnd b e → RefusesRoundTrip o fs es is calls e
+unfolding runs_over_memory
+refused_end o a b fs es is calls answers (faults.State NotStarted) new ordered empty made h = record { answers = answers; runs = runs_over_memory o a b fs es is calls answers New new ordered empty made h; holds = tt }
+refused_end o a b fs es is calls answers (faults.State StateFailed) new ordered empty made h = record { answers = answers; runs = runs_over_memory o a b fs es is calls answers Failed new ordered empty made h; holds = tt }
+refused_end o a b fs es is calls answers (faults.Io x) new ordered empty made h = record { answers = answers; runs = runs_over_memory o a b fs es is calls answers Started new ordered empty made h.started; holds = h }
 refused_end o a b fs es is calls answers _ new ordered empty made h = absurd h
+
+-- ---- why a stream isn't ended
+
+-- an error of the device comes of a started writer alone
+started_first : (s : WriterState) (a b : WriterSeen (Vec ℕ Global)) (x : Error) → StateComesFirst (fault_unless_started s) a (Err (faults.Io x)) b → s ≡ Started
+started_first New a b x h = let other = h.0 in absurd cc
+started_first Started a b x h = refl
+started_first Finished a b x h = let other = h.0 in absurd cc
+started_first Failed a b x h = let other = h.0 in absurd cc
+
+-- the state of a writer that refuses to end for its state
+refuses_state : (s : WriterState) (x : StateFault) → (s ≡ Finished → ⊥) → fault_unless_started s ≡ Some x → ((s ≡ New) × (x ≡ NotStarted)) ⊎ ((s ≡ Failed) × (x ≡ StateFailed))
+refuses_state New x going e = inl (refl, let same : x ≡ NotStarted = cc in same)
+refuses_state Started x going e = absurd cc
+refuses_state Finished x going e = absurd (going refl)
+refuses_state Failed x going e = inr (refl, let same : x ≡ StateFailed = cc in same)
+
+pub refuses_end : (a b : WriterSeen (Vec ℕ Global)) → (a.state ≡ Finished → ⊥) → (e : Fault) → StateComesFirst (fault_unless_started a.state) a (Err e) b
+    → SendStep true true (λ v. 0) vector_room vector a (Err e) b (prefix_bytes (pos 0)) 8 → RefusesFinish a.state e → RefusesEnd a e
+refuses_end a b going (faults.State x) first step only = elim (refuses_state a.state x going only) [
+  | inl h ↦ subst (λ (y : StateFault). RefusesEnd a (faults.State y)) (sym h.1) h.0
+  | inr h ↦ subst (λ (y : StateFault). RefusesEnd a (faults.State y)) (sym h.1) h.0
+]
+refuses_end a b going (faults.Io x) first step only = record { started = started_first a.state a b x first; full = is_full _ _ step.io.1 }
+refuses_end a b going _ first step only = absurd only
 
 -- ---- what is never refused
 

@@ -1,6 +1,6 @@
 -- What a writer of streams wrote is what a reader of streams reads.
 -- (Arrow columnar format, "IPC Streaming Format".)
-use Rattle.std.specs.Prelude.{◌≡◌, ℕ, ◌-◌, ◌⊎◌, List, [], Bool, true, false, Result, Vec, vec_capacity, vec_len}
+use Rattle.std.specs.Prelude.{◌≡◌, ℕ, ◌-◌, ◌<◌, ◌⊎◌, List, [], Bool, true, false, Result, Vec, vec_capacity, vec_len}
 use Rattle.std.specs.declared.alloc.Global.{Global}
 use Rattle.ipc_base.specs.IdTrees.{IdTrees}
 use Rattle.ipc_devices.specs.Device as devices
@@ -16,6 +16,7 @@ use Rattle.ipc_model.specs.Writers.{IsFinished, IsStarted}
 use Rattle.ipc_readers.specs.Streams.{head_of}
 use Rattle.ipc_write.specs.Agreement.{Agrees, HasEnded}
 use Rattle.ipc_write.specs.Calls.{AreMade, ended_as, state_seen, writer_in}
+use Rattle.ipc_write.specs.Vectors.{vector_room}
 use Rattle.ipc_write.specs.Writers.{WriterSeen}
 use Rattle.ipc_write.specs.declared.calls.StreamCall.{StreamCall}
 use Rattle.ipc_write.specs.declared.stream.WriterState.{WriterState}
@@ -76,23 +77,29 @@ pub record RunsOverMemory (order : Endianness) (fields : FieldTrees) (metadata :
 abbrev pub RunsToStream : Endianness → FieldTrees → Pairs → IdTrees → List StreamCall → List (Result Unit Fault) → Type 0
 RunsToStream order fields metadata ids calls answers = RunsOverMemory order fields metadata ids calls answers writer.Started ⊎ RunsOverMemory order fields metadata ids calls answers writer.Finished
 
--- with some answers they leave the writer in this state
-pub record MayLeave (order : Endianness) (fields : FieldTrees) (metadata : Pairs) (ids : IdTrees) (calls : List StreamCall) (state : WriterState) : Type 0 where
+-- with some answers they leave a writer in this state, of which this holds
+pub record MayLeave (order : Endianness) (fields : FieldTrees) (metadata : Pairs) (ids : IdTrees) (calls : List StreamCall) (state : WriterState) (P : WriterSeen (Vec ℕ Global) → Type 0) : Type 0 where
   pub answers : List (Result Unit Fault)
   pub runs : RunsOverMemory order fields metadata ids calls answers state
+  pub holds : P runs.last
+
+-- a started writer whose vector has no room for the eight bytes of the mark
+pub record HasNoRoomForMark (w : WriterSeen (Vec ℕ Global)) : Type 0 where
+  pub started : w.state ≡ writer.Started
+  pub full : vector_room w.device < 8
 
 -- why a stream isn't ended
-abbrev pub RefusesEnd : WriterState → Fault → Type 0
-RefusesEnd s (State NotStarted) = s ≡ writer.New
-RefusesEnd s (State Failed) = s ≡ writer.Failed
-RefusesEnd s (Io e) = Unit {0}
-RefusesEnd s _ = ⊥
+abbrev pub RefusesEnd : WriterSeen (Vec ℕ Global) → Fault → Type 0
+RefusesEnd w (State NotStarted) = w.state ≡ writer.New
+RefusesEnd w (State Failed) = w.state ≡ writer.Failed
+RefusesEnd w (Io e) = HasNoRoomForMark w
+RefusesEnd w _ = ⊥
 
--- Why a round trip is refused: memory, of which a device that is memory tells by its own fault, or a writer that the calls left
--- not started or failed. What was written is never refused where it is read.
+-- Why a round trip is refused: memory, of which a device that is memory tells by its own fault, where it has no room for the mark; or a
+-- writer that the calls left not started or failed. What was written is never refused where it is read.
 abbrev pub RefusesRoundTrip : Endianness → FieldTrees → Pairs → IdTrees → List StreamCall → Fault → Type 0
 RefusesRoundTrip order fs es is calls Memory = Unit {0}
-RefusesRoundTrip order fs es is calls (Io e) = Unit {0}
-RefusesRoundTrip order fs es is calls (State NotStarted) = MayLeave order fs es is calls writer.New
-RefusesRoundTrip order fs es is calls (State Failed) = MayLeave order fs es is calls writer.Failed
+RefusesRoundTrip order fs es is calls (Io e) = MayLeave order fs es is calls writer.Started HasNoRoomForMark
+RefusesRoundTrip order fs es is calls (State NotStarted) = MayLeave order fs es is calls writer.New (λ w. Unit {0})
+RefusesRoundTrip order fs es is calls (State Failed) = MayLeave order fs es is calls writer.Failed (λ w. Unit {0})
 RefusesRoundTrip order fs es is calls _ = ⊥

@@ -11,10 +11,10 @@ ghost use Rattle.ipc_round_trip.specs.RoundTrip.{ComesBack, EndsStream, Finished
 
 use crate::read::{WholeStream, read_stream};
 use ipc_base::ipc::IpcField;
-use ipc_devices::{Fault, StateFault};
+use ipc_devices::Fault;
 use ipc_write::calls::{StreamCall, run_calls};
 use ipc_write::common::WriteOptions;
-use ipc_write::stream::StreamWriter;
+use ipc_write::stream::{StreamWriter, WriterState};
 use lower::datatypes::Schema;
 use std::alloc::Global;
 
@@ -31,11 +31,14 @@ pub struct RoundTrip {
 fn ended(mut writer: StreamWriter<Vec<u8>>) -> Result<Vec<u8>, Fault>
     ensures ok { IfOk result (λ bytes. EndsStream (seen writer) bytes.items) }
     ensures state { OnOk result (((seen writer).state ≡ Started) ⊎ ((seen writer).state ≡ Finished)) }
-    ensures only { IfErr result (RefusesEnd (seen writer).state) }
+    ensures only { IfErr result (RefusesEnd (seen writer)) }
 {
-    match writer.finish() {
-        Ok(()) | Err(Fault::State(StateFault::Finished)) => Ok(writer.into_inner()),
-        Err(fault) => Err(fault),
+    match writer.state() {
+        WriterState::Finished => Ok(writer.into_inner()),
+        _ => {
+            writer.finish()?;
+            Ok(writer.into_inner())
+        }
     }
 }
 
@@ -43,9 +46,9 @@ fn ended(mut writer: StreamWriter<Vec<u8>>) -> Result<Vec<u8>, Fault>
 /// of them did, and reads it back: it has the schema in its normal form, with the ids that are handed in, or 0, 1, 2 and on, and exactly
 /// the chunks of the writes that were Ok.
 ///
-/// Faults: `State(NotStarted)` where no `start` was Ok, `State(Failed)` where a call answered `Io`, `Io`
-/// where the end can't be written; `Memory`. Over memory a call answers `Io` only where its growth was refused. What was written is
-/// never refused where it is read.
+/// Errors: `State(NotStarted)` if no `start` was Ok; `State(Failed)` if a call answered `Io`, which a
+/// vector does only if its growth was refused; `Io` if the vector had no room for the eight bytes of
+/// the end, and its growth was refused; `Memory`. What was written is never refused when it is read.
 pub fn round_trip(
     alloc: Global,
     schema: &Schema,

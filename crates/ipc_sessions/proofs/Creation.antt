@@ -1,5 +1,5 @@
 -- What a session leaves that creates a file in memory.
-use Rattle.std.proofs.Common.{◌≡◌, ℕ, ◌<◌, true, List, [], ◌∷◌, None, Some, Result, Err, refl, sym, ap, ◌∙◌, subst, arith, inl, inr}
+use Rattle.std.proofs.Common.{◌≡◌, ℕ, true, List, [], ◌∷◌, None, Some, Result, Err, refl, sym, ap, ◌∙◌, subst, arith, inl, inr}
 use Rattle.std.proofs.lemmas.List.{take_all}
 use Rattle.std.specs.Prelude.{◌⊎◌, Vec}
 use Rattle.std.specs.declared.alloc.Global.{Global}
@@ -19,18 +19,19 @@ use Rattle.ipc_model.specs.Writers.{write_call}
 use Rattle.ipc_schema_write.specs.WriterAnswers.{written_as}
 use Rattle.ipc_write.specs.Calls.{outcome, state_seen}
 use Rattle.ipc_write.specs.Meaning.{chunk_written}
-use Rattle.ipc_write.specs.Sending.{FailsOrIsFull}
+use Rattle.ipc_write.proofs.Vectors.{is_full}
+use Rattle.ipc_write.specs.Vectors.{HasNoRoom, vector_room}
 use Rattle.ipc_write.specs.Writers.{fault_unless_started}
 use Rattle.ipc_write.specs.declared.stream.WriterState.{WriterState}
 use Rattle.ipc_write.specs.declared.stream.WriterState.TheVariants.{New, Started, Finished, Failed}
 use Rattle.ipc_file_write.proofs.Elsewhere.{over, whole_over}
 use Rattle.ipc_file_write.specs.Calls.{vector}
-use Rattle.ipc_file_write.specs.FileWriters.{Agrees, EndsWith, FileSeen, HasNothing, IsBeginning, IsEnding, IsFileOf, IsSameFile, IsWholeFile, MissesFinish, MissesStart, OrFails, RefusesFinish, SendsBeginning, SendsEnding, TakesNoPairs, Remains, StartsWith, StateComesFirst, TakesPairs, fault_if_over, head_of_file}
+use Rattle.ipc_file_write.specs.FileWriters.{Agrees, EndsWith, FileSeen, HasNothing, IsBeginning, IsEnding, IsFileOf, IsSameFile, IsWholeFile, MissesFinish, MissesStart, OrFails, RefusesFinish, SendsBeginning, TakesNoPairs, Remains, StartsWith, StateComesFirst, TakesPairs, fault_if_over, head_of_file}
 use Rattle.ipc_file_write.specs.WrittenFiles.{RefusesEnd}
 use Rattle.ipc_file_write.proofs.FileStates.{at_state}
 use Rattle.ipc_file_write.proofs.WrittenFiles.{refuses_end}
 use Rattle.ipc_sessions.specs.Sessions.{IsEndedFile}
-use Rattle.ipc_sessions.specs.Steps.{AreWritten, HasNoRoom, IsCreation, RefusesCreation, TakesChunks, vector_room}
+use Rattle.ipc_sessions.specs.Steps.{AreWritten, IsCreation, RefusesCreation, TakesChunks}
 use Rattle.ipc_sessions.proofs.Ends.{front_before}
 
 -- all that a vector holds stands before its place
@@ -89,17 +90,9 @@ creation n p a b fs es is order pairs chunks answers file paired started starts 
 
 -- ---- why none is created
 
--- memory fails where it is full
-is-full : (room count : ℕ) → FailsOrIsFull true 0 0 room count → room < count
-is-full room count h = elim h [ inl rises ↦ absurd (omega (arith, rises)) | inr full ↦ full.1 ]
-
 pub beginning_full : (a b : FileSeen (Vec ℕ Global)) (e : Fault) → SendsBeginning true true (λ v. 0) vector_room vector a (Err e) b → IsIo e → HasNoRoom a.device (IsBeginning a)
-beginning_full a b (faults.Io x) s io = record { bytes = s.bytes; are = s.is; full = is-full _ _ s.step.io.1 }
+beginning_full a b (faults.Io x) s io = record { bytes = s.bytes; are = s.is; full = is_full _ _ s.step.io.1 }
 beginning_full a b _ s io = absurd io
-
-pub ending_full : (a b : FileSeen (Vec ℕ Global)) (e : Fault) → SendsEnding true true (λ v. 0) vector_room vector a (Err e) b → IsIo e → HasNoRoom a.device (IsEnding a)
-ending_full a b (faults.Io x) s io = record { bytes = s.bytes; are = s.is; full = is-full _ _ s.step.io.1 }
-ending_full a b _ s io = absurd io
 
 -- the writes of a session leave its writer started or failed
 abbrev IsGoing : WriterState → Type 0
@@ -165,14 +158,14 @@ module _ (fs : FieldTrees) (es : Pairs) (is : IdTrees) (order : Endianness) (ps 
     going : IsGoing creation.last.state
     going = going-last creation.opened creation.last chunks answers creation.writes (inl creation.started)
 
-    not-ended : (e : Fault) → RefusesEnd creation.last e → (IsIo e → HasNoRoom creation.last.device (IsEnding creation.last)) → RefusesCreation fs es is order ps chunks e
-    not-ended faults.Memory h full = tt
-    not-ended (faults.Io x) h full = inr (record { answers = answers; creation = creation; holds = full tt })
-    not-ended (faults.Argument args.TooLarge) h full = inr (record { answers = answers; creation = creation; holds = h })
-    not-ended (faults.State states.NotStarted) h full = absurd (not-new creation.last.state going h)
-    not-ended (faults.State states.Failed) h full = record { answers = answers; creation = creation; holds = h }
-    not-ended _ h full = absurd h
+    not-ended : (e : Fault) → RefusesEnd creation.last e → RefusesCreation fs es is order ps chunks e
+    not-ended faults.Memory h = tt
+    not-ended (faults.Io x) h = inr (record { answers = answers; creation = creation; holds = h })
+    not-ended (faults.Argument args.TooLarge) h = inr (record { answers = answers; creation = creation; holds = h })
+    not-ended (faults.State states.NotStarted) h = absurd (not-new creation.last.state going h)
+    not-ended (faults.State states.Failed) h = record { answers = answers; creation = creation; holds = h }
+    not-ended _ h = absurd h
 
     pub end_refused : (b : FileSeen (Vec ℕ Global)) (e : Fault) → StateComesFirst (fault_unless_started creation.last.state) creation.last (Err e) b → OrFails (RefusesFinish creation.last) e → MissesFinish creation.last e
         → (IsIo e → HasNoRoom creation.last.device (IsEnding creation.last)) → RefusesCreation fs es is order ps chunks e
-    end_refused b e first only misses full = not-ended e (refuses_end creation.last b (not-finished creation.last.state going) e first only misses) full
+    end_refused b e first only misses full = not-ended e (refuses_end creation.last b (not-finished creation.last.state going) e first only misses full)

@@ -1,6 +1,6 @@
 -- The calls of a session: what its writes do, what its end leaves, and which calls are made of which writers.
 -- (Arrow columnar format, "IPC File Format".)
-use Rattle.std.specs.Prelude.{◌≡◌, ◌⊎◌, ℕ, ◌-◌, ◌<◌, ◌≤◌, Bool, IsTrue, true, List, [], ◌∷◌, ◌++◌, length, Some, None, Result, Ok, Err, IfErr, OnOk, Vec, vec_capacity, vec_len}
+use Rattle.std.specs.Prelude.{◌≡◌, ◌⊎◌, ℕ, ◌-◌, ◌≤◌, Bool, IsTrue, true, List, [], ◌∷◌, ◌++◌, length, Some, None, Result, Ok, Err, IfErr, OnOk, Vec, vec_capacity}
 use Rattle.std.specs.declared.alloc.Global.{Global}
 use Rattle.lower.specs.TypeTrees.{FieldTrees, Pairs}
 use Rattle.lower_types.specs.declared.Endianness.{Endianness}
@@ -22,6 +22,7 @@ use Rattle.ipc_model.specs.Writers.{write_call}
 use Rattle.ipc_schema_write.specs.WriterAnswers.{max_weight, written_as}
 use Rattle.ipc_write.specs.Calls.{outcome, state_seen}
 use Rattle.ipc_write.specs.Meaning.{chunk_written}
+use Rattle.ipc_write.specs.Vectors.{HasNoRoom}
 use Rattle.ipc_write.specs.declared.stream.WriterState.TheVariants.{Failed, Started}
 use Rattle.ipc_file_write.specs.AppendLaws.{NoMore, Onward}
 use Rattle.ipc_file_write.specs.Appends.{DeviceFails, GoesOn, OpensFile}
@@ -85,16 +86,6 @@ pub record MayCreate (fields : FieldTrees) (metadata : Pairs) (ids : IdTrees) (o
   pub answers : List (Result Unit Fault)
   pub creation : IsCreation fields metadata ids order pairs chunks answers
   pub holds : P creation.last
-
--- how much a vector has room for behind what it holds
-abbrev pub vector_room : Vec ℕ Global → ℕ
-vector_room v = vec_capacity v - vec_len v
-
--- a vector has no room for bytes that are to be sent, of which P holds
-pub record HasNoRoom (v : Vec ℕ Global) (P : List ℕ → Type 0) : Type 0 where
-  pub bytes : List ℕ
-  pub are : P bytes
-  pub full : vector_room v < length bytes
 
 -- the vector of a new writer has none for what its file begins with
 pub record BeginsFull (fields : FieldTrees) (metadata : Pairs) (ids : IdTrees) (order : Endianness) (pairs : Pairs) : Type 0 where

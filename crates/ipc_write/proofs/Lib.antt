@@ -7,4 +7,5 @@ pub mod MessageSends
 pub mod Messages
 pub mod Refusals
 pub mod Sends
+pub mod Vectors
 pub mod WriterSteps

@@ -4,4 +4,5 @@ pub mod Framing
 pub mod Meaning
 pub mod Messages
 pub mod Sending
+pub mod Vectors
 pub mod Writers

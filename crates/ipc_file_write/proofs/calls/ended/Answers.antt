@@ -2,7 +2,7 @@ use Rattle.std.proofs.Common.{rules, inl, inr, ◌∙◌}
 use Rattle.std.proofs.lemmas.Result.{err_from_is_err_and}
 use Rattle.ipc_file_write.proofs.CallLists.{finished_before, finished_now}
 use Rattle.ipc_file_write.specs.FileWriters.{seen}
-use Rattle.ipc_file_write.proofs.WrittenFiles.{refuses_end}
+use Rattle.ipc_file_write.proofs.WrittenFiles.{ending_full, refuses_end}
 use Rattle.ipc_file_write.proofs.calls.ended.Goals as goal
 
 pub returns-in-Finished : goal.returns-in-Finished
@@ -29,5 +29,7 @@ returns-in_err-finish-in_default c =
     rw (p.1, p.2) (record {
       ok = tt;
       state = tt;
-      only = refuses_end (seen c.args.writer) (seen c.finish.new.self) (λ is. c.in_default.not-Finished (c.state.ensures ∙ is)) fault e.first e.only e.exact.0;
+      only =
+          refuses_end (seen c.args.writer) (seen c.finish.new.self) (λ is. c.in_default.not-Finished (c.state.ensures ∙ is)) fault e.first e.only e.exact.0
+          (ending_full (seen c.args.writer) (seen c.finish.new.self) fault e.step);
     })

@@ -5,7 +5,8 @@ use Rattle.lower.specs.TypeViews.{fields_view, pairs_of}
 use Rattle.ipc_schema_write.specs.WriterAnswers.{byte_order}
 use Rattle.ipc_write.specs.Writers.{chosen_ids}
 use Rattle.ipc_file_write.specs.FileWriters.{seen}
-use Rattle.ipc_sessions.proofs.Creation.{beginning_full, begun, created, creation, end_refused, ending_full, pairs_refused, start_refused}
+use Rattle.ipc_file_write.proofs.WrittenFiles.{ending_full}
+use Rattle.ipc_sessions.proofs.Creation.{beginning_full, begun, created, creation, end_refused, pairs_refused, start_refused}
 use Rattle.ipc_sessions.proofs.created.create_file.Goals as goal
 
 pub returns-clause-made : goal.returns-clause-made
