@@ -1,0 +1,4 @@
+pub mod StreamLists
+pub mod FileLists
+pub mod WholeLists
+pub mod CallRows

@@ -1,0 +1,4 @@
+pub mod StreamCalls
+pub mod FileCalls
+pub mod WholeLaws
+pub mod CallRows
