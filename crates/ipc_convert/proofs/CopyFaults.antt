@@ -157,7 +157,7 @@ begin_refused w fs es ids pairs (faults.Io x) new f m i h = tt
 begin_refused w fs es ids pairs _ new f m i h = absurd h
 
 -- a file that is finished whatever came of the copy: it is refused by the copy, or by its end
-ended_by : {W : Type 0} (known : Bool) (memory : W → Memory) (copied : Result Ending Fault) (e : Fault) (a b : FileSeen W) → EndsAnyway known memory copied (Err e) a b
+pub ended_by : {W : Type 0} (known : Bool) (memory : W → Memory) (copied : Result Ending Fault) (e : Fault) (a b : FileSeen W) → EndsAnyway known memory copied (Err e) a b
     → (copied ≡ Err e) ⊎ ((ending : Ending) × (copied ≡ Ok ending) × AnswersFinish a (Err e))
 ended_by known memory copied e a b anyway = by copied anyway.finished (sym anyway.is) anyway.answers
   where

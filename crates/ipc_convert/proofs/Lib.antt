@@ -2,6 +2,7 @@ pub mod AppendFaults
 pub mod Appended
 pub mod Conversions
 pub mod CopyFaults
+pub mod Failing
 pub mod Handing
 pub mod Marks
 pub mod Own

@@ -5,11 +5,21 @@ use Rattle.ipc_devices.specs.declared.fault.Fault.{Fault}
 use Rattle.ipc_model.specs.Batches.{Chunk}
 use Rattle.ipc_model.specs.Streams.{End, faulty, marked, waits}
 use Rattle.ipc_model.specs.WholeStreams.{Stream}
-use Rattle.ipc_readers.specs.Streams.{device_of, is_over}
+use Rattle.ipc_readers.specs.Metadata.{MetadataGave}
+use Rattle.ipc_readers.specs.Streams.{IsUnread, device_of, is_over}
+use Rattle.ipc_readers.specs.declared.read.stream.metadata.StreamMetadata.{StreamMetadata}
 use Rattle.ipc_readers.specs.declared.read.stream.reader.StreamReader.{StreamReader}
 use Rattle.ipc_convert.specs.Copies.{TakenToEnd, TakesStream}
 use Rattle.ipc_convert.specs.Sources.{CameOn, EndedSo, is_end, last_stop}
 use Rattle.ipc_convert.specs.declared.chunks.Ending.{Ending}
+
+-- ---- the schema of a stream
+
+pub front_unfailed : {R : Type 0} (gives : Gives R) (failures : R → ℕ) → GivesFails gives failures → (input device : R) (m : StreamMetadata) (r : StreamReader R) → MetadataGave gives input (Ok m) device
+    → IsUnread device m r → failures (device_of r) ≡ failures input
+front_unfailed gives failures law input device m r front begins =
+    let same : Fails going (failures input) (failures device) = subst (λ (s : Stop). Fails s (failures input) (failures device)) front.stops (law input front.run.bytes front.stop device front.run.gave) in
+    ap failures begins.reader ∙ same
 
 -- ---- a stream, chunk by chunk
 

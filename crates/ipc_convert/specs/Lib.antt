@@ -1,5 +1,6 @@
 pub mod Chunks
 pub mod Copies
+pub mod Failures
 pub mod Refusals
 pub mod SinkLaws
 pub mod Sinks

@@ -2,11 +2,13 @@
 ghost use Rattle.std.specs.Prelude.{◌≡◌, ◌⊎◌, IfErr, IfOk, IsTrue};
 ghost use Rattle.lower.specs.TypeViews.{schema_view};
 ghost use Rattle.ipc_base.specs.IdTrees.{all_ids_view};
-ghost use Rattle.ipc_devices.specs.Faults.{Answers, OwnFault};
+ghost use Rattle.ipc_devices.specs.Faults.{Answers, OnIo, OwnFault};
 ghost use Rattle.ipc_devices.specs.declared.fault.ArgFault.TheVariants.{FieldsDiffer};
 ghost use Rattle.ipc_devices.specs.declared.fault.Fault.TheVariants.{Argument};
 ghost use Rattle.ipc_convert.specs.Chunks.{NoneFailed};
 ghost use Rattle.ipc_convert.specs.Copies.{AppendsTo, AreSame, CopiesStream, TakesStream};
+ghost use Rattle.ipc_convert.specs.Failures.{OutputFails};
+ghost use Rattle.ipc_file_write.specs.Appends.{DeviceFails};
 ghost use Rattle.ipc_convert.specs.Refusals.{GoesOnWithNone, RefusesAppended};
 
 use crate::chunks::copy_chunks;
@@ -31,7 +33,9 @@ use std::alloc::Global;
 /// aren't. Faults after that: those of the calls of [`StreamReader`] and [`FileWriter`], and `Argument(TooLarge)` where `2^64 - 1` chunks
 /// came and no end. Then the file is finished with the chunks that were taken, unless its device failed, no memory was left for its footer,
 /// or it has more than `2^25` blocks; its old chunks still stand even so, where they need no byte behind the place where writing went on.
-/// Where the file is in memory, each fault but `Memory` and `Io` names a condition that holds.
+/// Where the file is in memory, each fault but `Memory` and `Io` names a condition that holds. `Io`
+/// comes only if a call of one of the devices failed, or if the file is in memory and its growth
+/// was refused.
 pub fn append_stream<F: Reads + Writes + Seeks + Drop, R: Reads + Drop>(
     alloc: Global,
     file: F,
@@ -40,6 +44,8 @@ pub fn append_stream<F: Reads + Writes + Seeks + Drop, R: Reads + Drop>(
     ensures takes { IfOk result (λ devices. TakesStream R.gives input devices.1) }
     ensures done { IfOk result (λ devices.
         NoneFailed F.failures R.failures file input devices.0 devices.1) }
+    ensures failed { OnIo result (DeviceFails R.failures input
+        ⊎ OutputFails F.grows F.failures F.room file) }
     ensures appends { IsTrue F.known → (F.memory file).place ≡ 0 → IfOk result (λ devices. CopiesStream R.gives input devices.1
         (λ schema chunks _. AppendsTo (F.memory file).whole (F.memory devices.0).whole schema chunks)) }
     ensures refused { IsTrue F.known → (F.memory file).place ≡ 0 → IfErr result (λ e. OwnFault e
@@ -62,6 +68,7 @@ pub fn append_stream<F: Reads + Writes + Seeks + Drop, R: Reads + Drop>(
 fn check_schema(metadata: &StreamMetadata, schema: &Schema, ids: &[IpcField]) -> Result<(), Fault>
     ensures exact { Answers result (AreSame (schema_view metadata.now.schema) (all_ids_view metadata.now.ipc_schema.fields.items) (schema_view schema.now) (all_ids_view ids.now)) (λ _. Unit {0}) }
     ensures only { IfErr result (λ e. OwnFault e (e ≡ Argument FieldsDiffer)) }
+    ensures own { OnIo result ⊥ }
 {
     let normal = metadata.schema.normal()?;
     if is_same_schema(&normal, &schema.normal()?)

@@ -1,12 +1,14 @@
 //! Writes streams and files as files.
-ghost use Rattle.std.specs.Prelude.{◌≡◌, [], IfErr, IfOk, IsTrue};
+ghost use Rattle.std.specs.Prelude.{◌≡◌, ◌⊎◌, [], IfErr, IfOk, IsTrue, OnOk};
 ghost use Rattle.lower.specs.TypeViews.{fields_view, pairs_of};
 ghost use Rattle.ipc_base.specs.IdTrees.{all_ids_view};
-ghost use Rattle.ipc_devices.specs.Faults.{OwnFault};
+ghost use Rattle.ipc_devices.specs.Faults.{OnIo, OwnFault};
 ghost use Rattle.ipc_convert.specs.Chunks.{NoneFailed};
 ghost use Rattle.ipc_convert.specs.Copies.{CopiesFileOf, CopiesStream, TakesStream, WritesFile};
+ghost use Rattle.ipc_convert.specs.Failures.{OutputFails, SendFails};
 ghost use Rattle.ipc_convert.specs.Refusals.{CopiesNoFile, CopiesNoStream, HoldsOfGiven, RefusesAsFile};
 ghost use Rattle.ipc_convert.specs.Steps.{BeginsFile, EndsAnyway, EndsCopy, RefusesWithPairs};
+ghost use Rattle.ipc_file_write.specs.Appends.{DeviceFails};
 ghost use Rattle.ipc_file_write.specs.FileWriters.{seen};
 ghost use Rattle.ipc_write.specs.Writers.{order_of};
 
@@ -30,8 +32,9 @@ use std::alloc::Global;
 /// Faults before anything is written: those of [`read_stream_metadata`], and the `Argument` faults of a schema that can't be written.
 /// Faults after that: those of the calls of [`StreamReader`] and [`FileWriter`], and `Argument(TooLarge)` where `2^64 - 1` chunks came and
 /// no end. Then the file is finished with the chunks that were taken, unless its device failed or no memory was left for its footer. Each
-/// fault but `Memory` and `Io` names a condition that holds. A fault drops both devices: to keep what was written, hand in lent ones
-/// (`&mut`).
+/// fault but `Memory` and `Io` names a condition that holds. `Io` comes only if a call of one of
+/// the devices failed, or if `out` is memory whose growth was refused. A fault drops both devices:
+/// to keep what was written, hand in lent ones (`&mut`).
 pub fn stream_to_file<R: Reads + Drop, W: Writes + Drop>(
     alloc: Global,
     input: R,
@@ -41,6 +44,8 @@ pub fn stream_to_file<R: Reads + Drop, W: Writes + Drop>(
     ensures takes { IfOk result (λ devices. TakesStream R.gives input devices.0) }
     ensures done { IfOk result (λ devices.
         NoneFailed R.failures W.failures input out devices.0 devices.1) }
+    ensures failed { OnIo result (DeviceFails R.failures input
+        ⊎ OutputFails W.grows W.failures W.room out) }
     ensures copies { IsTrue W.known → IfOk result (λ devices. CopiesStream R.gives input devices.0
         (λ schema chunks _. WritesFile (order_of write_options) (W.memory out) (W.memory devices.1) schema [] chunks)) }
     ensures refused { IfErr result (λ e. OwnFault e (HoldsOfGiven R.gives R.known R.memory input
@@ -67,8 +72,9 @@ pub fn stream_to_file<R: Reads + Drop, W: Writes + Drop>(
 /// Faults before anything is written: those of [`read_file_metadata`], and the `Argument` faults of a schema that can't be written, or that
 /// is too heavy with the pairs (`TooLarge`). Faults after that: those of the calls of [`FileReader`] and [`FileWriter`]. Then the file is
 /// finished with the chunks that were taken, unless its device failed or no memory was left for its footer. Where the file that is read is
-/// in memory, each fault but `Memory` and `Io` names a condition that holds. A fault drops both devices: to keep what was written, hand in
-/// lent ones (`&mut`).
+/// in memory, each fault but `Memory` and `Io` names a condition that holds. `Io` comes only if a
+/// call of one of the devices failed, or if `out` is memory whose growth was refused. A fault drops
+/// both devices: to keep what was written, hand in lent ones (`&mut`).
 pub fn file_to_file<F: Reads + Seeks + Drop, W: Writes + Drop>(
     alloc: Global,
     file: F,
@@ -79,6 +85,8 @@ pub fn file_to_file<F: Reads + Seeks + Drop, W: Writes + Drop>(
         (WritesFile (order_of write_options) (W.memory out) (W.memory devices.1))) }
     ensures done { IfOk result (λ devices.
         NoneFailed F.failures W.failures file out devices.0 devices.1) }
+    ensures failed { OnIo result (DeviceFails F.failures file
+        ⊎ OutputFails W.grows W.failures W.room out) }
     ensures refused { IsTrue F.known → (F.memory file).place ≡ 0 → IfErr result (λ e. OwnFault e (CopiesNoFile
         (λ first schema pairs. RefusesAsFile W.known W.memory out (order_of write_options) pairs first schema) (F.memory file).whole e)) }
 {
@@ -109,6 +117,7 @@ fn begin_file<W: Writes + Drop>(
     ensures only { IfErr result (λ e. OwnFault e (RefusesWithPairs (fields_view schema.fields.items) (pairs_of schema.metadata.entries)
         (all_ids_view ids.items) (pairs_of pairs.entries) e)) }
     ensures done { IfOk result (λ w. W.failures (seen w).device ≡ W.failures out) }
+    ensures failed { OnIo result (OutputFails W.grows W.failures W.room out) }
 {
     let mut writer = FileWriter::new(alloc, out, schema, Some(ids), write_options)?;
     writer.set_custom_metadata(pairs)?;
@@ -116,13 +125,16 @@ fn begin_file<W: Writes + Drop>(
     Ok(writer)
 }
 
-// Finishes a file, whatever came of the copy, and answers that.
+// Finishes a file, whatever came of the copy, and answers that. Where the copy was `Ok`, `Io` says
+// that a call failed that sends the end.
 pub(crate) fn finish_file<W: Writes + Drop>(
     copied: Result<Ending, Fault>,
     writer: &mut FileWriter<W>,
 ) -> Result<Ending, Fault>
     ensures ends { IfOk result (λ ending. EndsCopy W.known W.grows W.failures W.room W.memory copied ending (seen writer.old) (seen writer.new)) }
     ensures anyway { EndsAnyway W.known W.memory copied result (seen writer.old) (seen writer.new) }
+    ensures failed { OnIo result (OnOk copied (SendFails W.grows W.failures W.room
+        (seen writer.old).device (seen writer.new).device)) }
 {
     let finished = writer.finish();
     let ending = copied?;

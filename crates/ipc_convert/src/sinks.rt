@@ -2,6 +2,7 @@
 ghost use Rattle.ipc_convert.specs.SinkLaws.{file_took_in_order, file_took_nothing, stream_took_in_order, stream_took_nothing};
 ghost use Rattle.ipc_write.specs.Writers.{seen};
 ghost use Rattle.ipc_file_write.specs.FileWriters as files;
+ghost use Rattle.ipc_convert.specs.Failures.{SendFails};
 ghost use Rattle.ipc_convert.specs.Sinks.{FileRefuses, FileTook, StreamRefuses, StreamTook};
 
 use crate::chunks::Sink;
@@ -19,6 +20,8 @@ impl<W: Writes + Drop> Sink for StreamWriter<W> {
 
     ghost failures = { λ w. W.failures (seen w).device };
 
+    ghost fails = { λ v w. SendFails W.grows W.failures W.room (seen v).device (seen w).device };
+
     ghost took_nothing = { stream_took_nothing W.known W.memory };
 
     ghost took_in_order = { stream_took_in_order W.known W.memory };
@@ -34,6 +37,9 @@ impl<W: Writes + Drop> Sink for FileWriter<W> {
     ghost refuses = { FileRefuses };
 
     ghost failures = { λ w. W.failures (files.seen w).device };
+
+    ghost fails = { λ v w.
+        SendFails W.grows W.failures W.room (files.seen v).device (files.seen w).device };
 
     ghost took_nothing = { file_took_nothing W.known W.memory };
 

@@ -1,9 +1,11 @@
 //! Writes streams and files as streams.
-ghost use Rattle.std.specs.Prelude.{◌≡◌, IfErr, IfOk, IsTrue, OnOk};
-ghost use Rattle.ipc_devices.specs.Faults.{OwnFault};
+ghost use Rattle.std.specs.Prelude.{◌≡◌, ◌⊎◌, IfErr, IfOk, IsTrue, OnOk};
+ghost use Rattle.ipc_devices.specs.Faults.{OnIo, OwnFault};
+ghost use Rattle.ipc_file_write.specs.Appends.{DeviceFails};
 ghost use Rattle.ipc_model.specs.Streams.{marked};
 ghost use Rattle.ipc_convert.specs.Chunks.{NoneFailed};
 ghost use Rattle.ipc_convert.specs.Copies.{CopiesFileOf, CopiesStream, TakesStream, WritesStream};
+ghost use Rattle.ipc_convert.specs.Failures.{OutputFails, SendFails};
 ghost use Rattle.ipc_convert.specs.Refusals.{CopiesNoFile, CopiesNoStream, HoldsOfGiven, RefusesAsStream};
 ghost use Rattle.ipc_convert.specs.Steps.{EndsAsSource};
 ghost use Rattle.ipc_write.specs.Writers.{RefusesFinish, order_of, seen};
@@ -24,8 +26,10 @@ use std::alloc::Global;
 ///
 /// Faults: those of [`read_stream_metadata`] and of the calls of [`StreamReader`] and [`StreamWriter`]; the `Argument` faults among them
 /// tell that a schema or a chunk can't be written, or, as `TooLarge`, that `2^64 - 1` chunks came and no end. Each but `Memory` and `Io`
-/// names a condition that holds. The chunks that were taken by then have been written, without the mark. A fault drops both devices: to
-/// keep what was written, hand in lent ones (`&mut`).
+/// names a condition that holds. `Io` comes only if a call of one of the devices failed, or if
+/// `out` is memory whose growth was refused. The chunks that were taken by then have been written,
+/// without the mark. A fault drops both devices: to keep what was written, hand in lent ones
+/// (`&mut`).
 pub fn stream_to_stream<R: Reads + Drop, W: Writes + Drop>(
     alloc: Global,
     input: R,
@@ -35,6 +39,8 @@ pub fn stream_to_stream<R: Reads + Drop, W: Writes + Drop>(
     ensures takes { IfOk result (λ devices. TakesStream R.gives input devices.0) }
     ensures done { IfOk result (λ devices.
         NoneFailed R.failures W.failures input out devices.0 devices.1) }
+    ensures failed { OnIo result (DeviceFails R.failures input
+        ⊎ OutputFails W.grows W.failures W.room out) }
     ensures copies { IsTrue W.known → IfOk result (λ devices. CopiesStream R.gives input devices.0
         (WritesStream (order_of write_options) (W.memory out) (W.memory devices.1))) }
     ensures refused { IfErr result (λ e. OwnFault e (HoldsOfGiven R.gives R.known R.memory input
@@ -58,9 +64,11 @@ pub fn stream_to_stream<R: Reads + Drop, W: Writes + Drop>(
 /// first block. Both devices are given back, and no call of either failed.
 ///
 /// Faults: those of [`read_file_metadata`] and of the calls of [`FileReader`] and [`StreamWriter`]; the `Argument` faults among them tell
-/// that the schema or a chunk can't be written. Where the file is in memory, each but `Memory` and `Io` names a condition that holds. The
-/// chunks that were taken by then have been written, without the mark. A fault drops both devices: to keep what was written, hand in lent
-/// ones (`&mut`).
+/// that the schema or a chunk can't be written. Where the file is in memory, each but `Memory` and
+/// `Io` names a condition that holds. `Io` comes only if a call of one of the devices failed, or if
+/// `out` is memory whose growth was refused. The chunks that were taken by then have been written,
+/// without the mark. A fault drops both devices: to keep what was written, hand in lent ones
+/// (`&mut`).
 pub fn file_to_stream<F: Reads + Seeks + Drop, W: Writes + Drop>(
     alloc: Global,
     file: F,
@@ -72,6 +80,8 @@ pub fn file_to_stream<F: Reads + Seeks + Drop, W: Writes + Drop>(
         (W.memory devices.1) schema chunks marked)) }
     ensures done { IfOk result (λ devices.
         NoneFailed F.failures W.failures file out devices.0 devices.1) }
+    ensures failed { OnIo result (DeviceFails F.failures file
+        ⊎ OutputFails W.grows W.failures W.room out) }
     ensures refused { IsTrue F.known → (F.memory file).place ≡ 0 → IfErr result (λ e. OwnFault e (CopiesNoFile
         (λ first schema _ fault. RefusesAsStream first schema fault) (F.memory file).whole e)) }
 {
@@ -92,6 +102,8 @@ fn end_stream<W: Writes + Drop>(ending: Ending, writer: &mut StreamWriter<W>) ->
     ensures ends { OnOk result (EndsAsSource W.known W.memory ending (seen writer.old) (seen writer.new)) }
     ensures done { OnOk result
         (W.failures (seen writer.new).device ≡ W.failures (seen writer.old).device) }
+    ensures failed { OnIo result (SendFails W.grows W.failures W.room
+        (seen writer.old).device (seen writer.new).device) }
     ensures only { IfErr result (RefusesFinish (seen writer.old).state) }
 {
     match ending {

@@ -2,6 +2,8 @@ use Rattle.std.proofs.Common.{ap, inr, subst, ◌∙◌}
 use Rattle.std.proofs.lemmas.Result.{err_from_is_err_and}
 use Rattle.ipc_devices.specs.Faults.{OwnFault}
 use Rattle.ipc_file_write.specs.Appends.{GoesOn}
+use Rattle.ipc_file_write.specs.FileWriters.{seen}
+use Rattle.ipc_readers.specs.Streams.{device_of}
 use Rattle.lower.specs.Normal.{norm_schema}
 use Rattle.ipc_base.specs.IdTrees.{all_ids_view}
 use Rattle.ipc_files.specs.Footers.{file_seen}
@@ -9,10 +11,11 @@ use Rattle.ipc_files.specs.Files.{FileReason}
 use Rattle.ipc_convert.proofs.AppendFaults.{appended_refused, file_not_gone_on, no_metadata, other_schema}
 use Rattle.ipc_convert.proofs.Appended.{stream_appended}
 use Rattle.ipc_convert.proofs.Conversions.{stream_taken_so}
-use Rattle.ipc_convert.proofs.CopyFaults.{memory_alone, stream_blocks_stop}
+use Rattle.ipc_convert.proofs.CopyFaults.{ended_by, memory_alone, stream_blocks_stop}
+use Rattle.ipc_convert.proofs.Failing.{file_fails, front_fails, memory_says_none, never_io, output_fails, output_opens_not, output_read_fails}
 use Rattle.ipc_convert.proofs.Refused.{front_refused}
 use Rattle.ipc_convert.specs.Refusals.{RefusesBehind}
-use Rattle.ipc_convert.proofs.Unfailed.{takes_unfailed, where_ok}
+use Rattle.ipc_convert.proofs.Unfailed.{front_unfailed, takes_unfailed, where_ok}
 use Rattle.ipc_convert.proofs.append.append_stream.Goals as goal
 
 pub returns-clause-takes : goal.returns-clause-takes
@@ -81,6 +84,41 @@ returns-in_err-finish_file-clause-refused g c = λ k front.
     g.R.Reads.gives g.R.Failures.known g.R.Failures.memory g.met.R.Reads.gives_in_order g.met.R.Reads.gives_ahead c.args.input c.read_stream_metadata.new.reader c.in_ok-metadata-2.metadata c.in_ok-reader.reader c.copy_chunks-copied.new.source
     c.in_ok-metadata-2.ensures.gives c.in_ok-reader.ensures.ok c.in_ok-reader.ensures.asked (RefusesBehind g.F.Failures.known g.F.Failures.memory m device) (λ first no. inr no)
     c.copy_chunks-copied.result c.copy_chunks-copied.ensures.stops c.copy_chunks-copied.ensures.copied c.in_err-finish_file.ensures.anyway))
+
+pub returns-in_err-metadata-clause-failed : goal.returns-in_err-metadata-clause-failed
+returns-in_err-metadata-clause-failed g c =
+    let p = err_from_is_err_and c.from_residual.result c.from_residual.ensures.1 in
+    rw (p.1, p.2) (output_fails g.F.Writes.grows g.F.Failures.failures g.F.Writes.room c.args.file c.in_err-metadata.field-0.0 _ (output_read_fails g.F.Writes.grows g.F.Failures.failures g.F.Writes.room c.args.file c.read_file_metadata.new.reader c.in_err-metadata.field-0.0 c.in_err-metadata.ensures.failed))
+
+pub returns-in_err-writer-clause-failed : goal.returns-in_err-writer-clause-failed
+returns-in_err-writer-clause-failed g c =
+    let p = err_from_is_err_and c.from_residual-in_err-writer.result c.from_residual-in_err-writer.ensures.1 in
+    rw (p.1, p.2) (output_fails g.F.Writes.grows g.F.Failures.failures g.F.Writes.room c.args.file c.in_err-writer.field-0.0 _
+    (output_opens_not g.F.Writes.grows g.F.Failures.failures g.F.Writes.room c.args.file c.read_file_metadata.new.reader c.in_err-writer.field-0.0 c.in_ok-metadata.ensures.told c.in_err-writer.ensures.failed))
+
+pub returns-in_err-metadata-2-clause-failed : goal.returns-in_err-metadata-2-clause-failed
+returns-in_err-metadata-2-clause-failed g c =
+    let p = err_from_is_err_and c.from_residual-in_err-metadata-2.result c.from_residual-in_err-metadata-2.ensures.1 in
+    rw (p.1, p.2) (front_fails g.R.Reads.gives g.R.Failures.failures g.met.R.Reads.gives_fails c.args.input c.read_stream_metadata.new.reader c.in_err-metadata-2.field-0.0 _ c.in_err-metadata-2.ensures.gives)
+
+pub returns-in_err-check_schema-clause-failed : goal.returns-in_err-check_schema-clause-failed
+returns-in_err-check_schema-clause-failed g c =
+    let p = err_from_is_err_and c.from_residual-in_err-check_schema.result c.from_residual-in_err-check_schema.ensures.1 in
+    rw (p.1, p.2) (never_io c.in_err-check_schema.field-0.0 _ c.in_err-check_schema.ensures.own)
+
+pub returns-in_err-reader-clause-failed : goal.returns-in_err-reader-clause-failed
+returns-in_err-reader-clause-failed g c =
+    let p = err_from_is_err_and c.from_residual-in_err-reader.result c.from_residual-in_err-reader.ensures.1 in
+    rw (p.1, p.2) (memory_says_none c.in_err-reader.field-0.0 _ c.in_err-reader.ensures.only.0)
+
+pub returns-in_err-finish_file-clause-failed : goal.returns-in_err-finish_file-clause-failed
+returns-in_err-finish_file-clause-failed g c =
+    let p = err_from_is_err_and c.from_residual-in_err-finish_file.result c.from_residual-in_err-finish_file.ensures.1 in
+    rw (p.1, p.2) (file_fails g.F.Writes.grows g.F.Failures.failures g.F.Writes.room c.args.file g.R.Failures.failures c.args.input (λ r. device_of r) (λ w. (seen w).device) c.in_ok-reader.reader c.copy_chunks-copied.new.source c.in_ok-writer.writer c.copy_chunks-copied.new.sink
+    (front_unfailed g.R.Reads.gives g.R.Failures.failures g.met.R.Reads.gives_fails c.args.input c.read_stream_metadata.new.reader c.in_ok-metadata-2.metadata c.in_ok-reader.reader c.in_ok-metadata-2.ensures.gives c.in_ok-reader.ensures.ok)
+    (c.in_ok-writer.ensures.ok.done ∙ c.in_ok-metadata.ensures.told) c.finish_file.new.writer c.copy_chunks-copied.result c.in_err-finish_file.field-0.0 _
+    (ended_by g.F.Failures.known g.F.Failures.memory c.copy_chunks-copied.result c.in_err-finish_file.field-0.0 (seen c.copy_chunks-copied.new.sink) (seen c.finish_file.new.writer) c.in_err-finish_file.ensures.anyway)
+    c.copy_chunks-copied.ensures.failed c.copy_chunks-copied.ensures.done c.in_err-finish_file.ensures.failed)
 
 pub returns-clause-done : goal.returns-clause-done
 returns-clause-done g c =

@@ -1,5 +1,6 @@
 use Rattle.std.proofs.Common.{Option, refl, subst}
 use Rattle.std.proofs.lemmas.Result.{err_from_is_err_and}
+use Rattle.ipc_convert.proofs.Failing.{copy_fails_then}
 use Rattle.ipc_convert.proofs.Handing.{all_handed, handed_on, next_stops, none_more, none_on, nothing_handed, refused_then, too_many}
 use Rattle.ipc_convert.specs.Chunks.{CopiedOne}
 use Rattle.ipc_convert.specs.declared.chunks.Ending.{Ending}
@@ -22,6 +23,11 @@ loop-preserved g c =
 
 pub returns-in-Some-clause-done : goal.returns-in-Some-clause-done
 returns-in-Some-clause-done g c = none_on g.S.Source.failures g.T.Sink.failures _ _ _ _ _ _ c.loop.invariant.done c.in_ok-ending.ensures.done
+
+pub returns-in_err-ending-clause-failed : goal.returns-in_err-ending-clause-failed
+returns-in_err-ending-clause-failed g c =
+    let p = err_from_is_err_and c.from_residual.result c.from_residual.ensures.1 in
+    rw (p.1, p.2) (copy_fails_then g.S.Source.failures g.T.Sink.failures g.T.Sink.fails _ _ _ _ _ _ c.in_err-ending.field-0.0 c.loop.invariant.done c.in_err-ending.ensures.failed)
 
 pub returns-in_err-ending-clause-refused : goal.returns-in_err-ending-clause-refused
 returns-in_err-ending-clause-refused g c =

@@ -1,5 +1,6 @@
 use Rattle.ipc_file_write.specs.FileWriters.{seen}
 use Rattle.ipc_sessions.proofs.Writes.{writes_chunk}
+use Rattle.ipc_convert.proofs.Failing.{file_step_fails}
 use Rattle.ipc_convert.proofs.Taken.{file_kept, file_refuses, file_took}
 use Rattle.ipc_convert.proofs.sinks.FileWriterSink.take_chunk.Goals as goal
 
@@ -12,6 +13,10 @@ returns-clause-taken g c =
 
 pub returns-clause-done : goal.returns-clause-done
 returns-clause-done g c = c.write.ensures.step.step.done
+
+pub returns-clause-failed : goal.returns-clause-failed
+returns-clause-failed g c =
+    file_step_fails g.W.Failures.known g.W.Writes.grows g.W.Failures.failures g.W.Writes.room g.W.Failures.memory (seen c.args.self.now) c.write.result (seen c.write.new.self) _ c.write.ensures.step.step
 
 pub returns-clause-kept : goal.returns-clause-kept
 returns-clause-kept g c =

@@ -1,4 +1,5 @@
 use Rattle.ipc_write.specs.Writers.{seen}
+use Rattle.ipc_convert.proofs.Failing.{stream_step_fails}
 use Rattle.ipc_convert.proofs.Taken.{stream_kept, stream_refuses, stream_took}
 use Rattle.ipc_convert.proofs.sinks.StreamWriterSink.take_chunk.Goals as goal
 
@@ -7,6 +8,10 @@ returns-clause-taken g c = stream_took g.W.Failures.known g.W.Failures.memory (s
 
 pub returns-clause-done : goal.returns-clause-done
 returns-clause-done g c = c.write.ensures.step.step.done
+
+pub returns-clause-failed : goal.returns-clause-failed
+returns-clause-failed g c =
+    stream_step_fails g.W.Failures.known g.W.Writes.grows g.W.Failures.failures g.W.Writes.room g.W.Failures.memory (seen c.args.self.now) c.write.result (seen c.write.new.self) _ _ c.write.ensures.step.step
 
 pub returns-clause-kept : goal.returns-clause-kept
 returns-clause-kept g c =

@@ -26,3 +26,8 @@ pub returns-in-Some-Err-clause-broken : goal.returns-in-Some-Err-clause-broken
 returns-in-Some-Err-clause-broken g c =
     let step = rw c.in-Some-Err.field-0-is at c.in-Some-Err.ensures.steps in
     block_broken g.F.Failures.known g.F.Failures.still g.F.Failures.memory g.F.Failures.failures g.F.Failures.given g.met.F.Seeks.known_still c.args.self.now c.next.new.self _ step
+
+pub returns-in-Some-Err-clause-failed : goal.returns-in-Some-Err-clause-failed
+returns-in-Some-Err-clause-failed g c =
+    let step = rw c.in-Some-Err.field-0-is at c.in-Some-Err.ensures.steps in
+    step.failed

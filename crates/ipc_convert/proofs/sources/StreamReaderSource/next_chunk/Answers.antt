@@ -1,5 +1,6 @@
 use Rattle.std.proofs.Common.{rules, ◌≡◌, None, Some, Ok}
 use Rattle.ipc_readers.specs.declared.read.stream.reader.StreamState.TheVariants as states
+use Rattle.ipc_convert.proofs.Failing.{stream_next_fails}
 use Rattle.ipc_convert.proofs.ReadStreams.{none_over, none_waits, one_fault, one_gave}
 use Rattle.ipc_convert.proofs.Unfailed.{came_unfailed, ended_unfailed}
 use Rattle.ipc_convert.specs.declared.chunks.Ending.TheVariants.{Over, Waits}
@@ -36,3 +37,8 @@ pub returns-in-Some-Err-clause-broken : goal.returns-in-Some-Err-clause-broken
 returns-in-Some-Err-clause-broken g c =
     let step = rw c.in-Some-Err.field-0-is at c.in-Some-Err.ensures.steps in
     one_fault g.R.Reads.gives g.R.Failures.known g.R.Failures.memory g.met.R.Reads.gives_in_order c.args.self.now c.next.new.self _ step
+
+pub returns-in-Some-Err-clause-failed : goal.returns-in-Some-Err-clause-failed
+returns-in-Some-Err-clause-failed g c =
+    let step = rw c.in-Some-Err.field-0-is at c.in-Some-Err.ensures.steps in
+    stream_next_fails g.R.Reads.gives g.R.Failures.known g.R.Failures.memory g.R.Failures.failures g.met.R.Reads.gives_fails c.args.self.now _ c.next.new.self step
