@@ -1,4 +1,4 @@
-//! Chunks: columns of one length, the unit in which data is written and read.
+//! Chunks: columns of the same length, in which data is written and read.
 ghost use Rattle.std.specs.Prelude.{◌≡◌, ◌↔◌, ◌<◌, ◌^◌, ℕ, Bool, length, IsTrue, IsOk, IfOk, IfErr};
 ghost use Rattle.std.specs.Cmp.Lexicographic.{pointwise, lists_per, lists_equiv};
 ghost use Rattle.std.specs.List.{AllZip};
@@ -14,11 +14,11 @@ use std::alloc::AllocError;
 use std::marker::Model;
 use std::slice;
 
-/// A column, of which only the number of its rows is asked.
+/// A column, of which only the number of rows counts here.
 pub trait Rows: Drop {
     ghost rows: { Self → ℕ };
 
-    /// The number of rows.
+    /// Returns the number of rows.
     fn len(&self) -> usize
         ensures { result ≡ rows self.now };
 }
@@ -50,7 +50,7 @@ impl<A: Rows> Rows for Box<A> {
     }
 }
 
-/// Whether all columns have the same number of rows, as those of a [`Chunk`] have.
+/// Returns whether all columns have the same number of rows, as a [`Chunk`] needs.
 pub fn equal_rows<A: Rows>(arrays: &[A]) -> bool
     ensures { IsTrue result ↔ AreEqualRows A.rows arrays.now }
 {
@@ -61,7 +61,7 @@ pub fn equal_rows<A: Rows>(arrays: &[A]) -> bool
     arrays.iter().all(|array| array.len() == rows)
 }
 
-/// Columns with the same number of rows, in order. Contracts see the list of the columns.
+/// Columns with the same number of rows, in order. Its model is the list of the columns.
 #[derive(Debug, Drop)]
 pub struct Chunk<A: Rows> {
     arrays: Vec<A>,
@@ -79,7 +79,9 @@ impl<A: Rows> Model for Chunk<A> {
 }
 
 impl<A: Rows> Chunk<A> {
-    /// A chunk of these columns, which have the same number of rows (see [`equal_rows`]).
+    /// Returns a chunk of these columns, which must have the same number of rows.
+    ///
+    /// [`equal_rows`] tests that.
     pub fn new(arrays: Vec<A>) -> Self
         requires { AreEqualRows A.rows arrays.items }
         ensures { result ≡ arrays.items }
@@ -87,8 +89,10 @@ impl<A: Rows> Chunk<A> {
         Self { arrays }
     }
 
-    /// A chunk of these columns, or `Argument(UnequalRows)` exactly where they have not the same
-    /// number of rows; then they are dropped.
+    /// Returns a chunk of these columns.
+    ///
+    /// The error is `Fault::Argument(ArgFault::UnequalRows)`, exactly if the columns have different
+    /// numbers of rows. They are dropped then.
     pub fn try_new(arrays: Vec<A>) -> Result<Self, Fault>
         ensures ok { IsOk result ↔ AreEqualRows A.rows arrays.items }
         ensures value { IfOk result (λ chunk. chunk ≡ arrays.items) }
@@ -101,7 +105,7 @@ impl<A: Rows> Chunk<A> {
         }
     }
 
-    /// The columns.
+    /// Returns the columns.
     pub fn arrays(&self) -> &[A]
         ensures columns { result.now ≡ self.now }
         ensures equal { AreEqualRows A.rows self.now }
@@ -109,7 +113,7 @@ impl<A: Rows> Chunk<A> {
         self.arrays.as_slice()
     }
 
-    /// The columns, as [`Chunk::arrays`].
+    /// Returns the columns, as [`Chunk::arrays`].
     pub fn columns(&self) -> &[A]
         ensures columns { result.now ≡ self.now }
         ensures equal { AreEqualRows A.rows self.now }
@@ -117,7 +121,7 @@ impl<A: Rows> Chunk<A> {
         self.arrays()
     }
 
-    /// The columns one after another, as a `for` over the chunk gives them.
+    /// Iterates over the columns, in order, as a `for` over the chunk does.
     pub fn iter(&self) -> slice::Iter<'_, A>
         ensures rest { iter_rest result ≡ self.now }
         ensures bound { length (iter_rest result) < 2 ^ 64 }
@@ -126,7 +130,7 @@ impl<A: Rows> Chunk<A> {
         self.columns().iter()
     }
 
-    /// The number of rows: that of each column, and 0 where there is no column.
+    /// Returns the number of rows, which is 0 without columns.
     pub fn len(&self) -> usize
         ensures rows { result ≡ row_count A.rows self.now }
         ensures equal { AreEqualRows A.rows self.now }
@@ -137,14 +141,14 @@ impl<A: Rows> Chunk<A> {
         }
     }
 
-    /// Whether there are no rows.
+    /// Returns whether there are no rows.
     pub fn is_empty(&self) -> bool
         ensures { IsTrue result ↔ (row_count A.rows self.now ≡ 0) }
     {
         self.len() == 0
     }
 
-    /// The columns, which have the same number of rows.
+    /// Returns the columns, which have the same number of rows.
     pub fn into_arrays(self) -> Vec<A>
         ensures columns { result.items ≡ self }
         ensures equal { AreEqualRows A.rows self }
@@ -175,9 +179,11 @@ impl<A: Rows> From<Chunk<A>> for Vec<A> {
 }
 
 impl<A: Rows + Clone> Chunk<A> {
-    /// The same columns once more, where a clone of a column keeps its number of rows. Each is a
-    /// clone of the column at its place. So the copy equals this chunk by each test of columns that
-    /// takes a clone for its source, as `==` of arrays does. It fails where there is no memory.
+    /// Returns a chunk of clones of the columns, in order.
+    ///
+    /// A clone of a column must keep its number of rows. The chunks are equal by each comparison
+    /// that a column and its clone pass, such as `==` of arrays. It fails if an allocation or a
+    /// clone of a column fails.
     pub fn clone(&self) -> Result<Self, AllocError>
         requires { (array copy : A) → A.is_clone array copy → A.rows copy ≡ A.rows array }
         ensures clones { IfOk result (λ copy. AllZip A.is_clone self.now copy) }

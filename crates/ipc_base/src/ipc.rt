@@ -1,4 +1,4 @@
-//! The ids of dictionaries, in trees that stand beside the fields of a schema.
+//! The ids of dictionaries, in trees that parallel the fields of a schema.
 ghost use Rattle.std.specs.Prelude.{◌≡◌, ◌↔◌, IsTrue, IfOk, None};
 ghost use Rattle.lower.specs.TypeViews.{type_view, field_view, fields_view};
 ghost use Rattle.ipc_base.specs.IdTrees.{ids, no_ids, ids_view, all_ids_view, ipc_schema_view};
@@ -8,20 +8,20 @@ use lower::datatypes::counts::is_dictionary_type;
 use lower::datatypes::{DataType, Field};
 use std::alloc::{AllocError, Global};
 
-/// The dictionary id of a field and those of its children.
+/// The dictionary id of a field, and those of its children.
 ///
-/// In IPC a field whose type (without its extensions) is a dictionary has an id, and its children are
-/// those of the dictionary's value type (Arrow columnar format, Dictionary messages).
+/// Arrow columnar format, "Dictionary Messages". A field has an id if its type, without extensions,
+/// is a dictionary. Its children are then those of the dictionary's value type.
 #[derive(Debug, Drop, PartialEq)]
 pub struct IpcField {
     /// The ids of the children, in order.
     pub fields: Vec<IpcField>,
-    /// The id, where the field is a dictionary.
+    /// The id, if the field is a dictionary.
     pub dictionary_id: Option<i64>,
 }
 
 impl IpcField {
-    /// Neither an id nor children. It takes no memory.
+    /// Returns neither an id nor children. It allocates nothing.
     pub fn empty(alloc: Global) -> IpcField
         ensures { ids_view result ≡ ids None no_ids }
     {
@@ -31,7 +31,7 @@ impl IpcField {
         }
     }
 
-    /// The same ids once more; it fails only where there is no memory.
+    /// Returns the same ids. It fails only if an allocation fails.
     #[cycle(clones)]
     pub fn clone(&self) -> Result<IpcField, AllocError>
         ensures { IfOk result (λ copy. ids_view copy ≡ ids_view self.now) }
@@ -43,7 +43,7 @@ impl IpcField {
     }
 }
 
-/// The same ids once more; it fails only where there is no memory.
+/// Returns the same ids. It fails only if an allocation fails.
 #[cycle(clones)]
 pub fn clone_ipc_fields(fields: &Vec<IpcField>) -> Result<Vec<IpcField>, AllocError>
     ensures { IfOk result (λ copy. all_ids_view copy.items ≡ all_ids_view fields.now.items) }
@@ -55,17 +55,17 @@ pub fn clone_ipc_fields(fields: &Vec<IpcField>) -> Result<Vec<IpcField>, AllocEr
     Ok(copies)
 }
 
-/// What IPC adds to a schema.
+/// What IPC adds to a schema: dictionary ids and a byte order.
 #[derive(Debug, Drop, PartialEq)]
 pub struct IpcSchema {
     /// The ids of the fields, in order.
     pub fields: Vec<IpcField>,
-    /// Whether the numbers of the bodies have their lowest byte first.
+    /// Whether the numbers in the bodies are little-endian.
     pub is_little_endian: bool,
 }
 
 impl IpcSchema {
-    /// The same once more; it fails only where there is no memory.
+    /// Returns the same ids and byte order. It fails only if an allocation fails.
     pub fn clone(&self) -> Result<IpcSchema, AllocError>
         ensures { IfOk result (λ copy. ipc_schema_view copy ≡ ipc_schema_view self.now) }
     {
@@ -122,8 +122,10 @@ fn fits_children(data_type: &DataType, ipc_fields: &[IpcField]) -> bool
     }
 }
 
-/// Whether the ids belong to the fields: the numbers of children agree at every level, and an id
-/// stands exactly at dictionary fields.
+/// Returns whether the ids fit the fields.
+///
+/// At every level there must be as many ids as fields, and an id must be present exactly at
+/// dictionaries.
 pub fn fits(fields: &[Field], ipc_fields: &[IpcField]) -> bool
     ensures { IsTrue result ↔ AllFit (fields_view fields.now) (all_ids_view ipc_fields.now) }
 {

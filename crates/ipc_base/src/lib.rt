@@ -1,5 +1,6 @@
-//! What the readers and the writers of Arrow's IPC format stand on: chunks of columns, the ids of
-//! dictionaries beside the fields of a schema, and the faults, which are passed on from below.
+//! Types that the readers and the writers of the IPC format share.
+//!
+//! They are chunks of columns, and the ids of dictionaries of the fields of a schema.
 #![tactic(auto)]
 
 pub mod chunk;

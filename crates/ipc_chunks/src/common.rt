@@ -1,4 +1,6 @@
-//! Encodes chunks as messages, the dictionaries that are new or others in front (Arrow columnar format, "Dictionary Messages").
+//! Encodes chunks as messages, after the dictionaries that they need.
+//!
+//! Arrow columnar format, "Dictionary Messages".
 ghost use Rattle.std.specs.Prelude.{◌≡◌, map, not, IfErr, IfOk, OnErr, OnOk};
 ghost use Rattle.lower_arrays.specs.AnyLayouts.{layout_of};
 ghost use Rattle.ipc_base.specs.IdTrees.{all_ids_view};
@@ -22,7 +24,7 @@ use ipc_tracker::DictionaryTracker;
 use lower_arrays::array::AnyArray;
 use std::alloc::Global;
 
-// The body of a plan, in place of what these bytes were.
+// Replaces the bytes with the body of a plan.
 fn write_body(body: &Plan<'_>, arrow_data: &mut Vec<u8>) -> Result<(), Fault>
     ensures bytes { OnOk result (arrow_data.new.items ≡ pieces_bytes body.now.order body.now.pieces.items) }
     ensures only { IfErr result (λ fault. fault ≡ Memory) }
@@ -31,12 +33,12 @@ fn write_body(body: &Plan<'_>, arrow_data: &mut Vec<u8>) -> Result<(), Fault>
     arrow_data.reserve(body.end as usize)?;
     match send_pieces(arrow_data, &body.pieces, body.order) {
         Ok(()) => Ok(()),
-        // Bytes in memory fail where these can't grow, and nowhere else.
+        // Writing to memory fails only if it can't grow.
         Err(_) => Err(Fault::Memory),
     }
 }
 
-// A message with its body in one piece, in place of what was encoded before.
+// Replaces what was encoded before with a message, its body in one piece.
 fn join_pieces(message: Encoded<'_>, encoded: &mut EncodedData) -> Result<(), Fault>
     ensures same { OnOk result (data_seen encoded.new ≡ message_seen message.entry) }
     ensures only { IfErr result (λ fault. fault ≡ Memory) }
@@ -47,7 +49,7 @@ fn join_pieces(message: Encoded<'_>, encoded: &mut EncodedData) -> Result<(), Fa
     Ok(())
 }
 
-// The same of each of some messages, in order.
+// The same for each of some messages, in order.
 fn join_all(alloc: Global, messages: Vec<Encoded<'_>>) -> Result<Vec<EncodedData>, Fault>
     ensures same { IfOk result (λ encoded. map data_seen encoded.items ≡ map message_seen messages.entry.items) }
     ensures only { IfErr result (λ fault. fault ≡ Memory) }
@@ -61,19 +63,30 @@ fn join_all(alloc: Global, messages: Vec<Encoded<'_>>) -> Result<Vec<EncodedData
     Ok(all)
 }
 
-/// Encodes a chunk as the messages that a writer sends of it: those of the dictionaries that are new or others than the tracker
-/// remembers, each behind those inside its values, and that of the columns. Bodies have their numbers in the byte order of the options.
-/// The tracker then remembers what was encoded.
+/// Returns the messages that a writer sends for a chunk.
 ///
-/// `fields` are the ids of the columns' dictionaries. The columns have no schema: their types are taken as those of fields without a
-/// name and without metadata.
+/// They are those of the dictionaries that are new or differ from what the tracker has, each after
+/// those inside its values, and that of the columns. `fields` are the ids of the columns'
+/// dictionaries. The columns have no schema: they are encoded as nullable fields without names and
+/// metadata. The numbers in bodies have the byte order of `options`. The tracker then has what was
+/// encoded.
 ///
-/// Faults: `Argument(ColumnCount)` where there aren't as many ids as columns; `Argument(FieldsShape)` where they don't fit the types;
-/// `Argument(NotWritable)` where such a schema can't be written, as [`ipc_schema_write::schema::schema_to_bytes`] says;
-/// `Argument(SharedDictionary)` with the id where two of one id have other values; `Argument(DictionaryReplaced)` with the id where the
-/// values are others than those that the tracker remembers, which have to stay; `Argument(TooLong)` where an array has more than
-/// `2^63 - 1` slots that would be written; `Argument(TooLarge)` where a body would have more than `2^63 - 1` bytes: both also of a
-/// dictionary that needn't be written; `Memory`. Where several are so, any of these may come. After a fault the tracker is as it was.
+/// Errors (if several apply, any of them):
+///
+/// - `Fault::Argument(ArgFault::ColumnCount)`: there are not as many ids as columns.
+/// - `Fault::Argument(ArgFault::FieldsShape)`: the ids don't have the shape of the types.
+/// - `Fault::Argument(ArgFault::NotWritable)`: a schema of these types can't be written, as
+///   [`ipc_schema_write::schema::schema_to_bytes`] says.
+/// - `Fault::Argument(ArgFault::SharedDictionary(id))`: two dictionaries with this id have
+///   different values.
+/// - `Fault::Argument(ArgFault::DictionaryReplaced(id))`: the tracker has other values for this id,
+///   which must not be replaced.
+/// - `Fault::Argument(ArgFault::TooLong)`: an array has more than `2^63 - 1` slots to write.
+/// - `Fault::Argument(ArgFault::TooLarge)`: a body is longer than `2^63 - 1` bytes.
+/// - `Fault::Memory`: an allocation failed.
+///
+/// `TooLong` and `TooLarge` come also for a dictionary that needn't be written. After an error the
+/// tracker is unchanged.
 pub fn encode_chunk(
     alloc: Global,
     columns: &Chunk<AnyArray>,
@@ -99,10 +112,11 @@ pub fn encode_chunk(
     Ok((encoded_dictionaries, encoded_message))
 }
 
-/// Encodes a chunk as [`encode_chunk`] does, and answers the messages of the dictionaries. The message of the columns comes in place of
-/// `encoded_message`, whose memory for a body is used again.
+/// Encodes a chunk as [`encode_chunk`] does, into `encoded_message`.
 ///
-/// The faults are those of [`encode_chunk`]. After a fault the tracker is as it was, and what `encoded_message` holds is left open.
+/// It returns the messages of the dictionaries. The message of the columns replaces
+/// `encoded_message`, whose memory for the body is reused. Errors are those of [`encode_chunk`].
+/// After an error the tracker is unchanged, and the content of `encoded_message` is unspecified.
 pub fn encode_chunk_amortized(
     alloc: Global,
     columns: &Chunk<AnyArray>,
@@ -127,7 +141,7 @@ pub fn encode_chunk_amortized(
     } = encode_messages(alloc, columns, &dictionaries, is_little_endian)?;
     let encoded_dictionaries = join_all(alloc, values)?;
     join_pieces(record_batch, encoded_message)?;
-    // The last call that may fail: then there is room for all.
+    // The last call that can fail: after it there is room for all.
     dictionary_tracker.make_room(dictionaries.len())?;
     dictionary_tracker.remember_all(dictionaries);
     Ok(encoded_dictionaries)

@@ -1,13 +1,17 @@
-//! What the messages of a chunk mean, which chunks are encoded, and what refusals say.
+//! Theorems about the messages of a chunk, and about refusals. The functions do nothing.
 ghost use Rattle.ipc_chunks.specs.Laws.{MeaningLaw, MissesLaw, TakenLaw};
 
-/// What is encoded of columns means just these columns, and a reader knows then what the tracker remembers.
+/// The messages of a chunk mean exactly its columns.
+///
+/// Only valid chunks are encoded. A reader then knows the dictionaries that the tracker has.
 pub fn encoded_chunks()
     ensures means { MeaningLaw }
     ensures taken { TakenLaw }
 {}
 
-/// Each refusal of a chunk, memory aside, names a condition that the chunk doesn't meet: so it isn't one that is taken.
+/// Each error names a condition that the chunk breaks, unless an allocation failed.
+///
+/// So no valid chunk is refused.
 pub fn refused_chunks()
     ensures { MissesLaw }
 {}

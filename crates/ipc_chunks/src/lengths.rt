@@ -1,4 +1,4 @@
-//! Judges the lengths of a chunk's dictionaries, those of dictionaries too that needn't be written.
+//! Checks the lengths of a chunk's dictionaries, also of those that needn't be written.
 ghost use Rattle.std.specs.Prelude.{◌≡◌, ◌≤◌, ◌++◌, map, MatchResult};
 ghost use Rattle.lower_arrays.specs.AnyLayouts.{layout_of};
 ghost use Rattle.lower_arrays.specs.Layouts.{height, heights, layouts};
@@ -11,10 +11,15 @@ use lower_arrays::array::AnyArray;
 use std::alloc::Global;
 use std::slice;
 
-/// Refuses columns with a dictionary whose message couldn't say its lengths. Dictionaries inside the values of others are judged too.
+/// Refuses columns with a dictionary that is too long for a message.
 ///
-/// Faults: `Argument(TooLong)` where an array in some values has more than `2^63 - 1` slots that would be written; `Argument(TooLarge)`
-/// where the body of some values would have more than `2^63 - 1` bytes; `Memory`.
+/// Dictionaries inside the values of others are checked too. Errors:
+///
+/// - `Fault::Argument(ArgFault::TooLong)`: an array in some values has more than `2^63 - 1` slots
+///   to write.
+/// - `Fault::Argument(ArgFault::TooLarge)`: the body of some values is longer than `2^63 - 1`
+///   bytes.
+/// - `Fault::Memory`: an allocation failed.
 #[cycle(lengths)]
 pub fn check_lengths(alloc: Global, columns: &[AnyArray]) -> Result<(), Fault>
     ensures { AnswersLengths result (dictionaries_in (layouts (map layout_of columns.now))) }
@@ -25,7 +30,7 @@ pub fn check_lengths(alloc: Global, columns: &[AnyArray]) -> Result<(), Fault>
     Ok(())
 }
 
-// Judges the dictionaries below an array, and then its own.
+// Checks the dictionaries below an array, and then its own.
 #[cycle(lengths)]
 fn check_column(alloc: Global, column: &AnyArray) -> Result<(), Fault>
     ensures { AnswersLengths result (dictionaries_below (layout_of column.now) ++ own_dictionaries (layout_of column.now)) }
@@ -34,7 +39,7 @@ fn check_column(alloc: Global, column: &AnyArray) -> Result<(), Fault>
     check_own(alloc, column)
 }
 
-// Judges the values of an array of keys.
+// Checks the values of an array of keys.
 fn check_own(alloc: Global, column: &AnyArray) -> Result<(), Fault>
     ensures { AnswersLengths result (own_dictionaries (layout_of column.now)) }
 {
@@ -44,7 +49,7 @@ fn check_own(alloc: Global, column: &AnyArray) -> Result<(), Fault>
     }
 }
 
-// Judges the lengths of values. They are planned, so that these are the lengths that a message of them would have.
+// Checks the lengths of values by planning them, as for a message.
 fn check_values(alloc: Global, values: &AnyArray) -> Result<(), Fault>
     ensures { MatchResult result (λ _. HasLengths (layout_of values.now)) (RefusesLengths (layout_of values.now)) }
 {
@@ -52,7 +57,8 @@ fn check_values(alloc: Global, values: &AnyArray) -> Result<(), Fault>
     Ok(())
 }
 
-// The arrays in which dictionaries below an array are: its children, and for an array of keys the children of its values.
+// The arrays in which dictionaries below an array are: the children, or those of a dictionary's
+// values.
 fn below(array: &AnyArray) -> &[AnyArray]
     ensures same { dictionaries_in (layouts (map layout_of result.now)) ≡ dictionaries_below (layout_of array.now) }
     ensures small { heights (layouts (map layout_of result.now)) ≤ height (layout_of array.now) }

@@ -1,4 +1,6 @@
-//! What is written of a chunk: its messages, with their bodies in pieces (Arrow columnar format, "Dictionary Messages").
+//! The messages of a chunk, with their bodies in pieces.
+//!
+//! Arrow columnar format, "Dictionary Messages".
 ghost use Rattle.std.specs.Prelude.{All, map, IfErr, IfOk, MatchResult, OnOk};
 ghost use Rattle.lower_arrays.specs.AnyLayouts.{layout_of};
 ghost use Rattle.lower_arrays.specs.Layouts.{layouts, len_of};
@@ -23,21 +25,28 @@ use lower_arrays::array::AnyArray;
 use std::alloc::Global;
 use std::slice;
 
-/// The messages that are written of a chunk, in their order. Their bodies are in pieces that borrow the chunk.
+/// The messages that are written for a chunk, in order.
+///
+/// Their bodies are in pieces that borrow the chunk.
 #[derive(Drop)]
 pub struct Messages<'a> {
-    /// Those of the dictionaries that are to be written.
+    /// Those of the dictionaries that must be written.
     pub dictionaries: Vec<Encoded<'a>>,
     /// That of the columns, which comes last.
     pub record_batch: Encoded<'a>,
 }
 
-/// Lists the dictionaries of a chunk's columns that are to be written, as [`list_dictionaries`] does, and judges the lengths of all, of
-/// those too that were written before.
+/// Returns the dictionaries that must be written for a chunk, and checks all lengths.
 ///
-/// Faults: those of [`list_dictionaries`]; `Argument(TooLong)` where an array in some values has more than `2^63 - 1` slots that would
-/// be written; `Argument(TooLarge)` where the body of some values would have more than `2^63 - 1` bytes; `Memory`. Where several are so,
-/// any of these may come.
+/// The list is that of [`list_dictionaries`]. The lengths of dictionaries that were written before
+/// are checked too. Errors (if several apply, any of them):
+///
+/// - Those of [`list_dictionaries`].
+/// - `Fault::Argument(ArgFault::TooLong)`: an array in some values has more than `2^63 - 1` slots
+///   to write.
+/// - `Fault::Argument(ArgFault::TooLarge)`: the body of some values is longer than `2^63 - 1`
+///   bytes.
+/// - `Fault::Memory`: an allocation failed.
 pub fn list_messages(
     alloc: Global,
     tracker: &DictionaryTracker,
@@ -91,11 +100,15 @@ fn encode_dictionaries<'a>(
     Ok(encoded)
 }
 
-/// Encodes the messages that are written of a chunk: those of the dictionaries that [`list_messages`] lists, and that of the columns.
-/// Bodies have their numbers in this byte order. No byte of a column is moved.
+/// Encodes the messages of a chunk: those of `dictionaries`, and that of the columns.
 ///
-/// Faults: `Argument(TooLong)` where an array has more than `2^63 - 1` slots that would be written; `Argument(TooLarge)` where a body
-/// would have more than `2^63 - 1` bytes, or metadata more than `2^31 - 1`; `Memory`. Where several are so, any of these may come.
+/// `dictionaries` are those of [`list_messages`]. `is_little_endian` is the byte order of the
+/// numbers in bodies. No byte of a column is copied. Errors (if several apply, any of them):
+///
+/// - `Fault::Argument(ArgFault::TooLong)`: an array has more than `2^63 - 1` slots to write.
+/// - `Fault::Argument(ArgFault::TooLarge)`: a body is longer than `2^63 - 1` bytes, or metadata are
+///   longer than `2^31 - 1`.
+/// - `Fault::Memory`: an allocation failed.
 pub fn encode_messages<'a>(
     alloc: Global,
     columns: &'a Chunk<AnyArray>,

@@ -13,7 +13,7 @@ use lower::datatypes::{Field, Schema};
 use lower_arrays::array::AnyArray;
 use std::alloc::{AllocError, Global};
 
-// Fields of the columns' types, without a name and without metadata.
+// Fields of the columns' types, nullable, without names and metadata.
 fn fields_of(alloc: Global, columns: &[AnyArray]) -> Result<Vec<Field>, AllocError>
     ensures { IfOk result (λ fields. fields_view fields.items ≡ encoded_fields (map layout_of columns.now)) }
 {
@@ -25,7 +25,7 @@ fn fields_of(alloc: Global, columns: &[AnyArray]) -> Result<Vec<Field>, AllocErr
     Ok(fields)
 }
 
-// Refuses columns for which there are not as many ids, or whose types can't be written with these.
+// Refuses columns if there are not as many ids, or if the types can't be written with these.
 pub(crate) fn check_columns(
     alloc: Global,
     columns: &[AnyArray],

@@ -1,7 +1,8 @@
-//! What reading a schema or a footer costs, counted by views of its tables: nothing is copied.
+//! The cost of reading a schema or a footer, counted without copying.
 //!
-//! Arrow columnar format, "Schema message" and "IPC File Format". Tables may share texts, pairs and
-//! other tables, so the schema that is read can be far larger than its message or its footer.
+//! Arrow columnar format, "Schema message" and "IPC File Format". Tables may share texts, key-value
+//! pairs and other tables. So the schema that is read can be far larger than its message or its
+//! footer.
 ghost use Rattle.std.specs.Prelude.{◌≡◌, ◌<◌, ◌≤◌, IfSome, Some};
 ghost use Rattle.lower.specs.Normal.{is_extension_key};
 ghost use Rattle.ipc_views.specs.SchemaSlots.{key_value_key};
@@ -18,11 +19,12 @@ use ipc_views::{
     SchemaRef, Tables, TypeRef, UnionRef,
 };
 
-/// How deep fields may go.
+/// The greatest depth of fields that is counted.
 const MAX_LEVELS: u64 = 64;
 
 // Each private function but three takes an amount, and returns what is left of it after a cost, or
-// None if the cost is greater. So no sum overflows, and no table is opened past the limit.
+// None if the cost is greater. So no sum overflows, and no table is opened after the limit is used
+// up.
 
 fn text_left(text: Result<Option<&str>, TableFault>, left: u64) -> Option<u64>
     ensures { Leaves left (text_size (present (texts text.entry))) result }
@@ -67,7 +69,7 @@ fn pair_left(pair: &KeyValueRef<'_>, left: u64) -> Option<u64>
     }
 }
 
-// The pair's table at an index of a vector, which is opened here.
+// The pair at an index of a vector, whose table is opened here.
 fn pair_table_left(tables: &Tables<'_, KeyValueTable>, index: usize, left: u64) -> Option<u64>
     requires { index < tables.now.count }
     ensures { Leaves left (table_cost pair_cost (table_in tables.now index)) result }
@@ -122,7 +124,7 @@ fn ids_left(union: &UnionRef<'_>, left: u64) -> Option<u64>
     }
 }
 
-// What a type itself has to be copied.
+// What is copied of a type itself.
 fn type_left(type_: &TypeRef<'_>, left: u64) -> Option<u64>
     ensures { Leaves left (type_cost (type_parts type_.now)) result }
 {
@@ -133,7 +135,7 @@ fn type_left(type_: &TypeRef<'_>, left: u64) -> Option<u64>
     }
 }
 
-// How many of its children are read of a field of a type.
+// The number of children that are read of a field of a type.
 fn children_read(type_: &TypeRef<'_>, count: usize) -> usize
     ensures value { result ≡ children_read (type_parts type_.now).0 count }
     ensures within { result ≤ count }
@@ -149,7 +151,7 @@ fn children_read(type_: &TypeRef<'_>, count: usize) -> usize
     }
 }
 
-// A field of as many levels at most.
+// A field, down to so many levels.
 #[cycle(fields)]
 #[tactic(auto, using(crate::proofs::Steps::levels))]
 fn field_left(field: &FieldRef<'_>, levels: u64, left: u64) -> Option<u64>
@@ -197,7 +199,7 @@ fn fields_left(tables: &Tables<'_, FieldTable>, count: usize, levels: u64, left:
     Some(left)
 }
 
-// The field's table at an index of a vector, which is opened here.
+// The field at an index of a vector, whose table is opened here.
 #[cycle(fields)]
 fn field_table_left(
     tables: &Tables<'_, FieldTable>,
@@ -240,16 +242,20 @@ fn message_left(message: &[u8], left: u64) -> Option<u64>
     }
 }
 
-/// What it costs to read the schema of a message, or None if that is more than `limit`.
+/// Returns the cost of reading the schema of a message, if within `limit`.
 ///
-/// The cost is one for each table of a field or of a pair that is opened, one for each id of a
-/// union's children, and the bytes of each text. A value under a key of extensions counts twice. A
-/// table or a text that others share counts each time, as it is copied each time. A message without
-/// a schema costs nothing, and neither does an ill-made part of one.
+/// It is `None` if the cost is above `limit`. The cost is the sum of these:
 ///
-/// It takes no memory, opens at most `limit` tables of fields and pairs, and stops at the first
+/// - 1 for each table of a field or of a key-value pair that is opened.
+/// - 1 for each type id of a union's children.
+/// - The length in bytes of each text; twice that of a value under one of the two extension keys.
+///
+/// A table or a text that others share counts each time, since it is copied each time. A message
+/// without a schema costs nothing, and neither does a malformed part of one.
+///
+/// It allocates nothing, opens at most `limit` tables of fields and pairs, and stops at the first
 /// text that exceeds the limit. So the limit bounds its time too: choose it in proportion to the
-/// message.
+/// length of the message.
 #[tactic(auto, using(crate::proofs::Bounds::bounds))]
 pub fn schema_cost(message: &[u8], limit: u64) -> Option<u64>
     ensures exact { IsCostWithin limit (schema_cost message.now) result }
@@ -283,14 +289,14 @@ fn footer_left(footer: &[u8], left: u64) -> Option<u64>
     }
 }
 
-/// What it costs to read the schema and the pairs of a file's footer, or None if that is more than
-/// `limit`.
+/// Returns the cost of reading the schema and the metadata of a file's footer.
 ///
-/// The schema costs what it costs in a message, by [`schema_cost`], and the pairs of the file what
-/// pairs of a schema cost. The blocks cost nothing: a footer has 24 bytes for each. A footer whose
-/// root is ill-made costs nothing, and neither does an ill-made part of one.
+/// It is `None` if the cost is above `limit`. The schema costs the same as in a message, by
+/// [`schema_cost`], and the key-value metadata of the file the same as that of a schema. Blocks
+/// cost nothing: a footer has 24 bytes for each. A footer whose root is malformed costs nothing,
+/// and neither does a malformed part of one.
 ///
-/// It takes no memory, and the limit bounds its time, as that of [`schema_cost`].
+/// It allocates nothing, and the limit bounds its time, as that of [`schema_cost`].
 #[tactic(auto, using(crate::proofs::FooterBounds::footer_bounds))]
 pub fn footer_cost(footer: &[u8], limit: u64) -> Option<u64>
     ensures exact { IsCostWithin limit (footer_cost footer.now) result }

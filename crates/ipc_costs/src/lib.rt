@@ -1,4 +1,4 @@
-//! What reading a schema or a footer costs.
+//! The cost of reading a schema or a footer.
 #![tactic(auto)]
 
 pub mod cost;

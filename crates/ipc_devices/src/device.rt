@@ -1,8 +1,7 @@
-//! What reading and writing ask of a device.
+//! Traits of devices that specify when a call can fail.
 //!
-//! The standard devices don't say when a call of theirs may fail. These do: a call answers an error
-//! only where the device counted a failure in it, or where the growth of a writer over memory was
-//! refused. A call that failed isn't tried again.
+//! Those of the standard library don't. A call of these returns an error only if the device counted
+//! a failure in it, or if memory that is written to couldn't grow. No failed call is retried.
 ghost use Rattle.std.specs.Prelude.{◌≡◌, ℕ, ◌+◌, ◌<◌, ◌≤◌, ◌↔◌, Bool, List, [], length, take, IsTrue, IsSome, ◌⊎◌, IfOk, IfSome, OnOk, OnErr, MatchResult, MatchOption};
 ghost use Rattle.std.specs.Io.{ReadsAtMost, WritesAtMost};
 ghost use Rattle.ipc_devices.specs.Device.{Rises, counted, Memory, ReadsFront, WritesOver, GoesTo};
@@ -14,41 +13,45 @@ use std::io;
 
 /// A device that counts the calls that failed.
 pub trait Failures {
-    // Whether the device is memory, whose bytes and place are known.
+    // Whether the device is memory, whose bytes and position are known.
     ghost known: { Bool };
 
-    // Whether the bytes stay as they are in each call that reads or seeks, also in one that fails
-    // or gives nothing.
+    // Whether reads and seeks never change the bytes, not even if they fail or return nothing.
     ghost still: { Bool };
 
-    // The bytes and the place, where the device is memory.
+    // The bytes and the position, if the device is memory.
     ghost memory: { Self → Memory };
 
-    // How many calls failed.
+    // The number of calls that failed.
     ghost failures: { Self → ℕ };
 
-    // How many bytes the reads gave.
+    // The number of bytes that reads returned.
     ghost given: { Self → ℕ };
 
-    /// How many calls failed. The count stops at `u64::MAX`, where it counts as risen.
+    /// Returns the number of calls that failed.
+    ///
+    /// The count stops at `u64::MAX`; a failure leaves it unchanged then.
     fn failures(&self) -> u64
         ensures { result ≡ Self.failures self.now };
 }
 
-/// A device that gives bytes.
+/// A device that is read.
 pub trait Reads: Failures {
-    // Which bytes the reads gave that went from one state to another, and how the last of them ended.
+    // Which bytes the reads between two states returned, and how the last of these reads ended.
     ghost gives: { Self → List ℕ → Stop → Self → Type 0 };
 
-    // Whether the device holds the next bytes, this many, in memory, and shows them.
+    // Whether the device has the next bytes, this many, in memory and lends them.
     ghost shows: { Self → ℕ → Type 0 };
 
-    /// How many bytes the reads gave. The count stops at `u64::MAX`.
+    /// Returns the number of bytes that reads returned. The count stops at `u64::MAX`.
     fn given(&self) -> u64
         ensures { result ≡ Self.given self.now };
 
-    /// Reads bytes into the front of `buf`, and answers how many. None are where `buf` is empty, or
-    /// where none are left: of memory no more come then, a device of another kind may have more later.
+    /// Reads bytes into the front of `buf`, and returns their number.
+    ///
+    /// It is 0 if `buf` is empty or no bytes are left. Memory has no more bytes then; another
+    /// device may have more later. An error is the device's, which counts it as a failure; no bytes
+    /// were read, and the content of `buf` is unspecified.
     fn read(&mut self, buf: &mut [u8]) -> io::Result<usize>
         ensures bound { ReadsAtMost result buf.new }
         ensures gives { MatchResult result
@@ -64,8 +67,9 @@ pub trait Reads: Failures {
         ensures whole { IsTrue Self.still
             → (Self.memory self.new).whole ≡ (Self.memory self.old).whole };
 
-    /// The next bytes, this many, where the device holds them in memory and shows them: they are given without a copy, and
-    /// the next call goes on behind them. Where it doesn't show them the answer is None, and nothing is given.
+    /// Lends the next `count` bytes without a copy, and moves after them.
+    ///
+    /// It is `None` if the device doesn't have or doesn't lend them; nothing was read then.
     fn pass(&mut self, count: usize) -> Option<&[u8]>
         ensures count { IfSome result (λ bytes. length bytes.now ≡ count) }
         ensures shows { shows self.old count ↔ IsSome result }
@@ -73,7 +77,10 @@ pub trait Reads: Failures {
             (gives self.old [] going new)
             (λ bytes. gives self.old bytes.now going new))) };
 
-    /// Goes past the next bytes, this many, or past all where there are fewer. It is for callers: no reader here makes use of it.
+    /// Skips the next `count` bytes, or all if there are fewer.
+    ///
+    /// An error is the device's, which counts it as a failure; fewer than `count` bytes were
+    /// skipped. This is for callers: the readers here don't use it.
     fn skip(&mut self, count: usize) -> io::Result<()>
         ensures gives { SkipGives gives self.old count result self.new }
     {
@@ -90,7 +97,8 @@ pub trait Reads: Failures {
         Ok(())
     }
 
-    // Laws: no call gives nothing, what two runs of reads gave stands one behind the other, and both counts and memory follow.
+    // Theorems: without calls nothing is read; the bytes of two runs of reads are concatenated; the
+    // counts and the memory follow.
     ghost gives_nothing: { GivesNothing gives };
 
     ghost gives_in_order: { GivesInOrder gives };
@@ -104,20 +112,26 @@ pub trait Reads: Failures {
     ghost gives_still: { GivesStill Self.still gives Self.memory };
 }
 
-/// A device that takes bytes.
+/// A device that is written.
 pub trait Writes: Failures {
-    // Whether a write may have to grow the device, and that can be refused.
+    // Whether a write may have to grow memory, which can fail.
     ghost grows: { Bool };
 
-    // How many bytes can be written before the device has to grow.
+    // The number of bytes that can be written before the device must grow.
     ghost room: { Self → ℕ };
 
-    /// Whether a write may have to grow memory, which can be refused: true for writers over memory
-    /// alone.
+    /// Whether a write may have to grow memory, which can fail.
+    ///
+    /// It is true only for devices that write to memory.
     const GROWS: bool;
 
-    /// Writes bytes of the front of `buf`, and answers how many: of a nonempty `buf` at least one.
-    /// Where memory can't grow, and where `buf` is empty, nothing is changed.
+    /// Writes bytes from the front of `buf`, and returns their number.
+    ///
+    /// If `buf` isn't empty, at least one byte is written. An error is one of these:
+    ///
+    /// - The device's, which counts it as a failure.
+    /// - Memory had to grow and couldn't. The bytes and the position are unchanged then, as they
+    ///   are if `buf` is empty.
     fn write(&mut self, buf: &[u8]) -> io::Result<usize>
         ensures bound { WritesAtMost result buf.now }
         ensures some { IfOk result (λ n. 0 < length buf.now → 0 < n) }
@@ -133,7 +147,9 @@ pub trait Writes: Failures {
         ensures refused { IsTrue Self.known
             → OnErr result (Self.memory self.new ≡ Self.memory self.old) };
 
-    /// Sends what was written on its way.
+    /// Passes on what was written to where it goes.
+    ///
+    /// An error is the device's, which counts it as a failure.
     fn flush(&mut self) -> io::Result<()>
         ensures monotone { Self.failures self.old ≤ Self.failures self.new }
         ensures failed { OnErr result (Rises (Self.failures self.old) (Self.failures self.new)) }
@@ -141,9 +157,12 @@ pub trait Writes: Failures {
         ensures memory { IsTrue Self.known → Self.memory self.new ≡ Self.memory self.old };
 }
 
-/// A device with a place, at which the next call reads or writes.
+/// A device with a position, where the next call reads or writes.
+///
+/// An error of a call is the device's, which counts it as a failure. The position is unspecified
+/// then.
 pub trait Seeks: Failures {
-    /// Goes to this place, also one past the end.
+    /// Moves to an offset in bytes from the start, maybe after the end.
     fn seek_to(&mut self, place: u64) -> io::Result<()>
         ensures monotone { Self.failures self.old ≤ Self.failures self.new }
         ensures failed { OnErr result (Rises (Self.failures self.old) (Self.failures self.new)) }
@@ -154,7 +173,7 @@ pub trait Seeks: Failures {
         ensures whole { IsTrue Self.still
             → (Self.memory self.new).whole ≡ (Self.memory self.old).whole };
 
-    /// Goes to the end, and answers its place.
+    /// Moves to the end, and returns its offset in bytes.
     fn seek_end(&mut self) -> io::Result<u64>
         ensures monotone { Self.failures self.old ≤ Self.failures self.new }
         ensures failed { OnErr result (Rises (Self.failures self.old) (Self.failures self.new)) }
@@ -166,7 +185,7 @@ pub trait Seeks: Failures {
         ensures whole { IsTrue Self.still
             → (Self.memory self.new).whole ≡ (Self.memory self.old).whole };
 
-    /// The place.
+    /// Returns the position, as an offset in bytes from the start.
     fn position(&mut self) -> io::Result<u64>
         ensures monotone { Self.failures self.old ≤ Self.failures self.new }
         ensures failed { OnErr result (Rises (Self.failures self.old) (Self.failures self.new)) }
@@ -177,7 +196,7 @@ pub trait Seeks: Failures {
         ensures whole { IsTrue Self.still
             → (Self.memory self.new).whole ≡ (Self.memory self.old).whole };
 
-    // A law: memory in which one can seek keeps its bytes.
+    // A theorem: seeking in memory leaves its bytes unchanged.
     ghost known_still: { IsTrue Self.known → IsTrue Self.still };
 }
 

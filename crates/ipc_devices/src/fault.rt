@@ -1,4 +1,4 @@
-//! Everything that reading and writing refuse, by name.
+//! Errors of reading and writing.
 ghost use Rattle.std.specs.Prelude.{◌≡◌};
 ghost use Rattle.ipc_devices.specs.declared.fault.Fault.TheVariants.{OutOfSpec, NotYetImplemented, Schema, Argument, State, Io, Memory, Lower};
 
@@ -7,50 +7,57 @@ use std::alloc::{AllocError, AllocFailed};
 use std::io;
 use thiserror::Error;
 
-/// What a call that can be refused answers.
+/// The result of a call that can fail with a [`Fault`].
 pub type Result<T> = std::result::Result<T, Fault>;
 
-/// Why a call was refused.
+/// Why a call failed.
 #[derive(Debug, Drop, Error)]
 pub enum Fault {
     /// The bytes break a rule of the Arrow columnar format.
     #[error("out of spec: {0}")]
     OutOfSpec(OutOfSpecKind),
-    /// The input is shorter than it states, ends where a schema message has to stand, or is too short
-    /// for a file.
+    /// The input ended early.
+    ///
+    /// It is shorter than it states, ends where a schema message must be, or is too short for a
+    /// file.
     #[error("the input ended early")]
     Ended,
-    /// The bytes, or the call, ask for a form that isn't supported.
+    /// The bytes or the arguments need a feature that isn't supported.
     #[error("not yet implemented: {0}")]
     NotYetImplemented(Nyi),
     /// A schema that is read breaks a rule.
     #[error("bad schema: {0}")]
     Schema(SchemaFault),
-    /// An argument breaks a rule of the call, or of a call that it makes in its turn; a writer's call
-    /// changed nothing then. Or the columns of a batch that is read have different numbers of rows.
+    /// An argument breaks a rule of the call, or of one it makes.
+    ///
+    /// A writer's call changed nothing then. Readers return it if the columns of a batch have
+    /// different numbers of rows.
     #[error("{0}")]
     Argument(ArgFault),
-    /// A writer isn't in the state that the call asks for, which changed nothing.
+    /// A writer isn't in a state in which the call is allowed. The call changed nothing.
     #[error("{0}")]
     State(StateFault),
-    /// More than 65,536 dictionary messages stand before one record batch.
+    /// More than 65,536 dictionary messages precede one record batch.
     #[error("more than 65536 dictionary messages before a record batch")]
     TooManyDictionaries,
-    /// A device answered this error during the call, as memory that is written to does where its
-    /// growth is refused.
+    /// A device returned this error during the call.
+    ///
+    /// Memory that is written to does so if it can't grow.
     #[error("input or output failed: {0}")]
     Io(io::Error),
-    /// Memory was refused.
+    /// An allocation failed, or shared memory has too many owners to count.
     #[error("no memory")]
     Memory,
-    /// The parts of a column make no array: the array's own error. Readers answer it where a child is
-    /// shorter or longer than its parent asks.
+    /// The parts of a column don't make an array; this is the array's error.
+    ///
+    /// Readers return it if a child is shorter or longer than its parent needs.
     #[error("bad array: {0}")]
     Lower(ArrayError),
 }
 
-/// The rules of the Arrow columnar format, "Serialization and Interprocess Communication (IPC)",
-/// that bytes can break.
+/// The rules of the Arrow columnar format that bytes can break.
+///
+/// Arrow columnar format, "Serialization and Interprocess Communication (IPC)".
 #[derive(Debug, Drop, PartialEq, Eq, Error)]
 pub enum OutOfSpecKind {
     /// A file doesn't begin with `ARROW1`.
@@ -59,18 +66,23 @@ pub enum OutOfSpecKind {
     /// A file doesn't end with `ARROW1`.
     #[error("the file does not end with ARROW1")]
     InvalidFooter,
-    /// A number that has to be at least 0 is below it: the length of a footer; what the prefix of a
-    /// message states, in a stream and at a dictionary block; the offset or the length of the metadata of
-    /// a record block; the length of a node or a buffer, or the offset of a buffer.
+    /// A number that must be at least 0 is negative.
+    ///
+    /// It is one of these:
+    ///
+    /// - The length of a footer.
+    /// - The length in the prefix of a message, in a stream or at a dictionary block.
+    /// - The offset or the metadata length of a record block.
+    /// - The length of a node or a buffer, or the offset of a buffer.
     #[error("a length or an offset is negative")]
     NegativeFooterLength,
-    /// The root of a footer, or one of the file's own pairs, is ill-made.
+    /// The root table of a footer, or its key-value metadata, is malformed.
     #[error("the footer is ill-made: {0}")]
     InvalidFlatbufferFooter(TableFault),
     /// A footer has no record blocks.
     #[error("the footer has no record batches")]
     MissingRecordBatches,
-    /// The record blocks of a footer are ill-made.
+    /// The record blocks of a footer are malformed.
     #[error("the footer's record batches are ill-made: {0}")]
     InvalidFlatbufferRecordBatches(TableFault),
     /// A footer has no schema.
@@ -79,58 +91,64 @@ pub enum OutOfSpecKind {
     /// The schema of a footer can't be opened.
     #[error("the footer's schema is ill-made: {0}")]
     InvalidFlatbufferSchema(TableFault),
-    /// A schema has no fields vector.
+    /// A schema has no vector of fields.
     #[error("the schema has no fields")]
     MissingFields,
-    /// The dictionary blocks of a footer are ill-made.
+    /// The dictionary blocks of a footer are malformed.
     #[error("the footer's dictionaries are ill-made: {0}")]
     InvalidFlatbufferDictionaries(TableFault),
-    /// Of arrow2. No call answers it: a block is numbers alone, and vectors of blocks have faults of
-    /// their own.
+    /// From arrow2; no call returns it.
+    ///
+    /// A block consists of numbers alone, and vectors of blocks have their own errors.
     #[error("a block is ill-made: {0}")]
     InvalidFlatbufferBlock(TableFault),
-    /// The root of a message is ill-made.
+    /// The root table of a message is malformed.
     #[error("the message is ill-made: {0}")]
     InvalidFlatbufferMessage(TableFault),
     /// A message has no header.
     #[error("the message has no header")]
     MissingMessageHeader,
-    /// The header of a message is ill-made.
+    /// The header of a message is malformed.
     #[error("the message's header is ill-made: {0}")]
     InvalidFlatbufferHeader(TableFault),
-    /// The length of a body in a stream, the offset or the length of the metadata of a dictionary block,
-    /// what the prefix at a record block states, or, where a file is gone on with, any number of a block
-    /// is below 0.
+    /// A position or a length is negative.
+    ///
+    /// It is one of these:
+    ///
+    /// - The length of a body in a stream.
+    /// - The offset or the metadata length of a dictionary block.
+    /// - The length in the prefix of the message at a record block.
+    /// - Any number of a block of a file to which chunks are appended.
     #[error("a position or a length is negative")]
     UnexpectedNegativeInteger,
-    /// A message of another kind stands where a record or a dictionary is due.
+    /// A message isn't the record batch or the dictionary batch that is due.
     #[error("the message is of an unexpected type")]
     UnexpectedMessageType,
-    /// A record batch has no buffers vector.
+    /// A record batch has no vector of buffers.
     #[error("the record batch has no buffers")]
     MissingMessageBuffers,
-    /// The buffers of a record batch are ill-made.
+    /// The buffers of a record batch are malformed.
     #[error("the record batch's buffers are ill-made: {0}")]
     InvalidFlatbufferBuffers(TableFault),
-    /// A record batch has no nodes vector, or fewer nodes than its columns need.
+    /// A record batch has no nodes, or fewer than its columns need.
     #[error("the record batch has too few nodes")]
     MissingMessageNodes,
-    /// The nodes of a record batch are ill-made.
+    /// The nodes of a record batch are malformed.
     #[error("the record batch's nodes are ill-made: {0}")]
     InvalidFlatbufferNodes(TableFault),
-    /// The body length of a message is ill-made.
+    /// The body length of a message is malformed.
     #[error("the message's body length is ill-made: {0}")]
     InvalidFlatbufferBodyLength(TableFault),
     /// A dictionary batch has no record batch.
     #[error("the dictionary batch has no data")]
     MissingData,
-    /// The record batch of a dictionary batch is ill-made.
+    /// The record batch of a dictionary batch is malformed.
     #[error("the dictionary batch's data is ill-made: {0}")]
     InvalidFlatbufferData(TableFault),
-    /// The metadata version of a message is ill-made.
+    /// The metadata version of a message is malformed.
     #[error("the message's version is ill-made: {0}")]
     InvalidFlatbufferVersion(TableFault),
-    /// The compression of a record batch is ill-made.
+    /// The compression of a record batch is malformed.
     #[error("the record batch's compression is ill-made: {0}")]
     InvalidFlatbufferCompression(TableFault),
     /// A record batch has fewer buffers than its columns need.
@@ -139,58 +157,58 @@ pub enum OutOfSpecKind {
     /// A buffer is shorter than its elements need.
     #[error("a buffer of {buffer_length} bytes is too short for {length} elements of {type_name}, which need {required_number_of_bytes}")]
     InvalidBuffer {
-        /// How many elements are needed.
+        /// The number of elements that are needed.
         length: usize,
         /// The name of the elements' type.
         type_name: &'static str,
-        /// How many bytes that many elements take.
+        /// The number of bytes that these elements need.
         required_number_of_bytes: usize,
-        /// How many bytes the buffer has.
+        /// The length of the buffer in bytes.
         buffer_length: usize,
     },
-    /// The buffers of a record batch are together longer than what holds them.
+    /// The buffers of a record batch are longer than the body or file.
     #[error("buffers of {buffers_size} bytes do not fit into {file_size} bytes")]
     InvalidBuffersLength {
-        /// How many bytes the buffers have together. The sum stops at `u64::MAX`.
+        /// The sum of the buffers' lengths in bytes, at most `u64::MAX`.
         buffers_size: u64,
-        /// How many bytes the file, or a stream's body, has.
+        /// The length in bytes of the file, or of the body in a stream.
         file_size: u64,
     },
     /// A bitmap is shorter than its slots need.
     #[error("a bitmap of {number_of_bits} bits is too short for {length}")]
     InvalidBitmap {
-        /// How many bits are needed.
+        /// The number of bits that are needed.
         length: usize,
-        /// How many bits the buffer has.
+        /// The number of bits in the buffer.
         number_of_bits: usize,
     },
-    /// The delta flag of a dictionary batch is ill-made.
+    /// The delta flag of a dictionary batch is malformed.
     #[error("the dictionary batch's isDelta is ill-made: {0}")]
     InvalidFlatbufferIsDelta(TableFault),
-    /// The id of a dictionary batch is ill-made.
+    /// The id of a dictionary batch is malformed.
     #[error("the dictionary batch's id is ill-made: {0}")]
     InvalidFlatbufferId(TableFault),
     /// No dictionary has this id.
     #[error("the dictionary {requested_id} is unknown")]
     InvalidId {
-        /// The id that was asked for.
+        /// The id that was requested.
         requested_id: i64,
     },
-    /// The dictionary of this id has values of another type than the field.
+    /// The dictionary with this id has values of another type than the field.
     #[error("the dictionary {requested_id} has another value type")]
     InvalidIdDataType {
-        /// The id that was asked for.
+        /// The id that was requested.
         requested_id: i64,
     },
-    /// A column of fixed size 0 is read.
+    /// The fixed size of a column that is read is 0.
     #[error("a column of fixed size 0 has no slots")]
     InvalidDataType,
 }
 
-/// What isn't supported.
+/// Features that aren't supported.
 #[derive(Debug, Clone, Copy, PartialEq, Eq, Error)]
 pub enum Nyi {
-    /// Buffers that are compressed.
+    /// Compressed buffers.
     #[error("compressed buffers")]
     Compressed,
     /// Columns of floating-point numbers.
@@ -199,27 +217,27 @@ pub enum Nyi {
     /// Dictionary batches that add to a dictionary.
     #[error("delta dictionaries")]
     Delta,
-    /// Files of Feather's first version.
+    /// Files of Feather version 1.
     #[error("Feather V1 files")]
     FeatherV1,
 }
 
-/// How the tables of a message or a footer can be ill-made.
+/// How the tables of a message or a footer can be malformed.
 #[derive(Debug, Clone, Copy, PartialEq, Eq, Error)]
 pub enum TableFault {
-    /// An offset or a length leads outside the bytes, that of a vtable too.
+    /// An offset or a length leads outside the bytes, also one of a vtable.
     #[error("an offset leads outside")]
     Outside,
-    /// A vtable is shorter than its own head, of 4 bytes.
+    /// A vtable is shorter than 4 bytes, the length of its own header.
     #[error("a vtable is ill-made")]
     Vtable,
-    /// An enumeration or a union holds a tag that isn't known.
+    /// The number of an enumeration or of a union's variant is unknown.
     #[error("a tag is unknown")]
     UnknownTag,
     /// A text isn't UTF-8.
     #[error("a text is not UTF-8")]
     Utf8,
-    /// A union has a tag and no value.
+    /// A union has a tag but no value.
     #[error("a value is missing")]
     MissingValue,
 }
@@ -239,28 +257,28 @@ pub enum SchemaFault {
     /// A dictionary has no type of its keys.
     #[error("a dictionary has no index type")]
     NoIndexType,
-    /// A whole number's width isn't 8, 16, 32 or 64 bits.
+    /// The width of an integer isn't 8, 16, 32 or 64 bits.
     #[error("a whole number has another width than 8, 16, 32 or 64 bits")]
     BadInteger,
-    /// A time's width and unit don't go together.
+    /// The width of a time doesn't fit its unit.
     #[error("the width and the unit of a time do not go together")]
     BadTime,
-    /// A fixed size is below 0.
+    /// A fixed size is negative.
     #[error("a fixed size is negative")]
     BadSize,
-    /// A decimal's width isn't 128 or 256 bits, or its precision or scale is below 0.
+    /// A decimal isn't of 128 or 256 bits, or has negative precision or scale.
     #[error("a decimal has another width than 128 or 256 bits, or a negative precision or scale")]
     BadDecimal,
-    /// The fields have more than 64 levels.
+    /// The fields are nested more than 64 levels deep.
     #[error("the fields have more than 64 levels")]
     TooDeep,
     /// More field tables are visited than the message has bytes.
     #[error("there are more field tables than bytes")]
     TooManyFields,
-    /// Another message, or the end of the stream, stands in the place of a schema.
+    /// Another message, or the end of the stream, is where a schema must be.
     #[error("the message is not a schema")]
     NotASchema,
-    /// A table of the schema is ill-made.
+    /// A table of the schema is malformed.
     #[error("a table is ill-made: {0}")]
     Table(TableFault),
 }
@@ -277,8 +295,10 @@ pub enum ArgFault {
     /// The ids don't have the shape of the fields.
     #[error("the ids do not have the shape of the fields")]
     FieldsShape,
-    /// The ids aren't those that the writer started with; or a stream's schema and ids aren't those of the
-    /// file behind whose chunks it is to come.
+    /// The ids are not those that the writer started with.
+    ///
+    /// Also: the schema and the ids of a stream are not those of the file to which its chunks are
+    /// appended.
     #[error("the ids are not those that the writer started with")]
     FieldsDiffer,
     /// A chunk has another number of columns than the schema.
@@ -287,20 +307,22 @@ pub enum ArgFault {
     /// A column has another type than its field.
     #[error("a column has another type than its field")]
     ColumnType,
-    /// Columns of one dictionary id have different values.
+    /// Columns with the same dictionary id have different values.
     #[error("columns of the dictionary {0} have different values")]
     SharedDictionary(i64),
-    /// A file can't replace the values of a dictionary.
+    /// Other values were already written for a dictionary, and a file can't replace them.
     #[error("the dictionary {0} was already written with other values")]
     DictionaryReplaced(i64),
     /// An array is longer than `i64::MAX`.
     #[error("an array is too long")]
     TooLong,
-    /// A length or a position passes what its number can hold, or a limit is passed: the weight `2^30` of
-    /// a schema with a file's pairs, or `2^25` blocks of a file.
+    /// A length or a position doesn't fit its number, or is above a limit.
+    ///
+    /// The limits are `2^30` for the weight of a schema with a file's key-value metadata, and
+    /// `2^25` for the blocks of a file.
     #[error("a length or a position is too large")]
     TooLarge,
-    /// A file to be gone on with has no record blocks.
+    /// A file to which chunks are to be appended has no record blocks.
     #[error("the file has no record blocks")]
     NoRecordBlocks,
 }
@@ -311,10 +333,10 @@ pub enum StateFault {
     /// The writer wasn't started.
     #[error("the writer was not started")]
     NotStarted,
-    /// The writer was started before.
+    /// The writer was already started.
     #[error("the writer was already started")]
     AlreadyStarted,
-    /// The writer was finished before.
+    /// The writer was already finished.
     #[error("the writer was already finished")]
     Finished,
     /// A device failed in an earlier call.
@@ -401,7 +423,9 @@ impl PartialEq for Fault {
 
     ghost laws = { same_fault_per };
 
-    /// Whether both are of one case with the same part. Errors of devices are compared by their kinds.
+    /// Returns whether both are the same variant with the same content.
+    ///
+    /// Errors of devices are compared by their kinds.
     fn eq(&self, other: &Fault) -> bool {
         match (self, other) {
             (Fault::OutOfSpec(one), Fault::OutOfSpec(two)) => one == two,

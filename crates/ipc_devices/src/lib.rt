@@ -1,5 +1,7 @@
-//! What the layers above stand on: faults, and devices that say when a call of theirs may fail and,
-//! where they are memory, which bytes they hold.
+//! Errors, and devices.
+//!
+//! The devices specify when a call of theirs can fail and, if they are memory, which bytes they
+//! have.
 #![tactic(auto)]
 
 pub mod device;

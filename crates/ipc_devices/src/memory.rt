@@ -1,4 +1,4 @@
-//! Devices over memory. They count no failures, and give and take their bytes exactly.
+//! Devices in memory. They count no failures, and read and write exactly their bytes.
 ghost use Rattle.std.specs.Prelude.{◌≡◌, ℕ, ◌+◌, ◌-◌, ◌<◌, ◌≤◌, true, List, [], ◌++◌, length, take, drop, replicate, min, OnOk, OnErr, vec_len, vec_capacity};
 ghost use Rattle.ipc_devices.specs.Device.{before};
 ghost use Rattle.ipc_devices.specs.Gives.{MemoryGives};
@@ -41,11 +41,11 @@ impl Writes for Vec<u8> {
     }
 }
 
-/// What holds bytes in memory.
+/// Bytes in memory.
 pub trait Bytes {
     ghost bytes: { Self → List ℕ };
 
-    /// The bytes.
+    /// Returns the bytes.
     fn bytes(&self) -> &[u8]
         ensures { result.now ≡ bytes self.now };
 }
@@ -66,8 +66,10 @@ impl Bytes for &[u8] {
     }
 }
 
-/// A file over bytes in memory, with a position. It reads and seeks, and over a `Vec` it writes too:
-/// over what stands at the position, with zeros in a gap before it.
+/// A file in memory: bytes and a position.
+///
+/// It reads and seeks. With a `Vec` it also writes, over the bytes at the position; if the position
+/// is after the end, it fills the gap with zeros.
 #[derive(Drop)]
 pub struct MemFile<B> {
     inner: B,
@@ -76,7 +78,7 @@ pub struct MemFile<B> {
 }
 
 impl<B: Bytes> MemFile<B> {
-    /// A file that stands at its beginning.
+    /// Returns a file whose position is its start.
     pub fn new(inner: B) -> MemFile<B>
         ensures { result ≡ record { inner = inner; position = 0; given = 0 } }
     {
@@ -87,7 +89,7 @@ impl<B: Bytes> MemFile<B> {
         }
     }
 
-    /// The bytes.
+    /// Returns the bytes.
     pub fn into_inner(self) -> B
         ensures { result ≡ self.inner }
     {
@@ -111,7 +113,7 @@ impl<B: Bytes> Failures for MemFile<B> {
     }
 }
 
-// What stands behind the place.
+// The bytes from an offset on.
 fn rest_of(bytes: &[u8], place: u64) -> &[u8]
     ensures { result.now ≡ drop place bytes.now }
 {
@@ -121,7 +123,7 @@ fn rest_of(bytes: &[u8], place: u64) -> &[u8]
     }
 }
 
-// Copies as many bytes as both have, and answers how many.
+// Copies as many bytes as both have, and returns their number.
 fn copy_front(from: &[u8], to: &mut [u8]) -> usize
     ensures count { result ≡ min (length from.now) (length to.old) }
     ensures copied { to.new ≡ take result from.now ++ drop result to.old }
@@ -198,7 +200,7 @@ impl<B: Bytes> Seeks for MemFile<B> {
     }
 }
 
-// Writes over the bytes from the place on. A gap is filled with zeros.
+// Writes over the bytes from an offset on. A gap is filled with zeros.
 fn put(bytes: &mut Vec<u8>, place: usize, buf: &[u8]) -> Result<(), AllocError>
     ensures ok { OnOk result (bytes.new.items ≡ before (record { whole = bytes.old.items; place = place }) ++ buf.now ++ drop (place + length buf.now) bytes.old.items) }
     ensures err { OnErr result (bytes.new.items ≡ bytes.old.items) }
@@ -213,7 +215,7 @@ fn put(bytes: &mut Vec<u8>, place: usize, buf: &[u8]) -> Result<(), AllocError>
     Ok(())
 }
 
-// Adds zeros up to this length.
+// Appends zeros up to this length.
 fn fill_to(bytes: &mut Vec<u8>, end: usize) -> Result<(), AllocError>
     ensures ok { OnOk result (bytes.new.items ≡ bytes.old.items ++ replicate (end - length bytes.old.items) 0) }
     ensures err { OnErr result (bytes.new.items ≡ bytes.old.items) }

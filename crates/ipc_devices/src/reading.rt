@@ -1,4 +1,4 @@
-//! Reads runs of bytes from a device.
+//! Reads a known number of bytes from a device.
 ghost use Rattle.std.specs.Prelude.{◌≡◌, ◌+◌, ◌^◌, ◌<◌, ◌≤◌, length, take, drop, IsTrue, IfOk, IfErr, OnOk, OnErr, MatchResult};
 ghost use Rattle.ipc_devices.specs.Device.{Rises, after};
 ghost use Rattle.ipc_devices.specs.Faults.{OnIo, UnlessIo, OwnFault, Answers};
@@ -11,10 +11,14 @@ use crate::fault::Fault;
 use std::alloc::{AllocError, Global};
 use std::io;
 
-// The most bytes that are read at once, and so taken from memory for a length that is only stated.
+// The most bytes that are read at once, and so allocated for a length that is only stated.
 const MOST_AT_ONCE: usize = 65_536;
 
-/// Reads until the buffer is full or no bytes are left, and answers how many it read.
+/// Reads until `buf` is full or no bytes are left.
+///
+/// It returns the number of bytes read.
+///
+/// An error is the device's, which counts it as a failure.
 pub fn fill<R: Reads>(reader: &mut R, buf: &mut [u8]) -> io::Result<usize>
     ensures bound { IfOk result (λ n. n ≤ length buf.new) }
     ensures gives { FillGives R.gives reader.old result buf.new reader.new }
@@ -37,7 +41,7 @@ pub fn fill<R: Reads>(reader: &mut R, buf: &mut [u8]) -> io::Result<usize>
     Ok(at)
 }
 
-// Adds the next bytes, this many.
+// Appends the next `count` bytes.
 fn add_piece<R: Reads>(reader: &mut R, bytes: &mut Vec<u8>, count: usize) -> Result<(), Fault>
     requires small { length bytes.old.items + count < 2 ^ 63 }
     requires some { 0 < count }
@@ -61,8 +65,9 @@ fn add_piece<R: Reads>(reader: &mut R, bytes: &mut Vec<u8>, count: usize) -> Res
     Ok(())
 }
 
-// Takes memory for more bytes where there is none left: for three times as many as have come, or for a piece. So what has come is seldom moved,
-// and a stated length alone takes no more than a piece.
+// Allocates room for a piece if there is none: for three times as many bytes as were read, and at
+// least for the piece. So bytes are seldom moved, and a stated length alone allocates no more than
+// a piece.
 fn make_room(bytes: &mut Vec<u8>, piece: usize, left: usize) -> Result<(), AllocError>
     ensures { bytes.new.items ≡ bytes.old.items }
 {
@@ -73,8 +78,16 @@ fn make_room(bytes: &mut Vec<u8>, piece: usize, left: usize) -> Result<(), Alloc
     Ok(())
 }
 
-/// Reads this many bytes in place of those that `bytes` holds, by at most 65,536 at a time, and takes memory for no more than 65,536,
-/// or for four times as many as have come: a stated length alone takes no more. `Ended` comes exactly where there are fewer.
+/// Replaces the content of `bytes` with the next `count` bytes.
+///
+/// It reads at most 65,536 bytes at once. It allocates at most 65,536 bytes, or four times as many
+/// as were read: a stated length alone allocates no more. Errors:
+///
+/// - `Fault::Ended`: the device has fewer than `count` bytes.
+/// - `Fault::Io`: the device failed.
+/// - `Fault::Memory`: an allocation failed.
+///
+/// After an error, the content of `bytes` is unspecified.
 pub fn read_into<R: Reads>(reader: &mut R, bytes: &mut Vec<u8>, count: usize) -> Result<(), Fault>
     requires { count < 2 ^ 63 }
     ensures count { OnOk result (length bytes.new.items ≡ count) }
@@ -101,7 +114,7 @@ pub fn read_into<R: Reads>(reader: &mut R, bytes: &mut Vec<u8>, count: usize) ->
     Ok(())
 }
 
-/// As [`read_into`], with bytes of their own.
+/// As [`read_into`], into a new vector.
 pub fn read_bytes<R: Reads>(alloc: Global, reader: &mut R, count: usize) -> Result<Vec<u8>, Fault>
     requires { count < 2 ^ 63 }
     ensures count { IfOk result (λ v. length v.items ≡ count) }

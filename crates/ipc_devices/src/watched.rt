@@ -1,4 +1,4 @@
-//! Devices of any that the standard library has.
+//! Devices of the standard library, with counts.
 ghost use Rattle.std.specs.Prelude.{◌≡◌, ◌≤◌, false, [], OnOk, OnErr};
 ghost use Rattle.ipc_devices.specs.Device.{Rises};
 ghost use Rattle.ipc_devices.specs.Gives.{CountsGive};
@@ -8,8 +8,10 @@ use crate::device::{Failures, Reads, Seeks, Writes};
 use std::io;
 use std::io::{ErrorKind, SeekFrom};
 
-/// A device of any standard one. It counts what that gives, and the calls in which it fails. A place that it takes for invalid, as a file
-/// does with one past the greatest length that its file system has, lies behind all that it holds: `seek_to` such a place goes to its end.
+/// A device of the standard library, with counts of failures and bytes read.
+///
+/// If the device refuses an offset as invalid, `seek_to` moves to its end. A file does so for an
+/// offset above the greatest length in its file system, which is after all its bytes.
 #[derive(Drop)]
 pub struct Watched<T> {
     inner: T,
@@ -18,7 +20,7 @@ pub struct Watched<T> {
 }
 
 impl<T> Watched<T> {
-    /// A device with both counts at 0.
+    /// Returns a device with both counts at 0.
     pub fn new(inner: T) -> Watched<T>
         ensures { result ≡ record { inner = inner; failures = 0; given = 0 } }
     {
@@ -29,7 +31,7 @@ impl<T> Watched<T> {
         }
     }
 
-    /// The standard device.
+    /// Returns the device of the standard library.
     pub fn into_inner(self) -> T
         ensures { result ≡ self.inner }
     {

@@ -1,5 +1,6 @@
-//! Encodes batches as messages: their metadata, and their bodies in pieces (Arrow columnar format, "RecordBatch message" and
-//! "Dictionary messages").
+//! Encodes batches as messages: metadata, and bodies in pieces.
+//!
+//! Arrow columnar format, "RecordBatch message" and "Dictionary Messages".
 ghost use Rattle.std.specs.Prelude.{◌≡◌, ◌*◌, ◌^◌, ◌<◌, ◌≤◌, [], length, map, IfOk};
 ghost use Rattle.lower_arrays.specs.AnyLayouts.{layout_of};
 ghost use Rattle.ipc_encode.specs.Appending.{order_of};
@@ -17,21 +18,23 @@ use lower_arrays::array::AnyArray;
 use std::alloc::Global;
 use std::mem::replace;
 
-/// What a batch holds.
+/// The kind of a batch.
 #[derive(Clone, Copy, Debug, PartialEq, Eq)]
 pub enum BatchKind {
-    /// The columns of a chunk: a record batch.
+    /// A record batch: the columns of a chunk.
     Record,
-    /// The values of the dictionary of this id, as one column: a dictionary batch. They replace those that the id had.
+    /// A dictionary batch: the values of the dictionary with this id, as one column. They replace
+    /// earlier ones.
     Dictionary(i64),
 }
 
-/// The message of a batch.
+/// An encoded message of a batch.
 #[derive(Drop)]
 pub struct Encoded<'a> {
-    /// The metadata: a table `Message` of the Arrow format, `Message.fbs`.
+    /// The metadata: a table `Message` of `Message.fbs`.
     pub metadata: Vec<u8>,
-    /// The body, in pieces that borrow the arrays. The metadata have its nodes and its buffers: here there are none.
+    /// The body, in pieces that borrow the arrays. Its lists of nodes and buffers are empty, since
+    /// the metadata have them.
     pub body: Plan<'a>,
 }
 
@@ -50,7 +53,7 @@ fn header(kind: BatchKind, batch: RecordBatch) -> MessageHeader
     }
 }
 
-// The message of a batch that lists what a plan does. The plan has its pieces left, and no node and no buffer.
+// The message of a batch with the nodes and the buffers of a plan. The plan keeps its pieces alone.
 fn plan_to_message(alloc: Global, plan: &mut Plan<'_>, kind: BatchKind, length: i64) -> Message
     requires { plan.old.end < 2 ^ 63 }
     ensures value { IsMessageOfPlan result kind length plan.old }
@@ -76,13 +79,19 @@ fn plan_to_message(alloc: Global, plan: &mut Plan<'_>, kind: BatchKind, length: 
     }
 }
 
-/// Encodes columns of so many rows as the message of a batch, with their numbers in this byte order: the metadata are of version V5,
-/// without pairs of their own, and the body is planned. No byte of a column is moved. Of a dictionary the keys are encoded: its values
-/// belong in a message of their own.
+/// Encodes columns of `rows` rows as the message of a batch.
 ///
-/// Faults: `Argument(TooLong)` where there are more than `2^63 - 1` rows, or where an array, at any level, has more slots that would be
-/// written; `Argument(TooLarge)` where the body would have more than `2^63 - 1` bytes, or the metadata more than `2^31 - 1`; `Memory`.
-/// Where several are so, any of these may come.
+/// The metadata have version V5 and no key-value pairs, and the body is planned: no byte of a
+/// column is copied. `is_little_endian` is the byte order of the numbers in the body. For a
+/// dictionary the keys are encoded; its values belong in a message of their own.
+///
+/// Errors (if several apply, any of them):
+///
+/// - `Fault::Argument(ArgFault::TooLong)`: there are more than `2^63 - 1` rows, or an array at some
+///   level has more slots to write.
+/// - `Fault::Argument(ArgFault::TooLarge)`: the body is longer than `2^63 - 1` bytes, or the
+///   metadata than `2^31 - 1`.
+/// - `Fault::Memory`: an allocation failed.
 pub fn encode_batch<'a>(
     alloc: Global,
     kind: BatchKind,

@@ -1,4 +1,4 @@
-//! What is handed to a writer.
+//! What is passed to a writer, and what it encodes.
 ghost use Rattle.std.specs.Prelude.{◌≡◌, [], map, option_map, IfOk, None};
 ghost use Rattle.std.specs.Cow.{cow_slice_items, cow_value, IsBorrowed};
 ghost use Rattle.lower_arrays.specs.AnyLayouts.{layout_of};
@@ -11,24 +11,24 @@ use lower_arrays::array::AnyArray;
 use std::alloc::{AllocError, Global};
 use std::borrow::{Cow, CowSlice};
 
-/// How a writer writes.
+/// Options of a writer.
 #[derive(Clone, Copy, Debug, Default, PartialEq, Eq, Hash)]
 pub struct WriteOptions {
-    /// Whether the numbers in bodies have their highest byte first. By default they have their lowest byte first.
+    /// Whether the numbers in bodies are big-endian. By default they are little-endian.
     pub big_endian: bool,
 }
 
 /// An encoded message and its body.
 #[derive(Debug, Drop)]
 pub struct EncodedData {
-    /// The metadata: a table `Message` of the Arrow format, `Message.fbs`.
+    /// The metadata: a table `Message` of `Message.fbs`.
     pub ipc_message: Vec<u8>,
-    /// The body: the buffers of a batch; empty for a schema.
+    /// The body: the buffers of a batch, or nothing for a schema.
     pub arrow_data: Vec<u8>,
 }
 
 impl EncodedData {
-    /// No metadata and no body. It takes no memory.
+    /// Returns a value with neither metadata nor body. It allocates nothing.
     pub fn empty(alloc: Global) -> EncodedData
         ensures ipc_message { result.ipc_message.items ≡ [] }
         ensures arrow_data { result.arrow_data.items ≡ [] }
@@ -40,7 +40,9 @@ impl EncodedData {
     }
 }
 
-/// A chunk, and the ids of its columns' dictionaries where there are some. Each of the two is owned or lent.
+/// A chunk, with or without ids for the dictionaries of its columns.
+///
+/// Each of the two is owned or borrowed.
 #[derive(Debug, Drop, PartialEq)]
 pub struct Record<'a> {
     columns: Cow<'a, Chunk<AnyArray>>,
@@ -48,7 +50,7 @@ pub struct Record<'a> {
 }
 
 impl<'a> Record<'a> {
-    /// A record of this chunk with these ids, which may be lent.
+    /// Returns a record that owns the chunk. The ids may be borrowed.
     pub fn owned(columns: Chunk<AnyArray>, fields: Option<CowSlice<'a, IpcField>>) -> Self
         ensures columns { columns_of result ≡ columns }
         ensures fields { fields_of result ≡ option_map cow_slice_items fields.entry }
@@ -57,7 +59,7 @@ impl<'a> Record<'a> {
         Record { columns, fields }
     }
 
-    /// A record of a chunk that is lent, with these ids, which may be lent too.
+    /// Returns a record that borrows the chunk. The ids may be borrowed too.
     pub fn borrowed(columns: &'a Chunk<AnyArray>, fields: Option<CowSlice<'a, IpcField>>) -> Self
         ensures columns { columns_of result ≡ columns.now }
         ensures fields { fields_of result ≡ option_map cow_slice_items fields.entry }
@@ -66,7 +68,7 @@ impl<'a> Record<'a> {
         Record { columns, fields }
     }
 
-    /// The ids of the columns, where there are some.
+    /// Returns the ids of the columns, if there are any.
     pub fn fields(&self) -> Option<&[IpcField]>
         ensures { option_map (λ fields. fields.now) result ≡ fields_of self.now }
     {
@@ -76,15 +78,17 @@ impl<'a> Record<'a> {
         }
     }
 
-    /// The chunk.
+    /// Returns the chunk.
     pub fn columns(&self) -> &Chunk<AnyArray>
         ensures { result.now ≡ columns_of self.now }
     {
         self.columns.as_ref()
     }
 
-    /// The same record once more: what is lent is lent again, and what is owned is cloned. Its columns lie in memory as these do, and
-    /// share it. It fails only where there is no memory.
+    /// Returns a copy of the record, with columns in the same memory.
+    ///
+    /// What is borrowed stays borrowed, and what is owned is cloned. It fails if an allocation
+    /// fails or the count of owners can't grow.
     pub fn clone(&self) -> Result<Record<'a>, AllocError>
         ensures columns { IfOk result (λ copy. map layout_of (columns_of copy) ≡ map layout_of (columns_of self.now)) }
         ensures fields { IfOk result (λ copy. option_map all_ids_view (fields_of copy) ≡ option_map all_ids_view (fields_of self.now)) }
@@ -97,7 +101,7 @@ impl<'a> Record<'a> {
     }
 }
 
-// A chunk once more: lent again, or cloned.
+// A chunk that is borrowed again, or cloned.
 fn clone_columns<'a>(
     columns: &Cow<'a, Chunk<AnyArray>>,
 ) -> Result<Cow<'a, Chunk<AnyArray>>, AllocError>
@@ -110,7 +114,7 @@ fn clone_columns<'a>(
     }
 }
 
-// Ids once more: lent again, or cloned.
+// Ids that are borrowed again, or cloned.
 fn clone_fields<'a>(
     fields: &Option<CowSlice<'a, IpcField>>,
 ) -> Result<Option<CowSlice<'a, IpcField>>, AllocError>

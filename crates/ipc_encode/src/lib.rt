@@ -1,4 +1,4 @@
-//! What a batch is made of: its message, an array appended to the parts of one, and a record of columns.
+//! Encodes batches, appends arrays to batches, and pairs chunks with dictionary ids.
 #![tactic(auto)]
 
 pub mod batches;

@@ -1,4 +1,4 @@
-//! Appends an array to the parts of a batch (Arrow columnar format, "RecordBatch message").
+//! Appends an array to a batch (Arrow columnar format, "RecordBatch message").
 ghost use Rattle.std.specs.Prelude.{◌≡◌, ◌+◌, ◌^◌, ◌<◌, ◌++◌, length, IfErr, IfOk, MatchResult, OnErr, OnOk};
 ghost use Rattle.lower_arrays.specs.AnyLayouts.{layout_of};
 ghost use Rattle.lower_arrays.specs.Slots.{IsArray};
@@ -28,7 +28,7 @@ pub(crate) fn byte_order(is_little_endian: bool) -> Endianness
     }
 }
 
-// Plans an array, whose first buffer begins at place `start`.
+// Plans an array whose first buffer begins at offset `start`.
 fn plan_from<'a>(
     alloc: Global,
     array: &'a AnyArray,
@@ -54,8 +54,7 @@ fn plan_from<'a>(
     Ok(plan)
 }
 
-// Appends the nodes, the buffers and the bytes of a plan, `len` of these: all of them, or nothing where
-// memory is refused.
+// Appends the nodes, the buffers and the `len` bytes of a plan, or nothing if an allocation fails.
 fn append_plan(
     plan: &Plan<'_>,
     len: usize,
@@ -73,21 +72,33 @@ fn append_plan(
     buffers.reserve(plan.buffers.len())?;
     nodes.reserve(plan.nodes.len())?;
     arrow_data.reserve(len)?;
-    // There is room for all now, so that nothing fails any more.
+    // There is room for all now, so nothing can fail.
     send_pieces(arrow_data, &plan.pieces, plan.order)?;
     buffers.extend_from_slice(&plan.buffers)?;
     nodes.extend_from_slice(&plan.nodes)?;
     Ok(())
 }
 
-/// Appends an array to the parts of a record batch: a node for each of its levels to `nodes`, their buffers to `buffers`, the offsets of
-/// these counted from `offset`, which isn't below 0, and their bytes to `arrow_data`, each buffer padded with zeros to a multiple of 64; `offset` is then
-/// behind the last one. Numbers have this byte order. Of a dictionary the keys are appended: its values belong in a message of their
-/// own. So the batch has one column more, of the array's type and with its slots.
+/// Appends an array as one more column to a record batch.
 ///
-/// Faults: `Argument(TooLong)` where the array, at any level, has more than `2^63 - 1` slots that would be appended;
-/// `Argument(TooLarge)` where the buffers would end past `2^63 - 1`; `Memory`. Where both of the first two are so, either may come.
-/// After a fault all stands as before.
+/// It appends:
+///
+/// - To `nodes`, one node for each level of the array.
+/// - To `buffers`, the buffers of these levels. Their offsets count from `offset`, which must be at
+///   least 0.
+/// - To `arrow_data`, their bytes, each buffer padded with zeros to a multiple of 64 bytes.
+///
+/// `offset` is then the end of the last buffer. `is_little_endian` is the byte order of the
+/// numbers. For a dictionary the keys are appended; its values belong in a message of their own.
+///
+/// Errors (if several apply, any of them):
+///
+/// - `Fault::Argument(ArgFault::TooLong)`: the array at some level has more than `2^63 - 1` slots
+///   to append.
+/// - `Fault::Argument(ArgFault::TooLarge)`: the buffers would end after `2^63 - 1`.
+/// - `Fault::Memory`: an allocation failed.
+///
+/// After an error all arguments are unchanged.
 pub fn write(
     alloc: Global,
     array: &AnyArray,

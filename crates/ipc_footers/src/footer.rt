@@ -1,4 +1,4 @@
-//! The footer of a file: Arrow columnar format, "IPC File Format", and `File.fbs`.
+//! Encodes the footer of a file (Arrow columnar format, "IPC File Format"; `File.fbs`).
 ghost use Rattle.std.specs.Prelude.{◌≡◌, ◌+◌, ◌≤◌, ◌↔◌, All, IfOk, IsTrue, option_map};
 ghost use Rattle.lower.specs.TypeViews.{fields_view, pairs_of};
 ghost use Rattle.ipc_base.specs.IdTrees.{all_ids_view};
@@ -18,10 +18,12 @@ use ipc_views::{Block, MetadataVersion};
 use lower::datatypes::{Metadata, Schema};
 use std::alloc::{AllocError, Global};
 
-/// How many blocks the footer of a file names at most, those of dictionaries and of record batches together: `2^25`.
+/// The greatest number of blocks in a footer, of dictionaries and record batches together.
+///
+/// It is `2^25`.
 pub const MAX_BLOCKS: usize = 1 << 25;
 
-/// Whether these blocks, of dictionaries and of record batches, are no more than a footer names.
+/// Returns whether these blocks together are at most [`MAX_BLOCKS`].
 pub fn are_few(dictionaries: &[Block], blocks: &[Block]) -> bool
     ensures { IsTrue result ↔ AreFew dictionaries.now blocks.now }
 {
@@ -49,7 +51,7 @@ fn copied_blocks(alloc: Global, blocks: &[Block]) -> Result<Vec<Block>, AllocErr
     Ok(copy)
 }
 
-// The pairs as tables, in the order of their keys, or none where there is no pair.
+// The pairs as tables, in the order of their keys, or None if there are none.
 fn serialize_some(alloc: Global, metadata: &Metadata) -> Result<Option<Vec<KeyValue>>, AllocError>
     ensures all { IfOk result (λ pairs.
         option_map (λ v. pairs_in v.items) pairs ≡ some_pairs (pairs_of metadata.now.entries)) }
@@ -62,14 +64,21 @@ fn serialize_some(alloc: Global, metadata: &Metadata) -> Result<Option<Vec<KeyVa
     Ok(Some(pairs))
 }
 
-/// The footer of a file as bytes: its schema in the normal form with these ids, where its dictionary batches and its record
-/// batches stand, and its pairs of texts, in the order of their keys. `is_little_endian` is whether the numbers of bodies
-/// have their lowest byte first. Its version is V5, both vectors of blocks are there, a vector of pairs only where there is
-/// a pair, and its parts are laid out as Flatbuffers asks of a writer. It has fewer than `2^31` bytes.
+/// Returns the encoded footer of a file.
 ///
-/// Faults: `Argument(FieldsShape)` and `Argument(NotWritable)` of the schema and its ids, as
-/// [`schema_to_bytes`](ipc_schema_write::schema::schema_to_bytes) has them; `Argument(TooLarge)` where the weight of the
-/// schema and the pairs is above `2^30`, or the blocks are more than `2^25`; `Memory`.
+/// It has the schema in normal form with these ids, the blocks of dictionary batches and record
+/// batches, and the key-value metadata in the order of the keys. `is_little_endian` is the byte
+/// order of the numbers in bodies. Its version is V5. Both vectors of blocks are present; the
+/// metadata are only if they aren't empty. Its layout follows the rules for FlatBuffers writers,
+/// and it is shorter than `2^31` bytes.
+///
+/// Errors:
+///
+/// - `Fault::Argument(ArgFault::FieldsShape)`, `NotWritable`: the ids or the schema can't be
+///   written, as [`schema_to_bytes`](ipc_schema_write::schema::schema_to_bytes) says.
+/// - `Fault::Argument(ArgFault::TooLarge)`: the weight of the schema and the metadata is above
+///   `2^30`, or there are more than `2^25` blocks.
+/// - `Fault::Memory`: an allocation failed.
 pub fn footer_to_bytes(
     alloc: Global,
     schema: &Schema,

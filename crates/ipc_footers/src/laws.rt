@@ -1,7 +1,9 @@
-//! What files mean that end with a footer.
+//! A theorem about files that end with a footer. The function does nothing.
 ghost use Rattle.ipc_footers.specs.Footers.{FooterLaw};
 
-/// The metadata of a file that ends with a footer, the footer's length and `ARROW1` are what the footer says.
+/// A file that ends with a footer has the metadata of the footer.
+///
+/// The footer is followed by its length and `ARROW1`.
 pub fn files_with_footers()
     ensures { FooterLaw }
 {}

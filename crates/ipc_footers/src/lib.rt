@@ -1,4 +1,4 @@
-//! The footers of files: which schemas and pairs they take, and their bytes.
+//! The footers of files: which schemas and metadata they accept, and their encoding.
 #![tactic(auto)]
 
 pub mod footer;

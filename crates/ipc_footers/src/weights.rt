@@ -1,4 +1,4 @@
-//! What bounds the footer of a file, told by its schema and its pairs. Nothing here takes memory.
+//! The weight of a footer, from its schema and its metadata. Nothing here allocates.
 ghost use Rattle.std.specs.Prelude.{◌≡◌, ◌+◌, ◌^◌, ◌≤◌, ◌↔◌, IsTrue, MatchOption, Some, length, string_bytes};
 ghost use Rattle.lower.specs.Normal.{kept_pairs, norm, norm_field, norm_fields, norm_pairs};
 ghost use Rattle.lower.specs.TypeTrees.{choice};
@@ -11,7 +11,7 @@ use ipc_schema_write::metadata::{DATA_KEY, NAME_KEY, extension_of, is_extension_
 use ipc_schema_write::weights::MAX_WEIGHT;
 use lower::datatypes::{DataType, Field, Metadata, Schema, UnionMode};
 
-// Each of these is None where a `u64` is too small for it.
+// Each of these functions returns None if the weight is 2^64 or more.
 fn weigh_pair(key: &str, value: &str) -> Option<u64>
     ensures { MatchOption result
         (2 ^ 64 ≤ 64 + length key.now + length value.now)
@@ -33,7 +33,7 @@ fn weigh_pairs(pairs: &Metadata) -> Option<u64>
     Some(sum)
 }
 
-// The pairs that say no extension.
+// The pairs that aren't an extension's.
 fn weigh_kept(pairs: &Metadata) -> Option<u64>
     ensures { MatchOption result
         (2 ^ 64 ≤ pairs_weight (kept_pairs (pairs_of pairs.now.entries)))
@@ -48,7 +48,7 @@ fn weigh_kept(pairs: &Metadata) -> Option<u64>
     Some(sum)
 }
 
-// The pairs that say an extension of this name and text.
+// The pairs of an extension with this name and metadata.
 fn weigh_extension(name: &String, text: &Option<String>) -> Option<u64>
     ensures { MatchOption result
         (2 ^ 64 ≤ pairs_weight (extension_pairs (Some (string_bytes name.now, text_of text.now))))
@@ -61,7 +61,7 @@ fn weigh_extension(name: &String, text: &Option<String>) -> Option<u64>
     }
 }
 
-// The metadata of a field of this type, in their normal form.
+// The metadata of a field of this type, in normal form.
 #[tactic(auto, using(crate::proofs::NormalWeights::normal))]
 fn weigh_normal(data_type: &DataType, metadata: &Metadata) -> Option<u64>
     ensures { MatchOption result
@@ -84,7 +84,7 @@ fn weigh_zone(zone: &Option<String>) -> u64
     }
 }
 
-// The ids of a union.
+// The type ids of a union.
 fn weigh_ids(ids: &Option<Vec<i32>>, mode: UnionMode) -> Option<u64>
     ensures { MatchOption result
         (2 ^ 64 ≤ group_weight (choice (ids_of ids.now) mode))
@@ -96,7 +96,7 @@ fn weigh_ids(ids: &Option<Vec<i32>>, mode: UnionMode) -> Option<u64>
     }
 }
 
-// A type in its normal form: what it says beside its tag, and its children.
+// A type in normal form: its timezone or type ids, and its children.
 #[cycle(weights)]
 fn weigh_type(data_type: &DataType) -> Option<u64>
     ensures { MatchOption result
@@ -142,11 +142,17 @@ fn weigh_fields(fields: &[Field]) -> Option<u64>
     Some(sum)
 }
 
-/// The weight of a schema in its normal form, or None where a `u64` is too small for it. It is that of the tables which
-/// [`serialize_schema`](ipc_schema_write::schema::serialize_schema) makes of the schema, where that can be written.
+/// Returns the weight of a schema in normal form.
 ///
-/// It is 1,024, and for each field at any level 512, the bytes of its name and of its timezone, and 8 for each id of a
-/// union; 64 for each pair of metadata, of the schema's and of the fields', with the bytes of its key and its value.
+/// It is `None` if that is `2^64` or more. It is that of the tables which
+/// [`serialize_schema`](ipc_schema_write::schema::serialize_schema) makes of the schema, if the
+/// schema can be written: the sum of these.
+///
+/// - 1,024.
+/// - For each field at any level: 512, the length of its name and of its timezone in bytes, and 8
+///   for each type id of a union.
+/// - For each pair of metadata of the schema and of the fields: 64, and the length of its key and
+///   its value in bytes.
 pub fn weigh_schema(schema: &Schema) -> Option<u64>
     ensures { MatchOption result
         (2 ^ 64 ≤ weight (fields_view schema.now.fields.items) (pairs_of schema.now.metadata.entries))
@@ -156,8 +162,10 @@ pub fn weigh_schema(schema: &Schema) -> Option<u64>
     own.checked_add(weigh_fields(&schema.fields)?)
 }
 
-/// The weight of a file's schema and of the pairs in its footer, or None where a `u64` is too small for it: that of the
-/// schema, and 64 for each pair with the bytes of its key and its value.
+/// Returns the weight of a file's schema and metadata.
+///
+/// It is `None` if that is `2^64` or more. It is the weight of the schema, and for each pair 64 and
+/// the length of its key and its value in bytes.
 pub fn weigh_file(schema: &Schema, pairs: &Metadata) -> Option<u64>
     ensures { MatchOption result
         (2 ^ 64 ≤ file_weight (fields_view schema.now.fields.items) (pairs_of schema.now.metadata.entries)
@@ -168,7 +176,7 @@ pub fn weigh_file(schema: &Schema, pairs: &Metadata) -> Option<u64>
     weigh_schema(schema)?.checked_add(weigh_pairs(pairs)?)
 }
 
-/// Whether the weight of a file's schema and of the pairs in its footer is at most the greatest, `2^30`.
+/// Returns whether the weight of a file's schema and metadata is at most `2^30`.
 pub fn is_light(schema: &Schema, pairs: &Metadata) -> bool
     ensures { IsTrue result ↔ (file_weight (fields_view schema.now.fields.items) (pairs_of schema.now.metadata.entries)
         (pairs_of pairs.now.entries) ≤ max_weight) }

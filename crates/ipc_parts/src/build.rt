@@ -1,12 +1,13 @@
-//! Parts of a message as bytes.
+//! Encoded parts of a message, and helpers that append to them.
 ghost use Rattle.std.specs.Prelude.{◌≡◌, ◌<◌, ◌%◌, ◌^◌, ◌++◌, ◌+◌, IfOk, OnOk, length};
 ghost use Rattle.ipc_parts.specs.Pads.{le, padded, short, zeros};
 ghost use Rattle.ipc_parts.specs.Sizes.{whole};
 
 use std::alloc::AllocError;
 
-/// The bytes of a part and of all that it leads to, which may stand at any multiple of 8, and the
-/// place in them that an offset leads to.
+/// The bytes of a part and of everything it refers to.
+///
+/// They can be placed at any multiple of 8. `entry` is the offset in them to which offsets refer.
 #[derive(Drop)]
 pub struct Built {
     pub(crate) bytes: Vec<u8>,
@@ -15,25 +16,26 @@ pub struct Built {
     ghost near: { entry < 2 ^ 16 },
 }
 
-/// What a slot of a table is to hold.
+/// The content of one slot of a table.
 #[derive(Drop)]
 pub enum Slot {
-    /// Nothing.
+    /// The slot is absent.
     Absent,
-    /// A number that stands in the table itself, as do booleans and enumerations.
+    /// A number in the table itself, also for booleans and enumerations.
     Number(u64),
-    /// A part that the slot leads to.
+    /// A part that the slot refers to.
     Offset(Built),
 }
 
-// A length or an offset as 32 bits. A message in which this changes it is too long as a whole.
+// A length or an offset as 32 bits, at most `u32::MAX`. A message in which that changes it is too
+// long as a whole.
 pub(crate) fn short(n: usize) -> u32
     ensures { result ≡ short n }
 {
     n.min(u32::MAX as usize) as u32
 }
 
-// A length up to the next multiple of 8.
+// A length rounded up to a multiple of 8.
 pub(crate) fn whole(len: usize) -> usize
     requires { len < 2 ^ 63 + 8 }
     ensures { result ≡ whole len }
@@ -41,8 +43,7 @@ pub(crate) fn whole(len: usize) -> usize
     len + (8 - len % 8) % 8
 }
 
-// The length of two runs of bytes together. No vector holds 2^63 bytes, so there is no memory for such
-// a length.
+// The sum of two lengths. It fails from 2^63 bytes on, since no vector can be so long.
 pub(crate) fn together(len: usize, more: usize) -> Result<usize, AllocError>
     requires len { len < 2 ^ 63 }
     requires more { more < 2 ^ 63 }
@@ -56,7 +57,7 @@ pub(crate) fn together(len: usize, more: usize) -> Result<usize, AllocError>
     Ok(sum)
 }
 
-// Adds a number of 16 bits, the lowest byte first.
+// Appends a 16-bit number, little-endian.
 #[tactic(auto, using(crate::proofs::Lengths::lengths), unfolding(crate::specs::Pads::le))]
 pub(crate) fn put_u16(bytes: &mut Vec<u8>, number: u16) -> Result<(), AllocError>
     ensures items { OnOk result (bytes.new.items ≡ bytes.old.items ++ le 2 number) }
@@ -65,7 +66,7 @@ pub(crate) fn put_u16(bytes: &mut Vec<u8>, number: u16) -> Result<(), AllocError
     bytes.extend_from_slice(&number.to_le_bytes())
 }
 
-/// Adds a number of 32 bits, the lowest byte first.
+/// Appends a 32-bit number, little-endian. It fails only if an allocation fails.
 #[tactic(auto, using(crate::proofs::Lengths::lengths), unfolding(crate::specs::Pads::le))]
 pub fn put_u32(bytes: &mut Vec<u8>, number: u32) -> Result<(), AllocError>
     ensures items { OnOk result (bytes.new.items ≡ bytes.old.items ++ le 4 number) }
@@ -74,7 +75,7 @@ pub fn put_u32(bytes: &mut Vec<u8>, number: u32) -> Result<(), AllocError>
     bytes.extend_from_slice(&number.to_le_bytes())
 }
 
-/// Adds a number of 64 bits, the lowest byte first.
+/// Appends a 64-bit number, little-endian. It fails only if an allocation fails.
 #[tactic(auto, using(crate::proofs::Lengths::lengths), unfolding(crate::specs::Pads::le))]
 pub fn put_u64(bytes: &mut Vec<u8>, number: u64) -> Result<(), AllocError>
     ensures items { OnOk result (bytes.new.items ≡ bytes.old.items ++ le 8 number) }
@@ -83,7 +84,7 @@ pub fn put_u64(bytes: &mut Vec<u8>, number: u64) -> Result<(), AllocError>
     bytes.extend_from_slice(&number.to_le_bytes())
 }
 
-// Goes on to a multiple of 8.
+// Appends zeros up to a multiple of 8.
 #[tactic(auto, using(crate::proofs::Lengths::lengths))]
 pub(crate) fn pad(bytes: &mut Vec<u8>) -> Result<(), AllocError>
     ensures items { OnOk result (bytes.new.items ≡ padded bytes.old.items) }

@@ -1,8 +1,8 @@
-//! The parts of a message in Arrow's metadata as bytes: texts, vectors and tables.
+//! Encodes the parts of a FlatBuffers message: texts, vectors and tables.
 //!
-//! A part is built from the parts that it leads to. Its bytes may stand at any multiple of 8, since
-//! offsets count from where they stand, so nothing is patched. How many they are is counted first:
-//! each part is one vector, allocated once, into which the parts below are copied once.
+//! A part is built from the parts that it refers to. Offsets are relative, so its bytes can be
+//! placed at any multiple of 8, and nothing is patched. The size is computed first: each part is
+//! one vector, allocated once, into which the parts below are copied once.
 #![tactic(auto)]
 
 mod build;

@@ -1,4 +1,4 @@
-//! Whole messages as bytes.
+//! Encodes whole messages.
 ghost use Rattle.std.specs.Prelude.{◌≡◌, ◌++◌, ◌+◌, IfOk};
 ghost use Rattle.ipc_parts.specs.Encodes.{Encodes};
 ghost use Rattle.ipc_parts.specs.Pads.{le};
@@ -12,7 +12,7 @@ use std::alloc::{AllocError, Global};
 /// The greatest length of a message in bytes.
 const MAX_LEN: usize = 0x7FFF_FFFF;
 
-// The root's place and the root.
+// The offset of the root, and the root.
 fn rooted(alloc: Global, root: &Built) -> Result<Vec<u8>, AllocError>
     ensures { IfOk result (λ bytes. bytes.items ≡ le 8 (8 + root.now.entry) ++ root.now.bytes.items) }
 {
@@ -22,9 +22,12 @@ fn rooted(alloc: Global, root: &Built) -> Result<Vec<u8>, AllocError>
     Ok(bytes)
 }
 
-/// The message whose root is a table.
+/// Returns the message whose root is this table.
 ///
-/// Faults: `Memory`; `Argument(TooLarge)` where it is longer than `2^31 - 1` bytes.
+/// Errors:
+///
+/// - `Fault::Memory`: an allocation failed.
+/// - `Fault::Argument(ArgFault::TooLarge)`: the message is longer than `2^31 - 1` bytes.
 pub fn message(alloc: Global, root: &Built) -> Result<Vec<u8>, Fault>
     ensures { (slots : Slots) → IsPart root.now (table slots) → Encodes result slots }
 {

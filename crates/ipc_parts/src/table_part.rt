@@ -1,4 +1,4 @@
-//! Tables as bytes.
+//! Encodes tables.
 ghost use Rattle.std.specs.Prelude.{◌≡◌, ◌<◌, ◌^◌, ◌++◌, ◌+◌, IfOk, OnOk, length};
 ghost use Rattle.ipc_parts.specs.Parts.{AreSlots, IsPart, entry_of, number_in, numbers, tail_of, tails, vtable_bytes};
 ghost use Rattle.ipc_parts.specs.Tree.{Slots, table};
@@ -16,7 +16,7 @@ fn entry_of(index: usize, slot: &Slot) -> u16
     }
 }
 
-// The vtable, up to the next multiple of 8, with room for `capacity` bytes in all.
+// The vtable, padded to a multiple of 8, in a vector with room for `capacity` bytes.
 fn vtable(alloc: Global, capacity: usize, slots: &[Slot]) -> Result<Vec<u8>, AllocError>
     requires { length slots.now < 1000 }
     ensures { IfOk result (λ v. v.items ≡ vtable_bytes slots.now) }
@@ -31,7 +31,9 @@ fn vtable(alloc: Global, capacity: usize, slots: &[Slot]) -> Result<Vec<u8>, All
     Ok(bytes)
 }
 
-/// A table: its vtable, 8 bytes for each slot, and then the parts that its slots lead to.
+/// Returns a table: its vtable, 8 bytes for each slot, and then the parts that its slots refer to.
+///
+/// It fails only if an allocation fails.
 pub fn table(alloc: Global, slots: &[Slot]) -> Result<Built, AllocError>
     requires { length slots.now < 1000 }
     ensures { (xs : Slots) → AreSlots slots.now xs → IfOk result (λ built. IsPart built (table xs)) }
@@ -46,7 +48,7 @@ pub fn table(alloc: Global, slots: &[Slot]) -> Result<Built, AllocError>
     Ok(Built { bytes, entry })
 }
 
-// How many bytes the parts take that the slots lead to.
+// The length in bytes of the parts that the slots refer to.
 fn tails_len(slots: &[Slot]) -> Result<usize, AllocError>
     ensures value { IfOk result (λ len. len ≡ length (tails slots.now)) }
     ensures small { IfOk result (λ len. len < 2 ^ 63) }
@@ -73,7 +75,7 @@ fn put_numbers(bytes: &mut Vec<u8>, slots: &[Slot]) -> Result<(), AllocError>
     requires small { length (tails slots.now) < 2 ^ 63 }
     ensures { OnOk result (bytes.new.items ≡ bytes.old.items ++ numbers 0 slots.now) }
 {
-    // How many bytes the parts of the earlier slots take.
+    // The length of the parts of the earlier slots.
     let mut before = 0;
     for (i, slot) in slots.iter().enumerate() {
         let ahead = 8 * (slots.len() - i) + before;
@@ -83,7 +85,7 @@ fn put_numbers(bytes: &mut Vec<u8>, slots: &[Slot]) -> Result<(), AllocError>
     Ok(())
 }
 
-// The number in a slot, whose part stands `ahead` bytes after it.
+// The number in a slot, whose part is `ahead` bytes after it.
 fn number_in(ahead: usize, slot: &Slot) -> u64
     requires { ahead < 2 ^ 63 + 2 ^ 20 }
     ensures { result ≡ number_in ahead slot.now }

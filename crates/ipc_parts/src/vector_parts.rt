@@ -1,4 +1,4 @@
-//! Texts and vectors as bytes.
+//! Encodes texts and vectors.
 ghost use Rattle.std.specs.Prelude.{ℕ, ◌≡◌, ◌<◌, ◌%◌, ◌^◌, ◌++◌, ◌+◌, ◌*◌, IfOk, OnOk, length};
 ghost use Rattle.ipc_parts.specs.Pads.{short};
 ghost use Rattle.ipc_parts.specs.Parts.{AreParts, IsPart, elements_bytes, gap_after, joined_parts, offsets, text_bytes, vector_bytes};
@@ -20,7 +20,7 @@ fn text_bytes(alloc: Global, content: &str) -> Result<Vec<u8>, AllocError>
     Ok(bytes)
 }
 
-/// A text: its length, its bytes and a zero byte.
+/// Returns a text: its length, its bytes and a zero byte. It fails only if an allocation fails.
 pub fn text(alloc: Global, content: &str) -> Result<Built, AllocError>
     ensures { IfOk result (λ built. IsPart built (text content.now)) }
 {
@@ -41,8 +41,9 @@ fn elements_bytes(alloc: Global, count: usize, raw: &[u8]) -> Result<Vec<u8>, Al
     Ok(bytes)
 }
 
-/// A vector of `count` elements that hold no offset, whose bytes are given. The first stands at a
-/// multiple of 8.
+/// Returns a vector of `count` elements without offsets, of which `raw` is the bytes.
+///
+/// The first element is at a multiple of 8. It fails only if an allocation fails.
 pub fn elements(alloc: Global, count: usize, raw: &[u8]) -> Result<Built, AllocError>
     ensures { (align size : ℕ) → 8 % align ≡ 0 → 0 < size → length raw.now ≡ size * count
         → IfOk result (λ built. IsPart built (elements align size count raw.now)) }
@@ -51,7 +52,7 @@ pub fn elements(alloc: Global, count: usize, raw: &[u8]) -> Result<Built, AllocE
     Ok(Built { bytes, entry: 4 })
 }
 
-// The offset to a part, where `count` offsets, a gap and the earlier parts come before it.
+// The offset to a part that comes after `count` offsets, a gap and the earlier parts.
 fn offset_to(count: usize, before: usize, entry: usize) -> u32
     requires before { before < 2 ^ 63 + 8 }
     requires entry { entry < 2 ^ 16 }
@@ -64,7 +65,7 @@ fn offset_to(count: usize, before: usize, entry: usize) -> u32
     }
 }
 
-// How many zeros stand between the offsets and the parts.
+// The number of zeros between the offsets and the parts.
 fn gap_after(parts: &[Built]) -> usize
     ensures value { result ≡ gap_after parts.now }
     ensures small { result < 8 }
@@ -72,7 +73,7 @@ fn gap_after(parts: &[Built]) -> usize
     4 - 4 * (parts.len() % 2)
 }
 
-// How many bytes the parts take.
+// The length in bytes of the parts.
 fn joined_len(parts: &[Built]) -> Result<usize, AllocError>
     ensures value { IfOk result (λ len. len ≡ length (joined_parts parts.now)) }
     ensures small { IfOk result (λ len. len < 2 ^ 63) }
@@ -84,13 +85,13 @@ fn joined_len(parts: &[Built]) -> Result<usize, AllocError>
     Ok(len)
 }
 
-// The offsets to the parts, which stand behind a gap.
+// Appends the offsets to the parts, which come after a gap.
 fn put_offsets(bytes: &mut Vec<u8>, gap: usize, parts: &[Built]) -> Result<(), AllocError>
     requires gap { gap < 8 }
     requires small { length (joined_parts parts.now) < 2 ^ 63 }
     ensures { OnOk result (bytes.new.items ≡ bytes.old.items ++ offsets gap 0 parts.now) }
 {
-    // How many bytes the earlier parts take.
+    // The length of the earlier parts.
     let mut before = 0;
     for (i, part) in parts.iter().enumerate() {
         put_u32(bytes, offset_to(parts.len() - i, gap + before, part.entry))?;
@@ -122,7 +123,9 @@ fn vector_bytes(alloc: Global, parts: &[Built]) -> Result<Vec<u8>, AllocError>
     Ok(bytes)
 }
 
-/// A vector of tables or texts: its count, an offset to each, and the parts.
+/// Returns a vector of tables or texts: its count, an offset to each, and the parts.
+///
+/// It fails only if an allocation fails.
 pub fn tables(alloc: Global, parts: &[Built]) -> Result<Built, AllocError>
     ensures { (xs : Parts) → AreParts parts.now xs → IfOk result (λ built. IsPart built (tables xs)) }
 {

@@ -1,5 +1,7 @@
-//! Plans the message of a chunk in one walk over its columns: nodes, buffers, and the pieces of its body,
-//! which borrow the arrays; and sends the pieces to a device. A body is nowhere made.
+//! Plans the message of a chunk, and sends the planned body to a device.
+//!
+//! One pass over the columns gives the nodes, the buffers, and the pieces of the body, which borrow
+//! the arrays. The body is never built in memory.
 #![tactic(auto)]
 
 pub mod laws;

@@ -2,7 +2,7 @@
 
 use lower::types::{days_ms, i256, months_days_ns};
 
-/// Numbers of any type that arrays have.
+/// Numbers of any type that arrays can have.
 #[derive(Clone, Copy)]
 pub enum NumberSlice<'a> {
     Int8(&'a [i8]),
@@ -19,20 +19,22 @@ pub enum NumberSlice<'a> {
     MonthDayNano(&'a [months_days_ns]),
 }
 
-/// A piece of a body. Its numbers have the byte order that is named where it is sent.
+/// A piece of a body. The byte order of its numbers is chosen when it is sent.
 #[derive(Clone, Copy)]
 pub enum Piece<'a> {
-    /// Bytes as they stand.
+    /// Bytes as they are.
     Bytes(&'a [u8]),
     /// Numbers.
     Numbers(NumberSlice<'a>),
-    /// Offsets of 32 bits, each less the first of them.
+    /// 32-bit offsets, from each of which the first one is subtracted.
     SmallOffsets(&'a [i32]),
-    /// Offsets of 64 bits, each less the first of them.
+    /// 64-bit offsets, from each of which the first one is subtracted.
     LargeOffsets(&'a [i64]),
-    /// Bits, packed anew from the first bit of a byte on: the bytes that have them, the place of the first
-    /// bit in the first byte, which counts modulo 8, and how many bits they are. Bits behind the last are 0.
+    /// Bits that are shifted to start at bit 0 of a byte, with zeros after the last.
+    ///
+    /// The fields are the bytes, the position of the first bit in the first byte (modulo 8), and
+    /// the number of bits.
     Bits(&'a [u8], usize, usize),
-    /// So many bytes 0.
+    /// This many zero bytes.
     Zeros(usize),
 }

@@ -1,5 +1,6 @@
-//! The plan of a message: its nodes, its buffers, and the pieces of its body (Arrow columnar format,
-//! "RecordBatch message").
+//! The plan of a message: nodes, buffers, and the pieces of its body.
+//!
+//! Arrow columnar format, "RecordBatch message".
 ghost use Rattle.std.specs.Prelude.{◌≡◌, ◌+◌, ◌^◌, ◌<◌, ◌≤◌, pos, [], ◌∷◌, ◌++◌, length, OnOk};
 ghost use Rattle.lower_types.specs.declared.Endianness.{Endianness};
 ghost use Rattle.ipc_plan.specs.Pieces.{kept, piece_bytes, pieces_bytes};
@@ -12,22 +13,24 @@ use ipc_views::{Buffer as Entry, FieldNode};
 use lower::types::Endianness;
 use std::alloc::AllocError;
 
-/// The nodes and the buffers of a message, and its body in pieces, which borrow the arrays.
+/// The nodes and buffers of a message, and its body in pieces.
+///
+/// The pieces borrow the arrays.
 #[derive(Drop)]
 pub struct Plan<'a> {
     /// The byte order of the numbers.
     pub order: Endianness,
     pub nodes: Vec<FieldNode>,
     pub buffers: Vec<Entry>,
-    /// The body, at most two pieces a buffer.
+    /// The body, with at most two pieces for each buffer.
     pub pieces: Vec<Piece<'a>>,
-    /// Where the next buffer begins.
+    /// The offset of the next buffer in the body, in bytes.
     pub end: u64,
 }
 
 // Adds the node of `len` slots, of which `nulls` are null.
 //
-// Faults: `Argument(TooLong)` for more than `2^63 - 1` slots; `Memory`.
+// Errors: `Argument(TooLong)` if there are more than `2^63 - 1` slots; `Memory`.
 pub(crate) fn push_node(plan: &mut Plan<'_>, len: usize, nulls: usize) -> Result<(), Fault>
     requires small { plan.old.end < 2 ^ 63 }
     requires few { nulls ≤ len }
@@ -44,7 +47,7 @@ pub(crate) fn push_node(plan: &mut Plan<'_>, len: usize, nulls: usize) -> Result
     Ok(())
 }
 
-// Adds a piece of `len` bytes, but none that has no byte.
+// Adds a piece of `len` bytes, unless that is 0.
 fn push_piece<'a>(
     pieces: &mut Vec<Piece<'a>>,
     piece: Piece<'a>,
@@ -64,7 +67,7 @@ fn push_piece<'a>(
 
 // Adds a buffer of `len` bytes: its entry, its piece, and zeros up to a multiple of 64 bytes.
 //
-// Faults: `Argument(TooLarge)` where it would end past `2^63 - 1`; `Memory`.
+// Errors: `Argument(TooLarge)` if it would end after `2^63 - 1`; `Memory`.
 pub(crate) fn push_buffer<'a>(
     plan: &mut Plan<'a>,
     piece: Piece<'a>,

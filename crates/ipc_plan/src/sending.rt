@@ -14,10 +14,10 @@ use lower::types::{Endianness, NativeType};
 // As many zeros as a padding can need.
 const ZEROS: [u8; 64] = [0; 64];
 
-/// Sends all of these bytes.
+/// Sends all of `bytes`.
 ///
-/// `Io` comes where the device failed, or where it is memory whose growth was refused; what went out by then
-/// are the first bytes.
+/// The only error is `Fault::Io`: the device failed, or it is memory that couldn't grow. Only the
+/// first bytes may have been sent then.
 pub fn send_bytes<W: Writes>(writer: &mut W, bytes: &[u8]) -> Result<(), Fault>
     ensures { Sends W.known W.grows (seen_by W.failures W.room W.memory writer.old)
         (seen_by W.failures W.room W.memory writer.new) result bytes.now }
@@ -29,7 +29,7 @@ pub fn send_bytes<W: Writes>(writer: &mut W, bytes: &[u8]) -> Result<(), Fault>
     Ok(())
 }
 
-/// `count` bytes 0, at most 64.
+/// Returns `count` zero bytes, at most 64.
 pub fn zeros(count: usize) -> &'static [u8]
     requires { count ≤ 64 }
     ensures { result.now ≡ replicate count 0 }
@@ -37,7 +37,7 @@ pub fn zeros(count: usize) -> &'static [u8]
     &ZEROS[..count]
 }
 
-// Sends so many bytes 0.
+// Sends `count` zero bytes.
 fn send_zeros<W: Writes>(writer: &mut W, count: usize) -> Result<(), Fault>
     ensures { Sends W.known W.grows (seen_by W.failures W.room W.memory writer.old)
         (seen_by W.failures W.room W.memory writer.new) result (replicate count 0) }
@@ -51,8 +51,8 @@ fn send_zeros<W: Writes>(writer: &mut W, count: usize) -> Result<(), Fault>
     Ok(())
 }
 
-// How many numbers are sent at a time: as many as the block has room for, but those of a long column in memory in smaller parts, each of
-// which is on its way while the next is read.
+// How many numbers are sent at once: as many as fit the block. Those of a long column that is
+// written to memory are sent in smaller parts, so that one part is written while the next is read.
 fn numbers_at_once<T: NativeType, W: Writes>(count: usize) -> usize
     ensures some { 0 < result }
     ensures fit { T.width * result ≤ 4096 }
@@ -87,7 +87,7 @@ fn send_numbers<T: NativeType, W: Writes>(
     Ok(())
 }
 
-// Each of these offsets less the first one, in `to`.
+// Writes each offset minus the first one into `to`.
 fn lessen_small(offsets: &[i32], first: u32, to: &mut [u32])
     requires { length to.old ≡ length offsets.now }
     ensures { to.new ≡ map (less w32 (2 ^ 32) first) offsets.now }
@@ -97,7 +97,7 @@ fn lessen_small(offsets: &[i32], first: u32, to: &mut [u32])
     }
 }
 
-// Sends offsets, each less the first one, through a block of 4,096 bytes.
+// Sends offsets, each minus the first one, through a block of 4,096 bytes.
 fn send_small_offsets<W: Writes>(
     writer: &mut W,
     offsets: &[i32],
@@ -121,7 +121,7 @@ fn send_small_offsets<W: Writes>(
     Ok(())
 }
 
-// Each of these offsets less the first one, in `to`.
+// Writes each offset minus the first one into `to`.
 fn lessen_large(offsets: &[i64], first: u64, to: &mut [u64])
     requires { length to.old ≡ length offsets.now }
     ensures { to.new ≡ map (less w64 (2 ^ 64) first) offsets.now }
@@ -131,7 +131,7 @@ fn lessen_large(offsets: &[i64], first: u64, to: &mut [u64])
     }
 }
 
-// Sends offsets, each less the first one, through a block of 4,096 bytes.
+// Sends offsets, each minus the first one, through a block of 4,096 bytes.
 fn send_large_offsets<W: Writes>(
     writer: &mut W,
     offsets: &[i64],
@@ -155,7 +155,7 @@ fn send_large_offsets<W: Writes>(
     Ok(())
 }
 
-// The bits of two neighbouring bytes from bit `shift` on.
+// The eight bits of two neighbouring bytes from bit `shift`.
 fn joined(low: u8, high: u8, shift: u32) -> u8
     requires { shift < 8 }
     ensures { result ≡ ((low + 256 * high) / 2 ^ shift) % 256 }
@@ -164,14 +164,14 @@ fn joined(low: u8, high: u8, shift: u32) -> u8
     byte
 }
 
-// The byte at a place, 0 past the end.
+// The byte at an index, or 0 after the end.
 fn byte_or_zero(bytes: &[u8], at: usize) -> u8
     ensures { result ≡ slice_index bytes.now at }
 {
     bytes.get(at).copied().unwrap_or(0)
 }
 
-// The lowest bits of a byte.
+// The lowest `count` bits of a byte.
 fn lowest(byte: u8, count: usize) -> u8
     ensures { result ≡ byte % 2 ^ min 8 count }
 {
@@ -182,13 +182,14 @@ fn lowest(byte: u8, count: usize) -> u8
     }
 }
 
-// Packs `count` bits anew, from bit `start` of the first byte on: their bytes from byte `at` on, in `to`.
+// Shifts `count` bits, which start at bit `start` of the first byte, to bit 0, and writes their
+// bytes from byte `at` into `to`.
 fn pack(bytes: &[u8], start: u32, count: usize, at: usize, to: &mut [u8])
     requires start { start < 8 }
     requires room { at + length to.old ≤ bytes_for count }
     ensures { to.new ≡ map (packed_byte bytes.now start count) (range_with_len at (length to.old)) }
 {
-    // Here both bytes are there and all bits are wanted, so that no step has a branch.
+    // Here both bytes exist and all bits are needed, so that no step has a branch.
     let whole = (count / 8).min(bytes.len().saturating_sub(1));
     let inner = whole.saturating_sub(at).min(to.len());
     'inner: for k in 0..inner {
@@ -204,7 +205,7 @@ fn pack(bytes: &[u8], start: u32, count: usize, at: usize, to: &mut [u8])
     }
 }
 
-// Sends bits packed anew through a block of 4,096 bytes.
+// Sends shifted bits through a block of 4,096 bytes.
 fn send_bits<W: Writes>(
     writer: &mut W,
     bytes: &[u8],
@@ -230,7 +231,7 @@ fn send_bits<W: Writes>(
     Ok(())
 }
 
-// The bits of the first offset, 0 where there is none.
+// The bits of the first offset, or 0 if there is none.
 fn first_small(offsets: &[i32]) -> u32
     ensures { result ≡ cast_unsigned w32 (slice_index_or offsets.now 0 (pos 0)) }
 {
@@ -240,7 +241,7 @@ fn first_small(offsets: &[i32]) -> u32
     }
 }
 
-// The bits of the first offset, 0 where there is none.
+// The bits of the first offset, or 0 if there is none.
 fn first_large(offsets: &[i64]) -> u64
     ensures { result ≡ cast_unsigned w64 (slice_index_or offsets.now 0 (pos 0)) }
 {
@@ -291,11 +292,13 @@ fn send_piece<W: Writes>(
     }
 }
 
-/// Sends pieces one after the other, their numbers in this byte order. Numbers, offsets and bits that are packed
-/// anew go through a block of 4,096 bytes, which is no allocation; a piece of bytes doesn't.
+/// Sends pieces in order, with their numbers in this byte order.
 ///
-/// `Io` comes where the device failed, or where it is memory whose growth was refused; what went out by then
-/// are the first bytes of the pieces.
+/// Numbers, offsets and shifted bits go through a block of 4,096 bytes on the stack; bytes are sent
+/// directly.
+///
+/// The only error is `Fault::Io`: the device failed, or it is memory that couldn't grow. Only the
+/// first bytes of the pieces may have been sent then.
 pub fn send_pieces<W: Writes>(
     writer: &mut W,
     pieces: &[Piece<'_>],

@@ -1,5 +1,7 @@
-//! Plans columns, level by level: the level of an array, then those of its children (Arrow columnar
-//! format, "RecordBatch message"). A range of slots is handed down, so that no array is sliced or cloned.
+//! Plans columns level by level: each array, then its children.
+//!
+//! Arrow columnar format, "RecordBatch message". The range of slots is passed down, so that no
+//! array is sliced or cloned.
 ghost use Rattle.std.specs.Prelude.{◌+◌, ◌^◌, ◌<◌, ◌≤◌, map, All, IfOk, OnOk};
 ghost use Rattle.lower_arrays.specs.AnyLayouts.{layout_of};
 ghost use Rattle.lower_arrays.specs.Children.{AllReach};
@@ -45,13 +47,17 @@ use lower::types::Endianness;
 use lower_arrays::array::AnyArray;
 use std::alloc::Global;
 
-/// Plans the message of these columns: nodes, buffers and pieces of each, one after the other, with their
-/// numbers in this byte order. No byte of a column is moved. Of a dictionary the keys are planned: its
-/// values belong in a message of their own.
+/// Plans the message of these columns: nodes, buffers and pieces, in order.
 ///
-/// Faults: `Argument(TooLong)` where an array, at any level, has more than `2^63 - 1` slots that would be
-/// written; `Argument(TooLarge)` where the body would end past `2^63 - 1`; `Memory`. Where both of the
-/// first two are so, either may come.
+/// Numbers have the byte order `order`. No byte of a column is copied. For a dictionary the keys
+/// are planned; its values belong in a message of their own.
+///
+/// Errors (if several apply, any of them):
+///
+/// - `Fault::Argument(ArgFault::TooLong)`: an array at some level has more than `2^63 - 1` slots to
+///   write.
+/// - `Fault::Argument(ArgFault::TooLarge)`: the body would end after `2^63 - 1`.
+/// - `Fault::Memory`: an allocation failed.
 pub fn plan_columns<'a>(
     alloc: Global,
     columns: &'a [AnyArray],
@@ -77,7 +83,7 @@ pub fn plan_columns<'a>(
     Ok(plan)
 }
 
-// Plans arrays whole, one after the other.
+// Plans whole arrays, in order.
 #[cycle(plans)]
 pub(crate) fn plan_whole<'a>(plan: &mut Plan<'a>, arrays: &'a [AnyArray]) -> Result<(), Fault>
     requires { plan.old.end < 2 ^ 63 }
@@ -92,7 +98,7 @@ pub(crate) fn plan_whole<'a>(plan: &mut Plan<'a>, arrays: &'a [AnyArray]) -> Res
     Ok(())
 }
 
-// Plans the same slots of each of these children, one after the other.
+// Plans the same slots of each child, in order.
 #[cycle(plans)]
 pub(crate) fn plan_beside<'a>(
     plan: &mut Plan<'a>,
@@ -111,11 +117,17 @@ pub(crate) fn plan_beside<'a>(
     Ok(())
 }
 
-/// Plans `len` slots of an array from slot `offset` on: adds what is written of them, at each level, to the
-/// plan.
+/// Adds `len` slots of an array, from slot `offset`, to the plan.
 ///
-/// Faults: `Argument(TooLong)` where a level has more than `2^63 - 1` such slots; `Argument(TooLarge)` where
-/// the body would end past `2^63 - 1`; `Memory`. After a fault the plan may hold parts of the array.
+/// It adds what is written of each level.
+///
+/// Errors (if several apply, any of them):
+///
+/// - `Fault::Argument(ArgFault::TooLong)`: a level has more than `2^63 - 1` slots to write.
+/// - `Fault::Argument(ArgFault::TooLarge)`: the body would end after `2^63 - 1`.
+/// - `Fault::Memory`: an allocation failed.
+///
+/// After an error the plan may have a part of the array.
 #[cycle(plans)]
 pub fn plan_array<'a>(
     plan: &mut Plan<'a>,

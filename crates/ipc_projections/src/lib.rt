@@ -1,4 +1,4 @@
-//! Chooses columns of batches, and brings them into the order that was asked for.
+//! Selects columns of batches, and returns them in the requested order.
 #![tactic(auto)]
 
 pub mod read;

@@ -1,4 +1,4 @@
-//! Which columns are read, in which order, and where each of them goes.
+//! Which columns are read, in which order, and at which index each is returned.
 pub mod asked;
 pub mod chosen;
 pub mod prepare;

@@ -1,4 +1,4 @@
-//! What bytes say of a schema.
+//! Reads schemas from their tables.
 
 mod metadata;
 pub mod pairs;

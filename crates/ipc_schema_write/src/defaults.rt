@@ -1,4 +1,4 @@
-//! The dictionary ids of a schema where none are given.
+//! Default dictionary ids of a schema.
 ghost use Rattle.std.specs.Prelude.{◌≡◌, ◌+◌, ◌≤◌, ◌^◌, ◌↔◌, IfErr, IfOk, IsTrue, MatchOption, length, pos};
 ghost use Rattle.lower.specs.Counts.{fields_places};
 ghost use Rattle.lower.specs.TypeViews.{type_view, field_view, fields_view};
@@ -18,10 +18,13 @@ use lower::datatypes::counts::is_dictionary_type;
 use lower::datatypes::{DataType, Field};
 use std::alloc::Global;
 
-/// The ids that fields get where none are given: 0, 1, 2 and on, in pre-order of the dictionary fields.
+/// Returns default ids: dictionary fields get 0, 1, 2 and so on, in pre-order.
 ///
-/// Faults: `Argument(TooLarge)` only where there are `2^63` dictionary fields or more, of which one would
-/// get `i64::MAX`; `Memory`.
+/// Errors:
+///
+/// - `Fault::Argument(ArgFault::TooLarge)`: there are at least `2^63` dictionary fields, so that
+///   one would get the id `i64::MAX`.
+/// - `Fault::Memory`: an allocation failed.
 pub fn default_ipc_fields(alloc: Global, fields: &[Field]) -> Result<Vec<IpcField>, Fault>
     ensures ids { IfOk result (λ r. all_ids_view r.items ≡ default_all 0 (fields_view fields.now)) }
     ensures fit { IfOk result (λ r. AllFit (fields_view fields.now) (all_ids_view r.items)) }
@@ -32,10 +35,13 @@ pub fn default_ipc_fields(alloc: Global, fields: &[Field]) -> Result<Vec<IpcFiel
     Ok(ids)
 }
 
-/// The ids that a schema is written with where none are given: those of [`default_ipc_fields`]. The
-/// dictionary fields are counted before an id is made, so that no more ids are than can be written.
+/// Returns the default ids of a schema that is written, as [`default_ipc_fields`] does.
 ///
-/// Faults: `Argument(NotWritable)` where there are more than 65,536 dictionary fields; `Memory`.
+/// The dictionary fields are counted first, so that no more ids are made than can be written.
+/// Errors:
+///
+/// - `Fault::Argument(ArgFault::NotWritable)`: there are more than 65,536 dictionary fields.
+/// - `Fault::Memory`: an allocation failed.
 pub fn writable_ipc_fields(alloc: Global, fields: &[Field]) -> Result<Vec<IpcField>, Fault>
     ensures ids { IfOk result (λ r. all_ids_view r.items ≡ default_all 0 (fields_view fields.now)) }
     ensures fit { IfOk result (λ r. AllFit (fields_view fields.now) (all_ids_view r.items)) }
@@ -59,7 +65,7 @@ fn has_few_places(fields: &[Field]) -> bool
     }
 }
 
-// The dictionary fields, or None where a `u64` is too small for them.
+// The number of dictionary fields, or None if it is 2^64 or more.
 #[cycle(counts)]
 fn count_all(fields: &[Field]) -> Option<u64>
     ensures { MatchOption result (2 ^ 64 ≤ count_all (fields_view fields.now)) (λ count. count ≡ count_all (fields_view fields.now)) }
@@ -171,14 +177,17 @@ fn ids_below(alloc: Global, data_type: &DataType, next: &mut u64) -> Result<Vec<
     }
 }
 
-/// The dictionary fields of a schema get the ids 0, 1, 2 and on, in pre-order: the first has 0, and each
-/// other one has the next id.
+/// A theorem: default ids of dictionary fields are 0, 1, 2 and so on.
+///
+/// They are in pre-order.
 #[tactic(auto, using(crate::proofs::DefaultOrder::default_law))]
 pub fn ids_in_order()
     ensures { DefaultLaw }
 {}
 
-/// The ids of two fields that are written out, and of a dictionary in a dictionary.
+/// A theorem: the ids of two examples of fields.
+///
+/// One of them is a dictionary in a dictionary.
 #[tactic(auto, using(crate::proofs::DefaultRows::default_rows))]
 pub fn ids_of_written_out_fields()
     ensures { DefaultRows }

@@ -16,16 +16,16 @@ use std::collections::HashMap;
 /// A field whose type is a dictionary.
 #[derive(Clone, Copy)]
 pub(crate) struct DictionaryPlace<'a> {
-    /// Its id.
+    /// The id of the dictionary.
     pub(crate) id: i64,
-    /// The type of its values.
+    /// The type of the dictionary's values.
     pub(crate) values: &'a DataType,
-    /// The ids in its values.
+    /// The ids of fields in the values.
     pub(crate) ids: &'a [IpcField],
 }
 
 impl DictionaryPlace<'_> {
-    // Its id.
+    // The id of the dictionary.
     fn id(&self) -> i64
         ensures { result ≡ self.now.id }
     {
@@ -33,7 +33,7 @@ impl DictionaryPlace<'_> {
     }
 }
 
-// The type of the values, once extensions are taken off.
+// The type of the values of a dictionary, which may be in an extension.
 fn values_of(data_type: &DataType) -> &DataType
     requires { is_dictionary (type_view data_type.now) ≡ true }
     ensures { (id : _) (is : IdTrees) → own_place (type_view data_type.now) id is ≡ record { id = id; type = type_view result.now; ids = is } ∷ [] }
@@ -45,7 +45,7 @@ fn values_of(data_type: &DataType) -> &DataType
     }
 }
 
-// Adds a field's own place, where it is a dictionary.
+// Adds a field itself, if it is a dictionary.
 fn add_own<'a>(
     data_type: &'a DataType,
     id: Option<i64>,
@@ -85,7 +85,7 @@ fn add_places_of<'a>(
     add_inner(&field.data_type, &ipc_field.fields, all)
 }
 
-// Adds the places below a type.
+// Adds the dictionaries below a type.
 #[cycle(places)]
 fn add_inner<'a>(
     data_type: &'a DataType,
@@ -111,7 +111,7 @@ fn add_inner<'a>(
     }
 }
 
-/// Adds the dictionary places of some fields with their ids, in pre-order.
+/// Appends the dictionaries of these fields at all levels, with ids, in pre-order.
 #[cycle(places)]
 pub(crate) fn add_places<'a>(
     fields: &'a [Field],
@@ -128,7 +128,7 @@ pub(crate) fn add_places<'a>(
     Ok(())
 }
 
-/// Whether these are the same ids.
+/// Returns whether both have the same ids in the same shape.
 #[cycle(same_ids)]
 pub fn are_same_ids(a: &[IpcField], b: &[IpcField]) -> bool
     ensures { IsTrue result ↔ (all_ids_view a.now ≡ all_ids_view b.now) }
@@ -151,15 +151,17 @@ fn is_same_id(a: &IpcField, b: &IpcField) -> bool
     a.dictionary_id == b.dictionary_id && are_same_ids(&a.fields, &b.fields)
 }
 
-// Whether both have one value type, in its normal form, with the same ids in it.
+// Whether both have the same type of values, in normal form, with the same ids in it.
 fn have_same_values(place: &DictionaryPlace<'_>, other: &DictionaryPlace<'_>) -> bool
     ensures { IsTrue result ↔ HaveOneValueType (place_view place.now) (place_view other.now) }
 {
     is_same_normal_type(place.values, other.values) && are_same_ids(place.ids, other.ids)
 }
 
-/// Whether places of one id have one value type, in its normal form, with the same ids in it. Each
-/// is compared with the first of its id.
+/// Returns whether dictionaries with the same id have the same type of values.
+///
+/// The types are compared in normal form, with the ids in them. Each is compared with the first one
+/// of its id.
 pub(crate) fn agree(alloc: Global, places: &[DictionaryPlace<'_>]) -> Result<bool, AllocError>
     ensures { IfOk result (λ b. IsTrue b ↔ AllPairs SameUnderId (places_view places.now)) }
 {

@@ -1,4 +1,4 @@
-//! Fields as the tables of a schema hold them.
+//! Encodes fields as tables of a schema.
 //!
 //! Arrow columnar format, "Schema message"; the table `Field` of `Schema.fbs`.
 ghost use Rattle.std.specs.Prelude.{IfOk};
@@ -17,7 +17,7 @@ use ipc_tables::schema as tables;
 use lower::datatypes::{DataType, Field};
 use std::alloc::{AllocError, Global};
 
-// The table of a field in its normal form, with its ids.
+// The table of a field in normal form, with its ids.
 #[cycle(fields)]
 fn serialize_field(
     alloc: Global,
@@ -86,7 +86,7 @@ fn serialize_child(
     Ok(all)
 }
 
-/// The tables of fields in their normal form, with their ids.
+/// Returns the tables of fields in normal form, with their ids.
 #[cycle(fields)]
 pub(crate) fn serialize_fields(
     alloc: Global,

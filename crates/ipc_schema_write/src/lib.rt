@@ -1,4 +1,4 @@
-//! Schemas as the first message of a stream, and of a file, holds them: written.
+//! Writes the schemas of streams and files.
 #![tactic(auto)]
 
 pub mod defaults;

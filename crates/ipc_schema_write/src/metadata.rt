@@ -1,4 +1,4 @@
-//! Pairs of texts beside schemas and fields, as tables.
+//! Encodes key-value metadata of schemas and fields as tables.
 //!
 //! Arrow columnar format, "Extension Types"; `custom_metadata` of `Schema.fbs`.
 ghost use Rattle.std.specs.Prelude.{◌≡◌, ◌++◌, ◌∷◌, [], IfOk, OnOk, Some, option_map, string_bytes};
@@ -10,10 +10,10 @@ use ipc_tables::schema::KeyValue;
 use lower::datatypes::{DataType, Metadata};
 use std::alloc::{AllocError, Global};
 
-/// The key under which a field names its extension type.
+/// The key of the name of a field's extension type.
 pub const NAME_KEY: &str = "ARROW:extension:name";
 
-/// The key of what the extension type says of itself.
+/// The key of the metadata of a field's extension type.
 pub const DATA_KEY: &str = "ARROW:extension:metadata";
 
 fn push(alloc: Global, pairs: &mut Vec<KeyValue>, key: &str, value: &str) -> Result<(), AllocError>
@@ -25,8 +25,9 @@ fn push(alloc: Global, pairs: &mut Vec<KeyValue>, key: &str, value: &str) -> Res
     Ok(())
 }
 
-/// The pairs as tables, in the order of their keys: those of a schema, and those of a file's footer. `AllocError` comes where memory was
-/// refused.
+/// Returns the pairs of a schema or of a footer as tables.
+///
+/// They are in the order of their keys. It fails only if an allocation fails.
 pub fn serialize_pairs(alloc: Global, metadata: &Metadata) -> Result<Vec<KeyValue>, AllocError>
     ensures all { IfOk result (λ pairs. pairs_in pairs.items ≡ pairs_of metadata.now.entries) }
     ensures ordered { IfOk result (λ _. Ascend (pairs_of metadata.now.entries)) }
@@ -39,14 +40,14 @@ pub fn serialize_pairs(alloc: Global, metadata: &Metadata) -> Result<Vec<KeyValu
     Ok(pairs)
 }
 
-/// Whether the key is one of the two that say an extension: [`NAME_KEY`] or [`DATA_KEY`].
+/// Returns whether the key is one of the extension keys: [`NAME_KEY`] or [`DATA_KEY`].
 pub fn is_extension_key(key: &str) -> bool
     ensures { result ≡ is_extension_key key.now }
 {
     NAME_KEY.cmp(key).is_eq() || DATA_KEY.cmp(key).is_eq()
 }
 
-// The tables of the pairs that say no extension, in their order.
+// The tables of the pairs that aren't an extension's, in their order.
 fn serialize_own(alloc: Global, metadata: &Metadata) -> Result<Vec<KeyValue>, AllocError>
     ensures own { IfOk result (λ pairs. pairs_in pairs.items
         ≡ without name_key (without data_key (pairs_of metadata.now.entries))) }
@@ -71,7 +72,9 @@ fn extension_of_values(data_type: &DataType) -> Option<(&String, &Option<String>
     }
 }
 
-/// The name of a type's extension and what it says of itself, or those of its dictionary values' extension; None where there is none.
+/// Returns the name and the metadata of a type's extension, if it has one.
+///
+/// For a dictionary, it is the extension of its values.
 pub fn extension_of(data_type: &DataType) -> Option<(&String, &Option<String>)>
     ensures { option_map (λ e. (string_bytes e.0.now, text_of e.1.now)) result
         ≡ extension_of (type_view data_type.now) }
@@ -82,7 +85,7 @@ pub fn extension_of(data_type: &DataType) -> Option<(&String, &Option<String>)>
     }
 }
 
-// Adds the pairs that say an extension of this name and text.
+// Appends the pairs of an extension with this name and metadata.
 fn push_extension(
     alloc: Global,
     pairs: &mut Vec<KeyValue>,
@@ -101,8 +104,10 @@ fn push_extension(
     }
 }
 
-/// The tables of the pairs of a field in its normal form: those that say no extension, and those
-/// that say the one of its type, or of its dictionary's values.
+/// Returns the tables of a field's pairs in normal form.
+///
+/// They are the pairs that aren't an extension's, and those of the extension of its type or of its
+/// dictionary's values.
 pub(crate) fn serialize_field_pairs(
     alloc: Global,
     metadata: &Metadata,

@@ -1,4 +1,4 @@
-//! Schemas as the messages that begin streams.
+//! Encodes schemas.
 //!
 //! Arrow columnar format, "Schema message": the header of the first message of a stream is a table
 //! `Schema`, whose fields are tables `Field`.
@@ -23,13 +23,13 @@ use lower::datatypes::counts::is_within_levels;
 use lower::datatypes::{Field, Schema};
 use std::alloc::Global;
 
-/// How deep fields may go.
+/// The greatest depth of fields.
 const MAX_LEVELS: u64 = 64;
 
-/// How many dictionaries there may be.
+/// The greatest number of dictionaries.
 pub(crate) const MAX_PLACES: usize = 65536;
 
-// How the numbers of bodies lie in memory.
+// The byte order as its tag.
 fn endianness(is_little_endian: bool) -> Endianness
     ensures { order_of result ≡ byte_order is_little_endian }
 {
@@ -65,11 +65,10 @@ fn check_writable(alloc: Global, fields: &[Field], ipc_fields: &[IpcField]) -> R
     Ok(())
 }
 
-/// The table of a schema with these ids, for a message or for the footer of a file. The fields are
-/// in their normal form. `is_little_endian` is whether the numbers of bodies have their lowest byte
-/// first.
+/// Returns the table of a schema, for a message or a footer.
 ///
-/// The faults are those of [`schema_to_bytes`].
+/// It has these ids, and the fields are in normal form. `is_little_endian` is the byte order of the
+/// numbers in bodies. Errors are those of [`schema_to_bytes`].
 pub fn serialize_schema(
     alloc: Global,
     schema: &Schema,
@@ -94,20 +93,33 @@ pub fn serialize_schema(
     Ok(table)
 }
 
-/// The message of a schema with these ids, without its prefix. The fields are in their normal form,
-/// and the numbers of bodies have their lowest byte first. Its version is V5, it has no metadata of
-/// its own, and its parts are laid out as Flatbuffers asks of a writer. It is no longer than the
-/// schema's weight, so its length refuses nothing.
+/// Returns the encoded message of a schema with these ids, without its prefix.
 ///
-/// Faults: `Argument(FieldsShape)` where the ids don't fit; `Argument(NotWritable)` where there are
-/// more than 65,536 dictionaries, where two dictionaries of one id have other types of values (in
-/// their normal form) or other ids in them, where a field stands below level 64, where a type can't
-/// be written (floats; a time of 32 bits in microseconds or nanoseconds, or one of 64 bits in seconds
-/// or milliseconds; a size of 0, or one above `2^31 - 1`; a decimal with a precision or a scale above
-/// `2^31 - 1`; a struct without a field; a map whose child isn't a struct of two fields; a union
-/// without children, with more than 127, or whose ids aren't distinct, as many as these, and from 0
-/// to 126; a dictionary right under a dictionary; a dictionary or an extension right under an
-/// extension), and where the weight is above `2^30`; `Memory`.
+/// The fields are in normal form, and the numbers in bodies are little-endian. Its version is V5,
+/// it has no metadata of its own, and its layout follows the rules for FlatBuffers writers. It is
+/// at most as long as the weight of the schema, so no schema is refused for the length of its
+/// message. Errors:
+///
+/// - `Fault::Argument(ArgFault::FieldsShape)`: the ids don't have the shape of the fields.
+/// - `Fault::Argument(ArgFault::NotWritable)`: the schema can't be written, as listed below.
+/// - `Fault::Memory`: an allocation failed.
+///
+/// A schema can't be written if one of these is true:
+///
+/// - It has more than 65,536 dictionaries.
+/// - Two dictionaries with the same id have different types of values (in normal form), or
+///   different ids in them.
+/// - Fields are nested more than 64 levels deep.
+/// - A type is a float.
+/// - A 32-bit time is in microseconds or nanoseconds, or a 64-bit time in seconds or milliseconds.
+/// - A fixed size is 0 or above `2^31 - 1`, or a precision or scale of a decimal is above
+///   `2^31 - 1`.
+/// - A struct has no field, or the child of a map isn't a struct of two fields.
+/// - A union has no children, or more than 127.
+/// - The type ids of a union are not one for each child, not distinct, or not from 0 to 126.
+/// - A dictionary is directly in a dictionary, or a dictionary or an extension directly in an
+///   extension.
+/// - Its weight is above `2^30` (see [`weigh_schema`](crate::weights::weigh_schema)).
 pub fn schema_to_bytes(
     alloc: Global,
     schema: &Schema,
@@ -119,11 +131,11 @@ pub fn schema_to_bytes(
     schema_to_bytes_as(alloc, schema, ipc_fields, true)
 }
 
-/// The message of a schema as [`schema_to_bytes`] gives it, which says of the numbers of bodies whether
-/// they have their lowest byte first, or their highest (Arrow columnar format, "Byte Order"). The
-/// message's own numbers have their lowest byte first in either.
+/// Returns the message of [`schema_to_bytes`], for bodies in either byte order.
 ///
-/// The faults are those of [`schema_to_bytes`].
+/// Arrow columnar format, "Byte Order (Endianness)". `is_little_endian` is the byte order of the
+/// numbers in bodies; the numbers of the message itself are little-endian in either case. Errors
+/// are those of [`schema_to_bytes`].
 pub fn schema_to_bytes_as(
     alloc: Global,
     schema: &Schema,

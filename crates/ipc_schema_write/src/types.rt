@@ -1,4 +1,4 @@
-//! The types of columns as the tables of a schema say them.
+//! Encodes the types of columns as tables of a schema.
 //!
 //! Arrow columnar format, "Schema message"; the union `Type` of `Schema.fbs`.
 ghost use Rattle.std.specs.Prelude.{◌≡◌, IfOk, pos};
@@ -17,7 +17,7 @@ use ipc_views::{DateUnit, IntervalUnit as IntervalTag, TimeUnit as UnitTag, Unio
 use lower::datatypes::{DataType, IntegerType, IntervalUnit, TimeUnit, UnionMode};
 use std::alloc::AllocError;
 
-// A size as a signed number of 32 bits.
+// A size as a signed 32-bit number.
 fn short(size: usize) -> i32
     requires { IsShort size }
     ensures { result ≡ pos size }
@@ -75,8 +75,7 @@ fn serialize_integer(integer: IntegerType) -> Int
     }
 }
 
-/// The table of how the keys of a dictionary stand for its values, where the type is a dictionary
-/// and has an id.
+/// Returns the table of a dictionary's encoding, for a dictionary with an id.
 pub(crate) fn serialize_encoding(
     data_type: &DataType,
     id: Option<i64>,
@@ -220,8 +219,9 @@ fn union(type_ids: &Option<Vec<i32>>, mode: UnionMode) -> Result<FieldType, Allo
     }))
 }
 
-/// The table of a type, apart from its children. That of a dictionary is that of its values, and
-/// that of an extension is that of the type that it is stored as.
+/// Returns the table of a type, without its children.
+///
+/// A dictionary has the table of its values, and an extension that of its storage type.
 pub(crate) fn serialize_type(data_type: &DataType) -> Result<FieldType, AllocError>
     requires { IsWritableType (type_view data_type.now) }
     ensures { IfOk result (λ table. IsTypeTable table (type_view data_type.now)) }

@@ -1,4 +1,4 @@
-//! What bounds the message of a schema, told by its tables.
+//! The weight of a schema, which bounds the length of its message.
 ghost use Rattle.std.specs.Prelude.{◌≡◌, ◌^◌, ◌≤◌, ◌↔◌, IsTrue, MatchOption, map};
 ghost use Rattle.ipc_tables.specs.Weights.{features_weight, field_weight, ids_weight, pairs_weight, schema_weight, total, type_weight, zone_weight};
 ghost use Rattle.ipc_schema_write.specs.WriterAnswers.{max_weight};
@@ -9,7 +9,7 @@ use ipc_tables::types::FieldType;
 /// The greatest weight of a schema that is written: `2^30`.
 pub const MAX_WEIGHT: u64 = 1 << 30;
 
-// The weight of some pairs, or None where a `u64` is too small for it.
+// The weight of some pairs, or None if it is 2^64 or more.
 fn weigh_pairs(pairs: &[KeyValue]) -> Option<u64>
     ensures { MatchOption result (2 ^ 64 ≤ pairs_weight pairs.now) (λ weight. weight ≡ pairs_weight pairs.now) }
 {
@@ -80,11 +80,16 @@ fn weigh_features(features: &Option<Vec<Feature>>) -> Option<u64>
     }
 }
 
-/// The weight of a schema, or None where a `u64` is too small for it. The message of the schema has no more bytes.
+/// Returns the weight of a schema, or `None` if it is `2^64` or more.
 ///
-/// It is 1,024, and for each field at any level 512, the bytes of its name and of its timezone, and 8 for each id of a
-/// union; 64 for each pair of metadata, of the schema's and of the fields', with the bytes of its key and its value; and 8
-/// for each feature.
+/// The message of the schema is at most this long, in bytes. The weight is the sum of these:
+///
+/// - 1,024.
+/// - For each field at any level: 512, the length of its name and of its timezone in bytes, and 8
+///   for each type id of a union.
+/// - For each pair of metadata of the schema and of the fields: 64, and the length of its key and
+///   its value in bytes.
+/// - 8 for each feature.
 pub fn weigh_schema(schema: &Schema) -> Option<u64>
     ensures { MatchOption result (2 ^ 64 ≤ schema_weight schema.now) (λ weight. weight ≡ schema_weight schema.now) }
 {
@@ -93,7 +98,7 @@ pub fn weigh_schema(schema: &Schema) -> Option<u64>
     with_fields.checked_add(weigh_features(&schema.features)?)
 }
 
-/// Whether the weight of a schema is at most the greatest.
+/// Returns whether the weight of a schema is at most [`MAX_WEIGHT`].
 pub(crate) fn is_light(schema: &Schema) -> bool
     ensures { IsTrue result ↔ (schema_weight schema.now ≤ max_weight) }
 {

@@ -12,21 +12,21 @@ ghost use Rattle.ipc_model.specs.Writable.{AreWritable, IsPairType, IsPlainStora
 
 use lower::datatypes::{DataType, Field, TimeUnit};
 
-// Whether a size can be written as a signed number of 32 bits.
+// Whether a size fits a signed 32-bit number.
 fn is_short(size: usize) -> bool
     ensures { IsTrue result ↔ IsShort size }
 {
     size <= i32::MAX as usize
 }
 
-// Whether a size can be written and isn't 0.
+// Whether a size fits a signed 32-bit number, and isn't 0.
 fn is_size(size: usize) -> bool
     ensures { IsTrue result ↔ ((0 < size) × IsShort size) }
 {
     size > 0 && is_short(size)
 }
 
-// Whether 32 bits can count this unit of a day.
+// Whether 32 bits are used for this unit of a time of day.
 fn is_short_time(unit: TimeUnit) -> bool
     ensures { IsTrue result ↔ IsWritablePlain (time32 unit) }
 {
@@ -36,7 +36,7 @@ fn is_short_time(unit: TimeUnit) -> bool
     }
 }
 
-// Whether 64 bits are due for this unit of a day.
+// Whether 64 bits are used for this unit of a time of day.
 fn is_long_time(unit: TimeUnit) -> bool
     ensures { IsTrue result ↔ IsWritablePlain (time64 unit) }
 {
@@ -58,7 +58,7 @@ fn is_apart(id: i32, others: &[i32]) -> bool
     true
 }
 
-// Whether no id stands twice.
+// Whether no id occurs twice.
 fn are_distinct(ids: &[i32]) -> bool
     ensures { result ≡ are_distinct ids.now }
 {
@@ -115,7 +115,7 @@ fn is_plain_storage(data_type: &DataType) -> bool
     )
 }
 
-// Whether there are as many ids as children, from 0 to 126, and none stands twice.
+// Whether there are as many ids as children, distinct and from 0 to 126.
 fn are_ids(ids: &[i32], count: usize) -> bool
     ensures { result ≡ are_ids (Some ids.now) count }
 {
@@ -131,7 +131,7 @@ fn has_ids(type_ids: &Option<Vec<i32>>, count: usize) -> bool
     }
 }
 
-// Whether a union may have this number of children with these ids.
+// Whether a union can have this number of children with these ids.
 fn is_union(type_ids: &Option<Vec<i32>>, count: usize) -> bool
     ensures { IsTrue result ↔ IsUnionKind (ids_of type_ids.now) count }
 {
@@ -173,7 +173,7 @@ fn is_writable_type(data_type: &DataType) -> bool
     }
 }
 
-/// Whether the types of the fields can be written, at every level.
+/// Returns whether the types of the fields can be written, at every level.
 #[cycle(writable)]
 pub(crate) fn are_writable(fields: &[Field]) -> bool
     ensures { IsTrue result ↔ AreWritable (fields_view fields.now) }

@@ -1,4 +1,4 @@
-//! Vectors of structs and of numbers, which stand in the vector itself.
+//! Encodes vectors of structs and of numbers.
 ghost use Rattle.std.specs.Prelude.{◌≡◌, ◌++◌, IfOk, OnOk, option_map};
 ghost use Rattle.std.specs.List.{flat_map};
 ghost use Rattle.ipc_parts.specs.Parts.{IsPart};
@@ -8,11 +8,11 @@ ghost use Rattle.ipc_tables.specs.Slots.{IsOptional};
 use ipc_parts::{Built, Slot, elements};
 use std::alloc::{AllocError, Global};
 
-/// What stands in a vector itself: a struct, or a number.
+/// An element without offsets: a struct, or a number.
 pub(crate) trait Element: Copy + Drop {
     ghost use Rattle.std.specs.Prelude.{ℕ, ◌≡◌, ◌<◌, ◌%◌, List, length};
 
-    // How many bytes each has, and at a multiple of which number the first stands.
+    // The length of one in bytes, and the alignment of the first.
     ghost size: { ℕ };
 
     ghost align: { ℕ };
@@ -20,11 +20,11 @@ pub(crate) trait Element: Copy + Drop {
     // The bytes of one.
     ghost spelt: { Self → List ℕ };
 
-    // How many bytes one has.
+    // The length of one in bytes.
     fn len() -> usize
         ensures { result ≡ size };
 
-    // Adds the bytes of one.
+    // Appends the bytes of one.
     fn put(self, bytes: &mut Vec<u8>) -> Result<(), AllocError>
         ensures { OnOk result (bytes.new.items ≡ bytes.old.items ++ spelt self) };
 
@@ -45,7 +45,7 @@ fn bytes_of<S: Element>(alloc: Global, values: &[S]) -> Result<Vec<u8>, AllocErr
     Ok(bytes)
 }
 
-/// The vector of some elements.
+/// Returns the vector of some elements.
 pub(crate) fn elements_part<S: Element>(alloc: Global, values: &[S]) -> Result<Built, AllocError>
     ensures { IfOk result (λ built. IsPart built (elements_of S.align S.size S.spelt values.now)) }
 {
@@ -53,7 +53,7 @@ pub(crate) fn elements_part<S: Element>(alloc: Global, values: &[S]) -> Result<B
     elements(alloc, values.len(), bytes.as_slice())
 }
 
-/// The vector of some elements, where it is there.
+/// Returns the slot for a vector of some elements, or an absent slot.
 pub(crate) fn elements_slot<S: Element>(
     alloc: Global,
     values: &Option<Vec<S>>,

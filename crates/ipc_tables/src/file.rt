@@ -1,4 +1,4 @@
-//! The table of Arrow's `File.fbs`, as a value and as bytes.
+//! The table of Arrow's `File.fbs`, as a value that is encoded.
 ghost use Rattle.std.specs.Prelude.{ℕ, IfOk, option_map};
 ghost use Rattle.ipc_parts.specs.Encodes.{Encodes};
 ghost use Rattle.ipc_parts.specs.Parts.{IsPart};
@@ -15,14 +15,14 @@ use ipc_parts::{Built, Slot, message, put_u32, put_u64, table};
 use ipc_views::{Block, MetadataVersion};
 use std::alloc::{AllocError, Global};
 
-/// A table `Footer`.
+/// A table `Footer`, as a value (Arrow columnar format, "IPC File Format").
 #[derive(Drop)]
 pub struct Footer {
     pub version: MetadataVersion,
     pub schema: Option<Schema>,
-    /// Where the dictionary batches stand in the file.
+    /// Where the dictionary batches are in the file.
     pub dictionaries: Option<Vec<Block>>,
-    /// Where the record batches stand in the file.
+    /// Where the record batches are in the file.
     pub record_batches: Option<Vec<Block>>,
     pub custom_metadata: Option<Vec<KeyValue>>,
 }
@@ -86,13 +86,16 @@ fn footer_part(alloc: Global, footer: &Footer) -> Result<Built, AllocError>
 }
 
 impl Footer {
-    /// The footer as bytes (Arrow columnar format, IPC File Format).
+    /// Returns the encoded footer.
     ///
-    /// Faults: `Memory`; `Argument(TooLarge)` where they are more than `2^31 - 1`.
+    /// Errors:
+    ///
+    /// - `Fault::Memory`: an allocation failed.
+    /// - `Fault::Argument(ArgFault::TooLarge)`: it is longer than `2^31 - 1` bytes.
     pub fn to_bytes(&self, alloc: Global) -> Result<Vec<u8>, Fault>
-        // the root's table has these slots, strictly laid out
+        // the root table has these slots, in a strict layout
         ensures encodes { Encodes result (footer_slots self.now) }
-        // each named reader gives what the value says, in fields down to any level
+        // each accessor returns what the value says, for fields nested to any depth
         ensures reads { (levels : ℕ) → IfOk result (λ bytes. HaveRoot bytes.items (IsFooter levels) self.now) }
     {
         message(alloc, &footer_part(alloc, self)?)

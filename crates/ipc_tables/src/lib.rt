@@ -1,8 +1,8 @@
-//! The tables in the metadata of Arrow's messages and files, as values that are built into bytes.
+//! The tables in the metadata of Arrow messages and files, as values that are encoded.
 //!
-//! A module stands for each schema file of the Arrow format: `Schema.fbs` ([`schema`] and [`types`]),
-//! `Message.fbs` ([`message`]) and `File.fbs` ([`file`]). The views that read the bytes are those of
-//! `ipc_views`.
+//! There is one module for each schema file of the Arrow format: `Schema.fbs` ([`schema`] and
+//! [`types`]), `Message.fbs` ([`message`]) and `File.fbs` ([`file`]). The views in `ipc_views` read
+//! the bytes.
 #![tactic(auto)]
 
 mod elements;

@@ -1,4 +1,4 @@
-//! The tables of Arrow's `Message.fbs`, as values and as bytes.
+//! The tables of Arrow's `Message.fbs`, as values that are encoded.
 ghost use Rattle.std.specs.Prelude.{ℕ, ◌≡◌, ◌<◌, ◌≤◌, IfOk, None, length, option_map};
 ghost use Rattle.ipc_parts.specs.Encodes.{Encodes};
 ghost use Rattle.ipc_parts.specs.Parts.{IsPart};
@@ -16,39 +16,39 @@ use ipc_parts::{Built, Slot, message, put_u64, table};
 use ipc_views::{Buffer, FieldNode, MetadataVersion};
 use std::alloc::{AllocError, Global};
 
-/// How bytes are compressed: the enumeration `CompressionType`.
+/// The compression of buffers: the enumeration `CompressionType`.
 #[derive(Clone, Copy, Debug, PartialEq, Eq)]
 pub enum CompressionType {
     Lz4Frame,
     Zstd,
 }
 
-/// What of a body is compressed: the enumeration `BodyCompressionMethod`.
+/// What is compressed in a body: the enumeration `BodyCompressionMethod`.
 #[derive(Clone, Copy, Debug, PartialEq, Eq)]
 pub enum BodyCompressionMethod {
     /// Each buffer by itself.
     Buffer,
 }
 
-/// A table `BodyCompression`.
+/// A table `BodyCompression`, as a value.
 #[derive(Clone, Copy, Debug, PartialEq, Eq)]
 pub struct BodyCompression {
     pub codec: CompressionType,
     pub method: BodyCompressionMethod,
 }
 
-/// A table `RecordBatch`.
+/// A table `RecordBatch`, as a value (Arrow columnar format, "RecordBatch message").
 #[derive(Drop)]
 pub struct RecordBatch {
     /// The number of rows.
     pub length: i64,
     pub nodes: Vec<FieldNode>,
     pub buffers: Vec<Buffer>,
-    /// How the buffers are compressed, None where they aren't.
+    /// How the buffers are compressed, `None` if they aren't.
     pub compression: Option<BodyCompression>,
 }
 
-/// A table `DictionaryBatch`.
+/// A table `DictionaryBatch`, as a value (Arrow columnar format, "Dictionary Messages").
 #[derive(Drop)]
 pub struct DictionaryBatch {
     pub id: i64,
@@ -65,12 +65,12 @@ pub enum MessageHeader {
     RecordBatch(RecordBatch),
 }
 
-/// A table `Message`.
+/// A table `Message`, as a value (Arrow columnar format, "Encapsulated message format").
 #[derive(Drop)]
 pub struct Message {
     pub version: MetadataVersion,
     pub header: MessageHeader,
-    /// The number of bytes of the body.
+    /// The length of the body in bytes.
     pub body_length: i64,
     pub custom_metadata: Option<Vec<KeyValue>>,
 }
@@ -248,16 +248,20 @@ fn message_part(alloc: Global, message: &Message) -> Result<Built, AllocError>
 }
 
 impl Message {
-    /// The message as bytes, without a frame (Arrow columnar format, Encapsulated message format).
+    /// Returns the encoded message, without its prefix and padding.
     ///
-    /// Faults: `Memory`; `Argument(TooLarge)` where they are more than `2^31 - 1`.
+    /// Errors:
+    ///
+    /// - `Fault::Memory`: an allocation failed.
+    /// - `Fault::Argument(ArgFault::TooLarge)`: it is longer than `2^31 - 1` bytes.
     pub fn to_bytes(&self, alloc: Global) -> Result<Vec<u8>, Fault>
-        // the root's table has these slots, strictly laid out
+        // the root table has these slots, in a strict layout
         ensures encodes { Encodes result (message_slots self.now) }
-        // a schema's message without metadata of its own is no longer than the schema weighs
+        // the message of a schema, without metadata of its own, is no longer than the weight of the
+        // schema
         ensures weight { (schema : Schema) → self.now.header ≡ MessageHeader.Schema schema → self.now.custom_metadata ≡ None
             → IfOk result (λ bytes. length bytes.items ≤ schema_weight schema) }
-        // each named reader gives what the value says, in fields down to any level
+        // each accessor returns what the value says, for fields nested to any depth
         ensures reads { (levels : ℕ) → IfOk result (λ bytes. HaveRoot bytes.items (IsMessage levels) self.now) }
     {
         message(alloc, &message_part(alloc, self)?)

@@ -1,4 +1,4 @@
-//! The tables of Arrow's `Schema.fbs` that hold a schema and its fields, as values and as bytes.
+//! The tables of Arrow's `Schema.fbs` for schemas and fields, as values that are encoded.
 ghost use Rattle.std.specs.Prelude.{◌≡◌, ◌<◌, ◌^◌, List, map, IfOk, option_map};
 ghost use Rattle.ipc_parts.specs.Parts.{IsPart};
 ghost use Rattle.ipc_parts.specs.Tree.{Part, table};
@@ -12,30 +12,30 @@ use ipc_parts::{Built, Slot, put_u64, table, tables, text};
 use ipc_views::{Endianness, MetadataVersion};
 use std::alloc::{AllocError, Global};
 
-/// A table `KeyValue`.
+/// A table `KeyValue`, as a value.
 #[derive(Drop)]
 pub struct KeyValue {
     pub key: String,
     pub value: String,
 }
 
-/// How a dictionary is laid out: the enumeration `DictionaryKind`.
+/// The layout of a dictionary: the enumeration `DictionaryKind`.
 #[derive(Clone, Copy, Debug, PartialEq, Eq)]
 pub enum DictionaryKind {
     DenseArray,
 }
 
-/// What a reader has to know beyond the tables: the enumeration `Feature`.
+/// A feature that a reader must support: the enumeration `Feature`.
 #[derive(Clone, Copy, Debug, PartialEq, Eq)]
 pub enum Feature {
     Unused,
-    /// A dictionary of a stream may take the place of one that came before it.
+    /// A dictionary of a stream may replace an earlier one.
     DictionaryReplacement,
     /// Buffers may be compressed.
     CompressedBody,
 }
 
-/// A table `DictionaryEncoding`.
+/// A table `DictionaryEncoding`, as a value.
 #[derive(Clone, Copy, Debug, PartialEq, Eq)]
 pub struct DictionaryEncoding {
     pub id: i64,
@@ -45,25 +45,25 @@ pub struct DictionaryEncoding {
     pub dictionary_kind: DictionaryKind,
 }
 
-/// A table `Field`.
+/// A table `Field`, as a value.
 #[derive(Drop)]
 pub struct Field {
     pub name: String,
     pub nullable: bool,
-    /// The type, or that of the values where there is a dictionary.
+    /// The type; if there is a dictionary, that of its values.
     pub type_: FieldType,
     pub dictionary: Option<DictionaryEncoding>,
     pub children: Vec<Field>,
-    /// Written where there is a pair.
+    /// Key-value metadata, which is written unless it is empty.
     pub custom_metadata: Vec<KeyValue>,
 }
 
-/// A table `Schema`.
+/// A table `Schema`, as a value (Arrow columnar format, "Schema message").
 #[derive(Drop)]
 pub struct Schema {
     pub endianness: Endianness,
     pub fields: Vec<Field>,
-    /// Written where there is a pair.
+    /// Key-value metadata, which is written unless it is empty.
     pub custom_metadata: Vec<KeyValue>,
     pub features: Option<Vec<Feature>>,
 }
@@ -162,7 +162,7 @@ fn pairs_vector(alloc: Global, pairs: &[KeyValue]) -> Result<Built, AllocError>
     tables(alloc, &parts)
 }
 
-// The pairs, or nothing where there is none.
+// The slot for some pairs, absent if there are none.
 fn pairs_slot(alloc: Global, pairs: &[KeyValue]) -> Result<Slot, AllocError>
     ensures { IfOk result (λ slot. IsOptional slot (pairs_part pairs.now)) }
 {
@@ -172,7 +172,7 @@ fn pairs_slot(alloc: Global, pairs: &[KeyValue]) -> Result<Slot, AllocError>
     Ok(Slot::Offset(pairs_vector(alloc, pairs)?))
 }
 
-// The vector of some pairs, where it is there.
+// The slot for a vector of some pairs, absent if it is.
 pub(crate) fn optional_pairs(
     alloc: Global,
     pairs: &Option<Vec<KeyValue>>,
@@ -212,7 +212,7 @@ fn dictionary_slot(
     }
 }
 
-// The table of a field whose children are built.
+// The table of a field, from its encoded children.
 fn field_table(alloc: Global, field: &Field, children: &[Built]) -> Result<Built, AllocError>
     ensures { (parts : List Part) → AreBuilt children.now parts → IfOk result (λ built. IsPart built (table (field_slots field.now parts))) }
 {

@@ -1,4 +1,4 @@
-//! Numbers as slots hold them.
+//! Numbers as the content of slots.
 ghost use Rattle.std.specs.Prelude.{◌≡◌, ◌<◌, ◌^◌, ◌++◌, ◌∷◌, [], OnOk};
 ghost use Rattle.ipc_tables.specs.Slots.{bit, bits32, bits64};
 
@@ -26,7 +26,7 @@ pub(crate) fn long(number: i64) -> u64
     number.cast_unsigned()
 }
 
-// Adds a part.
+// Appends a part.
 pub(crate) fn push(parts: &mut Vec<Built>, part: Built) -> Result<(), AllocError>
     ensures { OnOk result (parts.new.items ≡ parts.old.items ++ part ∷ []) }
 {

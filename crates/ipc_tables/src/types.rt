@@ -1,4 +1,4 @@
-//! The tables of Arrow's `Schema.fbs` that describe a type, as values and as bytes.
+//! The tables of Arrow's `Schema.fbs` that describe a type, as values that are encoded.
 ghost use Rattle.std.specs.Prelude.{◌≡◌, ◌<◌, ◌^◌, IfOk, option_map, string_bytes};
 ghost use Rattle.ipc_parts.specs.Parts.{IsPart};
 ghost use Rattle.ipc_parts.specs.Tree.{no_slots, table, text};
@@ -11,7 +11,7 @@ use ipc_parts::{Built, Slot, put_u32, table, text};
 use ipc_views::{DateUnit, IntervalUnit, Precision, TimeUnit, UnionMode};
 use std::alloc::{AllocError, Global};
 
-/// A table `Int`.
+/// A table `Int`, as a value.
 #[derive(Clone, Copy, Debug, PartialEq, Eq)]
 pub struct Int {
     /// 8, 16, 32 or 64.
@@ -19,13 +19,13 @@ pub struct Int {
     pub is_signed: bool,
 }
 
-/// A table `FloatingPoint`.
+/// A table `FloatingPoint`, as a value.
 #[derive(Clone, Copy, Debug, PartialEq, Eq)]
 pub struct FloatingPoint {
     pub precision: Precision,
 }
 
-/// A table `Decimal`.
+/// A table `Decimal`, as a value.
 #[derive(Clone, Copy, Debug, PartialEq, Eq)]
 pub struct Decimal {
     /// The number of decimal digits.
@@ -36,13 +36,13 @@ pub struct Decimal {
     pub bit_width: i32,
 }
 
-/// A table `Date`.
+/// A table `Date`, as a value.
 #[derive(Clone, Copy, Debug, PartialEq, Eq)]
 pub struct Date {
     pub unit: DateUnit,
 }
 
-/// A table `Time`.
+/// A table `Time`, as a value.
 #[derive(Clone, Copy, Debug, PartialEq, Eq)]
 pub struct Time {
     pub unit: TimeUnit,
@@ -50,46 +50,46 @@ pub struct Time {
     pub bit_width: i32,
 }
 
-/// A table `Timestamp`.
+/// A table `Timestamp`, as a value.
 #[derive(Drop)]
 pub struct Timestamp {
     pub unit: TimeUnit,
     pub timezone: Option<String>,
 }
 
-/// A table `Interval`.
+/// A table `Interval`, as a value.
 #[derive(Clone, Copy, Debug, PartialEq, Eq)]
 pub struct Interval {
     pub unit: IntervalUnit,
 }
 
-/// A table `Union`.
+/// A table `Union`, as a value.
 #[derive(Drop)]
 pub struct Union {
     pub mode: UnionMode,
-    /// The ids of the children, None where they are 0, 1, 2 and on.
+    /// The type ids of the children, `None` for 0, 1, 2 and so on.
     pub type_ids: Option<Vec<i32>>,
 }
 
-/// A table `FixedSizeBinary`.
+/// A table `FixedSizeBinary`, as a value.
 #[derive(Clone, Copy, Debug, PartialEq, Eq)]
 pub struct FixedSizeBinary {
     pub byte_width: i32,
 }
 
-/// A table `FixedSizeList`.
+/// A table `FixedSizeList`, as a value.
 #[derive(Clone, Copy, Debug, PartialEq, Eq)]
 pub struct FixedSizeList {
     pub list_size: i32,
 }
 
-/// A table `Map`.
+/// A table `Map`, as a value.
 #[derive(Clone, Copy, Debug, PartialEq, Eq)]
 pub struct Map {
     pub keys_sorted: bool,
 }
 
-/// A table `Duration`.
+/// A table `Duration`, as a value.
 #[derive(Clone, Copy, Debug, PartialEq, Eq)]
 pub struct Duration {
     pub unit: TimeUnit,
@@ -175,7 +175,7 @@ fn union_mode_number(mode: UnionMode) -> u64
     }
 }
 
-// The number of a type in the union `Type`.
+// The tag of a type in the union `Type`.
 pub(crate) fn type_tag(type_: &FieldType) -> u64
     ensures value { result ≡ type_tag type_.now }
     ensures small { result < 256 }
@@ -219,7 +219,7 @@ fn unit_part(alloc: Global, number: u64) -> Result<Built, AllocError>
     table(alloc, &[Slot::Number(number)])
 }
 
-// A table of one signed number of 32 bits.
+// A table of one signed 32-bit number.
 fn width_part(alloc: Global, width: i32) -> Result<Built, AllocError>
     ensures { IfOk result (λ built. IsPart built (table (number_slots 4 (bits32 width)))) }
 {

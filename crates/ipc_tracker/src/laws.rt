@@ -1,9 +1,10 @@
-//! What the refusals of a chunk's dictionaries say of the chunk.
+//! A theorem about which chunks are refused for their dictionaries. The function does nothing.
 ghost use Rattle.ipc_tracker.specs.Laws.{RefusalLaw};
 
-/// Of a chunk whose arrays of keys have one value type under an id, as in a schema that can be written,
-/// only what no writer takes is refused: other values under one id, and others than those that have to
-/// stay.
+/// Only chunks that no writer accepts are refused, given one type per id.
+///
+/// A schema that can be written has one value type per id. Such a chunk has different values under
+/// one id, or other values than those that must not be replaced.
 pub fn refused_dictionaries()
     ensures { RefusalLaw }
 {}

@@ -1,4 +1,4 @@
-//! What a writer remembers of dictionaries, and which of a chunk's it has to write.
+//! Tracks which dictionaries were written, and lists those that a chunk needs written.
 #![tactic(auto)]
 
 pub mod laws;

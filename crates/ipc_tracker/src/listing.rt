@@ -1,4 +1,4 @@
-//! Which dictionaries of a chunk are to be written, each behind those inside its values.
+//! Lists the dictionaries of a chunk that must be written.
 ghost use Rattle.std.specs.Prelude.{◌≡◌, ◌≢◌, ◌≤◌, ℤ, None, [], ◌++◌, ◌∷◌, Some, IfErr, IfOk, OnOk, drop, map};
 ghost use Rattle.ipc_devices.specs.declared.fault.Fault.TheVariants.{Argument, Memory};
 ghost use Rattle.ipc_devices.specs.declared.fault.ArgFault.TheVariants.{SharedDictionary};
@@ -20,17 +20,21 @@ use std::collections::HashMap;
 use std::rc::Rc;
 use std::slice;
 
-/// Lists the dictionaries of a chunk's columns that are to be written, each behind those inside its
-/// values: those that the tracker doesn't know, or knows with other values. Their memory is the
-/// columns'. The tracker stays as it is; after they are written it is to remember them, by
-/// [`DictionaryTracker::remember_all`].
+/// Returns the dictionaries of a chunk's columns that must be written.
 ///
-/// `ids` are those of the columns' fields.
+/// These are the ones that the tracker doesn't know, or knows with other values. Each comes after
+/// those inside its values, and shares its memory with the columns. The tracker is unchanged; after
+/// they are written, call [`DictionaryTracker::remember_all`]. `ids` are those of the columns'
+/// fields.
 ///
-/// Faults: `Argument(FieldsShape)` where an array of keys has no id; `Argument(SharedDictionary)` with
-/// the id where two of one id have other values; `Argument(DictionaryReplaced)` with the id where the
-/// values are others than those that the tracker knows, which have to stay; `Memory`. Where several
-/// are so, any of these may come.
+/// Errors (if several apply, any of them):
+///
+/// - `Fault::Argument(ArgFault::FieldsShape)`: an array of keys has no id.
+/// - `Fault::Argument(ArgFault::SharedDictionary(id))`: two dictionaries with this id have
+///   different values.
+/// - `Fault::Argument(ArgFault::DictionaryReplaced(id))`: the tracker knows other values for this
+///   id, and `cannot_replace` is set.
+/// - `Fault::Memory`: an allocation failed.
 pub fn list_dictionaries(
     alloc: Global,
     tracker: &DictionaryTracker,
@@ -45,17 +49,17 @@ pub fn list_dictionaries(
     Ok(listing.into_list())
 }
 
-// What is known of a chunk's dictionaries while its columns are gone through.
+// What is known of a chunk's dictionaries while its columns are visited.
 #[derive(Drop)]
 struct Listing {
-    // The values under each id that the chunk had so far.
+    // The values of the chunk under each id so far.
     met: HashMap<i64, Rc<AnyArray>>,
-    // What is to be written, in order.
+    // The dictionaries that must be written, in order.
     list: Vec<NewDictionary>,
 }
 
 impl Listing {
-    // Nothing was gone through.
+    // Before any column is visited.
     fn new(alloc: Global) -> Listing
         ensures met { (id : ℤ) → (seen result).met id ≡ None }
         ensures list { (seen result).list ≡ [] }
@@ -66,7 +70,7 @@ impl Listing {
         }
     }
 
-    // What is to be written.
+    // The dictionaries that must be written.
     fn into_list(self) -> Vec<NewDictionary>
         ensures { map listed result.items ≡ (seen self).list }
     {
@@ -74,7 +78,7 @@ impl Listing {
         list
     }
 
-    // Goes through one array of keys that has an id.
+    // Visits an array of keys with an id.
     fn add(
         &mut self,
         tracker: &DictionaryTracker,
@@ -91,7 +95,7 @@ impl Listing {
         self.meet(id, array, changed)
     }
 
-    // The values of an id that wasn't met are met now, and listed where they are new or others.
+    // Records the values of a new id, and lists them if they must be written.
     fn meet(&mut self, id: i64, array: &DictionaryArray, changed: bool) -> Result<(), Fault>
         ensures met { OnOk result (Meets (seen self.old) (seen self.new) (record { id = id; values = array.now.values }) changed) }
         ensures only { IfErr result (λ fault. fault ≡ Memory) }
@@ -105,7 +109,7 @@ impl Listing {
     }
 }
 
-// Two arrays of the chunk have one id: their values have to be the same.
+// Two arrays of the chunk have the same id, so their values must be the same.
 fn check_shared(id: i64, values: &AnyArray, others: &AnyArray) -> Result<(), Fault>
     ensures same { OnOk result (dictionary_of (layout_of values.now) ≡ dictionary_of (layout_of others.now)) }
     ensures refused { IfErr result (λ fault. (fault ≡ Argument (SharedDictionary id)) × (dictionary_of (layout_of values.now) ≢ dictionary_of (layout_of others.now))) }
@@ -116,7 +120,7 @@ fn check_shared(id: i64, values: &AnyArray, others: &AnyArray) -> Result<(), Fau
     Ok(())
 }
 
-// Goes through the arrays of keys in some columns, each behind those inside its values.
+// Visits the arrays of keys in some columns, each after those inside its values.
 #[cycle(listing)]
 fn list_all(
     listing: &mut Listing,
@@ -134,7 +138,7 @@ fn list_all(
     Ok(())
 }
 
-// Goes through those below an array, and then through the array itself.
+// Visits the arrays below an array, and then the array itself.
 #[cycle(listing)]
 fn list_field(
     listing: &mut Listing,
@@ -150,7 +154,7 @@ fn list_field(
     list_own(listing, tracker, array, id)
 }
 
-// Goes through an array itself, where it is one of keys.
+// Visits an array itself, if it is one of keys.
 fn list_own(
     listing: &mut Listing,
     tracker: &DictionaryTracker,
@@ -169,7 +173,7 @@ fn list_own(
     listing.add(tracker, id, array)
 }
 
-// The id of the field at a place, and those of its children: none where there is no such field.
+// The id of the field at an index, and those of its children: none if there is no such field.
 fn ids_at(ids: &[IpcField], i: usize) -> (Option<i64>, &[IpcField])
     ensures own { result.0 ≡ own_id (first_ids (all_ids_view (drop i ids.now))) }
     ensures inner { all_ids_view result.1.now ≡ inner_ids (first_ids (all_ids_view (drop i ids.now))) }
@@ -180,8 +184,8 @@ fn ids_at(ids: &[IpcField], i: usize) -> (Option<i64>, &[IpcField])
     }
 }
 
-// The arrays that the ids inside an array's field are for: its children, and for an array of keys the
-// children of its values.
+// The arrays to which the ids inside a field belong: the children, or those of a dictionary's
+// values.
 fn below(array: &AnyArray) -> &[AnyArray]
     ensures same { (is : IdTrees) → keyed_of (layouts (map layout_of result.now)) is ≡ keyed_below (layout_of array.now) is }
     ensures small { heights (layouts (map layout_of result.now)) ≤ height (layout_of array.now) }

@@ -18,8 +18,10 @@ use std::alloc::Global;
 use std::collections::HashMap;
 use std::rc::Rc;
 
-/// Whether both arrays of values are the same to a reader: the same slots, of one type in the normal
-/// form. How they lie in memory doesn't count.
+/// Returns whether two arrays are the same values of a dictionary.
+///
+/// They are if they have the same slots, and the same data type in normal form. Their layouts in
+/// memory may differ.
 pub fn is_same_values(lhs: &AnyArray, rhs: &AnyArray) -> bool
     ensures { IsTrue result ↔ (dictionary_of (layout_of lhs.now) ≡ dictionary_of (layout_of rhs.now)) }
 {
@@ -29,27 +31,31 @@ pub fn is_same_values(lhs: &AnyArray, rhs: &AnyArray) -> bool
     is_same_normal_type(lhs.data_type(), rhs.data_type()) && has_same_slots(lhs, rhs)
 }
 
-/// The values of a dictionary that are to be written (Arrow columnar format, "Dictionary Messages").
+/// The values of a dictionary that must be written.
+///
+/// Arrow columnar format, "Dictionary Messages".
 #[derive(Drop)]
 pub struct NewDictionary {
-    /// Its id.
+    /// The id of the dictionary.
     pub id: i64,
-    /// The values, which share their memory with the array that they came from.
+    /// The values, which share their memory with the array that they come from.
     pub values: Rc<AnyArray>,
 }
 
-/// The values under each dictionary id that were written last, by which a writer tells whether values
-/// have to be written (Arrow columnar format, "Dictionary Messages").
+/// The values that were written last under each dictionary id.
+///
+/// A writer uses it to find which values must be written. Arrow columnar format, "Dictionary
+/// Messages".
 #[derive(Drop)]
 pub struct DictionaryTracker {
-    /// The values by their ids. They share their memory with the arrays that they came from.
+    /// The values by id, which share memory with the arrays they come from.
     pub dictionaries: HashMap<i64, Rc<AnyArray>>,
-    /// Whether the values of an id have to stay, as those of a file do.
+    /// Whether the values of an id must not be replaced, as in a file.
     pub cannot_replace: bool,
 }
 
 impl DictionaryTracker {
-    /// Nothing was written yet. It takes no memory.
+    /// Returns a tracker without values. It allocates nothing.
     pub fn new(alloc: Global, cannot_replace: bool) -> DictionaryTracker
         ensures empty { (id : ℤ) → remembered result id ≡ nothing_remembered id }
         ensures fixed { result.cannot_replace ≡ cannot_replace }
@@ -60,13 +66,16 @@ impl DictionaryTracker {
         }
     }
 
-    /// Remembers the values of an array of keys under an id, and answers whether they are new or others
-    /// than before: then they are to be written. Values are others where a slot is, or the type in its
-    /// normal form. The array is one of keys ([`is_dictionary`]).
+    /// Records the values of a dictionary, and returns whether they must be written.
     ///
-    /// Faults: `Argument(DictionaryReplaced)` with the id where they are others and those that are
-    /// remembered have to stay; `Memory` where an allocation failed, which none does for values
-    /// that are remembered already. After a fault the tracker is as it was.
+    /// They must if the id is new, or its values differ in a slot or in the data type in normal
+    /// form. The array must be a dictionary ([`is_dictionary`]). Errors:
+    ///
+    /// - `Fault::Argument(ArgFault::DictionaryReplaced(dict_id))`: the values differ, and
+    ///   `cannot_replace` is set.
+    /// - `Fault::Memory`: an allocation failed. Values that are already recorded need none.
+    ///
+    /// After an error the tracker is unchanged.
     pub fn insert(&mut self, dict_id: i64, array: &AnyArray) -> Result<bool, Fault>
         requires { HasKeys (level (layout_of array.now)).parts }
         ensures inserted { Inserts (remembered self.old) self.old.cannot_replace dict_id (dictionary_of (values_in (layout_of array.now))) result (remembered self.new) }
@@ -79,7 +88,7 @@ impl DictionaryTracker {
         }
     }
 
-    // Remembers the values of a dictionary, and answers whether they are new or others.
+    // Records the values of a dictionary, and returns whether they are new or differ.
     fn insert_values(&mut self, id: i64, array: &DictionaryArray) -> Result<bool, Fault>
         ensures inserted { Inserts (remembered self.old) self.old.cannot_replace id (dictionary_of array.now.values) result (remembered self.new) }
         ensures told { TellsReplaced (remembered self.old) self.old.cannot_replace id (dictionary_of array.now.values) result }
@@ -94,7 +103,7 @@ impl DictionaryTracker {
         Ok(true)
     }
 
-    // Whether the values are new under an id, or others than those that are remembered.
+    // Whether the values are new under an id, or differ from those that are recorded.
     pub(crate) fn is_changed(&self, id: i64, values: &AnyArray) -> Result<bool, Fault>
         ensures asks { Asks (remembered self.now) self.now.cannot_replace id (dictionary_of (layout_of values.now)) result }
         ensures only { IfErr result (λ fault. fault ≡ Argument (DictionaryReplaced id)) }
@@ -111,7 +120,7 @@ impl DictionaryTracker {
         Ok(true)
     }
 
-    // Remembers values.
+    // Records values.
     fn put(&mut self, id: i64, values: Rc<AnyArray>) -> Result<(), Fault>
         ensures put { OnOk result (IsSameMemory (remembering id (dictionary_of (layout_of values.value)) (remembered self.old)) (remembered self.new)) }
         ensures kept { OnErr result (IsSameMemory (remembered self.old) (remembered self.new)) }
@@ -122,8 +131,9 @@ impl DictionaryTracker {
         Ok(())
     }
 
-    /// Makes room for the values of so many ids more, so that [`DictionaryTracker::remember_all`] can
-    /// take them. What is remembered stays. It answers `Memory` where there is none.
+    /// Makes room for `additional` ids, so that [`DictionaryTracker::remember_all`] can't fail.
+    ///
+    /// The recorded values are unchanged. The only error is `Fault::Memory`.
     pub fn make_room(&mut self, additional: usize) -> Result<(), Fault>
         ensures room { OnOk result (additional ≤ spare self.new.dictionaries) }
         ensures same { IsSameMemory (remembered self.old) (remembered self.new) }
@@ -134,8 +144,9 @@ impl DictionaryTracker {
         Ok(())
     }
 
-    /// Remembers values that were written, one after the other. There has to be room for them, which
-    /// [`DictionaryTracker::make_room`] makes.
+    /// Records values that were written, in order.
+    ///
+    /// There must be room for them, which [`DictionaryTracker::make_room`] makes.
     pub fn remember_all(&mut self, list: Vec<NewDictionary>)
         requires { length list.items ≤ spare self.old.dictionaries }
         ensures memory { IsSameMemory (remembering_all (map listed list.items) (remembered self.old)) (remembered self.new) }
@@ -146,7 +157,7 @@ impl DictionaryTracker {
         }
     }
 
-    // Remembers values for which there is room.
+    // Records values for which there is room.
     fn remember(&mut self, dictionary: NewDictionary)
         requires { 0 < spare self.old.dictionaries }
         ensures memory { IsSameMemory (remembering dictionary.id (dictionary_of (layout_of dictionary.values.value)) (remembered self.old)) (remembered self.new) }

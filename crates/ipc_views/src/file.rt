@@ -1,4 +1,4 @@
-//! The table of Arrow's `File.fbs`: the footer of a file.
+//! A view of the table of Arrow's `File.fbs`: the footer of a file.
 ghost use Rattle.std.specs.Prelude.{◌≡◌, ◌<◌, ◌≤◌, ◌+◌, ◌↔◌, IsTrue, Some, length, slice_get};
 ghost use Rattle.ipc_views.specs.FileSlots.{footer_custom_metadata, footer_dictionaries, footer_record_batches, footer_schema, footer_version};
 ghost use Rattle.ipc_views.specs.Structs.{block_of, structs_at};
@@ -14,32 +14,37 @@ use std::marker::Model;
 /// The kind of a table `Footer`.
 pub enum FooterTable {}
 
-/// The footer of a file (Arrow columnar format, IPC File Format).
+/// A view of the footer of a file (Arrow columnar format, "IPC File Format").
 pub type FooterRef<'a> = TableRef<'a, FooterTable>;
 
 impl<'a> TableRef<'a, FooterTable> {
-    /// The footer whose place stands in the first four bytes.
+    /// Returns the footer whose offset is in the first four bytes.
+    ///
+    /// Errors:
+    ///
+    /// - `TableFault::Outside`: the offset, the table or its vtable leads outside `footer`.
+    /// - `TableFault::Vtable`: the vtable is shorter than 4 bytes.
     pub fn read_as_root(footer: &'a [u8]) -> Result<FooterRef<'a>, TableFault>
         ensures { result ≡ root_at footer.now }
     {
         TableRef::open(footer, u32_at(footer, 0)? as usize)
     }
 
-    /// The version of the metadata, `V1` where absent.
+    /// Returns the version of the metadata, or `V1` if absent.
     pub fn version(&self) -> Result<MetadataVersion, TableFault>
         ensures { result ≡ footer_version self.now }
     {
         version_of(self.u16(0, 0)?)
     }
 
-    /// The schema of the file.
+    /// Returns the schema of the file.
     pub fn schema(&self) -> Result<Option<SchemaRef<'a>>, TableFault>
         ensures { result ≡ footer_schema self.now }
     {
         self.table(1)
     }
 
-    /// Where the dictionary batches stand in the file.
+    /// Returns where the dictionary batches are in the file.
     pub fn dictionaries(&self) -> Result<Option<Blocks<'a>>, TableFault>
         ensures { result ≡ footer_dictionaries self.now }
     {
@@ -49,7 +54,7 @@ impl<'a> TableRef<'a, FooterTable> {
         }
     }
 
-    /// Where the record batches stand in the file.
+    /// Returns where the record batches are in the file.
     pub fn record_batches(&self) -> Result<Option<Blocks<'a>>, TableFault>
         ensures { result ≡ footer_record_batches self.now }
     {
@@ -59,7 +64,7 @@ impl<'a> TableRef<'a, FooterTable> {
         }
     }
 
-    /// The pairs that belong to the file.
+    /// Returns the key-value metadata of the file.
     pub fn custom_metadata(&self) -> Result<Option<Tables<'a, KeyValueTable>>, TableFault>
         ensures { result ≡ footer_custom_metadata self.now }
     {
@@ -67,18 +72,18 @@ impl<'a> TableRef<'a, FooterTable> {
     }
 }
 
-/// Where a message stands in a file: the struct `Block`.
+/// The position of a message in a file: the struct `Block` (`File.fbs`).
 #[derive(Clone, Copy, Debug, PartialEq, Eq)]
 pub struct Block {
-    /// The place of its first byte.
+    /// The offset of its first byte in the file, in bytes.
     pub offset: i64,
-    /// The number of bytes of its prefix, its metadata and their padding.
+    /// The length of its prefix, its metadata and their padding, in bytes.
     pub meta_data_length: i32,
-    /// The number of bytes of its body.
+    /// The length of its body, in bytes.
     pub body_length: i64,
 }
 
-// The block at a place: 24 bytes, of which four are unused.
+// The block at an offset: 24 bytes, of which four are unused.
 fn block_at(message: &[u8], place: usize) -> Block
     requires { place + 24 ≤ length message.now }
     ensures { result ≡ block_of message.now place }
@@ -125,21 +130,21 @@ impl<'a> Blocks<'a> {
         })
     }
 
-    /// The number of blocks.
+    /// Returns the number of blocks.
     pub fn len(&self) -> usize
         ensures { result ≡ length self.now }
     {
         self.count
     }
 
-    /// Whether there is none.
+    /// Returns whether there is no block.
     pub fn is_empty(&self) -> bool
         ensures { IsTrue result ↔ (length self.now ≡ 0) }
     {
         self.count == 0
     }
 
-    /// The one at an index.
+    /// Returns the block at `index`.
     pub fn get(&self, index: usize) -> Block
         requires { index < length self.now }
         ensures { slice_get self.now index ≡ Some result }

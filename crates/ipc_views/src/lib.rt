@@ -1,7 +1,8 @@
-//! Views of the tables in the metadata of Arrow's messages and files.
+//! Views of the tables in the metadata of Arrow messages and files.
 //!
-//! A view is a place in bytes that may be hostile. An accessor answers one slot: None, or the default
-//! of the format, where it is absent, a [`TableFault`] where it is ill-made. It takes no memory.
+//! A view is an offset in bytes that may be hostile. An accessor reads one slot. It returns `None`
+//! or the default of the format if the slot is absent, and a [`TableFault`] if it is malformed (the
+//! doc of [`TableRef`] lists when). No accessor allocates.
 #![tactic(auto)]
 
 mod file;

@@ -1,4 +1,4 @@
-//! The tables of Arrow's `Message.fbs`: messages and their headers.
+//! Views of the tables of Arrow's `Message.fbs`: messages and their headers.
 ghost use Rattle.std.specs.Prelude.{◌≡◌, ◌<◌, ◌≤◌, ◌+◌, ◌↔◌, IsTrue, Some, length, option_map, slice_get};
 ghost use Rattle.ipc_views.specs.MessageSlots.{dictionary_batch_data, dictionary_batch_id, dictionary_batch_is_delta, message_body_length, message_custom_metadata, message_header, message_version, record_batch_buffers, record_batch_compression, record_batch_length, record_batch_nodes};
 ghost use Rattle.ipc_views.specs.Structs.{node_of, structs_at};
@@ -21,34 +21,34 @@ pub enum RecordBatchTable {}
 /// The kind of a table `DictionaryBatch`.
 pub enum DictionaryBatchTable {}
 
-/// The kind of a table `BodyCompression`. Its slots aren't read.
+/// The kind of a table `BodyCompression`. Its slots have no accessors.
 pub enum BodyCompressionTable {}
 
-/// The kind of a table `Tensor`. Its slots aren't read.
+/// The kind of a table `Tensor`. Its slots have no accessors.
 pub enum TensorTable {}
 
-/// The kind of a table `SparseTensor`. Its slots aren't read.
+/// The kind of a table `SparseTensor`. Its slots have no accessors.
 pub enum SparseTensorTable {}
 
-/// A message (Arrow columnar format, Encapsulated message format).
+/// A view of a message (Arrow columnar format, "Encapsulated message format").
 pub type MessageRef<'a> = TableRef<'a, MessageTable>;
 
-/// The header of a record batch (Arrow columnar format, RecordBatch message).
+/// A view of the header of a record batch (Arrow columnar format, "RecordBatch message").
 pub type RecordBatchRef<'a> = TableRef<'a, RecordBatchTable>;
 
-/// The header of a dictionary batch (Arrow columnar format, Dictionary messages).
+/// A view of the header of a dictionary batch (Arrow columnar format, "Dictionary Messages").
 pub type DictionaryBatchRef<'a> = TableRef<'a, DictionaryBatchTable>;
 
-/// How the buffers of a record batch are compressed.
+/// A view of how the buffers of a record batch are compressed.
 pub type BodyCompressionRef<'a> = TableRef<'a, BodyCompressionTable>;
 
-/// The header of a tensor.
+/// A view of the header of a tensor.
 pub type TensorRef<'a> = TableRef<'a, TensorTable>;
 
-/// The header of a sparse tensor.
+/// A view of the header of a sparse tensor.
 pub type SparseTensorRef<'a> = TableRef<'a, SparseTensorTable>;
 
-/// The header of a message: the union `MessageHeader`.
+/// A view of the header of a message: the union `MessageHeader`.
 #[derive(Drop)]
 pub enum MessageHeaderRef<'a> {
     /// Tag 1.
@@ -64,21 +64,26 @@ pub enum MessageHeaderRef<'a> {
 }
 
 impl<'a> TableRef<'a, MessageTable> {
-    /// The message whose place stands in the first four bytes.
+    /// Returns the message whose offset is in the first four bytes.
+    ///
+    /// Errors:
+    ///
+    /// - `TableFault::Outside`: the offset, the table or its vtable leads outside `message`.
+    /// - `TableFault::Vtable`: the vtable is shorter than 4 bytes.
     pub fn read_as_root(message: &'a [u8]) -> Result<MessageRef<'a>, TableFault>
         ensures { result ≡ root_at message.now }
     {
         TableRef::open(message, u32_at(message, 0)? as usize)
     }
 
-    /// The version of the metadata, `V1` where absent.
+    /// Returns the version of the metadata, or `V1` if absent.
     pub fn version(&self) -> Result<MetadataVersion, TableFault>
         ensures { result ≡ message_version self.now }
     {
         version_of(self.u16(0, 0)?)
     }
 
-    /// The header, None where its tag is 0 or absent.
+    /// Returns the header, or `None` if its tag is 0 or absent.
     pub fn header(&self) -> Result<Option<MessageHeaderRef<'a>>, TableFault>
         ensures { map_ok (option_map header_parts) result ≡ message_header self.now }
     {
@@ -93,14 +98,14 @@ impl<'a> TableRef<'a, MessageTable> {
         }))
     }
 
-    /// The number of bytes of the body, 0 where absent.
+    /// Returns the length of the body in bytes, or 0 if absent.
     pub fn body_length(&self) -> Result<i64, TableFault>
         ensures { result ≡ message_body_length self.now }
     {
         self.i64(3)
     }
 
-    /// The pairs that belong to the message.
+    /// Returns the key-value metadata of the message.
     pub fn custom_metadata(&self) -> Result<Option<Tables<'a, KeyValueTable>>, TableFault>
         ensures { result ≡ message_custom_metadata self.now }
     {
@@ -109,14 +114,14 @@ impl<'a> TableRef<'a, MessageTable> {
 }
 
 impl<'a> TableRef<'a, RecordBatchTable> {
-    /// The number of rows, 0 where absent.
+    /// Returns the number of rows, or 0 if absent.
     pub fn length(&self) -> Result<i64, TableFault>
         ensures { result ≡ record_batch_length self.now }
     {
         self.i64(0)
     }
 
-    /// The nodes of the columns, in pre-order.
+    /// Returns the field nodes of the columns, in pre-order.
     pub fn nodes(&self) -> Result<Option<Nodes<'a>>, TableFault>
         ensures { result ≡ record_batch_nodes self.now }
     {
@@ -126,7 +131,7 @@ impl<'a> TableRef<'a, RecordBatchTable> {
         }
     }
 
-    /// Where the buffers of the columns stand in the body, in pre-order.
+    /// Returns where the buffers of the columns are in the body, in pre-order.
     pub fn buffers(&self) -> Result<Option<Buffers<'a>>, TableFault>
         ensures { result ≡ record_batch_buffers self.now }
     {
@@ -136,7 +141,7 @@ impl<'a> TableRef<'a, RecordBatchTable> {
         }
     }
 
-    /// How the buffers are compressed, None where they aren't.
+    /// Returns how the buffers are compressed, or `None` if they aren't.
     pub fn compression(&self) -> Result<Option<BodyCompressionRef<'a>>, TableFault>
         ensures { result ≡ record_batch_compression self.now }
     {
@@ -145,21 +150,21 @@ impl<'a> TableRef<'a, RecordBatchTable> {
 }
 
 impl<'a> TableRef<'a, DictionaryBatchTable> {
-    /// The id of the dictionary, 0 where absent.
+    /// Returns the id of the dictionary, or 0 if absent.
     pub fn id(&self) -> Result<i64, TableFault>
         ensures { result ≡ dictionary_batch_id self.now }
     {
         self.i64(0)
     }
 
-    /// The values of the dictionary, a record batch of one column.
+    /// Returns the values of the dictionary, as a record batch of one column.
     pub fn data(&self) -> Result<Option<RecordBatchRef<'a>>, TableFault>
         ensures { result ≡ dictionary_batch_data self.now }
     {
         self.table(1)
     }
 
-    /// Whether the values are to follow those that the dictionary has, false where absent.
+    /// Returns whether the values are appended to the dictionary's, or `false` if absent.
     pub fn is_delta(&self) -> Result<bool, TableFault>
         ensures { result ≡ dictionary_batch_is_delta self.now }
     {
@@ -167,16 +172,16 @@ impl<'a> TableRef<'a, DictionaryBatchTable> {
     }
 }
 
-/// What a record batch says of one level of a column: the struct `FieldNode`.
+/// The lengths of one level of a column: the struct `FieldNode` (`Message.fbs`).
 #[derive(Clone, Copy, Debug, PartialEq, Eq)]
 pub struct FieldNode {
     /// The number of slots.
     pub length: i64,
-    /// The number of slots that are null.
+    /// The number of null slots.
     pub null_count: i64,
 }
 
-// The node at a place: two numbers of 8 bytes.
+// The node at an offset: two numbers of 8 bytes.
 fn node_at(message: &[u8], place: usize) -> FieldNode
     requires { place + 16 ≤ length message.now }
     ensures { result ≡ node_of message.now place }
@@ -187,7 +192,7 @@ fn node_at(message: &[u8], place: usize) -> FieldNode
     }
 }
 
-/// The nodes of a record batch.
+/// The field nodes of a record batch.
 #[derive(Drop)]
 pub struct Nodes<'a> {
     message: &'a [u8],
@@ -222,21 +227,21 @@ impl<'a> Nodes<'a> {
         })
     }
 
-    /// The number of nodes.
+    /// Returns the number of nodes.
     pub fn len(&self) -> usize
         ensures { result ≡ length self.now }
     {
         self.count
     }
 
-    /// Whether there is none.
+    /// Returns whether there is no node.
     pub fn is_empty(&self) -> bool
         ensures { IsTrue result ↔ (length self.now ≡ 0) }
     {
         self.count == 0
     }
 
-    /// The one at an index.
+    /// Returns the node at `index`.
     pub fn get(&self, index: usize) -> FieldNode
         requires { index < length self.now }
         ensures { slice_get self.now index ≡ Some result }

@@ -1,11 +1,11 @@
-//! Bytes and numbers at a place of a message.
+//! Bytes and numbers at an offset of a message.
 ghost use Rattle.std.specs.Prelude.{◌≡◌, ◌+◌, ◌≤◌, OnOk, length};
 ghost use Rattle.ipc_views.specs.Tables.{bytes_at, map_ok, number_at};
 
 use byteorder::{ByteOrder, LittleEndian};
 use ipc_devices::fault::TableFault;
 
-// The bytes from a place on.
+// The `count` bytes from an offset.
 pub(crate) fn bytes_at(message: &[u8], place: usize, count: usize) -> Result<&[u8], TableFault>
     ensures value { map_ok (λ bytes. bytes.now) result ≡ bytes_at count message.now place }
     ensures inside { OnOk result (place + count ≤ length message.now) }

@@ -1,4 +1,4 @@
-//! The tables of Arrow's `Schema.fbs` that hold a schema and its fields.
+//! Views of the tables of Arrow's `Schema.fbs` for schemas and fields.
 ghost use Rattle.std.specs.Prelude.{◌≡◌, ◌<◌, ◌≤◌, ◌+◌, ◌↔◌, IsTrue, Some, length, option_map, slice_get};
 ghost use Rattle.ipc_views.specs.Enumerations.{endianness_of, version_of};
 ghost use Rattle.ipc_views.specs.SchemaSlots.{dictionary_encoding_id, dictionary_encoding_index_type, dictionary_encoding_is_ordered, field_children, field_custom_metadata, field_dictionary, field_name, field_nullable, field_type, key_value_key, key_value_value, schema_custom_metadata, schema_endianness, schema_fields};
@@ -25,16 +25,16 @@ pub enum KeyValueTable {}
 /// The kind of a table `DictionaryEncoding`.
 pub enum DictionaryEncodingTable {}
 
-/// A schema (Arrow columnar format, Schema message).
+/// A view of a schema (Arrow columnar format, "Schema message").
 pub type SchemaRef<'a> = TableRef<'a, SchemaTable>;
 
-/// A field of a schema or of another field.
+/// A view of a field of a schema, or of a nested type.
 pub type FieldRef<'a> = TableRef<'a, FieldTable>;
 
-/// A pair of texts that belongs to a schema, a field, a message or a footer.
+/// A view of a key-value pair of a schema, a field, a message or a footer.
 pub type KeyValueRef<'a> = TableRef<'a, KeyValueTable>;
 
-/// How the values of a field are encoded by a dictionary.
+/// A view of how a dictionary encodes the values of a field.
 pub type DictionaryEncodingRef<'a> = TableRef<'a, DictionaryEncodingTable>;
 
 /// The version of the metadata: the enumeration `MetadataVersion`.
@@ -47,7 +47,7 @@ pub enum MetadataVersion {
     V5,
 }
 
-// Also for a file, whose footer has a version too.
+// Used for messages and for the footer of a file.
 pub(crate) fn version_of(number: u16) -> Result<MetadataVersion, TableFault>
     ensures { result ≡ version_of number }
 {
@@ -61,7 +61,7 @@ pub(crate) fn version_of(number: u16) -> Result<MetadataVersion, TableFault>
     }
 }
 
-/// The order of bytes in the numbers of a body: the enumeration `Endianness`.
+/// The byte order of the numbers in a body: the enumeration `Endianness`.
 #[derive(Clone, Copy, Debug, PartialEq, Eq)]
 pub enum Endianness {
     Little,
@@ -79,21 +79,21 @@ fn endianness_of(number: u16) -> Result<Endianness, TableFault>
 }
 
 impl<'a> TableRef<'a, SchemaTable> {
-    /// The order of bytes, little where absent.
+    /// Returns the byte order, or little-endian if absent.
     pub fn endianness(&self) -> Result<Endianness, TableFault>
         ensures { result ≡ schema_endianness self.now }
     {
         endianness_of(self.u16(0, 0)?)
     }
 
-    /// The fields.
+    /// Returns the fields.
     pub fn fields(&self) -> Result<Option<Tables<'a, FieldTable>>, TableFault>
         ensures { result ≡ schema_fields self.now }
     {
         self.tables(1)
     }
 
-    /// The pairs that belong to the schema.
+    /// Returns the key-value metadata of the schema.
     pub fn custom_metadata(&self) -> Result<Option<Tables<'a, KeyValueTable>>, TableFault>
         ensures { result ≡ schema_custom_metadata self.now }
     {
@@ -102,21 +102,23 @@ impl<'a> TableRef<'a, SchemaTable> {
 }
 
 impl<'a> TableRef<'a, FieldTable> {
-    /// The name.
+    /// Returns the name.
     pub fn name(&self) -> Result<Option<&'a str>, TableFault>
         ensures { texts result ≡ field_name self.now }
     {
         self.text(0)
     }
 
-    /// Whether a slot may be null, false where absent.
+    /// Returns whether slots may be null, or `false` if absent.
     pub fn nullable(&self) -> Result<bool, TableFault>
         ensures { result ≡ field_nullable self.now }
     {
         self.bool(1)
     }
 
-    /// The type, or that of the values where the field has a dictionary. None where its tag is 0 or absent.
+    /// Returns the type, or `None` if its tag is 0 or absent.
+    ///
+    /// If the field has a dictionary, it is the type of the dictionary's values.
     pub fn type_(&self) -> Result<Option<TypeRef<'a>>, TableFault>
         ensures { map_ok (option_map type_parts) result ≡ field_type self.now }
     {
@@ -147,21 +149,21 @@ impl<'a> TableRef<'a, FieldTable> {
         }))
     }
 
-    /// How the values are encoded by a dictionary, None where they aren't.
+    /// Returns how a dictionary encodes the values, or `None` if none does.
     pub fn dictionary(&self) -> Result<Option<DictionaryEncodingRef<'a>>, TableFault>
         ensures { result ≡ field_dictionary self.now }
     {
         self.table(4)
     }
 
-    /// The fields of a nested type.
+    /// Returns the fields of a nested type.
     pub fn children(&self) -> Result<Option<Tables<'a, FieldTable>>, TableFault>
         ensures { result ≡ field_children self.now }
     {
         self.tables(5)
     }
 
-    /// The pairs that belong to the field.
+    /// Returns the key-value metadata of the field.
     pub fn custom_metadata(&self) -> Result<Option<Tables<'a, KeyValueTable>>, TableFault>
         ensures { result ≡ field_custom_metadata self.now }
     {
@@ -170,14 +172,14 @@ impl<'a> TableRef<'a, FieldTable> {
 }
 
 impl<'a> TableRef<'a, KeyValueTable> {
-    /// The key.
+    /// Returns the key.
     pub fn key(&self) -> Result<Option<&'a str>, TableFault>
         ensures { texts result ≡ key_value_key self.now }
     {
         self.text(0)
     }
 
-    /// The value.
+    /// Returns the value.
     pub fn value(&self) -> Result<Option<&'a str>, TableFault>
         ensures { texts result ≡ key_value_value self.now }
     {
@@ -186,21 +188,21 @@ impl<'a> TableRef<'a, KeyValueTable> {
 }
 
 impl<'a> TableRef<'a, DictionaryEncodingTable> {
-    /// The id of the dictionary, 0 where absent.
+    /// Returns the id of the dictionary, or 0 if absent.
     pub fn id(&self) -> Result<i64, TableFault>
         ensures { result ≡ dictionary_encoding_id self.now }
     {
         self.i64(0)
     }
 
-    /// The type of the keys.
+    /// Returns the type of the keys.
     pub fn index_type(&self) -> Result<Option<IntRef<'a>>, TableFault>
         ensures { result ≡ dictionary_encoding_index_type self.now }
     {
         self.table(1)
     }
 
-    /// Whether the order of the values has a meaning, false where absent.
+    /// Returns whether the order of the values has a meaning, or `false` if absent.
     pub fn is_ordered(&self) -> Result<bool, TableFault>
         ensures { result ≡ dictionary_encoding_is_ordered self.now }
     {
@@ -208,16 +210,16 @@ impl<'a> TableRef<'a, DictionaryEncodingTable> {
     }
 }
 
-/// Where a buffer stands in a body: the struct `Buffer`.
+/// The position of a buffer in a body: the struct `Buffer` (`Schema.fbs`).
 #[derive(Clone, Copy, Debug, PartialEq, Eq)]
 pub struct Buffer {
-    /// The place of its first byte, counted from the body's first.
+    /// The offset of its first byte from the start of the body, in bytes.
     pub offset: i64,
-    /// The number of its bytes.
+    /// Its length in bytes.
     pub length: i64,
 }
 
-// The entry at a place: two numbers of 8 bytes.
+// The entry at an offset: two numbers of 8 bytes.
 fn buffer_at(message: &[u8], place: usize) -> Buffer
     requires { place + 16 ≤ length message.now }
     ensures { result ≡ buffer_of message.now place }
@@ -228,7 +230,7 @@ fn buffer_at(message: &[u8], place: usize) -> Buffer
     }
 }
 
-/// The entries of the buffers of a record batch.
+/// The positions of the buffers of a record batch.
 #[derive(Drop)]
 pub struct Buffers<'a> {
     message: &'a [u8],
@@ -263,21 +265,21 @@ impl<'a> Buffers<'a> {
         })
     }
 
-    /// The number of entries.
+    /// Returns the number of entries.
     pub fn len(&self) -> usize
         ensures { result ≡ length self.now }
     {
         self.count
     }
 
-    /// Whether there is none.
+    /// Returns whether there is no entry.
     pub fn is_empty(&self) -> bool
         ensures { IsTrue result ↔ (length self.now ≡ 0) }
     {
         self.count == 0
     }
 
-    /// The one at an index.
+    /// Returns the entry at `index`.
     pub fn get(&self, index: usize) -> Buffer
         requires { index < length self.now }
         ensures { slice_get self.now index ≡ Some result }

@@ -1,4 +1,4 @@
-//! Numbers of structs that stand in a vector.
+//! Numbers of structs in a vector.
 ghost use Rattle.std.specs.Prelude.{◌≡◌, ◌+◌, ◌≤◌, length};
 ghost use Rattle.ipc_views.specs.Structs.{signed32, signed64};
 

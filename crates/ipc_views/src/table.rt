@@ -6,7 +6,7 @@ use crate::number::{bytes_at, u32_at};
 use ipc_devices::fault::TableFault;
 use simdutf8::basic::from_utf8;
 
-// A place less a signed number of 32 bits, given by its bits.
+// Subtracts a signed 32-bit number, of which `bits` are the bits, from an offset.
 pub(crate) fn before(place: usize, bits: u32) -> Result<usize, TableFault>
     requires { place < 2 ^ 63 }
     ensures { result ≡ before place bits }
@@ -23,7 +23,7 @@ pub(crate) fn before(place: usize, bits: u32) -> Result<usize, TableFault>
     }
 }
 
-// What the offset at a place leads to.
+// The target of the relative offset at an offset.
 #[tactic(auto, unfolding(crate::specs::Tables::target_at))]
 pub(crate) fn target_at(message: &[u8], place: usize) -> Result<usize, TableFault>
     ensures { result ≡ target_at message.now place }
@@ -41,7 +41,7 @@ fn as_text(bytes: &[u8]) -> Result<&str, TableFault>
     }
 }
 
-// The text at a place: its length and its bytes.
+// The text at an offset: its length and its bytes.
 #[tactic(auto, unfolding(crate::specs::Tables::text_at))]
 pub(crate) fn text_at(message: &[u8], place: usize) -> Result<&str, TableFault>
     ensures { map_ok (λ text. text.now) result ≡ text_at message.now place }

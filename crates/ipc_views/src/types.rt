@@ -1,4 +1,4 @@
-//! The tables of Arrow's `Schema.fbs` that describe a type.
+//! Views of the tables of Arrow's `Schema.fbs` that describe a type.
 ghost use Rattle.std.specs.Prelude.{◌≡◌, ◌<◌, ◌↔◌, IsTrue, Some, length, slice_get};
 ghost use Rattle.ipc_views.specs.Enumerations.{date_unit_of, interval_unit_of, precision_of, time_unit_of, union_mode_of};
 ghost use Rattle.ipc_views.specs.Structs.{signed32, structs_at};
@@ -74,70 +74,70 @@ pub enum LargeUtf8Table {}
 /// The kind of a table `LargeList`.
 pub enum LargeListTable {}
 
-/// A table `Null`.
+/// A view of a table `Null`.
 pub type NullRef<'a> = TableRef<'a, NullTable>;
 
-/// A table `Int`.
+/// A view of a table `Int`.
 pub type IntRef<'a> = TableRef<'a, IntTable>;
 
-/// A table `FloatingPoint`.
+/// A view of a table `FloatingPoint`.
 pub type FloatingPointRef<'a> = TableRef<'a, FloatingPointTable>;
 
-/// A table `Binary`.
+/// A view of a table `Binary`.
 pub type BinaryRef<'a> = TableRef<'a, BinaryTable>;
 
-/// A table `Utf8`.
+/// A view of a table `Utf8`.
 pub type Utf8Ref<'a> = TableRef<'a, Utf8Table>;
 
-/// A table `Bool`.
+/// A view of a table `Bool`.
 pub type BoolRef<'a> = TableRef<'a, BoolTable>;
 
-/// A table `Decimal`.
+/// A view of a table `Decimal`.
 pub type DecimalRef<'a> = TableRef<'a, DecimalTable>;
 
-/// A table `Date`.
+/// A view of a table `Date`.
 pub type DateRef<'a> = TableRef<'a, DateTable>;
 
-/// A table `Time`.
+/// A view of a table `Time`.
 pub type TimeRef<'a> = TableRef<'a, TimeTable>;
 
-/// A table `Timestamp`.
+/// A view of a table `Timestamp`.
 pub type TimestampRef<'a> = TableRef<'a, TimestampTable>;
 
-/// A table `Interval`.
+/// A view of a table `Interval`.
 pub type IntervalRef<'a> = TableRef<'a, IntervalTable>;
 
-/// A table `List`.
+/// A view of a table `List`.
 pub type ListRef<'a> = TableRef<'a, ListTable>;
 
-/// A table `Struct_`.
+/// A view of a table `Struct_`.
 pub type StructRef<'a> = TableRef<'a, StructTable>;
 
-/// A table `Union`.
+/// A view of a table `Union`.
 pub type UnionRef<'a> = TableRef<'a, UnionTable>;
 
-/// A table `FixedSizeBinary`.
+/// A view of a table `FixedSizeBinary`.
 pub type FixedSizeBinaryRef<'a> = TableRef<'a, FixedSizeBinaryTable>;
 
-/// A table `FixedSizeList`.
+/// A view of a table `FixedSizeList`.
 pub type FixedSizeListRef<'a> = TableRef<'a, FixedSizeListTable>;
 
-/// A table `Map`.
+/// A view of a table `Map`.
 pub type MapRef<'a> = TableRef<'a, MapTable>;
 
-/// A table `Duration`.
+/// A view of a table `Duration`.
 pub type DurationRef<'a> = TableRef<'a, DurationTable>;
 
-/// A table `LargeBinary`.
+/// A view of a table `LargeBinary`.
 pub type LargeBinaryRef<'a> = TableRef<'a, LargeBinaryTable>;
 
-/// A table `LargeUtf8`.
+/// A view of a table `LargeUtf8`.
 pub type LargeUtf8Ref<'a> = TableRef<'a, LargeUtf8Table>;
 
-/// A table `LargeList`.
+/// A view of a table `LargeList`.
 pub type LargeListRef<'a> = TableRef<'a, LargeListTable>;
 
-/// The type of a field: the union `Type`.
+/// A view of the type of a field: the union `Type`.
 #[derive(Drop)]
 pub enum TypeRef<'a> {
     /// Tag 1.
@@ -184,7 +184,7 @@ pub enum TypeRef<'a> {
     LargeList(LargeListRef<'a>),
 }
 
-/// How many bytes a floating point number has: the enumeration `Precision`.
+/// The size of a floating-point number: the enumeration `Precision`.
 #[derive(Clone, Copy, Debug, PartialEq, Eq)]
 pub enum Precision {
     Half,
@@ -260,7 +260,7 @@ fn interval_unit_of(number: u16) -> Result<IntervalUnit, TableFault>
     }
 }
 
-/// How the slots of a union stand in its children: the enumeration `UnionMode`.
+/// The layout of a union: the enumeration `UnionMode`.
 #[derive(Clone, Copy, Debug, PartialEq, Eq)]
 pub enum UnionMode {
     Sparse,
@@ -278,14 +278,14 @@ fn union_mode_of(number: u16) -> Result<UnionMode, TableFault>
 }
 
 impl<'a> TableRef<'a, IntTable> {
-    /// The number of bits, 0 where absent.
+    /// Returns the width in bits, or 0 if absent.
     pub fn bit_width(&self) -> Result<i32, TableFault>
         ensures { result ≡ int_bit_width self.now }
     {
         self.i32(0, 0)
     }
 
-    /// Whether a number may be below 0, false where absent.
+    /// Returns whether the numbers are signed, or `false` if absent.
     pub fn is_signed(&self) -> Result<bool, TableFault>
         ensures { result ≡ int_is_signed self.now }
     {
@@ -294,7 +294,7 @@ impl<'a> TableRef<'a, IntTable> {
 }
 
 impl<'a> TableRef<'a, FloatingPointTable> {
-    /// The precision, half where absent.
+    /// Returns the precision, or `Half` if absent.
     pub fn precision(&self) -> Result<Precision, TableFault>
         ensures { result ≡ floating_point_precision self.now }
     {
@@ -303,21 +303,21 @@ impl<'a> TableRef<'a, FloatingPointTable> {
 }
 
 impl<'a> TableRef<'a, DecimalTable> {
-    /// The number of decimal digits, 0 where absent.
+    /// Returns the number of decimal digits, or 0 if absent.
     pub fn precision(&self) -> Result<i32, TableFault>
         ensures { result ≡ decimal_precision self.now }
     {
         self.i32(0, 0)
     }
 
-    /// The number of digits after the point, 0 where absent.
+    /// Returns the number of digits after the point, or 0 if absent.
     pub fn scale(&self) -> Result<i32, TableFault>
         ensures { result ≡ decimal_scale self.now }
     {
         self.i32(1, 0)
     }
 
-    /// The number of bits, 128 where absent.
+    /// Returns the width in bits, or 128 if absent.
     pub fn bit_width(&self) -> Result<i32, TableFault>
         ensures { result ≡ decimal_bit_width self.now }
     {
@@ -326,7 +326,7 @@ impl<'a> TableRef<'a, DecimalTable> {
 }
 
 impl<'a> TableRef<'a, DateTable> {
-    /// The unit, milliseconds where absent.
+    /// Returns the unit, or milliseconds if absent.
     pub fn unit(&self) -> Result<DateUnit, TableFault>
         ensures { result ≡ date_unit self.now }
     {
@@ -335,14 +335,14 @@ impl<'a> TableRef<'a, DateTable> {
 }
 
 impl<'a> TableRef<'a, TimeTable> {
-    /// The unit, milliseconds where absent.
+    /// Returns the unit, or milliseconds if absent.
     pub fn unit(&self) -> Result<TimeUnit, TableFault>
         ensures { result ≡ time_unit self.now }
     {
         time_unit_of(self.u16(0, 1)?)
     }
 
-    /// The number of bits, 32 where absent.
+    /// Returns the width in bits, or 32 if absent.
     pub fn bit_width(&self) -> Result<i32, TableFault>
         ensures { result ≡ time_bit_width self.now }
     {
@@ -351,14 +351,14 @@ impl<'a> TableRef<'a, TimeTable> {
 }
 
 impl<'a> TableRef<'a, TimestampTable> {
-    /// The unit, seconds where absent.
+    /// Returns the unit, or seconds if absent.
     pub fn unit(&self) -> Result<TimeUnit, TableFault>
         ensures { result ≡ timestamp_unit self.now }
     {
         time_unit_of(self.u16(0, 0)?)
     }
 
-    /// The time zone, None where there is none.
+    /// Returns the timezone, or `None` if absent.
     pub fn timezone(&self) -> Result<Option<&'a str>, TableFault>
         ensures { texts result ≡ timestamp_timezone self.now }
     {
@@ -367,7 +367,7 @@ impl<'a> TableRef<'a, TimestampTable> {
 }
 
 impl<'a> TableRef<'a, IntervalTable> {
-    /// The unit, months where absent.
+    /// Returns the unit, or `YearMonth` if absent.
     pub fn unit(&self) -> Result<IntervalUnit, TableFault>
         ensures { result ≡ interval_unit self.now }
     {
@@ -376,14 +376,14 @@ impl<'a> TableRef<'a, IntervalTable> {
 }
 
 impl<'a> TableRef<'a, UnionTable> {
-    /// The mode, sparse where absent.
+    /// Returns the mode, or sparse if absent.
     pub fn mode(&self) -> Result<UnionMode, TableFault>
         ensures { result ≡ union_mode self.now }
     {
         union_mode_of(self.u16(0, 0)?)
     }
 
-    /// The ids of the children, None where they are 0, 1, 2 and on.
+    /// Returns the type ids of the children, or `None` for 0, 1, 2 and so on.
     pub fn type_ids(&self) -> Result<Option<TypeIds<'a>>, TableFault>
         ensures { result ≡ union_type_ids self.now }
     {
@@ -395,7 +395,7 @@ impl<'a> TableRef<'a, UnionTable> {
 }
 
 impl<'a> TableRef<'a, FixedSizeBinaryTable> {
-    /// The number of bytes of a slot, 0 where absent.
+    /// Returns the number of bytes of a slot, or 0 if absent.
     pub fn byte_width(&self) -> Result<i32, TableFault>
         ensures { result ≡ fixed_size_binary_byte_width self.now }
     {
@@ -404,7 +404,7 @@ impl<'a> TableRef<'a, FixedSizeBinaryTable> {
 }
 
 impl<'a> TableRef<'a, FixedSizeListTable> {
-    /// The number of slots of the child for a slot, 0 where absent.
+    /// Returns the number of child slots in each list, or 0 if absent.
     pub fn list_size(&self) -> Result<i32, TableFault>
         ensures { result ≡ fixed_size_list_list_size self.now }
     {
@@ -413,7 +413,7 @@ impl<'a> TableRef<'a, FixedSizeListTable> {
 }
 
 impl<'a> TableRef<'a, MapTable> {
-    /// Whether the keys of a slot are sorted, false where absent.
+    /// Returns whether the keys within a slot are sorted, or `false` if absent.
     pub fn keys_sorted(&self) -> Result<bool, TableFault>
         ensures { result ≡ map_keys_sorted self.now }
     {
@@ -422,7 +422,7 @@ impl<'a> TableRef<'a, MapTable> {
 }
 
 impl<'a> TableRef<'a, DurationTable> {
-    /// The unit, milliseconds where absent.
+    /// Returns the unit, or milliseconds if absent.
     pub fn unit(&self) -> Result<TimeUnit, TableFault>
         ensures { result ≡ duration_unit self.now }
     {
@@ -430,7 +430,7 @@ impl<'a> TableRef<'a, DurationTable> {
     }
 }
 
-/// The ids of the children of a union.
+/// The type ids of the children of a union.
 #[derive(Drop)]
 pub struct TypeIds<'a> {
     message: &'a [u8],
@@ -464,21 +464,21 @@ impl<'a> TypeIds<'a> {
         })
     }
 
-    /// The number of ids.
+    /// Returns the number of ids.
     pub fn len(&self) -> usize
         ensures { result ≡ length self.now }
     {
         self.count
     }
 
-    /// Whether there is none.
+    /// Returns whether there is no id.
     pub fn is_empty(&self) -> bool
         ensures { IsTrue result ↔ (length self.now ≡ 0) }
     {
         self.count == 0
     }
 
-    /// The one at an index.
+    /// Returns the id at `index`.
     pub fn get(&self, index: usize) -> i32
         requires { index < length self.now }
         ensures { slice_get self.now index ≡ Some result }

@@ -1,4 +1,4 @@
-//! Views of tables in a message. No view takes memory.
+//! Views of tables in a message. None allocates.
 ghost use Rattle.std.specs.Prelude.{◌≡◌, ◌<◌, ◌^◌, IsTrue, ◌↔◌};
 ghost use Rattle.std.specs.Int.{w32, w64, cast_signed};
 ghost use Rattle.ipc_views.specs.Tables.{and_then, flag, map_ok, number_slot, of_slot, present, slot_at, spot_at, table_in, table_slot, target_at, text_slot, vector_at, vector_slot, texts};
@@ -8,10 +8,17 @@ use crate::table::{before, target_at, text_at};
 use ipc_devices::fault::TableFault;
 use std::marker::{Model, PhantomData};
 
-/// A table in a message, of the kind `K`.
+/// A view of a table in a message, of kind `K`.
 ///
-/// The message may be any bytes: a slot is judged only when it is asked for. No alignment is asked,
-/// no zero byte after a text and no table size.
+/// The message may be any bytes. Opening a view checks the position of the table and its vtable; a
+/// slot is checked when its accessor is called. Neither alignment, zero bytes after texts, nor the
+/// size of tables is checked. Errors of accessors:
+///
+/// - `TableFault::Outside`: the slot, or what its offset leads to, is outside the message.
+/// - `TableFault::Vtable`: the slot leads to a table whose vtable is shorter than 4 bytes.
+/// - `TableFault::UnknownTag`: the number of an enumeration or a union is unknown.
+/// - `TableFault::MissingValue`: a union has a tag but no value.
+/// - `TableFault::Utf8`: a text isn't UTF-8.
 #[derive(Drop)]
 pub struct TableRef<'a, K> {
     message: &'a [u8],
@@ -54,14 +61,14 @@ impl<'a, K> TableRef<'a, K> {
         })
     }
 
-    /// The message that the table stands in.
+    /// Returns the message that has the table.
     pub fn message(&self) -> &'a [u8]
         ensures { result.now ≡ self.now.message }
     {
         self.message
     }
 
-    // The place of a slot's value.
+    // The offset of a slot's value.
     #[tactic(auto, unfolding(crate::specs::Tables::slot_at))]
     pub(crate) fn slot(&self, index: usize) -> Result<Option<usize>, TableFault>
         requires { index < 2 ^ 16 }
@@ -78,7 +85,7 @@ impl<'a, K> TableRef<'a, K> {
         })
     }
 
-    // What the offset in a slot leads to.
+    // The target of the offset in a slot.
     pub(crate) fn target(&self, index: usize) -> Result<Option<usize>, TableFault>
         requires { index < 2 ^ 16 }
         ensures { result ≡ of_slot (slot_at self.now.message self.now.place index) (target_at self.now.message) }
@@ -129,7 +136,7 @@ impl<'a, K> TableRef<'a, K> {
         }
     }
 
-    // A boolean, which is true where its byte isn't 0, and false where the slot is absent.
+    // A boolean: true if its byte isn't 0, false also if the slot is absent.
     pub(crate) fn bool(&self, index: usize) -> Result<bool, TableFault>
         requires { index < 2 ^ 16 }
         ensures { result ≡ map_ok flag (number_slot 1 0 self.now.message self.now.place index) }
@@ -190,7 +197,7 @@ impl<'a, K> TableRef<'a, K> {
     }
 }
 
-/// A vector of tables in a message, of the kind `K`.
+/// A vector of tables in a message, of kind `K`.
 #[derive(Drop)]
 pub struct Tables<'a, K> {
     message: &'a [u8],
@@ -225,21 +232,26 @@ impl<'a, K> Tables<'a, K> {
         })
     }
 
-    /// The number of tables.
+    /// Returns the number of tables.
     pub fn len(&self) -> usize
         ensures { result ≡ self.now.count }
     {
         self.count
     }
 
-    /// Whether there is no table.
+    /// Returns whether there is no table.
     pub fn is_empty(&self) -> bool
         ensures { IsTrue result ↔ (self.now.count ≡ 0) }
     {
         self.count == 0
     }
 
-    /// The table at an index, which is opened here.
+    /// Opens the table at `index`.
+    ///
+    /// Errors:
+    ///
+    /// - `TableFault::Outside`: the offset, the table or its vtable leads outside the message.
+    /// - `TableFault::Vtable`: the vtable is shorter than 4 bytes.
     #[tactic(auto, unfolding(crate::specs::Tables::table_in))]
     pub fn get(&self, index: usize) -> Result<TableRef<'a, K>, TableFault>
         requires { index < self.now.count }

@@ -1,7 +1,7 @@
-//! Bits that stand one after another in bytes, which several owners may share.
+//! Bits, packed into bytes that several owners may share.
 //!
-//! Arrow columnar format, "Validity bitmaps": bit i is bit `i % 8` of byte `i / 8`, the lowest bit
-//! of a byte first.
+//! Arrow columnar format, "Validity bitmaps": bit `i` is bit `i % 8` of byte `i / 8`, and bit 0 of
+//! a byte is its lowest.
 ghost use Rattle.std.specs.Prelude.{◌≡◌, ◌+◌, ◌-◌, ◌*◌, ◌/◌, ◌%◌, ◌<◌, ◌≤◌, length, take, drop, MatchResult, IsErrOf, List, get_or, false, map, IsTrue, ◌↔◌, []};
 ghost use Rattle.std.specs.Iterator.{YieldsFirst, item_count};
 ghost use Rattle.std.specs.List.{range_with_len};
@@ -15,7 +15,7 @@ use std::alloc::AllocError;
 use std::fmt;
 use std::marker::Model;
 
-/// Some bits of bytes. Clones and parts share the memory.
+/// A sequence of bits in a shared buffer of bytes. Clones and slices share the memory.
 #[derive(Drop)]
 pub struct Bitmap {
     bytes: Buffer<u8>,
@@ -48,7 +48,10 @@ impl Clone for Bitmap {
 }
 
 impl Bitmap {
-    /// The first `len` bits of the bytes, where there are so many; else an error that says so.
+    /// Returns the first `len` bits of `bytes`.
+    ///
+    /// The error is `Error::OutOfSpec(Rule::BitmapLength)`, exactly if `len` is more than 8 times
+    /// the number of bytes.
     pub fn try_new(bytes: Buffer<u8>, len: usize) -> Result<Bitmap, Error>
         ensures bits { MatchResult result
             (λ b. (b ≡ map (has_bit bytes) (range_with_len 0 len)) × (len ≤ 8 * length bytes))
@@ -64,7 +67,7 @@ impl Bitmap {
         })
     }
 
-    /// How many bits there are.
+    /// Returns the number of bits.
     #[tactic(auto, using(crate::proofs::BitLists::bit_lists))]
     pub fn len(&self) -> usize
         ensures { result ≡ length self.now }
@@ -72,7 +75,7 @@ impl Bitmap {
         self.len
     }
 
-    /// Bit `i`.
+    /// Returns bit `i`.
     #[tactic(auto, using(crate::proofs::BitLists::bit_lists))]
     pub fn get_bit(&self, i: usize) -> bool
         requires { i < length self.now }
@@ -82,7 +85,7 @@ impl Bitmap {
         (self.bytes.as_slice()[k / 8] >> (k % 8)) & 1 == 1
     }
 
-    /// The `len` bits from `offset` on, in the same memory.
+    /// Returns the `len` bits from bit `offset`, in the same memory.
     #[tactic(auto, using(crate::proofs::BitLists::bit_lists))]
     pub fn sliced(self, offset: usize, len: usize) -> Self
         requires { offset + len ≤ length self }
@@ -100,7 +103,7 @@ impl Bitmap {
         }
     }
 
-    /// Keeps the `len` bits from `offset` on.
+    /// Keeps only the `len` bits from bit `offset`.
     #[tactic(auto, using(crate::proofs::BitLists::bit_lists))]
     pub fn slice(&mut self, offset: usize, len: usize)
         requires { offset + len ≤ length self.old }
@@ -110,8 +113,9 @@ impl Bitmap {
         self.len = len;
     }
 
-    /// The bytes that hold the bits, the place of the first bit in the first of them, and how many
-    /// bits there are.
+    /// Returns the bytes, the first bit's position in them, and the number of bits.
+    ///
+    /// The position is below 8. The slice has only the bytes that these bits need.
     #[tactic(auto, using(crate::proofs::BitLists::bit_lists))]
     pub fn as_slice(&self) -> (&[u8], usize, usize)
         ensures start { result.1 < 8 }
@@ -129,7 +133,7 @@ impl Bitmap {
         )
     }
 
-    /// Whether there is no bit.
+    /// Returns whether there is no bit.
     #[tactic(auto, using(crate::proofs::BitLists::bit_lists))]
     pub fn is_empty(&self) -> bool
         ensures { IsTrue result ↔ self.now ≡ [] }
@@ -137,7 +141,7 @@ impl Bitmap {
         self.len() == 0
     }
 
-    /// The bits one after another.
+    /// Iterates over the bits, in order.
     pub fn iter(&self) -> BitmapIter<'_>
         ensures { result ≡ self.now }
     {
@@ -148,7 +152,7 @@ impl Bitmap {
     }
 }
 
-/// The bits of a bitmap, seen as the list of those that are left.
+/// An iterator over the bits of a bitmap. Its model is the list of those that are left.
 #[derive(Drop)]
 pub struct BitmapIter<'a> {
     bitmap: &'a Bitmap,
@@ -192,7 +196,7 @@ impl<'a> IntoIterator for &'a Bitmap {
     }
 }
 
-/// As a list of the bits is printed.
+/// Prints the bits as a list.
 impl fmt::Debug for Bitmap {
     fn fmt<W: fmt::Write>(&self, f: &mut fmt::Formatter<W>) -> fmt::Result {
         f.debug_list().entries(self.iter()).finish()

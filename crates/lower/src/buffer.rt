@@ -1,7 +1,7 @@
-//! Values that stand one after another in memory, which several owners may share.
+//! Values in contiguous memory that several owners may share.
 //!
-//! Arrow columnar format, "Physical memory layout": an array's memory is made of such buffers, and
-//! a slice of an array shares them.
+//! Arrow columnar format, "Physical Memory Layout": the memory of an array consists of such
+//! buffers, and a slice of an array shares them.
 ghost use Rattle.std.specs.Prelude.{◌≡◌, ◌+◌, ◌<◌, ◌≤◌, length, take, drop, IfOk, MatchResult, List, slice_index_or, nat_eq, IsTrue, ◌↔◌, [], ◌^◌};
 ghost use Rattle.std.specs.Slice.Iter.{iter_rest};
 ghost use Rattle.std.specs.Iterator.Adapters.{IterYieldsInOrder};
@@ -12,7 +12,7 @@ use std::ops::Index;
 use std::rc::Rc;
 use std::{fmt, slice};
 
-/// Some values, or a part of them. Clones and parts share the memory.
+/// All values of a vector or a range of them. Clones and slices share the memory.
 #[derive(Drop)]
 pub struct Buffer<T: Copy> {
     all: Rc<Vec<T>>,
@@ -55,7 +55,10 @@ impl<T: Copy> Index<usize> for Buffer<T> {
 }
 
 impl<T: Copy> Buffer<T> {
-    /// All of a vector. No value is copied, and one small block is taken to count the owners.
+    /// Returns a buffer of all values of a vector.
+    ///
+    /// No value is copied. One small block is allocated to count the owners, and it fails only if
+    /// that allocation does.
     pub fn new(all: Vec<T>) -> Result<Self, AllocError>
         ensures { IfOk result (λ b. b ≡ all.items) }
     {
@@ -67,28 +70,28 @@ impl<T: Copy> Buffer<T> {
         })
     }
 
-    /// How many values there are.
+    /// Returns the number of values.
     pub fn len(&self) -> usize
         ensures { result ≡ length self.now }
     {
         self.len
     }
 
-    /// Whether there is no value.
+    /// Returns whether there is no value.
     pub fn is_empty(&self) -> bool
         ensures { IsTrue result ↔ self.now ≡ [] }
     {
         self.len == 0
     }
 
-    /// The values.
+    /// Returns the values as a slice.
     pub fn as_slice(&self) -> &[T]
         ensures { result.now ≡ self.now }
     {
         &self.all[self.offset..self.offset + self.len]
     }
 
-    /// The `len` values from `offset` on, in the same memory.
+    /// Returns the `len` values from index `offset`, in the same memory.
     pub fn sliced(self, offset: usize, len: usize) -> Self
         requires { offset + len ≤ length self }
         ensures { result ≡ take len (drop offset self) }
@@ -105,7 +108,7 @@ impl<T: Copy> Buffer<T> {
         }
     }
 
-    /// Keeps the `len` values from `offset` on.
+    /// Keeps only the `len` values from index `offset`.
     pub fn slice(&mut self, offset: usize, len: usize)
         requires { offset + len ≤ length self.old }
         ensures { self.new ≡ take len (drop offset self.old) }
@@ -114,8 +117,9 @@ impl<T: Copy> Buffer<T> {
         self.len = len;
     }
 
-    /// The `len` values from `offset` on, of a buffer that stays as it is. It fails only where the
-    /// memory has as many owners as can be counted.
+    /// Returns another buffer of the `len` values from index `offset`, in the same memory.
+    ///
+    /// No value is copied. It fails only if the count of owners can't grow.
     pub fn part(&self, offset: usize, len: usize) -> Result<Self, AllocError>
         requires { offset + len ≤ length self.now }
         ensures { IfOk result (λ b. b ≡ take len (drop offset self.now)) }
@@ -123,8 +127,10 @@ impl<T: Copy> Buffer<T> {
         Ok(self.clone()?.sliced(offset, len))
     }
 
-    /// The vector, where this is the only owner of its memory and holds all of it, else the buffer
-    /// itself.
+    /// Returns the whole vector, if this is the only owner of its memory.
+    ///
+    /// Otherwise, or if the buffer is only a part of the vector, the error is the buffer itself,
+    /// unchanged.
     pub fn into_vec(self) -> Result<Vec<T>, Self>
         ensures { MatchResult result (λ v. v.items ≡ self) (λ b. b ≡ self) }
     {
@@ -138,7 +144,7 @@ impl<T: Copy> Buffer<T> {
         }
     }
 
-    /// The values one after another.
+    /// Iterates over the values, in order.
     pub fn iter(&self) -> slice::Iter<'_, T>
         ensures rest { iter_rest result ≡ self.now }
         ensures bound { length (iter_rest result) < 2 ^ 64 }
@@ -148,7 +154,7 @@ impl<T: Copy> Buffer<T> {
     }
 }
 
-/// As a slice of the values is printed.
+/// Prints the values as a slice.
 impl<T: Copy + fmt::Debug> fmt::Debug for Buffer<T> {
     fn fmt<W: fmt::Write>(&self, f: &mut fmt::Formatter<W>) -> fmt::Result {
         fmt::Debug::fmt(self.as_slice(), f)

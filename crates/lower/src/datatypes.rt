@@ -1,8 +1,8 @@
 //! The types of columns, fields and schemas.
 //!
-//! Arrow columnar format, "Terminology" and "Data types": a data type says which values a column
-//! can have, its physical type how they lie in memory. The units, tags and parameters are those of
-//! the format's schema.
+//! Arrow columnar format, "Terminology" and "Data Types": a data type says which values a column
+//! can have, its physical type how they are laid out in memory. The units, tags and parameters are
+//! those of the format's `Schema.fbs`.
 pub mod clones;
 pub mod counts;
 pub mod equal;
@@ -22,10 +22,12 @@ pub use same_normal::is_same_normal_type;
 pub use schema::Schema;
 use std::collections::BTreeMap;
 
-/// Texts by their names, as fields and schemas have them beside what the format gives a meaning.
+/// Key-value pairs of a field or a schema.
+///
+/// Arrow columnar format, "Custom Application Metadata" and "Extension Types".
 pub type Metadata = BTreeMap<String, String>;
 
-/// The integer types, of which the keys of a dictionary are one.
+/// The integer types that the keys of a dictionary can have.
 #[derive(Debug, Clone, Copy, PartialEq, Eq)]
 pub enum IntegerType {
     Int8,
@@ -38,7 +40,7 @@ pub enum IntegerType {
     UInt64,
 }
 
-/// What one step of a time is.
+/// The unit of a time.
 #[derive(Debug, Clone, Copy, PartialEq, Eq)]
 pub enum TimeUnit {
     Second,
@@ -47,7 +49,7 @@ pub enum TimeUnit {
     Nanosecond,
 }
 
-/// Which parts an interval of the calendar has.
+/// The parts of a calendar interval.
 #[derive(Debug, Clone, Copy, PartialEq, Eq)]
 pub enum IntervalUnit {
     /// Whole months, in 32 bits.
@@ -58,7 +60,7 @@ pub enum IntervalUnit {
     MonthDayNano,
 }
 
-/// How the children of a union stand beside its slots.
+/// The layout of the children of a union (Arrow columnar format, "Union Layout").
 #[derive(Debug, Clone, Copy, PartialEq, Eq)]
 pub enum UnionMode {
     /// Each slot has an offset into its child.
@@ -67,7 +69,7 @@ pub enum UnionMode {
     Sparse,
 }
 
-/// A column's name and type, or those of a child of a nested type.
+/// The name and type of a column or of a nested type's child.
 #[cycle(types)]
 #[derive(Debug, Drop, PartialEq, Eq)]
 pub struct Field {
@@ -78,7 +80,7 @@ pub struct Field {
     pub metadata: Metadata,
 }
 
-/// The type of a column.
+/// The type of a column (Arrow columnar format, "Data Types").
 #[cycle(types)]
 #[derive(Debug, Drop, PartialEq, Eq)]
 pub enum DataType {
@@ -95,51 +97,51 @@ pub enum DataType {
     Float16,
     Float32,
     Float64,
-    /// A time since 1970-01-01, in 64 bits: its unit, and the name of a timezone where it has one.
+    /// A time since 1970-01-01, in 64 bits: its unit, and the name of a timezone if it has one.
     Timestamp(TimeUnit, Option<String>),
     /// Days since 1970-01-01, in 32 bits.
     Date32,
     /// Milliseconds since 1970-01-01, in 64 bits.
     Date64,
-    /// A time of the day, in 32 bits.
+    /// A time of day, in 32 bits.
     Time32(TimeUnit),
-    /// A time of the day, in 64 bits.
+    /// A time of day, in 64 bits.
     Time64(TimeUnit),
-    /// A length of time, in 64 bits.
+    /// A time span, in 64 bits.
     Duration(TimeUnit),
-    /// A length of time of the calendar.
+    /// A calendar interval.
     Interval(IntervalUnit),
-    /// Bytes of any length, with offsets of 32 bits.
+    /// Byte strings of any length, with 32-bit offsets.
     Binary,
-    /// So many bytes in each slot.
+    /// Byte strings of one length, in bytes.
     FixedSizeBinary(usize),
-    /// Bytes of any length, with offsets of 64 bits.
+    /// Byte strings of any length, with 64-bit offsets.
     LargeBinary,
-    /// UTF-8 text, with offsets of 32 bits.
+    /// UTF-8 strings, with 32-bit offsets.
     Utf8,
-    /// UTF-8 text, with offsets of 64 bits.
+    /// UTF-8 strings, with 64-bit offsets.
     LargeUtf8,
-    /// Lists, with offsets of 32 bits.
+    /// Lists of any length, with 32-bit offsets.
     List(Box<Field>),
-    /// Lists of so many slots each.
+    /// Lists of one length, in slots of the child.
     FixedSizeList(Box<Field>, usize),
-    /// Lists, with offsets of 64 bits.
+    /// Lists of any length, with 64-bit offsets.
     LargeList(Box<Field>),
-    /// Records: one slot of each child.
+    /// Records: each slot is one slot of each child.
     Struct(Vec<Field>),
-    /// One slot of one of the children, which an id names: the children, their ids where they are
-    /// not 0, 1 and on, and how the children stand.
+    /// Each slot is one slot of one child, selected by a type id: the children, their ids unless
+    /// these are 0, 1, 2 and so on, and the layout.
     Union(Vec<Field>, Option<Vec<i32>>, UnionMode),
-    /// Lists of pairs, each a key and a value: the field of the pairs, and whether the keys of a
-    /// slot are sorted.
+    /// Lists of key-value pairs: the field of the pairs, and whether the keys within a slot are
+    /// sorted.
     Map(Box<Field>, bool),
-    /// Places among the values of a dictionary: the type of the places, that of the values, and
+    /// Indices into the values of a dictionary: the type of the indices, that of the values, and
     /// whether the order of the values has a meaning.
     Dictionary(IntegerType, Box<DataType>, bool),
-    /// A type of another's making: its name, the type that it is stored as, and a text of its own.
+    /// An extension type: its name, its storage type, and its metadata.
     Extension(String, Box<DataType>, Option<String>),
-    /// A decimal number of 128 bits: its digits, and how many of them stand after the point.
+    /// A 128-bit decimal number: its precision, and its scale (digits after the point).
     Decimal(usize, usize),
-    /// A decimal number of 256 bits: its digits, and how many of them stand after the point.
+    /// A 256-bit decimal number: its precision, and its scale (digits after the point).
     Decimal256(usize, usize),
 }

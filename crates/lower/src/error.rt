@@ -1,7 +1,7 @@
-//! What is wrong with the parts of an array.
+//! Why an array can't be made of its parts.
 use thiserror::Error;
 
-/// Why no array can be made of some parts.
+/// Why an array can't be made of its parts.
 #[derive(Debug, Clone, Copy, Drop, PartialEq, Eq, Error)]
 pub enum Error {
     /// The parts break a rule of the Arrow columnar format.
@@ -9,7 +9,7 @@ pub enum Error {
     OutOfSpec(Rule),
 }
 
-/// A rule that the parts of an array have to keep.
+/// The rules for the parts of an array.
 #[derive(Debug, Clone, Copy, PartialEq, Eq, Error)]
 pub enum Rule {
     #[error("the bitmap has more bits than its bytes hold")]

@@ -1,8 +1,7 @@
-//! What the arrays of Arrow and their exchange stand on: the types of columns, and the memory that
-//! their values lie in.
+//! Column types, and the memory of their values.
 //!
-//! That clones and parts share memory is said by no clause: tests show it. What is said to take no
-//! memory is a call that can't be refused any.
+//! No clause says that clones and slices share memory; tests check it. If a doc says that a call
+//! allocates nothing, then the call can't fail for lack of memory.
 #![tactic(auto)]
 
 pub mod bitmap;

@@ -1,7 +1,7 @@
 //! Offsets of slots whose values have any length.
 //!
-//! Arrow columnar format, "Variable-size Binary Layout": slot i lies from offset i to offset i + 1,
-//! so there is one offset more than there are slots.
+//! Arrow columnar format, "Variable-size Binary Layout": slot `i` is from offset `i` to offset
+//! `i + 1`, so there is one offset more than slots.
 ghost use Rattle.std.specs.Prelude.{◌≡◌, ℕ, ℤ, pos, ◌+◌, ◌-◌, ◌^◌, ◌<◌, ◌≤◌, ◌≤ℤ◌, ◌↔◌, length, take, drop, map, slice_index, IsTrue, IfErr, MatchResult, MatchOption};
 ghost use Rattle.lower.specs.Offsets.{AreOffsets, BreaksOffsets, IsOffsets, places, NeverFalls};
 
@@ -12,24 +12,24 @@ use std::alloc::AllocError;
 use std::fmt;
 use std::marker::Model;
 
-/// A type of offsets: signed, of 32 or 64 bits.
+/// An offset type: a signed integer of 32 or 64 bits.
 pub trait Offset: NativeType {
-    // The number that an offset is.
+    // The integer that an offset is.
     ghost integer: { Self → ℤ };
 
     // No offset of the type reaches this.
     ghost limit: { ℕ };
 
-    /// Whether there is a number, the first is not negative, and none is below the one before it.
+    /// Returns whether `numbers` is nonempty, starts at 0 or above, and never decreases.
     fn are_offsets(numbers: &[Self]) -> bool
         ensures { IsTrue result ↔ AreOffsets integer numbers.now };
 
-    /// The place that an offset names, which is not negative.
+    /// Returns an offset that isn't negative as a `usize`.
     fn to_usize(self) -> usize
         requires { pos 0 ≤ℤ integer self }
         ensures { pos result ≡ integer self };
 
-    /// The offset that names a place, where the type has it.
+    /// Returns `place` as an offset, or `None` if the type has no such number.
     fn from_usize(place: usize) -> Option<Self>
         ensures { MatchOption result (limit ≤ place) (λ o. (integer o ≡ pos place) × (place < limit)) };
 }
@@ -76,7 +76,8 @@ impl Offset for i64 {
     }
 }
 
-// Whether none is below the one before it. There is no early exit, so it becomes vector code.
+// Whether no number is below the one before it. The loop has no early exit, so that it is
+// vectorized.
 fn never_falls_i32(numbers: &[i32]) -> bool
     ensures { IsTrue result ↔ NeverFalls numbers.now (length numbers.now) }
 {
@@ -105,8 +106,9 @@ fn never_falls_i64(numbers: &[i64]) -> bool
     is_rising
 }
 
-/// Offsets: at least one, the first not negative, none below the one before it. Clones and parts
-/// share the memory.
+/// Offsets: at least one, the first not negative, each at least the one before.
+///
+/// Clones and slices share the memory.
 #[derive(Drop)]
 pub struct OffsetsBuffer<O: Offset> {
     offsets: Buffer<O>,
@@ -134,8 +136,13 @@ impl<O: Offset> Clone for OffsetsBuffer<O> {
 }
 
 impl<O: Offset> OffsetsBuffer<O> {
-    /// The offsets, where they are some, the first is not negative and none is below the one before
-    /// it; else an error that says which of this isn't so.
+    /// Returns the offsets after checking them.
+    ///
+    /// Errors, each as `Error::OutOfSpec`:
+    ///
+    /// - `Rule::NoOffset`: `offsets` is empty.
+    /// - `Rule::FallingOffset`: the first offset is negative, or one is less than the offset before
+    ///   it.
     pub fn try_new(offsets: Buffer<O>) -> Result<OffsetsBuffer<O>, Error>
         ensures exact { MatchResult result
             (λ o. (map pos o ≡ map O.integer offsets) × IsOffsets o)
@@ -151,7 +158,7 @@ impl<O: Offset> OffsetsBuffer<O> {
         Ok(OffsetsBuffer { offsets })
     }
 
-    /// How many offsets there are, which is one more than there are slots.
+    /// Returns the number of offsets, one more than there are slots.
     pub fn len(&self) -> usize
         ensures len { result ≡ length self.now }
         ensures offsets { IsOffsets self.now }
@@ -159,7 +166,7 @@ impl<O: Offset> OffsetsBuffer<O> {
         self.offsets.len()
     }
 
-    /// The offsets as they stand.
+    /// Returns the offsets in their own type.
     pub fn as_slice(&self) -> &[O]
         ensures places { places O.integer result.now ≡ self.now }
         ensures integers { map O.integer result.now ≡ map pos self.now }
@@ -167,7 +174,7 @@ impl<O: Offset> OffsetsBuffer<O> {
         self.offsets.as_slice()
     }
 
-    /// Offset `i`.
+    /// Returns offset `i`.
     pub fn get(&self, i: usize) -> usize
         requires { i < length self.now }
         ensures { result ≡ slice_index self.now i }
@@ -175,7 +182,7 @@ impl<O: Offset> OffsetsBuffer<O> {
         self.offsets.as_slice()[i].to_usize()
     }
 
-    /// The last offset: where the last slot ends.
+    /// Returns the last offset, where the last slot ends.
     pub fn last(&self) -> usize
         ensures value { result ≡ slice_index self.now (length self.now - 1) }
         ensures offsets { IsOffsets self.now }
@@ -183,7 +190,7 @@ impl<O: Offset> OffsetsBuffer<O> {
         self.get(self.len() - 1)
     }
 
-    /// The offsets of the `len` slots from slot `offset` on, in the same memory.
+    /// Returns the offsets of the `len` slots from slot `offset`, in the same memory.
     pub fn sliced(self, offset: usize, len: usize) -> Self
         requires { offset + len < length self }
         ensures { result ≡ take (len + 1) (drop offset self) }
@@ -193,7 +200,7 @@ impl<O: Offset> OffsetsBuffer<O> {
         }
     }
 
-    /// Keeps the offsets of the `len` slots from slot `offset` on.
+    /// Keeps only the offsets of the `len` slots from slot `offset`.
     pub fn slice(&mut self, offset: usize, len: usize)
         requires { offset + len < length self.old }
         ensures { self.new ≡ take (len + 1) (drop offset self.old) }
@@ -203,7 +210,7 @@ impl<O: Offset> OffsetsBuffer<O> {
     }
 }
 
-/// As a slice of the offsets is printed.
+/// Prints the offsets as a slice.
 impl<O: Offset + fmt::Debug> fmt::Debug for OffsetsBuffer<O> {
     fn fmt<W: fmt::Write>(&self, f: &mut fmt::Formatter<W>) -> fmt::Result {
         fmt::Debug::fmt(self.as_slice(), f)

@@ -1,4 +1,4 @@
-//! Columns of each kind, and of any kind.
+//! Arrays with children, and arrays of any layout.
 ghost use Rattle.std.specs.Prelude.{◌≡◌, ◌+◌, ◌<◌, ◌≤◌, take, drop, IfOk};
 ghost use Rattle.std.specs.Option.{option_copied};
 ghost use Rattle.lower.specs.TypeViews.{type_view};
@@ -38,12 +38,12 @@ use std::mem;
 pub use struct_::StructArray;
 pub use union::UnionArray;
 
-/// An array of any kind: a case for each physical type.
+/// An array of any layout: one variant for each physical type.
 ///
-/// `List` is for lists with 32-bit offsets, `LargeList` for lists with 64-bit offsets; both hold a
-/// [`ListArray`]. [`ListArray::boxed`] and `AnyArray::from` choose the case by the offsets, and
-/// slices and clones keep it. Either case can be made of any `ListArray`: `==` and what is written don't
-/// depend on it.
+/// `List` is for lists with 32-bit offsets, `LargeList` for lists with 64-bit offsets; both contain
+/// a [`ListArray`]. [`ListArray::boxed`] and `AnyArray::from` choose the variant by the offsets;
+/// slices and clones keep it. Either variant can be made of any `ListArray`: neither `==` nor the
+/// encoding depends on it.
 #[cycle(arrays)]
 #[derive(Drop)]
 pub enum AnyArray {
@@ -55,9 +55,9 @@ pub enum AnyArray {
     LargeBinary(BinaryArray<i64>),
     Utf8(Utf8Array<i32>),
     LargeUtf8(Utf8Array<i64>),
-    /// Lists with offsets of 32 bits.
+    /// Lists with 32-bit offsets.
     List(ListArray),
-    /// Lists with offsets of 64 bits.
+    /// Lists with 64-bit offsets.
     LargeList(ListArray),
     FixedSizeList(FixedSizeListArray),
     Struct(StructArray),
@@ -67,7 +67,7 @@ pub enum AnyArray {
 }
 
 impl AnyArray {
-    /// The type of its slots.
+    /// Returns the data type.
     pub fn data_type(&self) -> &DataType
         ensures tree { type_view result.now ≡ type_of (layout_of self.now) }
         ensures valid { IsArray (layout_of self.now) }
@@ -91,9 +91,13 @@ impl AnyArray {
         }
     }
 
-    /// The bits that say which slots are valid. `None` says that all are, but for an array of nulls,
-    /// for a union, whose slots are null as its children's are, and for a dictionary, whose slots are
-    /// null also where their values are.
+    /// Returns the validity bitmap, or `None` if there is none.
+    ///
+    /// Without a bitmap all slots are valid, with these exceptions:
+    ///
+    /// - All slots of an array of nulls are null.
+    /// - A slot of a union is null if the slot of its child is.
+    /// - A slot of a dictionary is null also if its value is.
     pub fn validity(&self) -> Option<&Bitmap>
         ensures bits { option_copied result ≡ (level (layout_of self.now)).validity }
         ensures valid { IsArray (layout_of self.now) }
@@ -117,7 +121,7 @@ impl AnyArray {
         }
     }
 
-    /// How many slots it has.
+    /// Returns the number of slots.
     pub fn len(&self) -> usize
         ensures len { result ≡ len_of (layout_of self.now) }
         ensures valid { IsArray (layout_of self.now) }
@@ -141,8 +145,10 @@ impl AnyArray {
         }
     }
 
-    /// How many slots are null by the array's own validity: all of an array of nulls, none of a union.
-    /// The null values of a dictionary aren't counted.
+    /// Returns the number of slots that are null by the array's own validity.
+    ///
+    /// It is that of all slots for an array of nulls, and 0 for a union. A dictionary's slots whose
+    /// values are null aren't counted.
     pub fn null_count(&self) -> usize
         ensures { result ≡ nulls_of (layout_of self.now) }
     {
@@ -165,7 +171,7 @@ impl AnyArray {
         }
     }
 
-    /// The `len` slots from `offset` on. It takes no memory.
+    /// Returns the `len` slots from `offset`, in the same memory. It allocates nothing.
     #[tactic(auto, using(crate::proofs::Slices::slots_of_part))]
     pub fn sliced(self, offset: usize, len: usize) -> Self
         requires { offset + len ≤ len_of (layout_of self) }
@@ -175,7 +181,7 @@ impl AnyArray {
         self.part(offset, len)
     }
 
-    /// Keeps the `len` slots from `offset` on. It takes no memory.
+    /// Keeps only the `len` slots from `offset`. It allocates nothing.
     #[cycle(slices)]
     pub fn slice(&mut self, offset: usize, len: usize)
         requires { offset + len ≤ len_of (layout_of self.old) }
@@ -185,19 +191,19 @@ impl AnyArray {
         drop(mem::replace(self, array));
     }
 
-    // The array itself, in whose place one without slots is left.
+    // Takes the array, and leaves one without slots in its place.
     fn take(&mut self) -> Self
         ensures { layout_of result ≡ layout_of self.old }
     {
         mem::replace(self, AnyArray::without_slots())
     }
 
-    // An array without slots, which takes no memory.
+    // An array without slots, which allocates nothing.
     fn without_slots() -> Self {
         AnyArray::Null(NullArray::try_new(DataType::Null, 0).unwrap())
     }
 
-    // The `len` slots from `offset` on, by the kind of the array.
+    // The `len` slots from `offset`, by the variant.
     #[cycle(slices)]
     #[tactic(auto, using(crate::proofs::Slices::slicing))]
     fn part(self, offset: usize, len: usize) -> Self
@@ -225,7 +231,7 @@ impl AnyArray {
         }
     }
 
-    // The same slots once more, by the kind of the array.
+    // A clone, by the variant.
     #[cycle(copies)]
     fn copy(&self) -> Result<Self, AllocError>
         ensures { IfOk result (λ copy. layout_of copy ≡ layout_of self.now) }
@@ -253,7 +259,9 @@ impl AnyArray {
 impl Clone for AnyArray {
     ghost is_clone = { λ a b. layout_of b ≡ layout_of a };
 
-    /// The same slots once more, which share their memory with these.
+    /// Returns an array of the same slots, in the same memory.
+    ///
+    /// It fails if an allocation fails or the count of owners can't grow.
     fn clone(&self) -> Result<Self, AllocError> {
         self.copy()
     }

@@ -1,4 +1,4 @@
-//! Which arrays are the same.
+//! Equality of arrays.
 ghost use Rattle.std.specs.Prelude.{◌≡◌, ◌↔◌, ◌+◌, ◌<◌, ◌≤◌, IsTrue, map};
 ghost use Rattle.std.specs.Ordering.{on};
 ghost use Rattle.lower.specs.TypeViews.{type_view};
@@ -28,14 +28,18 @@ use crate::value::{
 use lower::datatypes::DataType;
 use lower_flat::equality::{ToColumn, is_same_column};
 
-/// Whether both have one type and the same slots, as `==`. How they lie in memory doesn't count.
+/// Returns whether both have the same data type and slots, as `==` does.
+///
+/// Their layouts in memory may differ.
 pub fn equal(lhs: &AnyArray, rhs: &AnyArray) -> bool
     ensures { IsTrue result ↔ IsSame (column_of (layout_of lhs.now)) (column_of (layout_of rhs.now)) }
 {
     *lhs == *rhs
 }
 
-/// Whether slot `i` of one is slot `j` of the other, whatever the types.
+/// Returns whether slot `i` of one is slot `j` of the other.
+///
+/// The data types don't count.
 #[cycle(sameness)]
 pub fn has_same_slot(lhs: &AnyArray, i: usize, rhs: &AnyArray, j: usize) -> bool
     requires lhs_within { i < len_of (layout_of lhs.now) }
@@ -45,7 +49,7 @@ pub fn has_same_slot(lhs: &AnyArray, i: usize, rhs: &AnyArray, j: usize) -> bool
     is_same_value(value_at(lhs, i), value_at(rhs, j))
 }
 
-/// Whether the `len` slots from `i` on of one are those from `j` on of the other.
+/// Returns whether two ranges of `len` slots are the same, from slots `i` and `j`.
 #[cycle(sameness)]
 pub fn has_same_range(lhs: &AnyArray, i: usize, rhs: &AnyArray, j: usize, len: usize) -> bool
     requires lhs_within { i + len ≤ len_of (layout_of lhs.now) }
@@ -61,7 +65,7 @@ pub fn has_same_range(lhs: &AnyArray, i: usize, rhs: &AnyArray, j: usize, len: u
     true
 }
 
-// Whether both stand for the same slot.
+// Whether both are the same slot.
 #[cycle(sameness)]
 fn is_same_value(lhs: Value<'_>, rhs: Value<'_>) -> bool
     requires lhs_fits { ValueFits lhs }
@@ -123,7 +127,7 @@ fn is_text(value: Value<'_>, text: &[u8]) -> bool
     }
 }
 
-// Whether it is what the children's slots are together.
+// Whether the value is the same nested slot.
 #[cycle(sameness)]
 fn is_nested(value: Value<'_>, nesting: Nesting, children: &[AnyArray], index: usize) -> bool
     requires fits { ValueFits value }
@@ -138,7 +142,7 @@ fn is_nested(value: Value<'_>, nesting: Nesting, children: &[AnyArray], index: u
     }
 }
 
-// Whether the children's slots are the same together.
+// Whether two nested slots are the same.
 #[cycle(sameness)]
 fn are_same_nested(
     lhs: Nesting,
@@ -164,7 +168,7 @@ fn are_same_nested(
     }
 }
 
-// Whether the lists of so many slots of the first children are the same.
+// Whether two lists are the same: both have as many slots, and these are the same.
 #[cycle(sameness)]
 fn are_same_lists(
     children: &[AnyArray],
@@ -184,7 +188,7 @@ fn are_same_lists(
     has_same_range(&children[0], i, &others[0], j, len)
 }
 
-// Whether the slots of the first children are the same, and of one type.
+// Whether two slots of unions are the same: both have the same type id and the same child slot.
 #[cycle(sameness)]
 fn are_same_variants(
     id: i8,
@@ -204,7 +208,7 @@ fn are_same_variants(
     has_same_slot(&children[0], i, &others[0], j)
 }
 
-// Whether each has the same slot at `i` as its fellow at `j`, and there are as many of both.
+// Whether two structs are the same: both have as many children, with the same slots.
 #[cycle(sameness)]
 fn have_same_slots(lhs: &[AnyArray], i: usize, rhs: &[AnyArray], j: usize) -> bool
     requires lhs_within { AllReach (i + 1) (layouts (map layout_of lhs.now)) }
@@ -222,7 +226,7 @@ fn have_same_slots(lhs: &[AnyArray], i: usize, rhs: &[AnyArray], j: usize) -> bo
     true
 }
 
-// The slow way, which any two arrays can go.
+// Compares slot by slot, for any two arrays.
 impl ToColumn for AnyArray {
     ghost tree = { λ a. type_of (layout_of a) };
 
@@ -248,7 +252,9 @@ impl PartialEq for AnyArray {
 
     ghost laws = { columns_per (λ a. column_of (layout_of a)) };
 
-    /// Whether both have one type and the same slots, however they lie in memory.
+    /// Returns whether both have the same data type and the same slots.
+    ///
+    /// Their layouts in memory may differ.
     fn eq(&self, other: &Self) -> bool {
         match (self, other) {
             (AnyArray::Null(lhs), AnyArray::Null(rhs)) => lhs == rhs,

@@ -1,9 +1,9 @@
-//! The arrays of Arrow: columns in memory.
+//! Arrays: columns in memory.
 //!
-//! Each array keeps the rules of the Arrow columnar format, "Physical memory layout", from its
-//! constructor on. Its parts share their memory: a clone or a slice copies no slot. That is said by
-//! no clause: tests show it. A slice takes no memory: there is no error by which it could be refused.
-//! No array is of floats.
+//! The constructors check the rules of the Arrow columnar format, "Physical Memory Layout", so that
+//! each array keeps them. A clone or a slice shares the memory and copies no slot; no clause says
+//! so, but tests check it. Slicing allocates nothing: it has no error for that. There are no arrays
+//! of floats.
 #![tactic(auto)]
 
 pub mod array;

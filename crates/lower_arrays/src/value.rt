@@ -1,4 +1,4 @@
-//! What stands at one place of an array.
+//! Single slots of arrays.
 ghost use Rattle.std.specs.Prelude.{◌≡◌, ◌↔◌, ◌+◌, ◌<◌, ◌≤◌, length, IsTrue};
 ghost use Rattle.lower_flat.specs.Spans.{span_count};
 ghost use Rattle.lower_arrays.specs.Layouts.{len_of, height};
@@ -22,7 +22,7 @@ use lower::offset::Offset;
 use lower::types::{NativeType, days_ms, i256, months_days_ns};
 use std::slice;
 
-/// A number of any type that arrays have.
+/// A number of any type that arrays can have.
 #[derive(Clone, Copy)]
 pub enum Scalar {
     Whole(i128),
@@ -31,18 +31,18 @@ pub enum Scalar {
     MonthDayNano(months_days_ns),
 }
 
-/// What slots of children are together.
+/// How a nested slot is made of slots of children.
 #[derive(Clone, Copy)]
 pub enum Nesting {
-    /// A list of so many slots of the first child, from the place on.
+    /// A list of this many consecutive slots of the first child.
     List(usize),
-    /// A record of a slot of each child.
+    /// A struct: one slot of each child.
     Record,
-    /// A variant of the type with this id: the slot of the first child.
+    /// A slot of a union with this type id: one child slot.
     Variant(i8),
 }
 
-/// What stands at one place of an array.
+/// The value of one slot of an array.
 #[derive(Clone, Copy)]
 pub enum Value<'a> {
     Null,
@@ -50,11 +50,11 @@ pub enum Value<'a> {
     Number(Scalar),
     Bytes(&'a [u8]),
     Text(&'a [u8]),
-    /// Slots of these children at a place.
+    /// Slots of these children at an index.
     Nested(Nesting, &'a [AnyArray], usize),
 }
 
-// A number of a type of its own.
+// A number type that converts to [`Scalar`].
 trait ToScalar: NativeType {
     // The same number.
     fn scalar(self) -> Scalar
@@ -133,7 +133,9 @@ impl ToScalar for months_days_ns {
     }
 }
 
-/// What stands at `index` of an array of any kind, below all dictionaries.
+/// Returns the value of the slot at `index`, for an array of any layout.
+///
+/// A dictionary's slot is the value that its key selects, which is never another dictionary's slot.
 #[cycle(value)]
 pub fn value_at(array: &AnyArray, index: usize) -> Value<'_>
     requires { index < len_of (layout_of array.now) }
@@ -172,7 +174,7 @@ fn boolean_value(array: &BooleanArray, index: usize) -> Value<'_>
     Value::Truth(array.value(index))
 }
 
-// The number at `index`, of an array of any type of number.
+// The number at `index`.
 fn number_value(array: &AnyPrimitive, index: usize) -> Value<'_>
     requires { index < len_of (any_primitive_layout array.now) }
     ensures slot { value_slot result ≡ slot_at (any_primitive_layout array.now) index }
@@ -245,7 +247,7 @@ fn text_value<O: Offset>(array: &Utf8Array<O>, index: usize) -> Value<'_>
     Value::Text(array.value(index).as_bytes())
 }
 
-// A list of slots of one child, or a variant.
+// A list of slots of one child, or a slot of a union.
 fn nested(nesting: Nesting, child: &AnyArray, index: usize) -> Value<'_>
     requires one { IsOneChild nesting }
     requires within { index + span nesting ≤ len_of (layout_of child.now) }
@@ -256,7 +258,9 @@ fn nested(nesting: Nesting, child: &AnyArray, index: usize) -> Value<'_>
     Value::Nested(nesting, slice::from_ref(child), index)
 }
 
-/// The value of a list's slot: the slots of the child from an offset to the next. The index is that of a slot.
+/// Returns the slot at `index` of a list array.
+///
+/// It consists of the slots of the child between offsets `index` and `index + 1`.
 #[tactic(auto, using(crate::proofs::ItemPlaces::item_places))]
 pub fn list_value(array: &ListArray, index: usize) -> Value<'_>
     requires { index < span_count array.now.offsets }
@@ -273,7 +277,9 @@ pub fn list_value(array: &ListArray, index: usize) -> Value<'_>
     nested(Nesting::List(end - start), array.values(), start)
 }
 
-/// That of a map's slot: the pairs of the child from an offset to the next.
+/// Returns the slot at `index` of a map array.
+///
+/// It consists of the pairs between offsets `index` and `index + 1`.
 #[tactic(auto, using(crate::proofs::ItemPlaces::item_places))]
 pub fn map_value(array: &MapArray, index: usize) -> Value<'_>
     requires { index < span_count array.now.offsets }
@@ -290,7 +296,7 @@ pub fn map_value(array: &MapArray, index: usize) -> Value<'_>
     nested(Nesting::List(end - start), array.field(), start)
 }
 
-/// That of a list of a fixed size: as many slots of the child as each list has.
+/// Returns the slot at `index` of an array of lists of one length.
 #[tactic(auto, using(crate::proofs::ItemPlaces::item_places))]
 pub fn fixed_list_value(array: &FixedSizeListArray, index: usize) -> Value<'_>
     requires { index < array.now.len }
@@ -309,7 +315,7 @@ pub fn fixed_list_value(array: &FixedSizeListArray, index: usize) -> Value<'_>
     )
 }
 
-/// That of a struct: a slot of each child.
+/// Returns the slot at `index` of a struct array: one slot of each child.
 #[tactic(auto, using(crate::proofs::ItemPlaces::item_places))]
 pub fn record_value(array: &StructArray, index: usize) -> Value<'_>
     requires { index < array.now.len }
@@ -323,7 +329,7 @@ pub fn record_value(array: &StructArray, index: usize) -> Value<'_>
     Value::Nested(Nesting::Record, array.values(), index)
 }
 
-/// That of a union, a variant: the id of its type, the child and the place there.
+/// Returns the slot at `index` of a union array, with its type id.
 pub fn union_value(array: &UnionArray, index: usize) -> Value<'_>
     requires { index < length array.now.types }
     ensures slot { value_slot result ≡ slot_at (union_layout array.now) index }
@@ -335,7 +341,7 @@ pub fn union_value(array: &UnionArray, index: usize) -> Value<'_>
     nested(Nesting::Variant(id), &array.fields()[number], place)
 }
 
-/// That of a dictionary: the value that the slot's key names.
+/// Returns the slot at `index` of a dictionary array: the value of its key.
 #[cycle(value)]
 pub fn dictionary_value(array: &DictionaryArray, index: usize) -> Value<'_>
     requires { index < length array.now.keys.integers }
@@ -349,7 +355,7 @@ pub fn dictionary_value(array: &DictionaryArray, index: usize) -> Value<'_>
     value_at(array.values(), array.key_value(index))
 }
 
-/// Whether both are the same number.
+/// Returns whether both are the same number.
 pub fn is_same_number(lhs: Scalar, rhs: Scalar) -> bool
     ensures { IsTrue result ↔ (scalar_number lhs ≡ scalar_number rhs) }
 {

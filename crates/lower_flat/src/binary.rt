@@ -1,4 +1,4 @@
-//! Arrays of bytes of any length.
+//! Arrays of byte strings of any length.
 ghost use Rattle.std.specs.Prelude.{◌≡◌, ◌+◌, ◌≤◌, MatchResult, IsTrue, not, ◌↔◌, ◌<◌};
 ghost use Rattle.std.specs.Option.{option_copied};
 ghost use Rattle.std.specs.Iterator.{YieldsFirstBy, item_count};
@@ -19,9 +19,9 @@ use std::alloc::AllocError;
 use std::fmt;
 use std::marker::Model;
 
-/// Bytes for each slot, of any length (Arrow columnar format, "Variable-size Binary Layout").
+/// An array of byte strings (Arrow columnar format, "Variable-size Binary Layout").
 ///
-/// With offsets of `i64` it is an array of a large type.
+/// With `i64` offsets its data type is a large one.
 #[derive(Drop)]
 pub struct BinaryArray<O: Offset> {
     data_type: DataType,
@@ -44,7 +44,7 @@ impl<O: Offset> Model for BinaryArray<O> {
     ghost invariant = { λ a. IsBinary O.primitive (record { type = type_view a.data_type; offsets = a.offsets; values = a.values; validity = a.validity }) };
 }
 
-// How bytes with offsets of this type lie in memory.
+// The layout of byte strings with offsets of this type.
 fn bytes_with(offsets: PrimitiveType) -> PhysicalType
     ensures { result ≡ bytes_with offsets }
 {
@@ -55,12 +55,13 @@ fn bytes_with(offsets: PrimitiveType) -> PhysicalType
 }
 
 impl<O: Offset> BinaryArray<O> {
-    /// An array of slots that lie in the bytes from an offset to the next, of which those are null
-    /// whose bit isn't set.
+    /// Returns an array whose slot `i` is the bytes between offsets `i` and `i + 1`.
     ///
-    /// `ValidityLength` where the validity hasn't a bit for each slot, `OffsetsPastValues` where the
-    /// last offset is past the end of the bytes, `PhysicalType` where the data type isn't one of
-    /// bytes with such offsets.
+    /// A slot is null if its bit in `validity` isn't set. Errors, each as `Error::OutOfSpec`:
+    ///
+    /// - `Rule::ValidityLength`: `validity` has another number of bits than there are slots.
+    /// - `Rule::OffsetsPastValues`: the last offset is greater than the length of `values`.
+    /// - `Rule::PhysicalType`: `data_type` isn't one of byte strings with such offsets.
     pub fn try_new(
         data_type: DataType,
         offsets: OffsetsBuffer<O>,
@@ -87,7 +88,7 @@ impl<O: Offset> BinaryArray<O> {
         })
     }
 
-    /// The type of its slots.
+    /// Returns the data type.
     pub fn data_type(&self) -> &DataType
         ensures tree { type_view result.now ≡ self.now.type }
         ensures valid { IsBinary O.primitive self.now }
@@ -95,7 +96,7 @@ impl<O: Offset> BinaryArray<O> {
         &self.data_type
     }
 
-    /// The offsets, one more than there are slots.
+    /// Returns the offsets, one more than there are slots.
     pub fn offsets(&self) -> &OffsetsBuffer<O>
         ensures offsets { result.now ≡ self.now.offsets }
         ensures valid { IsBinary O.primitive self.now }
@@ -103,7 +104,7 @@ impl<O: Offset> BinaryArray<O> {
         &self.offsets
     }
 
-    /// The bytes that the offsets point into, which may be more than those of the slots.
+    /// Returns the bytes that the offsets point into. They may include bytes of no slot.
     pub fn values(&self) -> &Buffer<u8>
         ensures bytes { result.now ≡ self.now.values }
         ensures valid { IsBinary O.primitive self.now }
@@ -111,7 +112,7 @@ impl<O: Offset> BinaryArray<O> {
         &self.values
     }
 
-    /// The bits that say which slots are valid, or `None` where all are.
+    /// Returns the validity bitmap, or `None` if there is none: all slots are valid.
     pub fn validity(&self) -> Option<&Bitmap>
         ensures bits { option_copied result ≡ self.now.validity }
         ensures valid { IsBinary O.primitive self.now }
@@ -119,7 +120,7 @@ impl<O: Offset> BinaryArray<O> {
         self.validity.as_ref()
     }
 
-    /// How many slots it has.
+    /// Returns the number of slots.
     pub fn len(&self) -> usize
         ensures len { result ≡ span_count self.now.offsets }
         ensures valid { IsBinary O.primitive self.now }
@@ -127,21 +128,21 @@ impl<O: Offset> BinaryArray<O> {
         self.offsets.len() - 1
     }
 
-    /// Whether it has no slot.
+    /// Returns whether there is no slot.
     pub fn is_empty(&self) -> bool
         ensures { IsTrue result ↔ (span_count self.now.offsets ≡ 0) }
     {
         self.offsets.len() == 1
     }
 
-    /// How many slots are null.
+    /// Returns the number of null slots.
     pub fn null_count(&self) -> usize
         ensures { result ≡ null_count_of self.now.validity }
     {
         unset_bits(&self.validity)
     }
 
-    /// Whether the slot at `index` isn't null.
+    /// Returns whether the slot at `index` isn't null.
     pub fn is_valid(&self, index: usize) -> bool
         requires { index < span_count self.now.offsets }
         ensures { result ≡ is_valid self.now.validity index }
@@ -149,7 +150,7 @@ impl<O: Offset> BinaryArray<O> {
         is_valid_at(&self.validity, index)
     }
 
-    /// Whether the slot at `index` is null.
+    /// Returns whether the slot at `index` is null.
     pub fn is_null(&self, index: usize) -> bool
         requires { index < span_count self.now.offsets }
         ensures { result ≡ not (is_valid self.now.validity index) }
@@ -157,7 +158,7 @@ impl<O: Offset> BinaryArray<O> {
         !self.is_valid(index)
     }
 
-    /// The bytes of the slot at `index`, of a null too.
+    /// Returns the bytes of the slot at `index`, even if it is null.
     #[tactic(auto, using(crate::proofs::SpanPlaces::span_places))]
     pub fn value(&self, index: usize) -> &[u8]
         requires { index < span_count self.now.offsets }
@@ -169,7 +170,9 @@ impl<O: Offset> BinaryArray<O> {
         &self.values.as_slice()[start..end]
     }
 
-    /// The `len` slots from `offset` on: their offsets, over the same bytes. It takes no memory.
+    /// Returns the `len` slots from `offset`, in the same memory. It allocates nothing.
+    ///
+    /// The bytes that only other slots use are kept too.
     pub fn sliced(self, offset: usize, len: usize) -> Self
         requires { offset + len ≤ span_count self.offsets }
         ensures { result ≡ cut_spans offset len self }
@@ -188,7 +191,7 @@ impl<O: Offset> BinaryArray<O> {
         }
     }
 
-    /// The bytes of the slot at `index`, or `None` where the slot is null.
+    /// Returns the bytes of the slot at `index`, or `None` if it is null.
     pub fn get(&self, index: usize) -> Option<&[u8]>
         requires { index < span_count self.now.offsets }
         ensures { option_copied result ≡ option_where (is_valid self.now.validity index) (span self.now.offsets self.now.values index) }
@@ -200,7 +203,7 @@ impl<O: Offset> BinaryArray<O> {
         }
     }
 
-    /// The slots one after another, `None` where one is null.
+    /// Iterates over the slots, with `None` for a null.
     pub fn iter(&self) -> BinaryIter<'_, O>
         ensures { result ≡ options self.now.validity (spans self.now) }
     {
@@ -214,7 +217,9 @@ impl<O: Offset> BinaryArray<O> {
 impl<O: Offset> Clone for BinaryArray<O> {
     ghost is_clone = { λ a b. b ≡ a };
 
-    /// The same slots once more, which share their memory with these.
+    /// Returns an array of the same slots, in the same memory.
+    ///
+    /// It fails if an allocation fails or the count of owners can't grow.
     fn clone(&self) -> Result<Self, AllocError> {
         Ok(BinaryArray {
             data_type: self.data_type.clone()?,
@@ -225,7 +230,7 @@ impl<O: Offset> Clone for BinaryArray<O> {
     }
 }
 
-/// The slots of an array of bytes, seen as the list of those that are left.
+/// An iterator over the slots of a [`BinaryArray`]. Its model is the list of those that are left.
 #[derive(Drop)]
 pub struct BinaryIter<'a, O: Offset> {
     array: &'a BinaryArray<O>,
@@ -271,7 +276,7 @@ impl<'a, O: Offset> IntoIterator for &'a BinaryArray<O> {
     }
 }
 
-/// The data type, and the slots as a list.
+/// Prints the data type, and the slots as a list.
 impl<O: Offset> fmt::Debug for BinaryArray<O> {
     fn fmt<W: fmt::Write>(&self, f: &mut fmt::Formatter<W>) -> fmt::Result {
         fmt::Debug::fmt(&self.data_type, f)?;

@@ -1,4 +1,4 @@
-//! Arrays of truth values.
+//! Arrays of booleans.
 ghost use Rattle.std.specs.Prelude.{◌≡◌, ◌+◌, ◌≤◌, length, MatchResult, IsTrue, not, false, ◌↔◌, ◌<◌, get_or, false};
 ghost use Rattle.std.specs.Option.{option_copied};
 ghost use Rattle.std.specs.Iterator.{YieldsFirst, item_count};
@@ -15,7 +15,7 @@ use std::alloc::AllocError;
 use std::fmt;
 use std::marker::Model;
 
-/// A truth value for each slot, as a bit (Arrow columnar format, "Fixed-size Primitive Layout").
+/// An array of booleans, one bit each (Arrow columnar format, "Fixed-size Primitive Layout").
 #[derive(Drop)]
 pub struct BooleanArray {
     data_type: DataType,
@@ -37,10 +37,12 @@ impl Model for BooleanArray {
 }
 
 impl BooleanArray {
-    /// An array of these bits, of which those are null whose bit in the validity isn't set.
+    /// Returns an array of these bits.
     ///
-    /// `ValidityLength` where the validity hasn't a bit for each slot, `PhysicalType` where the data
-    /// type isn't one of truth values.
+    /// A slot is null if its bit in `validity` isn't set. Errors, each as `Error::OutOfSpec`:
+    ///
+    /// - `Rule::ValidityLength`: `validity` has another number of bits than there are slots.
+    /// - `Rule::PhysicalType`: `data_type` isn't one of booleans.
     pub fn try_new(
         data_type: DataType,
         values: Bitmap,
@@ -62,7 +64,7 @@ impl BooleanArray {
         })
     }
 
-    /// The type of its slots.
+    /// Returns the data type.
     pub fn data_type(&self) -> &DataType
         ensures tree { type_view result.now ≡ self.now.type }
         ensures valid { IsBoolean self.now }
@@ -70,7 +72,7 @@ impl BooleanArray {
         &self.data_type
     }
 
-    /// The bits, with one for each null too.
+    /// Returns the bits, which include one for each null.
     pub fn values(&self) -> &Bitmap
         ensures bits { result.now ≡ self.now.values }
         ensures valid { IsBoolean self.now }
@@ -78,7 +80,7 @@ impl BooleanArray {
         &self.values
     }
 
-    /// The bits that say which slots are valid, or `None` where all are.
+    /// Returns the validity bitmap, or `None` if there is none: all slots are valid.
     pub fn validity(&self) -> Option<&Bitmap>
         ensures bits { option_copied result ≡ self.now.validity }
         ensures valid { IsBoolean self.now }
@@ -86,7 +88,7 @@ impl BooleanArray {
         self.validity.as_ref()
     }
 
-    /// How many slots it has.
+    /// Returns the number of slots.
     pub fn len(&self) -> usize
         ensures len { result ≡ length self.now.values }
         ensures valid { IsBoolean self.now }
@@ -94,21 +96,21 @@ impl BooleanArray {
         self.values.len()
     }
 
-    /// Whether it has no slot.
+    /// Returns whether there is no slot.
     pub fn is_empty(&self) -> bool
         ensures { IsTrue result ↔ (length self.now.values ≡ 0) }
     {
         self.values.len() == 0
     }
 
-    /// How many slots are null.
+    /// Returns the number of null slots.
     pub fn null_count(&self) -> usize
         ensures { result ≡ null_count_of self.now.validity }
     {
         unset_bits(&self.validity)
     }
 
-    /// Whether the slot at `index` isn't null.
+    /// Returns whether the slot at `index` isn't null.
     pub fn is_valid(&self, index: usize) -> bool
         requires { index < length self.now.values }
         ensures { result ≡ is_valid self.now.validity index }
@@ -116,7 +118,7 @@ impl BooleanArray {
         is_valid_at(&self.validity, index)
     }
 
-    /// Whether the slot at `index` is null.
+    /// Returns whether the slot at `index` is null.
     pub fn is_null(&self, index: usize) -> bool
         requires { index < length self.now.values }
         ensures { result ≡ not (is_valid self.now.validity index) }
@@ -124,7 +126,7 @@ impl BooleanArray {
         !self.is_valid(index)
     }
 
-    /// The bit at `index`, of a null too.
+    /// Returns the bit of the slot at `index`, even if it is null.
     pub fn value(&self, index: usize) -> bool
         requires { index < length self.now.values }
         ensures { result ≡ get_or self.now.values index false }
@@ -132,7 +134,7 @@ impl BooleanArray {
         self.values.get_bit(index)
     }
 
-    /// The `len` slots from `offset` on. It takes no memory.
+    /// Returns the `len` slots from `offset`, in the same memory. It allocates nothing.
     pub fn sliced(self, offset: usize, len: usize) -> Self
         requires { offset + len ≤ length self.values }
         ensures { result ≡ cut_boolean offset len self }
@@ -149,7 +151,7 @@ impl BooleanArray {
         }
     }
 
-    /// The truth value at `index`, or `None` where the slot is null.
+    /// Returns the boolean at `index`, or `None` if the slot is null.
     pub fn get(&self, index: usize) -> Option<bool>
         requires { index < length self.now.values }
         ensures { result ≡ option_where (is_valid self.now.validity index) (get_or self.now.values index false) }
@@ -161,7 +163,7 @@ impl BooleanArray {
         }
     }
 
-    /// The slots one after another, `None` where one is null.
+    /// Iterates over the slots, with `None` for a null.
     pub fn iter(&self) -> BooleanIter<'_>
         ensures { result ≡ options self.now.validity self.now.values }
     {
@@ -175,7 +177,9 @@ impl BooleanArray {
 impl Clone for BooleanArray {
     ghost is_clone = { λ a b. b ≡ a };
 
-    /// The same slots once more, which share their memory with these.
+    /// Returns an array of the same slots, in the same memory.
+    ///
+    /// It fails if an allocation fails or the count of owners can't grow.
     fn clone(&self) -> Result<Self, AllocError> {
         Ok(BooleanArray {
             data_type: self.data_type.clone()?,
@@ -185,7 +189,7 @@ impl Clone for BooleanArray {
     }
 }
 
-/// The slots of an array of truth values, seen as the list of those that are left.
+/// An iterator over the slots of a [`BooleanArray`]. Its model is the list of those that are left.
 #[derive(Drop)]
 pub struct BooleanIter<'a> {
     array: &'a BooleanArray,
@@ -231,7 +235,7 @@ impl<'a> IntoIterator for &'a BooleanArray {
     }
 }
 
-/// The data type, and the slots as a list.
+/// Prints the data type, and the slots as a list.
 impl fmt::Debug for BooleanArray {
     fn fmt<W: fmt::Write>(&self, f: &mut fmt::Formatter<W>) -> fmt::Result {
         fmt::Debug::fmt(&self.data_type, f)?;

@@ -1,4 +1,4 @@
-//! Arrays of bytes, as many in each slot.
+//! Arrays of byte strings of one length.
 ghost use Rattle.std.specs.Prelude.{◌≡◌, ◌+◌, ◌*◌, ◌≤◌, MatchResult, IsTrue, not, ◌↔◌, ◌<◌};
 ghost use Rattle.std.specs.Option.{option_copied};
 ghost use Rattle.std.specs.Iterator.{YieldsFirstBy, item_count};
@@ -16,8 +16,9 @@ use std::alloc::AllocError;
 use std::fmt;
 use std::marker::Model;
 
-/// As many bytes for each slot as the data type says (Arrow columnar format, "Fixed-size Primitive
-/// Layout").
+/// An array of byte strings whose length the data type gives.
+///
+/// Arrow columnar format, "Fixed-size Primitive Layout".
 #[derive(Drop)]
 pub struct FixedSizeBinaryArray {
     data_type: DataType,
@@ -40,7 +41,7 @@ impl Model for FixedSizeBinaryArray {
     ghost invariant = { λ a. IsFixedBinary (record { type = type_view a.data_type; size = a.size; len = a.len; values = a.values; validity = a.validity }) };
 }
 
-// How many bytes the type gives each slot, 0 where it isn't one of bytes of a fixed size.
+// The number of bytes of a slot, or 0 if the type isn't one of byte strings of one length.
 fn byte_size(data_type: &DataType) -> usize
     ensures { result ≡ byte_size (type_view data_type.now) }
 {
@@ -51,11 +52,14 @@ fn byte_size(data_type: &DataType) -> usize
 }
 
 impl FixedSizeBinaryArray {
-    /// An array of these bytes, cut into slots, of which those are null whose bit isn't set.
+    /// Returns an array that cuts these bytes into slots.
     ///
-    /// `PhysicalType` where the data type isn't one of bytes of a fixed size, `ZeroSize` where that
-    /// size is 0, `ValuesLength` where the bytes aren't a whole number of slots, `ValidityLength`
-    /// where the validity hasn't a bit for each slot.
+    /// A slot is null if its bit in `validity` isn't set. Errors, each as `Error::OutOfSpec`:
+    ///
+    /// - `Rule::PhysicalType`: `data_type` isn't one of byte strings of one length.
+    /// - `Rule::ZeroSize`: this length is 0.
+    /// - `Rule::ValuesLength`: `values` isn't a whole number of slots long.
+    /// - `Rule::ValidityLength`: `validity` has another number of bits than there are slots.
     pub fn try_new(
         data_type: DataType,
         values: Buffer<u8>,
@@ -87,7 +91,7 @@ impl FixedSizeBinaryArray {
         })
     }
 
-    /// The type of its slots.
+    /// Returns the data type.
     pub fn data_type(&self) -> &DataType
         ensures tree { type_view result.now ≡ self.now.type }
         ensures valid { IsFixedBinary self.now }
@@ -95,7 +99,7 @@ impl FixedSizeBinaryArray {
         &self.data_type
     }
 
-    /// How many bytes a slot has.
+    /// Returns the number of bytes of a slot.
     pub fn size(&self) -> usize
         ensures size { result ≡ self.now.size }
         ensures valid { IsFixedBinary self.now }
@@ -103,7 +107,7 @@ impl FixedSizeBinaryArray {
         self.size
     }
 
-    /// The bytes of all slots, with those of each null too.
+    /// Returns the bytes of all slots, which include those of each null.
     pub fn values(&self) -> &Buffer<u8>
         ensures bytes { result.now ≡ self.now.values }
         ensures valid { IsFixedBinary self.now }
@@ -111,7 +115,7 @@ impl FixedSizeBinaryArray {
         &self.values
     }
 
-    /// The bits that say which slots are valid, or `None` where all are.
+    /// Returns the validity bitmap, or `None` if there is none: all slots are valid.
     pub fn validity(&self) -> Option<&Bitmap>
         ensures bits { option_copied result ≡ self.now.validity }
         ensures valid { IsFixedBinary self.now }
@@ -119,7 +123,7 @@ impl FixedSizeBinaryArray {
         self.validity.as_ref()
     }
 
-    /// How many slots it has.
+    /// Returns the number of slots.
     pub fn len(&self) -> usize
         ensures len { result ≡ self.now.len }
         ensures valid { IsFixedBinary self.now }
@@ -127,21 +131,21 @@ impl FixedSizeBinaryArray {
         self.len
     }
 
-    /// Whether it has no slot.
+    /// Returns whether there is no slot.
     pub fn is_empty(&self) -> bool
         ensures { IsTrue result ↔ (self.now.len ≡ 0) }
     {
         self.len == 0
     }
 
-    /// How many slots are null.
+    /// Returns the number of null slots.
     pub fn null_count(&self) -> usize
         ensures { result ≡ null_count_of self.now.validity }
     {
         unset_bits(&self.validity)
     }
 
-    /// Whether the slot at `index` isn't null.
+    /// Returns whether the slot at `index` isn't null.
     pub fn is_valid(&self, index: usize) -> bool
         requires { index < self.now.len }
         ensures { result ≡ is_valid self.now.validity index }
@@ -149,7 +153,7 @@ impl FixedSizeBinaryArray {
         is_valid_at(&self.validity, index)
     }
 
-    /// Whether the slot at `index` is null.
+    /// Returns whether the slot at `index` is null.
     pub fn is_null(&self, index: usize) -> bool
         requires { index < self.now.len }
         ensures { result ≡ not (is_valid self.now.validity index) }
@@ -157,7 +161,7 @@ impl FixedSizeBinaryArray {
         !self.is_valid(index)
     }
 
-    /// The bytes of the slot at `index`, of a null too.
+    /// Returns the bytes of the slot at `index`, even if it is null.
     pub fn value(&self, index: usize) -> &[u8]
         requires { index < self.now.len }
         ensures { result.now ≡ part (index * self.now.size) self.now.size self.now.values }
@@ -167,7 +171,7 @@ impl FixedSizeBinaryArray {
         &self.values.as_slice()[start..start + self.size]
     }
 
-    /// The `len` slots from `offset` on. It takes no memory.
+    /// Returns the `len` slots from `offset`, in the same memory. It allocates nothing.
     pub fn sliced(self, offset: usize, len: usize) -> Self
         requires { offset + len ≤ self.len }
         ensures { result ≡ cut_fixed offset len self }
@@ -188,7 +192,7 @@ impl FixedSizeBinaryArray {
         }
     }
 
-    /// The bytes of the slot at `index`, or `None` where the slot is null.
+    /// Returns the bytes of the slot at `index`, or `None` if it is null.
     pub fn get(&self, index: usize) -> Option<&[u8]>
         requires { index < self.now.len }
         ensures { option_copied result ≡ option_where (is_valid self.now.validity index) (part (index * self.now.size) self.now.size self.now.values) }
@@ -200,7 +204,7 @@ impl FixedSizeBinaryArray {
         }
     }
 
-    /// The slots one after another, `None` where one is null.
+    /// Iterates over the slots, with `None` for a null.
     pub fn iter(&self) -> FixedSizeBinaryIter<'_>
         ensures { result ≡ options self.now.validity (pieces self.now) }
     {
@@ -214,7 +218,9 @@ impl FixedSizeBinaryArray {
 impl Clone for FixedSizeBinaryArray {
     ghost is_clone = { λ a b. b ≡ a };
 
-    /// The same slots once more, which share their memory with these.
+    /// Returns an array of the same slots, in the same memory.
+    ///
+    /// It fails if an allocation fails or the count of owners can't grow.
     fn clone(&self) -> Result<Self, AllocError> {
         Ok(FixedSizeBinaryArray {
             data_type: self.data_type.clone()?,
@@ -226,7 +232,9 @@ impl Clone for FixedSizeBinaryArray {
     }
 }
 
-/// The slots of an array of bytes of a fixed size, seen as the list of those that are left.
+/// An iterator over the slots of a [`FixedSizeBinaryArray`].
+///
+/// Its model is the list of those that are left.
 #[derive(Drop)]
 pub struct FixedSizeBinaryIter<'a> {
     array: &'a FixedSizeBinaryArray,
@@ -272,7 +280,7 @@ impl<'a> IntoIterator for &'a FixedSizeBinaryArray {
     }
 }
 
-/// The data type, and the slots as a list.
+/// Prints the data type, and the slots as a list.
 impl fmt::Debug for FixedSizeBinaryArray {
     fn fmt<W: fmt::Write>(&self, f: &mut fmt::Formatter<W>) -> fmt::Result {
         fmt::Debug::fmt(&self.data_type, f)?;

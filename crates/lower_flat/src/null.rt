@@ -10,7 +10,7 @@ use std::alloc::AllocError;
 use std::fmt;
 use std::marker::Model;
 
-/// Slots that are all null, with nothing in memory (Arrow columnar format, "Null Layout").
+/// An array of nulls, which has no buffers (Arrow columnar format, "Null Layout").
 #[derive(Drop)]
 pub struct NullArray {
     data_type: DataType,
@@ -31,9 +31,10 @@ impl Model for NullArray {
 }
 
 impl NullArray {
-    /// An array of `len` nulls.
+    /// Returns an array of `len` nulls.
     ///
-    /// `PhysicalType` where the data type has something in memory.
+    /// The error is `Error::OutOfSpec(Rule::PhysicalType)`, exactly if the layout of `data_type`
+    /// isn't that of nulls.
     pub fn try_new(data_type: DataType, len: usize) -> Result<Self, Error>
         ensures { let seen = null_seen (type_view data_type) len in
             MatchResult result (λ a. (a ≡ seen) × IsNull seen) (BreaksNull seen) }
@@ -44,7 +45,7 @@ impl NullArray {
         Ok(NullArray { data_type, len })
     }
 
-    /// The type of its slots.
+    /// Returns the data type.
     pub fn data_type(&self) -> &DataType
         ensures tree { type_view result.now ≡ self.now.type }
         ensures valid { IsNull self.now }
@@ -52,7 +53,7 @@ impl NullArray {
         &self.data_type
     }
 
-    /// `None`: no bit says that a slot is null, since each one is.
+    /// Returns `None`: no bitmap says which slots are null, since all are.
     pub fn validity(&self) -> Option<&Bitmap>
         ensures bits { result ≡ None }
         ensures valid { IsNull self.now }
@@ -61,7 +62,7 @@ impl NullArray {
         None
     }
 
-    /// How many slots it has.
+    /// Returns the number of slots.
     pub fn len(&self) -> usize
         ensures len { result ≡ self.now.len }
         ensures valid { IsNull self.now }
@@ -69,21 +70,21 @@ impl NullArray {
         self.len
     }
 
-    /// Whether it has no slot.
+    /// Returns whether there is no slot.
     pub fn is_empty(&self) -> bool
         ensures { IsTrue result ↔ (self.now.len ≡ 0) }
     {
         self.len == 0
     }
 
-    /// How many slots are null: all of them.
+    /// Returns the number of null slots, which is that of all slots.
     pub fn null_count(&self) -> usize
         ensures { result ≡ self.now.len }
     {
         self.len
     }
 
-    /// Whether the slot at `index` isn't null: none is.
+    /// Returns `false`: no slot is valid.
     pub fn is_valid(&self, index: usize) -> bool
         requires { index < self.now.len }
         ensures { result ≡ false }
@@ -92,7 +93,7 @@ impl NullArray {
         false
     }
 
-    /// The `len` slots from `offset` on. It takes no memory.
+    /// Returns the `len` slots from `offset`. It allocates nothing.
     pub fn sliced(self, offset: usize, len: usize) -> Self
         requires { offset + len ≤ self.len }
         ensures { result ≡ cut_null len self }
@@ -101,7 +102,7 @@ impl NullArray {
         NullArray { data_type, len }
     }
 
-    /// Whether the slot at `index` is null: each one is.
+    /// Returns `true`: each slot is null.
     pub fn is_null(&self, index: usize) -> bool
         requires { index < self.now.len }
         ensures { result ≡ true }
@@ -113,7 +114,7 @@ impl NullArray {
 impl Clone for NullArray {
     ghost is_clone = { λ a b. b ≡ a };
 
-    /// The same slots once more.
+    /// Returns an array of the same slots. It fails only if an allocation fails.
     fn clone(&self) -> Result<Self, AllocError> {
         Ok(NullArray {
             data_type: self.data_type.clone()?,
@@ -122,7 +123,7 @@ impl Clone for NullArray {
     }
 }
 
-/// The data type, and how many slots there are.
+/// Prints the data type and the number of slots.
 impl fmt::Debug for NullArray {
     fn fmt<W: fmt::Write>(&self, f: &mut fmt::Formatter<W>) -> fmt::Result {
         f.debug_struct("NullArray")

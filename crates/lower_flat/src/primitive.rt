@@ -19,10 +19,9 @@ use std::alloc::{AllocError, Global};
 use std::fmt;
 use std::marker::Model;
 
-/// A number for each slot (Arrow columnar format, "Fixed-size Primitive Layout").
+/// An array of numbers (Arrow columnar format, "Fixed-size Primitive Layout").
 ///
-/// Its data type is one whose values lie in memory as these numbers do: an array of `i32` may be
-/// one of dates.
+/// Its data type is any whose values have the layout of `T`: an array of `i32` may be one of dates.
 #[derive(Drop)]
 pub struct PrimitiveArray<T: NativeType> {
     data_type: DataType,
@@ -80,10 +79,12 @@ impl<T: NativeType> Model for PrimitiveArray<T> {
 }
 
 impl<T: NativeType> PrimitiveArray<T> {
-    /// An array of these numbers, of which those are null whose bit isn't set.
+    /// Returns an array of these numbers.
     ///
-    /// `ValidityLength` where the validity hasn't a bit for each number, `PhysicalType` where the
-    /// data type doesn't lie in memory as these numbers do.
+    /// A slot is null if its bit in `validity` isn't set. Errors, each as `Error::OutOfSpec`:
+    ///
+    /// - `Rule::ValidityLength`: `validity` has another number of bits than there are numbers.
+    /// - `Rule::PhysicalType`: `data_type` isn't one whose values have the layout of `T`.
     pub fn try_new(
         data_type: DataType,
         values: Buffer<T>,
@@ -105,7 +106,7 @@ impl<T: NativeType> PrimitiveArray<T> {
         })
     }
 
-    /// The type of its slots.
+    /// Returns the data type.
     pub fn data_type(&self) -> &DataType
         ensures tree { type_view result.now ≡ self.now.type }
         ensures valid { IsPrimitive T.primitive self.now }
@@ -113,7 +114,7 @@ impl<T: NativeType> PrimitiveArray<T> {
         &self.data_type
     }
 
-    /// The numbers, with one for each null too.
+    /// Returns the numbers, which include one for each null.
     pub fn values(&self) -> &Buffer<T>
         ensures numbers { result.now ≡ self.now.values }
         ensures valid { IsPrimitive T.primitive self.now }
@@ -121,7 +122,7 @@ impl<T: NativeType> PrimitiveArray<T> {
         &self.values
     }
 
-    /// The bits that say which slots are valid, or `None` where all are.
+    /// Returns the validity bitmap, or `None` if there is none: all slots are valid.
     pub fn validity(&self) -> Option<&Bitmap>
         ensures bits { option_copied result ≡ self.now.validity }
         ensures valid { IsPrimitive T.primitive self.now }
@@ -129,7 +130,7 @@ impl<T: NativeType> PrimitiveArray<T> {
         self.validity.as_ref()
     }
 
-    /// How many slots it has.
+    /// Returns the number of slots.
     pub fn len(&self) -> usize
         ensures len { result ≡ length self.now.values }
         ensures valid { IsPrimitive T.primitive self.now }
@@ -137,21 +138,21 @@ impl<T: NativeType> PrimitiveArray<T> {
         self.values.len()
     }
 
-    /// Whether it has no slot.
+    /// Returns whether there is no slot.
     pub fn is_empty(&self) -> bool
         ensures { IsTrue result ↔ (length self.now.values ≡ 0) }
     {
         self.values.len() == 0
     }
 
-    /// How many slots are null.
+    /// Returns the number of null slots.
     pub fn null_count(&self) -> usize
         ensures { result ≡ null_count_of self.now.validity }
     {
         unset_bits(&self.validity)
     }
 
-    /// Whether the slot at `index` isn't null.
+    /// Returns whether the slot at `index` isn't null.
     pub fn is_valid(&self, index: usize) -> bool
         requires { index < length self.now.values }
         ensures { result ≡ is_valid self.now.validity index }
@@ -159,7 +160,7 @@ impl<T: NativeType> PrimitiveArray<T> {
         is_valid_at(&self.validity, index)
     }
 
-    /// Whether the slot at `index` is null.
+    /// Returns whether the slot at `index` is null.
     pub fn is_null(&self, index: usize) -> bool
         requires { index < length self.now.values }
         ensures { result ≡ not (is_valid self.now.validity index) }
@@ -167,7 +168,7 @@ impl<T: NativeType> PrimitiveArray<T> {
         !self.is_valid(index)
     }
 
-    /// The `len` slots from `offset` on. It takes no memory.
+    /// Returns the `len` slots from `offset`, in the same memory. It allocates nothing.
     pub fn sliced(self, offset: usize, len: usize) -> Self
         requires { offset + len ≤ length self.values }
         ensures { result ≡ cut_primitive offset len self }
@@ -184,7 +185,7 @@ impl<T: NativeType> PrimitiveArray<T> {
         }
     }
 
-    /// The number at `index`, of a null too.
+    /// Returns the number at `index`, even if the slot is null.
     pub fn value(&self, index: usize) -> T
         requires { index < length self.now.values }
         ensures { result ≡ get_or self.now.values index result }
@@ -192,7 +193,7 @@ impl<T: NativeType> PrimitiveArray<T> {
         self.values.as_slice()[index]
     }
 
-    /// The number at `index`, or `None` where the slot is null.
+    /// Returns the number at `index`, or `None` if the slot is null.
     pub fn get(&self, index: usize) -> Option<T>
         requires { index < length self.now.values }
         ensures { MatchOption result
@@ -206,7 +207,7 @@ impl<T: NativeType> PrimitiveArray<T> {
         }
     }
 
-    /// The slots one after another, `None` where one is null.
+    /// Iterates over the slots, with `None` for a null.
     pub fn iter(&self) -> PrimitiveIter<'_, T>
         ensures { result ≡ options self.now.validity self.now.values }
     {
@@ -216,8 +217,10 @@ impl<T: NativeType> PrimitiveArray<T> {
         }
     }
 
-    /// An array of all these numbers, of the type that [`DataType::from`] gives theirs. No number is
-    /// copied, and one small block is taken to count the owners.
+    /// Returns an array of these numbers, without nulls.
+    ///
+    /// Its data type is what [`DataType::from`] gives for theirs. No number is copied. It fails
+    /// only if the small block that counts the owners can't be allocated.
     pub fn from_vec(values: Vec<T>) -> Result<Self, AllocError>
         ensures { IfOk result (λ a. a ≡ primitive_seen (plain (number_type T.primitive)) values.items None) }
     {
@@ -230,7 +233,9 @@ impl<T: NativeType> PrimitiveArray<T> {
         })
     }
 
-    /// As [`PrimitiveArray::from_vec`], of a copy of the numbers.
+    /// Returns an array of a copy of these numbers, as [`PrimitiveArray::from_vec`] does.
+    ///
+    /// It fails only if an allocation fails.
     pub fn from_slice(alloc: Global, values: &[T]) -> Result<Self, AllocError>
         ensures { IfOk result (λ a. a ≡ primitive_seen (plain (number_type T.primitive)) values.now None) }
     {
@@ -241,7 +246,9 @@ impl<T: NativeType> PrimitiveArray<T> {
 impl<T: NativeType> Clone for PrimitiveArray<T> {
     ghost is_clone = { λ a b. b ≡ a };
 
-    /// The same slots once more, which share their memory with these.
+    /// Returns an array of the same slots, in the same memory.
+    ///
+    /// It fails if an allocation fails or the count of owners can't grow.
     fn clone(&self) -> Result<Self, AllocError> {
         Ok(PrimitiveArray {
             data_type: self.data_type.clone()?,
@@ -251,7 +258,8 @@ impl<T: NativeType> Clone for PrimitiveArray<T> {
     }
 }
 
-/// The slots of an array of numbers, seen as the list of those that are left.
+/// An iterator over the slots of a [`PrimitiveArray`]. Its model is the list of those that are
+/// left.
 #[derive(Drop)]
 pub struct PrimitiveIter<'a, T: NativeType> {
     array: &'a PrimitiveArray<T>,
@@ -297,7 +305,7 @@ impl<'a, T: NativeType> IntoIterator for &'a PrimitiveArray<T> {
     }
 }
 
-/// The data type, and the slots as a list.
+/// Prints the data type, and the slots as a list.
 impl<T: NativeType + fmt::Debug> fmt::Debug for PrimitiveArray<T> {
     fn fmt<W: fmt::Write>(&self, f: &mut fmt::Formatter<W>) -> fmt::Result {
         fmt::Debug::fmt(&self.data_type, f)?;

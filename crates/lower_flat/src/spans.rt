@@ -5,8 +5,9 @@ ghost use Rattle.lower_flat.specs.SameValues.{HasSameBytes, HasSameSteps, HasSam
 
 use lower::offset::{Offset, OffsetsBuffer};
 
-/// Whether each slot has the same bytes in both, by one look at the offsets and one at the bytes
-/// from the first slot to the last.
+/// Returns whether each slot has the same bytes in both.
+///
+/// It compares the offsets once, and the bytes from the first slot to the last once.
 pub(crate) fn has_same_spans<O: Offset>(
     lhs: &OffsetsBuffer<O>,
     lhs_values: &[u8],
@@ -32,8 +33,8 @@ fn held<'a, O: Offset>(offsets: &OffsetsBuffer<O>, values: &'a [u8]) -> &'a [u8]
     &values[offsets.get(0)..end]
 }
 
-// Whether the slots begin and end as far from the first in both. There is no early exit, so it
-// becomes vector code.
+// Whether the slots have the same bounds, relative to the first. The loop has no early exit, so
+// that it is vectorized.
 fn has_same_steps<O: Offset>(lhs: &OffsetsBuffer<O>, rhs: &OffsetsBuffer<O>) -> bool
     requires { length lhs.now ≡ length rhs.now }
     ensures { IsTrue result ↔ HasSameSteps lhs.now rhs.now (length lhs.now) }
@@ -47,7 +48,7 @@ fn has_same_steps<O: Offset>(lhs: &OffsetsBuffer<O>, rhs: &OffsetsBuffer<O>) -> 
     are_same
 }
 
-// How far an offset is from the first.
+// The distance of an offset from the first.
 #[tactic(auto, using(crate::proofs::SpanPlaces::offset_first))]
 fn step<O: Offset>(offsets: &OffsetsBuffer<O>, index: usize) -> usize
     requires { index < length offsets.now }
@@ -57,7 +58,7 @@ fn step<O: Offset>(offsets: &OffsetsBuffer<O>, index: usize) -> usize
     offsets.get(index) - offsets.get(0)
 }
 
-/// Whether the bytes are the same. There is no early exit, so it becomes vector code.
+/// Returns whether the bytes are the same. The loop has no early exit, so that it is vectorized.
 pub(crate) fn has_same_bytes(lhs: &[u8], rhs: &[u8]) -> bool
     ensures { IsTrue result ↔ (lhs.now ≡ rhs.now) }
 {

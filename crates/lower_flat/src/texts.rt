@@ -1,12 +1,13 @@
-//! Whether texts that stand one after another are UTF-8.
+//! Whether concatenated texts are UTF-8.
 ghost use Rattle.std.specs.Prelude.{◌-◌, ◌<◌, ◌≤◌, ◌↔◌, length, drop, IsTrue};
 ghost use Rattle.std.specs.Str.{IsAscii, IsUtf8};
 ghost use Rattle.lower_flat.specs.Spans.{EndsWithin, AreTexts, IsCut, AreCut};
 
 use lower::offset::{Offset, OffsetsBuffer};
 
-/// Whether each text is UTF-8, by one test of the bytes from the first text to the last and a look
-/// at the byte where each begins.
+/// Returns whether each text is UTF-8.
+///
+/// It checks the bytes from the first text to the last once, and then the first byte of each text.
 pub(crate) fn are_texts<O: Offset>(offsets: &OffsetsBuffer<O>, values: &[u8]) -> bool
     requires { EndsWithin offsets.now values.now }
     ensures { IsTrue result ↔ AreTexts offsets.now values.now }
@@ -18,7 +19,7 @@ pub(crate) fn are_texts<O: Offset>(offsets: &OffsetsBuffer<O>, values: &[u8]) ->
     is_utf8_from(bytes, offsets.get(0)) && are_cut(offsets, bytes)
 }
 
-// Whether all bytes are ASCII. There is no early exit, so it becomes vector code.
+// Whether all bytes are ASCII. The loop has no early exit, so that it is vectorized.
 fn are_ascii(bytes: &[u8]) -> bool
     ensures { IsTrue result ↔ IsAscii bytes.now }
 {
@@ -52,7 +53,7 @@ fn are_cut<O: Offset>(offsets: &OffsetsBuffer<O>, bytes: &[u8]) -> bool
     are_cut
 }
 
-// Whether no character goes over the place.
+// Whether no character spans this offset.
 fn is_cut(bytes: &[u8], at: usize) -> bool
     ensures { IsTrue result ↔ IsCut bytes.now at }
 {

@@ -20,9 +20,9 @@ use std::alloc::AllocError;
 use std::fmt;
 use std::marker::Model;
 
-/// A text for each slot, in UTF-8 (Arrow columnar format, "Variable-size Binary Layout").
+/// An array of UTF-8 texts (Arrow columnar format, "Variable-size Binary Layout").
 ///
-/// With offsets of `i64` it is an array of a large type.
+/// With `i64` offsets its data type is a large one.
 #[derive(Drop)]
 pub struct Utf8Array<O: Offset> {
     data_type: DataType,
@@ -45,7 +45,7 @@ impl<O: Offset> Model for Utf8Array<O> {
     ghost invariant = { λ a. IsText O.primitive (record { type = type_view a.data_type; offsets = a.offsets; values = a.values; validity = a.validity }) };
 }
 
-// How texts with offsets of this type lie in memory.
+// The layout of texts with offsets of this type.
 fn texts_with(offsets: PrimitiveType) -> PhysicalType
     ensures { result ≡ texts_with offsets }
 {
@@ -56,12 +56,14 @@ fn texts_with(offsets: PrimitiveType) -> PhysicalType
 }
 
 impl<O: Offset> Utf8Array<O> {
-    /// An array of slots that lie in the bytes from an offset to the next, of which those are null
-    /// whose bit isn't set.
+    /// Returns an array whose slot `i` is the bytes between offsets `i` and `i + 1`.
     ///
-    /// `ValidityLength` where the validity hasn't a bit for each slot, `OffsetsPastValues` where the
-    /// last offset is past the end of the bytes, `Utf8` where a slot, null or not, isn't UTF-8,
-    /// `PhysicalType` where the data type isn't one of texts with such offsets.
+    /// A slot is null if its bit in `validity` isn't set. Errors, each as `Error::OutOfSpec`:
+    ///
+    /// - `Rule::ValidityLength`: `validity` has another number of bits than there are slots.
+    /// - `Rule::OffsetsPastValues`: the last offset is greater than the length of `values`.
+    /// - `Rule::Utf8`: a slot, null or not, isn't UTF-8.
+    /// - `Rule::PhysicalType`: `data_type` isn't one of texts with such offsets.
     pub fn try_new(
         data_type: DataType,
         offsets: OffsetsBuffer<O>,
@@ -91,7 +93,7 @@ impl<O: Offset> Utf8Array<O> {
         })
     }
 
-    /// The type of its slots.
+    /// Returns the data type.
     pub fn data_type(&self) -> &DataType
         ensures tree { type_view result.now ≡ self.now.type }
         ensures valid { IsText O.primitive self.now }
@@ -99,7 +101,7 @@ impl<O: Offset> Utf8Array<O> {
         &self.data_type
     }
 
-    /// The offsets, one more than there are slots.
+    /// Returns the offsets, one more than there are slots.
     pub fn offsets(&self) -> &OffsetsBuffer<O>
         ensures offsets { result.now ≡ self.now.offsets }
         ensures valid { IsText O.primitive self.now }
@@ -107,7 +109,7 @@ impl<O: Offset> Utf8Array<O> {
         &self.offsets
     }
 
-    /// The bytes that the offsets point into, which may be more than those of the slots.
+    /// Returns the bytes that the offsets point into. They may include bytes of no slot.
     pub fn values(&self) -> &Buffer<u8>
         ensures bytes { result.now ≡ self.now.values }
         ensures valid { IsText O.primitive self.now }
@@ -115,7 +117,7 @@ impl<O: Offset> Utf8Array<O> {
         &self.values
     }
 
-    /// The bits that say which slots are valid, or `None` where all are.
+    /// Returns the validity bitmap, or `None` if there is none: all slots are valid.
     pub fn validity(&self) -> Option<&Bitmap>
         ensures bits { option_copied result ≡ self.now.validity }
         ensures valid { IsText O.primitive self.now }
@@ -123,7 +125,7 @@ impl<O: Offset> Utf8Array<O> {
         self.validity.as_ref()
     }
 
-    /// How many slots it has.
+    /// Returns the number of slots.
     pub fn len(&self) -> usize
         ensures len { result ≡ span_count self.now.offsets }
         ensures valid { IsText O.primitive self.now }
@@ -131,21 +133,21 @@ impl<O: Offset> Utf8Array<O> {
         self.offsets.len() - 1
     }
 
-    /// Whether it has no slot.
+    /// Returns whether there is no slot.
     pub fn is_empty(&self) -> bool
         ensures { IsTrue result ↔ (span_count self.now.offsets ≡ 0) }
     {
         self.offsets.len() == 1
     }
 
-    /// How many slots are null.
+    /// Returns the number of null slots.
     pub fn null_count(&self) -> usize
         ensures { result ≡ null_count_of self.now.validity }
     {
         unset_bits(&self.validity)
     }
 
-    /// Whether the slot at `index` isn't null.
+    /// Returns whether the slot at `index` isn't null.
     pub fn is_valid(&self, index: usize) -> bool
         requires { index < span_count self.now.offsets }
         ensures { result ≡ is_valid self.now.validity index }
@@ -153,7 +155,7 @@ impl<O: Offset> Utf8Array<O> {
         is_valid_at(&self.validity, index)
     }
 
-    /// Whether the slot at `index` is null.
+    /// Returns whether the slot at `index` is null.
     pub fn is_null(&self, index: usize) -> bool
         requires { index < span_count self.now.offsets }
         ensures { result ≡ not (is_valid self.now.validity index) }
@@ -161,7 +163,7 @@ impl<O: Offset> Utf8Array<O> {
         !self.is_valid(index)
     }
 
-    /// The text at `index`, of a null too.
+    /// Returns the text at `index`, even if the slot is null.
     #[tactic(auto, using(crate::proofs::SpanPlaces::span_places))]
     pub fn value(&self, index: usize) -> &str
         requires { index < span_count self.now.offsets }
@@ -170,11 +172,13 @@ impl<O: Offset> Utf8Array<O> {
         prove!(index < self.offsets.len());
         let start = self.offsets.get(index);
         let end = self.offsets.get(index + 1);
-        // Each slot is UTF-8 from the constructor on.
+        // The constructor checked that each slot is UTF-8.
         unsafe { str::from_utf8_unchecked(&self.values.as_slice()[start..end]) }
     }
 
-    /// The `len` slots from `offset` on: their offsets, over the same bytes. It takes no memory.
+    /// Returns the `len` slots from `offset`, in the same memory. It allocates nothing.
+    ///
+    /// The bytes that only other slots use are kept too.
     pub fn sliced(self, offset: usize, len: usize) -> Self
         requires { offset + len ≤ span_count self.offsets }
         ensures { result ≡ cut_spans offset len self }
@@ -193,7 +197,7 @@ impl<O: Offset> Utf8Array<O> {
         }
     }
 
-    /// The text at `index`, or `None` where the slot is null.
+    /// Returns the text at `index`, or `None` if the slot is null.
     pub fn get(&self, index: usize) -> Option<&str>
         requires { index < span_count self.now.offsets }
         ensures { option_copied result ≡ option_where (is_valid self.now.validity index) (span self.now.offsets self.now.values index) }
@@ -205,7 +209,7 @@ impl<O: Offset> Utf8Array<O> {
         }
     }
 
-    /// The slots one after another, `None` where one is null.
+    /// Iterates over the slots, with `None` for a null.
     pub fn iter(&self) -> Utf8Iter<'_, O>
         ensures { result ≡ options self.now.validity (spans self.now) }
     {
@@ -219,7 +223,9 @@ impl<O: Offset> Utf8Array<O> {
 impl<O: Offset> Clone for Utf8Array<O> {
     ghost is_clone = { λ a b. b ≡ a };
 
-    /// The same slots once more, which share their memory with these.
+    /// Returns an array of the same slots, in the same memory.
+    ///
+    /// It fails if an allocation fails or the count of owners can't grow.
     fn clone(&self) -> Result<Self, AllocError> {
         Ok(Utf8Array {
             data_type: self.data_type.clone()?,
@@ -230,7 +236,7 @@ impl<O: Offset> Clone for Utf8Array<O> {
     }
 }
 
-/// The slots of an array of texts, seen as the list of those that are left.
+/// An iterator over the slots of a [`Utf8Array`]. Its model is the list of those that are left.
 #[derive(Drop)]
 pub struct Utf8Iter<'a, O: Offset> {
     array: &'a Utf8Array<O>,
@@ -276,7 +282,7 @@ impl<'a, O: Offset> IntoIterator for &'a Utf8Array<O> {
     }
 }
 
-/// The data type, and the slots as a list.
+/// Prints the data type, and the slots as a list.
 impl<O: Offset> fmt::Debug for Utf8Array<O> {
     fn fmt<W: fmt::Write>(&self, f: &mut fmt::Formatter<W>) -> fmt::Result {
         fmt::Debug::fmt(&self.data_type, f)?;

@@ -1,4 +1,4 @@
-//! What an array does with its validity.
+//! Optional validity bitmaps of arrays (Arrow columnar format, "Validity bitmaps").
 ghost use Rattle.std.specs.Prelude.{◌≡◌, ◌↔◌, ◌+◌, ◌-◌, ◌*◌, ◌^◌, ◌<◌, ◌≤◌, IsTrue, IfOk, not, length};
 ghost use Rattle.std.specs.List.{count_by, sum_by};
 ghost use Rattle.lower.specs.Bits.{has_bit};
@@ -7,7 +7,7 @@ ghost use Rattle.lower_flat.specs.Validities.{part, unset_along, null_count_of, 
 use lower::bitmap::Bitmap;
 use std::alloc::AllocError;
 
-/// Whether there is a bit for each of `len` slots, or no bits at all.
+/// Returns whether there is no bitmap, or one of `len` bits.
 pub fn fits(validity: &Option<Bitmap>, len: usize) -> bool
     ensures { IsTrue result ↔ ValidityFits validity.now len }
 {
@@ -17,7 +17,7 @@ pub fn fits(validity: &Option<Bitmap>, len: usize) -> bool
     }
 }
 
-/// How many bits aren't set.
+/// Returns the number of bits that aren't set.
 pub fn unset_bits(validity: &Option<Bitmap>) -> usize
     ensures { result ≡ null_count_of validity.now }
 {
@@ -27,8 +27,8 @@ pub fn unset_bits(validity: &Option<Bitmap>) -> usize
     }
 }
 
-// How many bits aren't set: those of the bytes that are whole, many at once, and those of the first
-// and the last byte one by one.
+// The number of bits that aren't set: bit by bit in the first and the last byte, and many at once
+// in the bytes between.
 fn count_unset(bits: &Bitmap) -> usize
     ensures { result ≡ count_by (λ bit. not bit) bits.now }
 {
@@ -42,7 +42,7 @@ fn count_unset(bits: &Bitmap) -> usize
     unset_between(bits, 0, head) + unset_in(inner) + unset_between(bits, tail, len)
 }
 
-// How many bits of the bytes aren't set: a machine counts those of eight bytes at once.
+// The number of bits that aren't set, counted eight bytes at once.
 fn unset_in(bytes: &[u8]) -> usize
     requires { 8 * length bytes.now < 2 ^ 64 }
     ensures count { result ≡ unset_along (has_bit bytes.now) 0 (8 * length bytes.now) }
@@ -52,7 +52,7 @@ fn unset_in(bytes: &[u8]) -> usize
     unset_in_words(words) + unset_in_bytes(rest)
 }
 
-// How many bits of the words aren't set.
+// The number of bits that aren't set.
 fn unset_in_words(words: &[[u8; 8]]) -> usize
     requires { 64 * length words.now < 2 ^ 64 }
     ensures count { result ≡ sum_by (λ word. unset_along (has_bit word) 0 64) words.now }
@@ -65,7 +65,7 @@ fn unset_in_words(words: &[[u8; 8]]) -> usize
     count
 }
 
-// How many bits of the eight bytes aren't set, which a machine counts in one step.
+// The number of bits of eight bytes that aren't set, counted by one machine instruction.
 fn unset_in_word(word: [u8; 8]) -> usize
     ensures count { result ≡ unset_along (has_bit word) 0 64 }
     ensures bound { result ≤ 64 }
@@ -73,7 +73,7 @@ fn unset_in_word(word: [u8; 8]) -> usize
     u64::from_le_bytes(word).count_zeros() as usize
 }
 
-// How many bits of the bytes aren't set, byte by byte.
+// The number of bits that aren't set, counted byte by byte.
 fn unset_in_bytes(bytes: &[u8]) -> usize
     requires { 8 * length bytes.now < 2 ^ 64 }
     ensures count { result ≡ unset_along (has_bit bytes.now) 0 (8 * length bytes.now) }
@@ -86,7 +86,7 @@ fn unset_in_bytes(bytes: &[u8]) -> usize
     count
 }
 
-// How many of the bits from `from` to `to` aren't set.
+// The number of bits from `from` to `to` that aren't set.
 fn unset_between(bits: &Bitmap, from: usize, to: usize) -> usize
     requires order { from ≤ to }
     requires inside { to ≤ length bits.now }
@@ -102,7 +102,7 @@ fn unset_between(bits: &Bitmap, from: usize, to: usize) -> usize
     count
 }
 
-/// Whether the slot at `index` is valid.
+/// Returns whether the slot at `index` is valid.
 pub fn is_valid_at(validity: &Option<Bitmap>, index: usize) -> bool
     requires { ValidityHolds validity.now (index + 1) }
     ensures { result ≡ is_valid validity.now index }
@@ -113,7 +113,7 @@ pub fn is_valid_at(validity: &Option<Bitmap>, index: usize) -> bool
     }
 }
 
-/// The validity of the `len` slots from `offset` on.
+/// Returns the validity of the `len` slots from `offset`, in the same memory.
 pub fn sliced_validity(validity: Option<Bitmap>, offset: usize, len: usize) -> Option<Bitmap>
     requires { ValidityHolds validity (offset + len) }
     ensures { result ≡ cut_validity offset len validity }
@@ -124,7 +124,9 @@ pub fn sliced_validity(validity: Option<Bitmap>, offset: usize, len: usize) -> O
     }
 }
 
-/// The same bits once more.
+/// Returns the same bits, in the same memory.
+///
+/// It fails only if the count of owners can't grow.
 pub fn clone_validity(validity: &Option<Bitmap>) -> Result<Option<Bitmap>, AllocError>
     ensures { IfOk result (λ copy. copy ≡ validity.now) }
 {

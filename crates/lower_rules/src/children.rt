@@ -1,4 +1,4 @@
-//! What the rules see of the children of an array: their types and their lengths.
+//! The children of an array, of which the rules need types and lengths.
 ghost use Rattle.std.specs.Prelude.{◌≡◌, ℕ, ◌↔◌, map, IsTrue};
 ghost use Rattle.std.specs.List.{All};
 ghost use Rattle.lower.specs.TypeTrees.{TypeTree};
@@ -11,27 +11,27 @@ use lower::datatypes::{DataType, Field};
 
 /// An array as the child of another.
 pub trait Child: Drop {
-    // The type of its slots.
+    // The data type.
     ghost child_type: { Self → TypeTree };
 
-    // How many slots it has.
+    // The number of slots.
     ghost child_len: { Self → ℕ };
 
-    // What each such array is.
+    // What is true of each such array.
     ghost is_child: { Self → Type 0 };
 
-    /// The type of its slots.
+    /// Returns the data type.
     fn data_type(&self) -> &DataType
         ensures tree { type_view result.now ≡ child_type self.now }
         ensures valid { is_child self.now };
 
-    /// How many slots it has.
+    /// Returns the number of slots.
     fn len(&self) -> usize
         ensures len { result ≡ child_len self.now }
         ensures valid { is_child self.now };
 }
 
-/// Whether there is a child for each field, of its type.
+/// Returns whether there is one child for each field, of the field's type.
 pub fn have_types<C: Child>(fields: &[Field], children: &[C]) -> bool
     ensures same { IsTrue result ↔ FieldTypes (fields_view fields.now) (map C.child_type children.now) }
     ensures valid { IsTrue result → All C.is_child children.now }
@@ -47,7 +47,7 @@ pub fn have_types<C: Child>(fields: &[Field], children: &[C]) -> bool
     true
 }
 
-/// Whether each child has `len` slots.
+/// Returns whether each child has `len` slots.
 #[tactic(auto, using(crate::proofs::ChildSteps::one_more))]
 pub fn have_len<C: Child>(children: &[C], len: usize) -> bool
     ensures { IsTrue result ↔ AllAre len (map C.child_len children.now) }

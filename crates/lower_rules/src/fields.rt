@@ -1,4 +1,4 @@
-//! What a type says of the children of its arrays.
+//! What a data type says of the children of its arrays.
 ghost use Rattle.std.specs.Prelude.{◌≡◌, ◌↔◌, [], ◌∷◌, IsTrue};
 ghost use Rattle.lower.specs.TypeViews.{type_view, field_view, fields_view};
 ghost use Rattle.lower_rules.specs.Fields.{child_fields, field_type, field_count, FieldTypes, IsPair};
@@ -8,7 +8,7 @@ ghost use Rattle.lower_rules.specs.Keys.{is_ordered};
 use lower::datatypes::{DataType, Field, is_same_type};
 use std::slice;
 
-/// The fields of a type's children, of its extensions those of the type that they are stored as.
+/// Returns the fields of the children. An extension has those of its storage type.
 pub fn child_fields(data_type: &DataType) -> &[Field]
     ensures { fields_view result.now ≡ child_fields (type_view data_type.now) }
 {
@@ -23,7 +23,7 @@ pub fn child_fields(data_type: &DataType) -> &[Field]
     }
 }
 
-/// Whether there are so many fields.
+/// Returns whether there are `count` fields.
 #[tactic(auto, using(crate::proofs::OneField::fields_counted))]
 pub fn are_so_many(fields: &[Field], count: usize) -> bool
     ensures { IsTrue result ↔ (count ≡ field_count (fields_view fields.now)) }
@@ -31,14 +31,14 @@ pub fn are_so_many(fields: &[Field], count: usize) -> bool
     fields.len() == count
 }
 
-/// Whether the field has this type.
+/// Returns whether the field has this type.
 pub fn has_type(field: &Field, data_type: &DataType) -> bool
     ensures { IsTrue result ↔ (type_view data_type.now ≡ field_type (field_view field.now)) }
 {
     is_same_type(data_type, &field.data_type)
 }
 
-/// Whether there is one field, of this type.
+/// Returns whether there is exactly one field, and it has this type.
 pub fn is_only_child(fields: &[Field], child: &DataType) -> bool
     ensures { IsTrue result ↔ FieldTypes (fields_view fields.now) (type_view child.now ∷ []) }
 {
@@ -48,7 +48,7 @@ pub fn is_only_child(fields: &[Field], child: &DataType) -> bool
     has_type(&fields[0], child)
 }
 
-/// Whether the type is a struct of two fields: a key and a value.
+/// Returns whether the type is a struct of two fields.
 pub fn is_pair(data_type: &DataType) -> bool
     ensures { IsTrue result ↔ IsPair (type_view data_type.now) }
 {
@@ -58,7 +58,7 @@ pub fn is_pair(data_type: &DataType) -> bool
     }
 }
 
-/// How many slots the type gives each list, 0 where it isn't one of lists of a fixed size.
+/// Returns the number of slots of each list, or 0 if it isn't fixed.
 pub fn list_size(data_type: &DataType) -> usize
     ensures { result ≡ list_size (type_view data_type.now) }
 {
@@ -68,7 +68,7 @@ pub fn list_size(data_type: &DataType) -> usize
     }
 }
 
-/// Whether the type says that the order of a dictionary's values means something.
+/// Returns whether the order of a dictionary's values has a meaning.
 pub fn is_ordered(data_type: &DataType) -> bool
     ensures { result ≡ is_ordered (type_view data_type.now) }
 {

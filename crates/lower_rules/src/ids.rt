@@ -1,4 +1,6 @@
-//! The ids of a union's children, and of its slots.
+//! Type ids of the children and of the slots of a union.
+//!
+//! Arrow columnar format, "Union Layout".
 ghost use Rattle.std.specs.Prelude.{◌≡◌, ◌↔◌, pos, ◌<◌, length, get_or, IsTrue};
 ghost use Rattle.std.specs.Option.{option_copied};
 ghost use Rattle.lower.specs.TypeViews.{type_view};
@@ -8,7 +10,9 @@ ghost use Rattle.lower_rules.specs.Ids.{union_ids, union_mode, place_among, chil
 use lower::buffer::Buffer;
 use lower::datatypes::{DataType, UnionMode};
 
-/// The ids that a union type gives its children, or `None` where they are 0, 1 and on.
+/// Returns the ids of a union type's children, or `None` if it has none.
+///
+/// Without ids, these are 0, 1, 2 and so on.
 pub fn union_ids(data_type: &DataType) -> Option<&[i32]>
     ensures { option_copied result ≡ union_ids (type_view data_type.now) }
 {
@@ -18,7 +22,7 @@ pub fn union_ids(data_type: &DataType) -> Option<&[i32]>
     }
 }
 
-/// Whether the children of a union type stand slot by slot, or at offsets.
+/// Returns whether a union type is dense or sparse.
 pub fn union_mode(data_type: &DataType) -> UnionMode
     ensures { result ≡ union_mode (type_view data_type.now) }
 {
@@ -28,7 +32,7 @@ pub fn union_mode(data_type: &DataType) -> UnionMode
     }
 }
 
-// The place of the first such id, or how many there are.
+// The index of the first such id, or the number of ids if there is none.
 #[tactic(auto, using(crate::proofs::TypeIds::places))]
 fn place_among(id: i32, ids: &[i32]) -> usize
     ensures { result ≡ place_among id ids.now }
@@ -41,7 +45,7 @@ fn place_among(id: i32, ids: &[i32]) -> usize
     ids.len()
 }
 
-/// The number of the child that an id names.
+/// Returns the index of the child that an id selects.
 pub fn child_number(ids: Option<&[i32]>, id: i8) -> usize
     ensures { result ≡ child_number (option_copied ids.entry) id }
 {
@@ -52,7 +56,7 @@ pub fn child_number(ids: Option<&[i32]>, id: i8) -> usize
     }
 }
 
-/// Whether an id names one of `count` children.
+/// Returns whether an id selects one of `count` children.
 pub fn names_child(ids: Option<&[i32]>, count: usize, id: i8) -> bool
     ensures { IsTrue result ↔ NamesChild (option_copied ids.entry) count id }
 {
@@ -62,7 +66,7 @@ pub fn names_child(ids: Option<&[i32]>, count: usize, id: i8) -> bool
     }
 }
 
-/// Whether each slot's id names one of `count` children.
+/// Returns whether the id of each slot selects one of `count` children.
 pub fn are_named(ids: Option<&[i32]>, types: &[i8], count: usize) -> bool
     ensures { IsTrue result ↔ AreNamed (option_copied ids.entry) types.now count }
 {
@@ -74,7 +78,7 @@ pub fn are_named(ids: Option<&[i32]>, types: &[i8], count: usize) -> bool
     true
 }
 
-// Whether an id is from 0 to 126, and none before it is the same.
+// Whether an id is from 0 to 126, and differs from those before it.
 fn is_id(ids: &[i32], index: usize) -> bool
     requires { index < length ids.now }
     ensures { IsTrue result ↔ (KeyFits (get_or ids.now index (pos 0)) 127 × (place_among (get_or ids.now index (pos 0)) ids.now ≡ index)) }
@@ -99,7 +103,7 @@ fn are_ids(ids: &[i32], count: usize) -> bool
     true
 }
 
-/// Whether the ids, where a type gives any, are distinct ids of `count` children.
+/// Returns whether the ids are `count` distinct ones from 0 to 126, or absent.
 pub fn ids_fit(ids: Option<&[i32]>, count: usize) -> bool
     ensures { IsTrue result ↔ IdsFit (option_copied ids.entry) count }
 {
@@ -109,7 +113,9 @@ pub fn ids_fit(ids: Option<&[i32]>, count: usize) -> bool
     }
 }
 
-/// Whether a dense union has an offset for each of `len` slots, a sparse one none.
+/// Returns whether the offsets fit the mode of a union of `len` slots.
+///
+/// A dense union has an offset for each slot, a sparse one has no offsets.
 pub fn are_given(mode: UnionMode, offsets: &Option<Buffer<i32>>, len: usize) -> bool
     ensures { IsTrue result ↔ OffsetsGiven mode offsets.now len }
 {

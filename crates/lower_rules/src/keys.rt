@@ -1,4 +1,4 @@
-//! The keys of a dictionary.
+//! The keys of dictionaries (Arrow columnar format, "Dictionary-encoded Layout").
 ghost use Rattle.std.specs.Prelude.{◌≡◌, ◌↔◌, ℤ, pos, ◌+◌, ◌<◌, ◌≤◌, ◌<ℤ◌, length, map, get_or, IsTrue, MatchOption};
 ghost use Rattle.std.specs.Option.{option_copied};
 ghost use Rattle.lower.specs.TypeViews.{type_view};
@@ -14,7 +14,7 @@ use lower_flat::PrimitiveArray;
 use std::alloc::AllocError;
 use std::fmt;
 
-/// A type of integers that the keys of a dictionary may have.
+/// An integer type that the keys of a dictionary can have.
 pub trait DictionaryKey: NativeType {
     // The name of the type.
     ghost key: { IntegerType };
@@ -22,11 +22,11 @@ pub trait DictionaryKey: NativeType {
     // The integer that a key is.
     ghost integer: { Self → ℤ };
 
-    /// The name of the type.
+    /// Returns the name of the type.
     fn key_type() -> IntegerType
         ensures { result ≡ key };
 
-    /// The place that a key names, or `None` where it is negative.
+    /// Returns the key as an index, or `None` if it is negative.
     fn to_usize(self) -> Option<usize>
         ensures { MatchOption result (integer self <ℤ pos 0) (λ place. integer self ≡ pos place) };
 }
@@ -171,14 +171,16 @@ impl DictionaryKey for u64 {
     }
 }
 
-// Whether each key that is not null is a place among `len` values. Mostly all are, the null ones too, and that is told faster.
+// Whether each key that isn't null is below `len`. Usually all keys are, even the null ones, and
+// checking that first is faster.
 fn keys_fit<K: DictionaryKey>(keys: &PrimitiveArray<K>, len: usize) -> bool
     ensures { IsTrue result ↔ KeysFit keys.now.validity (map K.integer keys.now.values) len }
 {
     are_places(keys.values().as_slice(), len) || valid_keys_fit(keys, len)
 }
 
-// Whether each key is a place among `len` values. Those that aren't are counted, without an early exit, so that no key costs a branch.
+// Whether each key is from 0 to below `len`. The loop counts those that aren't, without an early
+// exit, so that no key costs a branch.
 fn are_places<K: DictionaryKey>(keys: &[K], len: usize) -> bool
     ensures { IsTrue result ↔ KeysFit None (map K.integer keys.now) len }
 {
@@ -191,7 +193,7 @@ fn are_places<K: DictionaryKey>(keys: &[K], len: usize) -> bool
     others == 0
 }
 
-// Whether each key that is not null is a place among `len` values: one by one.
+// Checks one by one whether each key that isn't null is from 0 to below `len`.
 fn valid_keys_fit<K: DictionaryKey>(keys: &PrimitiveArray<K>, len: usize) -> bool
     ensures { IsTrue result ↔ KeysFit keys.now.validity (map K.integer keys.now.values) len }
 {
@@ -204,7 +206,7 @@ fn valid_keys_fit<K: DictionaryKey>(keys: &PrimitiveArray<K>, len: usize) -> boo
     true
 }
 
-// Whether the key at `index` is a place among `len` values.
+// Whether the key at `index` is from 0 to below `len`.
 fn is_place<K: DictionaryKey>(keys: &[K], index: usize, len: usize) -> bool
     requires { index < length keys.now }
     ensures { IsTrue result ↔ KeyFits (get_or (map K.integer keys.now) index (pos 0)) len }
@@ -215,7 +217,7 @@ fn is_place<K: DictionaryKey>(keys: &[K], index: usize, len: usize) -> bool
     }
 }
 
-// The place that the key at `index` names.
+// The key at `index` as an index of the values.
 fn place_at<K: DictionaryKey>(keys: &PrimitiveArray<K>, index: usize, len: usize) -> usize
     requires within { index < length keys.now.values }
     requires fits { KeyFits (get_or (map K.integer keys.now.values) index (pos 0)) len }
@@ -228,7 +230,7 @@ fn place_at<K: DictionaryKey>(keys: &PrimitiveArray<K>, index: usize, len: usize
     }
 }
 
-/// The keys of a dictionary, of any of their types.
+/// An array of dictionary keys of any integer type.
 #[derive(Drop)]
 pub enum DictionaryKeys {
     Int8(PrimitiveArray<i8>),
@@ -242,7 +244,7 @@ pub enum DictionaryKeys {
 }
 
 impl DictionaryKeys {
-    /// The type of integers that they are.
+    /// Returns the integer type of the keys.
     pub fn key_type(&self) -> IntegerType
         ensures { result ≡ (keys_seen self.now).key }
     {
@@ -258,7 +260,7 @@ impl DictionaryKeys {
         }
     }
 
-    /// The type of their array.
+    /// Returns the data type of the array of keys.
     pub fn data_type(&self) -> &DataType
         ensures { type_view result.now ≡ (keys_seen self.now).type }
     {
@@ -274,7 +276,7 @@ impl DictionaryKeys {
         }
     }
 
-    /// The bits that say which keys are valid, or `None` where all are.
+    /// Returns the validity bitmap, or `None` if there is none: all keys are valid.
     pub fn validity(&self) -> Option<&Bitmap>
         ensures bits { option_copied result ≡ (keys_seen self.now).validity }
         ensures fits { ValidityFits (keys_seen self.now).validity (length (keys_seen self.now).integers) }
@@ -291,7 +293,7 @@ impl DictionaryKeys {
         }
     }
 
-    /// How many keys there are.
+    /// Returns the number of keys.
     pub fn len(&self) -> usize
         ensures len { result ≡ length (keys_seen self.now).integers }
         ensures fits { ValidityFits (keys_seen self.now).validity (length (keys_seen self.now).integers) }
@@ -308,7 +310,7 @@ impl DictionaryKeys {
         }
     }
 
-    /// How many keys are null.
+    /// Returns the number of null keys.
     pub fn null_count(&self) -> usize
         ensures { result ≡ null_count_of (keys_seen self.now).validity }
     {
@@ -324,7 +326,7 @@ impl DictionaryKeys {
         }
     }
 
-    /// Whether the key at `index` isn't null.
+    /// Returns whether the key at `index` isn't null.
     pub fn is_valid(&self, index: usize) -> bool
         requires { index < length (keys_seen self.now).integers }
         ensures { result ≡ is_valid (keys_seen self.now).validity index }
@@ -341,7 +343,7 @@ impl DictionaryKeys {
         }
     }
 
-    /// Whether each key that is not null is a place among `len` values.
+    /// Returns whether each key that isn't null is from 0 to below `len`.
     pub fn fit(&self, len: usize) -> bool
         ensures { IsTrue result ↔ KeysFit (keys_seen self.now).validity (keys_seen self.now).integers len }
     {
@@ -357,7 +359,7 @@ impl DictionaryKeys {
         }
     }
 
-    /// The place that the key at `index` names among `len` values.
+    /// Returns the key at `index` as an index into `len` values.
     pub fn place(&self, index: usize, len: usize) -> usize
         requires within { index < length (keys_seen self.now).integers }
         requires fits { KeyFits (get_or (keys_seen self.now).integers index (pos 0)) len }
@@ -376,7 +378,7 @@ impl DictionaryKeys {
         }
     }
 
-    /// The `len` keys from `offset` on. It takes no memory.
+    /// Returns the `len` keys from `offset`, in the same memory. It allocates nothing.
     #[tactic(auto, using(crate::proofs::Parts::keys_part))]
     pub fn sliced(self, offset: usize, len: usize) -> Self
         requires { offset + len ≤ length (keys_seen self).integers }
@@ -398,7 +400,9 @@ impl DictionaryKeys {
 impl Clone for DictionaryKeys {
     ghost is_clone = { λ a b. keys_seen b ≡ keys_seen a };
 
-    /// The same keys once more, which share their memory with these.
+    /// Returns the same keys, in the same memory.
+    ///
+    /// It fails if an allocation fails or the count of owners can't grow.
     fn clone(&self) -> Result<Self, AllocError> {
         match self {
             DictionaryKeys::Int8(keys) => Ok(DictionaryKeys::Int8(keys.clone()?)),
@@ -413,7 +417,7 @@ impl Clone for DictionaryKeys {
     }
 }
 
-/// As the array of their type is printed.
+/// Prints the array inside.
 impl fmt::Debug for DictionaryKeys {
     fn fmt<W: fmt::Write>(&self, f: &mut fmt::Formatter<W>) -> fmt::Result {
         match self {

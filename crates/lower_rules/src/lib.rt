@@ -1,6 +1,7 @@
-//! What arrays have that needs no child: numbers of each type but floats, the keys of dictionaries,
-//! the ids of unions, the offsets of lists, and the rules, which see of a child only its type and its
-//! length. That clones and slices share memory is said by no clause: tests show it.
+//! Parts and rules of arrays with children: numbers, dictionary keys, type ids, offsets.
+//!
+//! A rule needs to know only the type and the length of a child. No clause says that clones and
+//! slices share memory; tests check it.
 #![tactic(auto)]
 
 pub mod children;

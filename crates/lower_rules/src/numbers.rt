@@ -1,4 +1,4 @@
-//! Arrays of numbers of each type but floats.
+//! Arrays of numbers of any type except floats.
 ghost use Rattle.std.specs.Prelude.{◌≡◌, ◌↔◌, ◌+◌, ◌≤◌, IsTrue};
 ghost use Rattle.std.specs.Ordering.{on};
 ghost use Rattle.std.specs.Option.{option_copied};
@@ -17,7 +17,7 @@ use lower_flat::equality::is_same_column;
 use std::alloc::AllocError;
 use std::fmt;
 
-/// An array of numbers, of any type of number but floats.
+/// An array of numbers of any type except floats.
 #[derive(Drop)]
 pub enum AnyPrimitive {
     Int8(PrimitiveArray<i8>),
@@ -35,7 +35,7 @@ pub enum AnyPrimitive {
 }
 
 impl AnyPrimitive {
-    /// The type of its slots.
+    /// Returns the data type.
     pub fn data_type(&self) -> &DataType
         ensures tree { type_view result.now ≡ (numbers_seen self.now).type }
         ensures valid { IsNumbers (numbers_seen self.now) }
@@ -56,7 +56,7 @@ impl AnyPrimitive {
         }
     }
 
-    /// The bits that say which slots are valid, or `None` where all are.
+    /// Returns the validity bitmap, or `None` if there is none: all slots are valid.
     pub fn validity(&self) -> Option<&Bitmap>
         ensures bits { option_copied result ≡ (numbers_seen self.now).validity }
         ensures valid { IsNumbers (numbers_seen self.now) }
@@ -77,7 +77,7 @@ impl AnyPrimitive {
         }
     }
 
-    /// How many slots it has.
+    /// Returns the number of slots.
     pub fn len(&self) -> usize
         ensures len { result ≡ (numbers_seen self.now).len }
         ensures valid { IsNumbers (numbers_seen self.now) }
@@ -98,7 +98,7 @@ impl AnyPrimitive {
         }
     }
 
-    /// How many slots are null.
+    /// Returns the number of null slots.
     pub fn null_count(&self) -> usize
         ensures { result ≡ null_count_of (numbers_seen self.now).validity }
     {
@@ -118,7 +118,7 @@ impl AnyPrimitive {
         }
     }
 
-    /// The `len` slots from `offset` on. It takes no memory.
+    /// Returns the `len` slots from `offset`, in the same memory. It allocates nothing.
     pub fn sliced(self, offset: usize, len: usize) -> Self
         requires { offset + len ≤ (numbers_seen self).len }
         ensures { numbers_seen result ≡ cut_numbers offset len (numbers_seen self) }
@@ -145,7 +145,9 @@ impl AnyPrimitive {
 impl Clone for AnyPrimitive {
     ghost is_clone = { λ a b. numbers_seen b ≡ numbers_seen a };
 
-    /// The same slots once more, which share their memory with these.
+    /// Returns an array of the same slots, in the same memory.
+    ///
+    /// It fails if an allocation fails or the count of owners can't grow.
     fn clone(&self) -> Result<Self, AllocError> {
         match self {
             AnyPrimitive::Int8(array) => Ok(AnyPrimitive::Int8(array.clone()?)),
@@ -164,7 +166,7 @@ impl Clone for AnyPrimitive {
     }
 }
 
-/// As the array of its type is printed.
+/// Prints the array inside.
 impl fmt::Debug for AnyPrimitive {
     fn fmt<W: fmt::Write>(&self, f: &mut fmt::Formatter<W>) -> fmt::Result {
         match self {
@@ -184,7 +186,7 @@ impl fmt::Debug for AnyPrimitive {
     }
 }
 
-// Whether both have one type and the same slots.
+// Whether both have the same data type and the same slots.
 fn are_same_numbers(numbers: &AnyPrimitive, others: &AnyPrimitive) -> bool
     ensures { IsTrue result ↔ IsSame (numbers_column (numbers_seen numbers.now)) (numbers_column (numbers_seen others.now)) }
 {
@@ -203,7 +205,7 @@ fn are_same_numbers(numbers: &AnyPrimitive, others: &AnyPrimitive) -> bool
         (AnyPrimitive::MonthDayNano(lhs), AnyPrimitive::MonthDayNano(rhs)) => is_same_column(
             lhs, rhs,
         ),
-        // Numbers of two types lie in memory in two ways, so these types aren't the same.
+        // Different number types have different layouts, so these data types differ.
         _ => is_same_type(numbers.data_type(), others.data_type()),
     }
 }

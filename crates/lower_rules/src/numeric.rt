@@ -1,4 +1,4 @@
-//! Arrays of numbers by the type of their numbers.
+//! Downcasts of arrays of numbers.
 ghost use Rattle.std.specs.Prelude.{◌≡◌, MatchOption};
 ghost use Rattle.lower_rules.specs.Numbers.{numbers_in};
 ghost use Rattle.lower_rules.specs.AnyNumbers.{numbers_seen};
@@ -7,9 +7,9 @@ use crate::numbers::AnyPrimitive;
 use lower::types::{NativeType, days_ms, i256, months_days_ns};
 use lower_flat::PrimitiveArray;
 
-/// A type of numbers that an array of numbers of any type may have.
+/// A number type of which an [`AnyPrimitive`] can be.
 pub trait Numeric: NativeType {
-    /// The array itself, or `None` where its numbers are of another type.
+    /// Returns the array with its number type, or `None` if that isn't `Self`.
     fn downcast_ref(array: &AnyPrimitive) -> Option<&PrimitiveArray<Self>>
         ensures { MatchOption result
             (¬ ((numbers_seen array.now).number ≡ Self.primitive))

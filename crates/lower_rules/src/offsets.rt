@@ -1,4 +1,4 @@
-//! The offsets of lists.
+//! The offsets of lists (Arrow columnar format, "Variable-size List Layout").
 ghost use Rattle.std.specs.Prelude.{◌≡◌, ◌+◌, ◌<◌, length, slice_index};
 ghost use Rattle.lower.specs.Offsets.{IsOffsets};
 ghost use Rattle.lower_flat.specs.Validities.{part};
@@ -10,7 +10,7 @@ use lower::offset::OffsetsBuffer;
 use std::alloc::AllocError;
 use std::fmt;
 
-/// The offsets of lists, of either type.
+/// The offsets of lists, of 32 or 64 bits.
 #[derive(Drop)]
 pub enum ListOffsets {
     /// Those of a list.
@@ -20,7 +20,7 @@ pub enum ListOffsets {
 }
 
 impl ListOffsets {
-    /// How many offsets there are, which is one more than there are slots.
+    /// Returns the number of offsets, one more than there are slots.
     pub fn len(&self) -> usize
         ensures len { result ≡ length (list_places self.now) }
         ensures offsets { IsOffsets (list_places self.now) }
@@ -31,7 +31,7 @@ impl ListOffsets {
         }
     }
 
-    /// Offset `i`.
+    /// Returns offset `i`.
     pub fn get(&self, i: usize) -> usize
         requires { i < length (list_places self.now) }
         ensures { result ≡ slice_index (list_places self.now) i }
@@ -42,7 +42,7 @@ impl ListOffsets {
         }
     }
 
-    /// The last offset: where the last slot ends.
+    /// Returns the last offset, where the last slot ends.
     pub fn last(&self) -> usize
         ensures value { result ≡ last_offset (list_places self.now) }
         ensures offsets { IsOffsets (list_places self.now) }
@@ -53,7 +53,7 @@ impl ListOffsets {
         }
     }
 
-    /// The offsets of the `len` slots from slot `offset` on, in the same memory.
+    /// Returns the offsets of the `len` slots from slot `offset`, in the same memory.
     pub fn sliced(self, offset: usize, len: usize) -> Self
         requires { offset + len < length (list_places self) }
         ensures width { list_width result ≡ list_width self }
@@ -65,7 +65,7 @@ impl ListOffsets {
         }
     }
 
-    // How lists with these offsets lie in memory.
+    // The layout of lists with these offsets.
     pub(super) fn physical_type(&self) -> PhysicalType
         ensures { result ≡ list_with (list_width self.now) }
     {
@@ -79,7 +79,9 @@ impl ListOffsets {
 impl Clone for ListOffsets {
     ghost is_clone = { λ a b. b ≡ a };
 
-    /// The same offsets once more, in the same memory.
+    /// Returns the same offsets, in the same memory.
+    ///
+    /// It fails only if the count of owners can't grow.
     fn clone(&self) -> Result<Self, AllocError> {
         match self {
             ListOffsets::Small(offsets) => Ok(ListOffsets::Small(offsets.clone()?)),
@@ -88,7 +90,7 @@ impl Clone for ListOffsets {
     }
 }
 
-/// As a slice of the offsets is printed.
+/// Prints the offsets as a slice.
 impl fmt::Debug for ListOffsets {
     fn fmt<W: fmt::Write>(&self, f: &mut fmt::Formatter<W>) -> fmt::Result {
         match self {

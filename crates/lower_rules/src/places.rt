@@ -1,4 +1,4 @@
-//! Where the slots of a union stand among those of its children.
+//! Whether the slots of a union exist in its children.
 ghost use Rattle.std.specs.Prelude.{◌≡◌, ◌↔◌, pos, ◌<◌, length, map, get_or, IsTrue, IfOk};
 ghost use Rattle.std.specs.Option.{option_copied};
 ghost use Rattle.lower_rules.specs.Keys.{KeyFits};
@@ -17,7 +17,7 @@ fn is_place(offset: i32, len: usize) -> bool
     offset >= 0 && (offset.cast_unsigned() as usize) < len
 }
 
-// The number of the child that the slot at `index` is of.
+// The index of the child of the slot at `index`.
 fn child_at(ids: Option<&[i32]>, types: &[i8], index: usize) -> usize
     requires { index < length types.now }
     ensures { result ≡ child_number (option_copied ids.entry) (get_or types.now index (pos 0)) }
@@ -25,7 +25,7 @@ fn child_at(ids: Option<&[i32]>, types: &[i8], index: usize) -> usize
     child_number(ids, types[index])
 }
 
-// Whether the offset at `index` is a place of the slot's child.
+// Whether the offset at `index` is a slot of its child.
 fn has_place<C: Child>(
     ids: Option<&[i32]>,
     types: &[i8],
@@ -42,7 +42,7 @@ fn has_place<C: Child>(
     is_place(offsets[index], child.len())
 }
 
-// Whether each offset is a place of the slot's child.
+// Whether each offset is a slot of its child.
 fn offsets_fit<C: Child>(ids: Option<&[i32]>, types: &[i8], offsets: &[i32], children: &[C]) -> bool
     requires given { length offsets.now ≡ length types.now }
     requires named { AreNamed (option_copied ids) types.now (length children.now) }
@@ -56,7 +56,10 @@ fn offsets_fit<C: Child>(ids: Option<&[i32]>, types: &[i8], offsets: &[i32], chi
     true
 }
 
-/// Whether each slot has a place in its child: in a sparse union its own, in a dense one its offset.
+/// Returns whether each slot exists in its child.
+///
+/// In a sparse union each child must have as many slots as the union. In a dense one, each offset
+/// must be from 0 to below the length of its child.
 pub fn places_fit<C: Child>(
     ids: Option<&[i32]>,
     types: &[i8],
@@ -73,7 +76,9 @@ pub fn places_fit<C: Child>(
     }
 }
 
-/// The same offsets once more, in the same memory.
+/// Returns the same offsets, in the same memory.
+///
+/// It fails only if the count of owners can't grow.
 pub fn clone_offsets(offsets: &Option<Buffer<i32>>) -> Result<Option<Buffer<i32>>, AllocError>
     ensures { IfOk result (λ copy. copy ≡ offsets.now) }
 {

@@ -1,4 +1,6 @@
-//! Whether some parts make an array with children, of which only the types and the lengths count.
+//! Checks whether some parts make an array with children.
+//!
+//! Only the types and the lengths of the children count.
 mod dictionary;
 mod fixed_size_list;
 mod list;

@@ -1,4 +1,4 @@
-//! The numbers that columns have, and their bytes.
+//! Number types of columns, and their bytes.
 #![tactic(auto)]
 
 mod native;
@@ -7,7 +7,7 @@ mod parts;
 pub use native::{NativeType, append_bytes, numbers_from_bytes};
 pub use parts::{days_ms, i256, months_days_ns};
 
-/// The types of numbers that a column can have in memory.
+/// The number types that a column can have in memory.
 #[derive(Debug, Clone, Copy, PartialEq, Eq)]
 pub enum PrimitiveType {
     Int8,
@@ -31,7 +31,7 @@ pub enum PrimitiveType {
     MonthDayNano,
 }
 
-/// The order of the bytes of a number (Arrow columnar format, "Byte Order (Endianness)").
+/// The byte order of numbers (Arrow columnar format, "Byte Order (Endianness)").
 #[derive(Debug, Clone, Copy, PartialEq, Eq)]
 pub enum Endianness {
     /// The lowest byte first.

@@ -1,6 +1,6 @@
-//! Numbers and their bytes: the one place where a type of numbers meets bytes.
+//! Conversion between numbers and bytes.
 //!
-//! The loops over whole slices are such that the compiler makes vector code of them.
+//! The loops over whole slices are written so that the compiler vectorizes them.
 ghost use Rattle.std.specs.Prelude.{◌≡◌, ℕ, ℤ, pos, List, ◌+◌, ◌*◌, ◌/◌, ◌^◌, ◌<◌, ◌≤◌, ◌++◌, ◌↔◌, length, take, slice_index, vec_len, IfOk, OnOk, IsTrue, refl};
 ghost use Rattle.std.specs.Int.{w8, w16, w32, w64, w128, cast_signed};
 ghost use Rattle.std.specs.Int.RustNames.{FitsSigned};
@@ -16,46 +16,51 @@ use super::{Endianness, PrimitiveType};
 use byteorder::{BigEndian, ByteOrder, LittleEndian};
 use std::alloc::{AllocError, Global};
 
-/// A type of numbers that a column can have, each of as many bytes.
+/// A number type that a column can have, of a fixed width in bytes.
 pub trait NativeType: Copy + Drop {
     // The name of the type.
     ghost primitive: { PrimitiveType };
 
-    // How many bytes a number has.
+    // The bytes of one number.
     ghost width: { ℕ };
 
     // The number that a value is.
     ghost number: { Self → Number };
 
-    // The value of its bytes.
+    // The value that some bytes encode.
     ghost value: { Endianness → List ℕ → Self };
 
     // The bytes of a value.
     ghost spelt: { Endianness → Self → List ℕ };
 
-    // Each value of the type is in its range.
+    // The range of the type.
     ghost fits: { Self → Type 0 };
 
-    /// The name of the type.
+    /// Returns the name of the type.
     fn primitive_type() -> PrimitiveType
         ensures { result ≡ primitive };
 
-    /// How many bytes a number has.
+    /// Returns the width of one number in bytes, from 1 to 32.
     fn width() -> usize
         ensures value { result ≡ width }
         ensures bounds { (0 < result) × (result ≤ 32) };
 
-    /// Whether this is the same number.
+    /// Returns whether two values are the same number.
     fn is_same(self, other: Self) -> bool
         ensures same { IsTrue result ↔ number self ≡ number other }
         ensures range { fits self };
 
-    /// Writes the bytes of `values` into `to`, which has just the room for them.
+    /// Writes the bytes of `values` over `to`.
+    ///
+    /// The length of `to` must be the width times the number of values.
     fn put(values: &[Self], to: &mut [u8], order: Endianness)
         requires { length to.old ≡ width * length values.now }
         ensures { to.new ≡ flat_map (spelt order) values.now };
 
-    /// Appends the numbers that `bytes` has. Less than one number at the end is passed over.
+    /// Appends the numbers that `bytes` encode.
+    ///
+    /// Bytes at the end that are fewer than one number are ignored. If an allocation fails, the
+    /// contents of `out` are unspecified.
     fn append(out: &mut Vec<Self>, bytes: &[u8], order: Endianness) -> Result<(), AllocError>
         ensures items { OnOk result (out.new.items ≡ out.old.items ++ values_of (value order) width bytes.now) }
         ensures len { OnOk result (vec_len out.new ≡ vec_len out.old + length bytes.now / width) };
@@ -64,7 +69,7 @@ pub trait NativeType: Copy + Drop {
 
     ghost number_is: { (order : Endianness) (bytes : List ℕ) → number (value order bytes) ≡ number_in primitive order bytes };
 
-    // No byte past the first `width` counts.
+    // Only the first `width` bytes count.
     ghost reads_first: { (order : Endianness) (bytes : List ℕ) → value order (take width bytes) ≡ value order bytes };
 
     ghost spelt_length: { (order : Endianness) (x : Self) → length (spelt order x) ≡ width };
@@ -574,7 +579,10 @@ fn append_u64<B: ByteOrder>(out: &mut Vec<u64>, bytes: &[u8]) -> Result<(), Allo
     out.extend(chunks.iter().map(|chunk| B::read_u64(chunk)))
 }
 
-/// The numbers that `bytes` has. Less than one number at the end is passed over.
+/// Returns the numbers that `bytes` encode, in memory from `alloc`.
+///
+/// Bytes at the end that are fewer than one number are ignored. It fails only if an allocation
+/// fails.
 pub fn numbers_from_bytes<T: NativeType>(
     alloc: Global,
     bytes: &[u8],
@@ -588,7 +596,7 @@ pub fn numbers_from_bytes<T: NativeType>(
     Ok(numbers)
 }
 
-// Each value of a slice is in the range of its type. Nothing is left of it in the program.
+// Shows that each value of a slice is in the range of its type. The compiler removes the loop.
 fn are_in_range<T: NativeType>(values: &[T])
     ensures { All T.fits values.now }
 {
@@ -597,9 +605,10 @@ fn are_in_range<T: NativeType>(values: &[T])
     }
 }
 
-/// Appends the bytes of the numbers, through a block of 4,096 bytes.
+/// Appends the bytes of `values` to `out`.
 ///
-/// They read back as the numbers.
+/// They read back as the same numbers. They are converted in blocks of at most 4,096 bytes. It
+/// fails only if an allocation fails; the contents of `out` are unspecified then.
 pub fn append_bytes<T: NativeType>(
     out: &mut Vec<u8>,
     values: &[T],

@@ -1,8 +1,8 @@
-//! Numbers of several parts: the intervals of the calendar, and integers of 256 bits.
+//! Numbers of several parts: calendar intervals and 256-bit integers.
 //!
-//! Arrow columnar format, "Byte Order (Endianness)": the bytes of each part of an interval stand in
-//! the order, the parts themselves always as they are written here. An integer of 256 bits is one
-//! number: its halves follow the order too.
+//! Arrow columnar format, "Byte Order (Endianness)": the byte order applies to each part of an
+//! interval, and the parts keep the order in which they are declared here. A 256-bit integer is one
+//! number, so the byte order applies to its halves too.
 ghost use Rattle.std.specs.Prelude.{◌≡◌, ℕ, List, ◌+◌, ◌*◌, ◌/◌, ◌^◌, ◌<◌, ◌≤◌, ◌++◌, ◌↔◌, length, drop, vec_len, OnOk, IsTrue, refl};
 ghost use Rattle.std.specs.Int.{w32, w64, w128};
 ghost use Rattle.std.specs.Int.RustNames.{FitsSigned};
@@ -16,14 +16,18 @@ use super::{Endianness, NativeType, PrimitiveType};
 use byteorder::{BigEndian, ByteOrder, LittleEndian};
 use std::alloc::AllocError;
 
-/// A length of time in days and milliseconds. They do not add up, since a day has no fixed length.
+/// A time span in days and milliseconds.
+///
+/// The parts don't add up, since a day has no fixed length.
 #[derive(Debug, Clone, Copy, PartialEq, Eq)]
 pub struct days_ms {
     pub days: i32,
     pub milliseconds: i32,
 }
 
-/// A length of time in months, days and nanoseconds, which do not add up.
+/// A time span in months, days and nanoseconds.
+///
+/// The parts don't add up, since months and days have no fixed length.
 #[derive(Debug, Clone, Copy, PartialEq, Eq)]
 pub struct months_days_ns {
     pub months: i32,
@@ -31,7 +35,7 @@ pub struct months_days_ns {
     pub nanoseconds: i64,
 }
 
-/// A signed integer of 256 bits: `2 ^ 128` times the high half, and the low half.
+/// A signed 256-bit integer: `2 ^ 128` times the high half, plus the low half.
 #[derive(Debug, Clone, Copy, PartialEq, Eq)]
 pub struct i256 {
     pub high: i128,

@@ -1,4 +1,4 @@
-//! Plans arrays of bytes (Arrow columnar format, "Variable-size Binary Layout").
+//! Plans arrays of byte strings (Arrow columnar format, "Variable-size Binary Layout").
 ghost use Rattle.std.specs.Prelude.{◌+◌, ◌^◌, ◌<◌, ◌≤◌, [], ◌∷◌, length, OnOk};
 ghost use Rattle.lower_types.specs.declared.PrimitiveType.TheVariants as Named;
 ghost use Rattle.std.specs.Option.{option_copied};
@@ -17,7 +17,7 @@ use ipc_devices::Fault;
 use lower::bitmap::Bitmap;
 use lower_arrays::array::BinaryArray;
 
-// Plans an array of bytes with offsets of 32 bits.
+// Plans an array of byte strings with 32-bit offsets.
 pub(crate) fn plan_small_binary<'a>(
     plan: &mut Plan<'a>,
     array: &'a BinaryArray<i32>,
@@ -40,7 +40,7 @@ pub(crate) fn plan_small_binary<'a>(
     )
 }
 
-// Plans an array of bytes with offsets of 64 bits.
+// Plans an array of byte strings with 64-bit offsets.
 pub(crate) fn plan_large_binary<'a>(
     plan: &mut Plan<'a>,
     array: &'a BinaryArray<i64>,
@@ -63,8 +63,8 @@ pub(crate) fn plan_large_binary<'a>(
     )
 }
 
-// Plans slots of any length: their node, their validity, their offsets, and the bytes from the first offset
-// to the last.
+// Plans slots of any length: node, validity, offsets, and the bytes between the first and the last
+// offset.
 pub(crate) fn plan_cut_out<'a>(
     plan: &mut Plan<'a>,
     validity: Option<&'a Bitmap>,

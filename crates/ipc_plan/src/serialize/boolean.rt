@@ -1,4 +1,4 @@
-//! Plans arrays of truth values (Arrow columnar format, "Fixed-Size Primitive Layout").
+//! Plans arrays of booleans (Arrow columnar format, "Fixed-size Primitive Layout").
 ghost use Rattle.std.specs.Prelude.{◌+◌, ◌^◌, ◌<◌, ◌≤◌, length, OnOk};
 ghost use Rattle.lower_arrays.specs.Flat.{boolean_layout};
 ghost use Rattle.ipc_model.specs.Offers.{written_levels};
@@ -10,7 +10,7 @@ use crate::plan::Plan;
 use ipc_devices::Fault;
 use lower_arrays::array::BooleanArray;
 
-// Plans an array of truth values: their bits.
+// Plans an array of booleans.
 pub(crate) fn plan_boolean<'a>(
     plan: &mut Plan<'a>,
     array: &'a BooleanArray,

@@ -1,4 +1,4 @@
-//! Plans arrays of dictionary keys (Arrow columnar format, "Dictionary-encoded Layout").
+//! Plans the keys of dictionaries (Arrow columnar format, "Dictionary-encoded Layout").
 ghost use Rattle.std.specs.Prelude.{◌≡◌, ◌+◌, ◌^◌, ◌<◌, ◌≤◌, length, map, OnOk};
 ghost use Rattle.lower_types.specs.NumberTypes.{whole};
 ghost use Rattle.lower_arrays.specs.Layouts.{numbers};
@@ -34,7 +34,7 @@ pub(crate) fn plan_dictionary<'a>(
     plan_numbers(plan, keys_in(array.keys(), offset, len))
 }
 
-// The keys of `len` slots from slot `offset` on, as numbers.
+// The keys of `len` slots from slot `offset`, as numbers.
 #[tactic(auto, using(crate::proofs::Numbers::key_slices))]
 fn keys_in<'a>(keys: &'a DictionaryKeys, offset: usize, len: usize) -> NumberSlice<'a>
     requires { offset + len ≤ length (keys_seen keys.now).integers }

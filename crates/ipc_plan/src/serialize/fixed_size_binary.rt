@@ -1,4 +1,6 @@
-//! Plans arrays of bytes of a fixed number (Arrow columnar format, "Fixed-Size Primitive Layout").
+//! Plans arrays of byte strings of one length.
+//!
+//! Arrow columnar format, "Fixed-size Primitive Layout".
 ghost use Rattle.std.specs.Prelude.{◌+◌, ◌^◌, ◌<◌, ◌≤◌, OnOk};
 ghost use Rattle.lower_arrays.specs.Flat.{fixed_layout};
 ghost use Rattle.ipc_model.specs.Offers.{written_levels};
@@ -12,7 +14,7 @@ use crate::plan::{Plan, push_buffer};
 use ipc_devices::Fault;
 use lower_arrays::array::FixedSizeBinaryArray;
 
-// Plans an array of bytes of a fixed number.
+// Plans an array of byte strings of one length.
 pub(crate) fn plan_fixed_size_binary<'a>(
     plan: &mut Plan<'a>,
     array: &'a FixedSizeBinaryArray,

@@ -1,4 +1,4 @@
-//! Plans arrays of lists of one size (Arrow columnar format, "Fixed-Size List Layout").
+//! Plans arrays of lists of one length (Arrow columnar format, "Fixed-Size List Layout").
 ghost use Rattle.std.specs.Prelude.{◌+◌, ◌^◌, ◌<◌, ◌≤◌, OnOk};
 ghost use Rattle.lower_arrays.specs.FixedLists.{fixed_list_layout};
 ghost use Rattle.ipc_model.specs.Offers.{written_levels};
@@ -12,7 +12,7 @@ use crate::plan::Plan;
 use ipc_devices::Fault;
 use lower_arrays::array::FixedSizeListArray;
 
-// Plans lists of one size: their own level, and their slots of the child.
+// Plans lists of one length: their own level, and their slots of the child.
 #[cycle(plans)]
 pub(crate) fn plan_fixed_size_list<'a>(
     plan: &mut Plan<'a>,

@@ -13,8 +13,8 @@ use crate::plan::Plan;
 use ipc_devices::Fault;
 use lower_arrays::array::ListArray;
 
-// Plans lists: their own level, and of the child the slots that the offsets cut out. What is
-// written doesn't depend on the case of `AnyArray`.
+// Plans lists: their own level, and the slots of the child between the first and the last offset.
+// The variant of `AnyArray` doesn't count.
 #[cycle(plans)]
 pub(crate) fn plan_list<'a>(
     plan: &mut Plan<'a>,

@@ -12,7 +12,7 @@ use crate::plan::Plan;
 use ipc_devices::Fault;
 use lower_arrays::array::MapArray;
 
-// Plans maps: their own level, and of the pairs those that the offsets cut out.
+// Plans maps: their own level, and the pairs between the first and the last offset.
 #[cycle(plans)]
 pub(crate) fn plan_map<'a>(
     plan: &mut Plan<'a>,

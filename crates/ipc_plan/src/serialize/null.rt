@@ -9,7 +9,7 @@ use crate::plan::{Plan, push_node};
 use ipc_devices::Fault;
 use lower_arrays::array::NullArray;
 
-// Plans an array of nulls: a node alone.
+// Plans an array of nulls, which is only a node.
 pub(crate) fn plan_null(
     plan: &mut Plan<'_>,
     array: &NullArray,
@@ -20,7 +20,7 @@ pub(crate) fn plan_null(
     ensures grows { OnOk result (Adds plan.old plan.new (written_levels (null_layout array.now) offset len)) }
     ensures takes { TakesLevels result (written_levels (null_layout array.now) offset len) plan.old.end plan.new.end }
 {
-    // What holds of any array is known of this one once it is asked.
+    // The call makes the array's invariant known to the proof.
     let _ = array.len();
     push_node(plan, len, len)
 }

@@ -27,7 +27,7 @@ pub(crate) fn plan_numbers<'a>(plan: &mut Plan<'a>, numbers: NumberSlice<'a>) ->
     push_buffer(plan, Piece::Numbers(numbers), len)
 }
 
-// How many bytes numbers have; None past `2^64 - 1`.
+// The length of numbers in bytes, or None if it is 2^64 or more.
 #[tactic(auto, using(crate::proofs::Numbers::number_lengths))]
 fn bytes_of(numbers: &NumberSlice<'_>) -> Option<usize>
     ensures value { IfSome result (λ n. n ≡ width_of (slice_type numbers.now) * length (slice_numbers numbers.now)) }
@@ -49,7 +49,7 @@ fn bytes_of(numbers: &NumberSlice<'_>) -> Option<usize>
     }
 }
 
-// `len` values of a buffer from place `offset` on.
+// The `len` values of a buffer from index `offset`.
 pub(crate) fn slice_in<T: NativeType>(values: &Buffer<T>, offset: usize, len: usize) -> &[T]
     requires { offset + len ≤ length values.now }
     ensures values { result.now ≡ part offset len values.now }
@@ -61,7 +61,7 @@ pub(crate) fn slice_in<T: NativeType>(values: &Buffer<T>, offset: usize, len: us
     values
 }
 
-// The values of `len` slots from slot `offset` on.
+// The values of `len` slots from slot `offset`.
 pub(crate) fn values_in<T: NativeType>(array: &PrimitiveArray<T>, offset: usize, len: usize) -> &[T]
     requires { offset + len ≤ length array.now.values }
     ensures values { result.now ≡ part offset len array.now.values }
@@ -71,15 +71,14 @@ pub(crate) fn values_in<T: NativeType>(array: &PrimitiveArray<T>, offset: usize,
     slice_in(array.values(), offset, len)
 }
 
-// Each number is what its bytes say, in either byte order.
+// Shows that each number reads back from its bytes, in either byte order.
 fn are_spelt<T: NativeType>(values: &[T])
     ensures { AreSpelt T.primitive T.number T.spelt values.now }
 {
     read_ranges(values);
 }
 
-// Reads each number once, since each that is read is known to be in the range of its type. Nothing comes
-// of it, so that a build drops the loop.
+// Shows that each number is in the range of its type, by reading it. The compiler removes the loop.
 pub(crate) fn read_ranges<T: NativeType>(values: &[T])
     ensures { All T.fits values.now }
 {

@@ -1,5 +1,6 @@
-//! Plans buffers of offsets, and says where slots begin (Arrow columnar format, "Variable-size Binary
-//! Layout" and "Variable-size List Layout").
+//! Plans buffers of offsets, and finds where slots begin.
+//!
+//! Arrow columnar format, "Variable-size Binary Layout" and "Variable-size List Layout".
 ghost use Rattle.std.specs.Prelude.{◌≡◌, ◌-◌, slice_index, ◌+◌, ◌*◌, ◌^◌, ◌<◌, ◌≤◌, [], ◌∷◌, length, All, OnOk};
 ghost use Rattle.std.specs.Int.{w32, w64};
 ghost use Rattle.std.specs.Int.RustNames.{FitsSigned};
@@ -24,7 +25,7 @@ use lower::bitmap::Bitmap;
 use lower::offset::OffsetsBuffer;
 use lower_arrays::array::ListOffsets;
 
-// Offsets of 32 or of 64 bits.
+// Offsets of 32 or 64 bits.
 #[derive(Clone, Copy)]
 pub(crate) enum Offsets<'a> {
     Small(&'a OffsetsBuffer<i32>),
@@ -63,7 +64,7 @@ pub(crate) fn plan_head<'a>(
     }
 }
 
-// Offsets, each less the first of them. Where that is 0, they are sent as they stand.
+// Offsets, each minus the first one. If that is 0, they are sent as they are.
 fn small_piece(offsets: &[i32]) -> Piece<'_>
     requires { 0 < length offsets.now }
     ensures bytes { (order : Endianness) → piece_bytes order result ≡ offset_bytes w32 (2 ^ 32) order offsets.now }
@@ -77,7 +78,8 @@ fn small_piece(offsets: &[i32]) -> Piece<'_>
     }
 }
 
-// Plans the offsets of `len` slots from slot `offset` on: one more than slots, each counted from the first.
+// Plans the offsets of `len` slots from slot `offset`, one more than slots, each minus the first
+// one.
 fn plan_small_offsets<'a>(
     plan: &mut Plan<'a>,
     offsets: &'a OffsetsBuffer<i32>,
@@ -89,7 +91,7 @@ fn plan_small_offsets<'a>(
     ensures grows { OnOk result (AddsOffsets plan.old plan.new Named.Int32 (part offset (len + 1) offsets.now)) }
     ensures takes { TakesBuffers result (offsets_length Named.Int32 len ∷ []) plan.old.end plan.new.end }
 {
-    // What holds of any offsets is known of these once they are asked.
+    // The call makes the invariant of the offsets known to the proof.
     let _ = offsets.len();
     let part = &offsets.as_slice()[offset..offset + len + 1];
     let piece = small_piece(part);
@@ -99,7 +101,7 @@ fn plan_small_offsets<'a>(
     push_buffer(plan, piece, count)
 }
 
-// Offsets, each less the first of them. Where that is 0, they are sent as they stand.
+// Offsets, each minus the first one. If that is 0, they are sent as they are.
 fn large_piece(offsets: &[i64]) -> Piece<'_>
     requires { 0 < length offsets.now }
     ensures bytes { (order : Endianness) → piece_bytes order result ≡ offset_bytes w64 (2 ^ 64) order offsets.now }
@@ -113,7 +115,8 @@ fn large_piece(offsets: &[i64]) -> Piece<'_>
     }
 }
 
-// Plans the offsets of `len` slots from slot `offset` on: one more than slots, each counted from the first.
+// Plans the offsets of `len` slots from slot `offset`, one more than slots, each minus the first
+// one.
 fn plan_large_offsets<'a>(
     plan: &mut Plan<'a>,
     offsets: &'a OffsetsBuffer<i64>,
@@ -125,7 +128,7 @@ fn plan_large_offsets<'a>(
     ensures grows { OnOk result (AddsOffsets plan.old plan.new Named.Int64 (part offset (len + 1) offsets.now)) }
     ensures takes { TakesBuffers result (offsets_length Named.Int64 len ∷ []) plan.old.end plan.new.end }
 {
-    // What holds of any offsets is known of these once they are asked.
+    // The call makes the invariant of the offsets known to the proof.
     let _ = offsets.len();
     let part = &offsets.as_slice()[offset..offset + len + 1];
     let piece = large_piece(part);
@@ -135,7 +138,7 @@ fn plan_large_offsets<'a>(
     push_buffer(plan, piece, count)
 }
 
-// Where `len` slots from slot `offset` on begin and end.
+// The start and the end of `len` slots from slot `offset`.
 pub(crate) fn range_of(offsets: &Offsets<'_>, offset: usize, len: usize) -> (usize, usize)
     requires inside { offset + len < length (places_of offsets.now) }
     ensures from { result.0 ≡ slice_index (places_of offsets.now) offset }
@@ -149,7 +152,7 @@ pub(crate) fn range_of(offsets: &Offsets<'_>, offset: usize, len: usize) -> (usi
     (place_at(offsets, offset), place_at(offsets, offset + len))
 }
 
-// The place that an offset names.
+// The offset at an index.
 fn place_at(offsets: &Offsets<'_>, index: usize) -> usize
     requires { index < length (places_of offsets.now) }
     ensures { result ≡ slice_index (places_of offsets.now) index }
@@ -160,7 +163,7 @@ fn place_at(offsets: &Offsets<'_>, index: usize) -> usize
     }
 }
 
-// How many offsets there are: one more than slots.
+// The number of offsets, one more than slots.
 fn offset_count(offsets: &Offsets<'_>) -> usize
     ensures len { result ≡ length (places_of offsets.now) }
     ensures offsets { IsOffsets (places_of offsets.now) }
@@ -171,14 +174,14 @@ fn offset_count(offsets: &Offsets<'_>) -> usize
     }
 }
 
-// Where slot `place` of `count` slots begins, which have `size` items each, of `total` items.
+// The start of slot `place` of `count` slots with `size` items each, of `total` items.
 pub(crate) fn scaled(place: usize, size: usize, count: usize, total: usize) -> usize
     requires inside { place ≤ count }
     requires all { total ≡ count * size }
     ensures value { result ≡ place * size }
     ensures within { result ≤ total }
 {
-    // The clauses alone speak of these.
+    // Only the clauses use these.
     let _ = (count, total);
     place * size
 }

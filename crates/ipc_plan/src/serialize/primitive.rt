@@ -1,4 +1,4 @@
-//! Plans arrays of numbers (Arrow columnar format, "Fixed-Size Primitive Layout").
+//! Plans arrays of numbers (Arrow columnar format, "Fixed-size Primitive Layout").
 ghost use Rattle.std.specs.Prelude.{◌≡◌, ◌+◌, ◌^◌, ◌<◌, ◌≤◌, length, OnOk};
 ghost use Rattle.lower_rules.specs.AnyNumbers.{numbers_seen};
 ghost use Rattle.lower_arrays.specs.Layouts.{numbers};
@@ -33,7 +33,7 @@ pub(crate) fn plan_primitive<'a>(
     Ok(())
 }
 
-// The numbers of `len` slots from slot `offset` on.
+// The numbers of `len` slots from slot `offset`.
 #[tactic(auto, using(crate::proofs::Numbers::number_slices))]
 fn numbers_in<'a>(array: &'a AnyPrimitive, offset: usize, len: usize) -> NumberSlice<'a>
     requires { offset + len ≤ (numbers_seen array.now).len }

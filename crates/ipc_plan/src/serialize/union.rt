@@ -14,7 +14,8 @@ use crate::plan::{Plan, push_node};
 use ipc_devices::Fault;
 use lower_arrays::array::UnionArray;
 
-// Plans unions: their own level, and of each child the same slots, or all where the union is dense.
+// Plans unions: their own level, and the same slots of each child, or all slots if the union is
+// dense.
 #[cycle(plans)]
 pub(crate) fn plan_union<'a>(
     plan: &mut Plan<'a>,
@@ -34,8 +35,8 @@ pub(crate) fn plan_union<'a>(
     }
 }
 
-// Plans the level of a union alone: its node, the id of each slot, and of a dense one the place of each slot,
-// which counts from the front of its child. It has no validity.
+// Plans the level of a union alone: its node, the type id of each slot, and for a dense union the
+// offset of each slot in its whole child. It has no validity.
 fn plan_union_level<'a>(
     plan: &mut Plan<'a>,
     array: &'a UnionArray,

@@ -13,7 +13,7 @@ use crate::plan::Plan;
 use ipc_devices::Fault;
 use lower_arrays::array::Utf8Array;
 
-// Plans an array of texts with offsets of 32 bits.
+// Plans an array of texts with 32-bit offsets.
 pub(crate) fn plan_small_utf8<'a>(
     plan: &mut Plan<'a>,
     array: &'a Utf8Array<i32>,
@@ -36,7 +36,7 @@ pub(crate) fn plan_small_utf8<'a>(
     )
 }
 
-// Plans an array of texts with offsets of 64 bits.
+// Plans an array of texts with 64-bit offsets.
 pub(crate) fn plan_large_utf8<'a>(
     plan: &mut Plan<'a>,
     array: &'a Utf8Array<i64>,

@@ -1,4 +1,6 @@
-//! Plans what most levels begin with: a node and a validity (Arrow columnar format, "Validity bitmaps").
+//! Plans the start of most levels: a node and a validity bitmap.
+//!
+//! Arrow columnar format, "Validity bitmaps".
 ghost use Rattle.std.specs.Prelude.{◌≡◌, ℕ, slice_index, ◌+◌, ◌^◌, ◌<◌, ◌≤◌, [], ◌∷◌, length, IfErr, IfOk, OnOk};
 ghost use Rattle.std.specs.Option.{option_copied};
 ghost use Rattle.lower_flat.specs.Validities.{part, cut_validity, null_count_of, ValidityHolds};
@@ -32,7 +34,8 @@ pub(crate) fn plan_start<'a>(
     Ok(())
 }
 
-// How many slots of some are null. A clone of a bitmap is of no bits and takes no memory; it fails where there are too many owners.
+// The number of null slots among some. A clone of a bitmap copies no bits and allocates nothing; it
+// fails only if the count of owners can't grow.
 fn nulls_in(validity: Option<&Bitmap>, offset: usize, len: usize) -> Result<usize, Fault>
     requires inside { ValidityHolds (option_copied validity) (offset + len) }
     ensures count { IfOk result (λ n. n ≡ null_count_of (cut_validity offset len (option_copied validity.entry))) }
@@ -48,7 +51,7 @@ fn nulls_in(validity: Option<&Bitmap>, offset: usize, len: usize) -> Result<usiz
     }
 }
 
-// Plans the validity of some slots: its bits, or a buffer of no bytes where there is none.
+// Plans the validity of some slots: its bits, or an empty buffer if there is none.
 fn plan_validity<'a>(
     plan: &mut Plan<'a>,
     validity: Option<&'a Bitmap>,
@@ -66,7 +69,8 @@ fn plan_validity<'a>(
     }
 }
 
-// Plans bits of a bitmap: as they stand where the first one is the first of a byte, else packed anew, with zeros behind the last.
+// Plans bits of a bitmap. They are sent as they are if the first is bit 0 of a byte; otherwise they
+// are shifted, with zeros after the last.
 pub(crate) fn plan_bits<'a>(
     plan: &mut Plan<'a>,
     bits: &'a Bitmap,
@@ -92,7 +96,7 @@ pub(crate) fn plan_bits<'a>(
     }
 }
 
-// Each byte of a slice is below 256. That is known of a parameter, so that nothing has to be done.
+// Each byte of a slice is below 256. That is known of a parameter, so nothing has to be done.
 fn are_bytes(bytes: &[u8])
     ensures { (k : ℕ) → slice_index bytes.now k < 256 }
 {

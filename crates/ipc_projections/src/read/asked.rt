@@ -1,4 +1,4 @@
-//! The columns that a reader is asked for, prepared once for any number of batches.
+//! Requested columns, prepared once for any number of batches.
 ghost use Rattle.std.specs.Prelude.{◌≡◌, length, map, Some, IfOk, IfErr};
 ghost use Rattle.std.specs.List.Sorted.{IsPermutation};
 ghost use Rattle.ipc_devices.specs.declared.fault.Fault.TheVariants.{Memory};
@@ -19,21 +19,24 @@ use std::collections::HashMap;
 use std::marker::Model;
 use std::snapshot::Snapshot;
 
-/// A batch means by columns in rising order what it means by them in any order, but for that order, and it means something by
-/// both or by neither.
+/// A theorem: columns in ascending and in requested order select the same data.
+///
+/// The content of a batch by one is that by the other, apart from the order, and exists by both or
+/// by neither.
 pub fn asked_batches()
     ensures batches { AskedBatchLaw }
     ensures records { AskedRecordLaw }
 {}
 
-/// The columns that a reader is asked for, in any order and none of them twice. Contracts see their numbers as they were asked
-/// for and in rising order, in which batches are read.
+/// The requested columns, in any order and without repeats.
+///
+/// Its model is their indices, as requested and in ascending order. Batches are read in the latter.
 #[derive(Drop)]
 pub struct AskedColumns {
     rising: Vec<usize>,
-    // for each of these the place at which it was asked for
+    // the index in the request of each of these
     places: HashMap<usize, usize>,
-    // They, as they were asked for. It takes no bytes.
+    // The columns as requested, for proofs alone: it takes no bytes.
     columns: Snapshot<Vec<usize>>,
 }
 
@@ -48,8 +51,10 @@ impl Model for AskedColumns {
 }
 
 impl AskedColumns {
-    /// The columns of a projection, and their fields in the order of it. It names columns that are there, none of them twice, as
-    /// [`is_projection`] tells. It answers `Memory` where there is no memory.
+    /// Prepares a projection, and returns its columns with their fields in its order.
+    ///
+    /// The columns must exist, without repeats, as [`is_projection`] tests. The only error is
+    /// `Fault::Memory`.
     ///
     /// [`is_projection`]: crate::read::projection::is_projection
     pub fn new(
@@ -74,7 +79,7 @@ impl AskedColumns {
         ))
     }
 
-    /// The columns in rising order. It takes no memory.
+    /// Returns the columns in ascending order. It allocates nothing.
     pub fn rising(&self) -> &[usize]
         ensures value { result.now ≡ self.now.rising }
         ensures same { IsPermutation self.now.columns self.now.rising }
@@ -83,8 +88,9 @@ impl AskedColumns {
         self.rising.as_slice()
     }
 
-    /// The chunk with its columns, which stand in rising order, in the order in which they were asked for. No column is copied. It
-    /// answers `Memory` where there is no memory; then the chunk is dropped.
+    /// Returns the chunk with its columns in the requested order, instead of ascending order.
+    ///
+    /// No column is copied. The only error is `Fault::Memory`; the chunk is dropped then.
     pub fn in_order(&self, alloc: Global, chunk: Chunk<AnyArray>) -> Result<Chunk<AnyArray>, Fault>
         requires { length chunk ≡ length self.now.rising }
         ensures order { IfOk result (λ given. IsInAskedOrder self.now chunk given) }

@@ -1,4 +1,4 @@
-//! The columns of a schema that a reader is asked for, if not all, and the schema of what it gives then.
+//! The requested columns of a schema, if not all, and their schema.
 ghost use Rattle.std.specs.Prelude.{◌≡◌, length, IfErr, IfOk, IsSome};
 ghost use Rattle.std.specs.Option.{option_copied};
 ghost use Rattle.ipc_devices.specs.declared.fault.Fault.TheVariants.{Memory};
@@ -13,18 +13,21 @@ use lower::datatypes::clones::clone_metadata;
 use lower_arrays::array::AnyArray;
 use std::alloc::Global;
 
-/// Columns of a schema that a reader is asked for, with the schema of what it gives. A reader holds `None` in its place where it is
-/// asked for all.
+/// Requested columns of a schema, with the schema of what is returned.
+///
+/// A reader has `None` instead if all columns are requested.
 #[derive(Drop)]
 pub struct ChosenColumns {
     columns: AskedColumns,
-    // their fields, as they are asked for, and the metadata of the whole schema
+    // their fields in the requested order, and the metadata of the whole schema
     schema: Schema,
 }
 
-/// The columns of a projection to those of a schema: None where there is no projection, and all columns are read; then it takes no
-/// memory. The projection names columns that are there, none of them twice, as [`is_projection`] tells. It answers `Memory` where
-/// there is no memory.
+/// Returns the columns of a projection to the columns of a schema.
+///
+/// It is `None` if there is no projection: all columns are read then, and nothing is allocated. The
+/// columns must exist, without repeats, as [`is_projection`] tests. The only error is
+/// `Fault::Memory`.
 ///
 /// [`is_projection`]: crate::read::projection::is_projection
 pub fn choose(
@@ -49,7 +52,9 @@ pub fn choose(
     }))
 }
 
-/// The columns in rising order, in which a batch is read: None where it is read whole. It takes no memory.
+/// Returns the columns in ascending order, or `None` if a batch is read whole.
+///
+/// A batch is read in this order. It allocates nothing.
 pub fn rising(chosen: &Option<ChosenColumns>) -> Option<&[usize]>
     ensures columns { option_copied result ≡ rising_by chosen.now }
     ensures same { AreShuffled chosen.now }
@@ -60,8 +65,9 @@ pub fn rising(chosen: &Option<ChosenColumns>) -> Option<&[usize]>
     }
 }
 
-/// A chunk whose columns were read in rising order, with its columns in the order in which they are asked for. No column is copied. It
-/// answers `Memory` where there is no memory; then the chunk is dropped.
+/// Returns a chunk with its columns in the requested order, instead of ascending order.
+///
+/// No column is copied. The only error is `Fault::Memory`; the chunk is dropped then.
 pub fn in_order(
     alloc: Global,
     chosen: &Option<ChosenColumns>,
@@ -77,7 +83,7 @@ pub fn in_order(
     }
 }
 
-/// The schema of what is given: that of the columns that are asked for, or the whole one.
+/// Returns the schema of the requested columns, or the whole one.
 pub fn shown<'a>(chosen: &'a Option<ChosenColumns>, whole: &'a Schema) -> &'a Schema
     ensures { result.now ≡ shown_by whole.now chosen.now }
 {

@@ -1,4 +1,4 @@
-//! Projections, prepared: the columns that a reader takes in rising order, and the places that were asked for.
+//! Prepares projections: columns in ascending order, and the requested index of each.
 ghost use Rattle.std.specs.Prelude.{◌≡◌, ℕ, ◌<◌, nat_eq, map, length, slice_get, option_map, IfErr, IfOk, Some};
 ghost use Rattle.std.specs.HashMap.{get};
 ghost use Rattle.std.specs.List.{enumerate_from, AllByRecursion};
@@ -13,18 +13,23 @@ use lower::datatypes::Field;
 use std::alloc::{AllocError, Global};
 use std::collections::HashMap;
 
-/// What a batch means by the columns of a prepared projection, brought to their places, is what it
-/// means by the projection that was asked for.
+/// A theorem: reading by a prepared projection and reordering is reading by the projection.
 pub fn reordered_batches(map: &HashMap<usize, usize>)
     ensures { ReorderLaw map.now }
 {}
 
-/// A projection, prepared for readers, which take columns in rising order: its columns in that order;
-/// a map from the place of each of them there to the place at which it was asked for, as
-/// `apply_projection` takes it; and the fields of the columns, in the order that was asked for. By
-/// `[2, 0, 1]` the columns are 0, 1 and 2, and the map has 1 at 0, 2 at 1 and 0 at 2. The projection
-/// names columns that are there, none of them twice, as `is_projection` tells. It answers `Memory`
-/// where there is no memory.
+/// Prepares a projection for readers, which take columns in ascending order.
+///
+/// It returns three values:
+///
+/// - The columns in ascending order.
+/// - A map from the index of each column there to its index in `projection`, for
+///   `apply_projection`.
+/// - The fields of the columns, in the order of `projection`.
+///
+/// For `[2, 0, 1]` the columns are 0, 1 and 2, and the map is 0 to 1, 1 to 2, and 2 to 0. The
+/// columns must exist, without repeats, as `is_projection` tests. The only error is
+/// `Fault::Memory`.
 pub fn prepare_projection(
     alloc: Global,
     fields: &[Field],
@@ -39,7 +44,7 @@ pub fn prepare_projection(
     Ok(prepared)
 }
 
-// The same, lent.
+// The same, for a borrowed projection.
 fn prepared(
     alloc: Global,
     fields: &[Field],
@@ -56,7 +61,7 @@ fn prepared(
     Ok((columns, places, selected))
 }
 
-// The columns of a projection in rising order, each with its place in the projection in front.
+// The columns of a projection in ascending order, each after its index in the projection.
 fn in_rising_order(alloc: Global, projection: &[usize]) -> Result<Vec<(usize, usize)>, AllocError>
     ensures same { IfOk result (λ pairs. IsPermutation (enumerate_from 0 projection.now) pairs.items) }
     ensures rising { IfOk result (λ pairs. IsNonDecreasingBy (λ (p : ℕ × ℕ). p.1) pairs.items) }
@@ -66,7 +71,7 @@ fn in_rising_order(alloc: Global, projection: &[usize]) -> Result<Vec<(usize, us
     Ok(pairs)
 }
 
-// Each column with its place in front.
+// Each column after its index.
 fn with_places(alloc: Global, projection: &[usize]) -> Result<Vec<(usize, usize)>, AllocError>
     ensures { IfOk result (λ pairs. pairs.items ≡ enumerate_from 0 projection.now) }
 {
@@ -80,7 +85,7 @@ fn columns_of(alloc: Global, pairs: &[(usize, usize)]) -> Result<Vec<usize>, All
     pairs.iter().map(|pair| pair.1).collect(alloc)
 }
 
-// The places of such pairs, by their numbers.
+// The indices of such pairs, in a map from the positions of the pairs.
 fn places_of(alloc: Global, pairs: &[(usize, usize)]) -> Result<HashMap<usize, usize>, AllocError>
     ensures { IfOk result (λ places. (i : ℕ) → get nat_eq places i ≡ option_map (λ (p : ℕ × ℕ). p.0) (slice_get pairs.now i)) }
 {

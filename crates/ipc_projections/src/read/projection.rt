@@ -1,6 +1,7 @@
-//! Projections: which columns of a batch are read, and in which order they are given. A reader goes
-//! over a batch once, so it takes them in rising order, and brings them into the order that was
-//! asked for afterwards.
+//! Projections: which columns of a batch are read, and in which order.
+//!
+//! A reader visits a batch once. So it takes the columns in ascending order, and reorders them
+//! afterwards.
 ghost use Rattle.std.specs.Prelude.{◌≡◌, ◌↔◌, ◌<◌, ℕ, nat_eq, [], length, IsTrue, IsSome, Some, IfErr, IfOk};
 ghost use Rattle.std.specs.List.{All, filter_map};
 ghost use Rattle.std.specs.HashMap.{get, keys};
@@ -17,14 +18,16 @@ use std::alloc::{AllocError, Global};
 use std::collections::HashMap;
 use std::marker::Model;
 
-/// Columns in rising order are distinct: what is prepared is a projection.
+/// A theorem: a prepared projection is a projection, since ascending columns are distinct.
 #[tactic(auto, using(crate::proofs::Prepared::prepared_projection))]
 pub fn prepared_projections()
     ensures { PreparedLaw }
 {}
 
-/// Whether a projection names columns of so many, in any order and none of them twice. The empty one
-/// does. It takes no memory, and compares each with each.
+/// Returns whether a projection has only indices below `columns`, without repeats.
+///
+/// The order doesn't count, and the projection may be empty. It allocates nothing, and compares
+/// each index with each other one.
 pub fn is_projection(projection: &[usize], columns: usize) -> bool
     ensures { IsTrue result ↔ IsProjection (Some projection.now) columns }
 {
@@ -38,8 +41,9 @@ pub fn is_projection(projection: &[usize], columns: usize) -> bool
     true
 }
 
-/// Whether a projection names columns of so many, each above the one before it, as readers of batches
-/// ask for them. The empty one does. It takes no memory.
+/// Returns whether the indices are below `columns` and strictly ascending.
+///
+/// Readers of batches need such a projection. It may be empty. It allocates nothing.
 pub fn is_prepared(projection: &[usize], columns: usize) -> bool
     ensures { IsTrue result ↔ IsPrepared projection.now columns }
 {
@@ -55,9 +59,11 @@ pub fn is_prepared(projection: &[usize], columns: usize) -> bool
     true
 }
 
-/// Whether a map brings so many columns into an order: its keys are the numbers of the columns, and
-/// its values are these numbers too, each that of one key. The empty map does so for no column. It
-/// takes no memory, and compares each with each.
+/// Returns whether a map is a reordering of `columns` columns.
+///
+/// Its keys must be the numbers below `columns`, and its values these numbers too, each of one key.
+/// The empty map reorders no columns. It allocates nothing, and compares each value with each other
+/// one.
 pub fn is_reordering(map: &HashMap<usize, usize>, columns: usize) -> bool
     ensures { IsTrue result ↔ IsReordering map.now columns }
 {
@@ -90,14 +96,14 @@ fn has_each_key(map: &HashMap<usize, usize>, columns: usize) -> bool
     true
 }
 
-// Whether the numbers below this one are the places of the columns, each that of one.
+// Whether each number below this one is the value of exactly one column.
 fn has_places(map: &HashMap<usize, usize>, columns: usize) -> bool
     ensures { IsTrue result ↔ HasPlaces map.now columns }
 {
     has_places_apart(map, columns) && has_each_place(map, columns)
 }
 
-// Whether each column has a place below this number, and none has that of one before it.
+// Whether each column has a value below this number, and none the value of a column before it.
 fn has_places_apart(map: &HashMap<usize, usize>, columns: usize) -> bool
     ensures { IsTrue result ↔ ((i : ℕ) → i < columns → IsApart map.now columns i) }
 {
@@ -109,7 +115,7 @@ fn has_places_apart(map: &HashMap<usize, usize>, columns: usize) -> bool
     true
 }
 
-// Whether a column has a place below this number, which no column before it has.
+// Whether a column has a value below this number, which no column before it has.
 fn is_apart(map: &HashMap<usize, usize>, column: usize, columns: usize) -> bool
     ensures { IsTrue result ↔ IsApart map.now columns column }
 {
@@ -119,7 +125,7 @@ fn is_apart(map: &HashMap<usize, usize>, column: usize, columns: usize) -> bool
     }
 }
 
-// Whether each number below this one is the place of a column.
+// Whether each number below this one is the value of a column.
 fn has_each_place(map: &HashMap<usize, usize>, columns: usize) -> bool
     ensures { IsTrue result ↔ ((p : ℕ) → p < columns → IsPlace map.now columns p) }
 {
@@ -131,7 +137,7 @@ fn has_each_place(map: &HashMap<usize, usize>, columns: usize) -> bool
     true
 }
 
-// Whether one of the first columns goes to this place.
+// Whether one of the first columns has this value.
 fn is_place(map: &HashMap<usize, usize>, place: usize, columns: usize) -> bool
     ensures { IsTrue result ↔ IsPlace map.now columns place }
 {
@@ -143,7 +149,7 @@ fn is_place(map: &HashMap<usize, usize>, place: usize, columns: usize) -> bool
     false
 }
 
-// Whether this column goes to this place.
+// Whether this column has this value.
 fn goes_to(map: &HashMap<usize, usize>, column: usize, place: usize) -> bool
     ensures { IsTrue result ↔ (get nat_eq map.now column ≡ Some place) }
 {
@@ -153,9 +159,10 @@ fn goes_to(map: &HashMap<usize, usize>, column: usize, place: usize) -> bool
     }
 }
 
-/// The chunk with its columns in a new order: column `i` goes to the place that the map has for it. The
-/// map brings as many columns as the chunk has into an order (see [`is_reordering`]). No column is
-/// copied. It answers `Memory` where there is no memory; then the chunk is dropped.
+/// Returns the chunk with column `i` at index `map[i]`.
+///
+/// The map must reorder as many columns as the chunk has, as [`is_reordering`] tests. No column is
+/// copied. The only error is `Fault::Memory`; the chunk is dropped then.
 pub fn apply_projection(
     alloc: Global,
     chunk: Chunk<AnyArray>,
@@ -169,7 +176,7 @@ pub fn apply_projection(
     Ok(ordered)
 }
 
-// The same of any columns.
+// The same for any type of columns.
 #[tactic(auto, using(crate::proofs::Moves::moved_equal))]
 fn reordered<A: Rows>(
     alloc: Global,
@@ -183,7 +190,7 @@ fn reordered<A: Rows>(
     Ok(Chunk::new(columns))
 }
 
-// Each column at its place.
+// Moves each column to its new index.
 #[tactic(auto, using(crate::proofs::Moves::all_moved_to))]
 fn in_order<T: Drop>(
     alloc: Global,
@@ -198,14 +205,14 @@ fn in_order<T: Drop>(
     Ok(ordered)
 }
 
-// What stands at the places.
+// The columns at the indices.
 fn filled<T: Drop>(alloc: Global, places: Vec<Option<T>>) -> Result<Vec<T>, AllocError>
     ensures { IfOk result (λ ordered. ordered.items ≡ filter_map (λ place. place) places.items) }
 {
     places.into_iter().filter_map(|place| place).collect(alloc)
 }
 
-// Each column at its place. The last one is taken first, so that none has to move up.
+// Moves each column to its new index. The last is taken first, so that no column is shifted.
 #[tactic(auto, using(crate::proofs::Moves::begun, crate::proofs::Moves::has_place, crate::proofs::Moves::has_room, crate::proofs::Moves::one_placed))]
 fn placed<T: Drop>(
     alloc: Global,
@@ -224,24 +231,25 @@ fn placed<T: Drop>(
     Ok(places)
 }
 
-/// An item, and whether a projection chooses it.
+/// An item, and whether a projection selects it.
 #[derive(Debug, PartialEq, Eq, Hash, Drop)]
 pub enum ProjectionResult<T> {
-    /// The projection chooses it.
+    /// The projection selects it.
     Selected(T),
-    /// It doesn't.
+    /// The projection doesn't select it.
     NotSelected(T),
 }
 
-/// The items of an iterator, each with whether a projection chooses its number. Contracts see the
-/// iterator, and of each item that is still to come whether it is chosen.
+/// An iterator over items, each with whether a projection selects its index.
+///
+/// Its model is the inner iterator, and whether each remaining item is selected.
 #[derive(Drop)]
 pub struct ProjectionIter<'a, I: Iterator> {
-    // The chosen numbers that are still to come.
+    // The selected indices that remain.
     projection: &'a [usize],
     iter: I,
-    // The number of the next item, as long as one is to come that is chosen: behind the last one
-    // nothing is counted, so no count can overflow.
+    // The index of the next item, as long as a selected one remains. After the last one nothing is
+    // counted, so the count can't overflow.
     count: usize,
 }
 
@@ -261,9 +269,10 @@ impl<'a, I: Iterator> ProjectionIter<'a, I> {
     ghost use Rattle.std.specs.List.{list_any};
     ghost use Rattle.ipc_projections.specs.Projected.{is_chosen};
 
-    /// The items of an iterator, where those of a projection's numbers are chosen, counted from 0. The
-    /// projection is strictly increasing; it may be empty, and have numbers that no item has. It takes
-    /// no memory.
+    /// Returns an iterator that marks the items whose index is in `projection`.
+    ///
+    /// Indices start at 0. The projection must be strictly increasing; it may be empty, and have
+    /// indices that no item has. It allocates nothing.
     pub fn new(projection: &'a [usize], iter: I) -> Self
         requires { IsIncreasing projection.now }
         ensures source { result.source ≡ iter }
@@ -288,7 +297,7 @@ impl<'a, I: Iterator + Drop> Iterator for ProjectionIter<'a, I> {
 
     ghost remaining = { λ s. I.remaining s.source };
 
-    /// The next item, as one that is chosen or not. Where the iterator has none, nothing is counted.
+    /// Returns the next item, marked. If the inner iterator has none, nothing is counted.
     fn next(&mut self) -> Option<ProjectionResult<I::Item>> {
         let item = self.iter.next()?;
         let Some((column, others)) = self.projection.split_first() else {

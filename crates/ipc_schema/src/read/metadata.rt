@@ -1,4 +1,4 @@
-//! Pairs of texts beside schemas and fields, and the extension that those of a field may name.
+//! Key-value metadata of schemas and fields, and extensions that those of a field name.
 //!
 //! Arrow columnar format, "Extension Types"; `custom_metadata` of `Schema.fbs`.
 ghost use Rattle.std.specs.Prelude.{◌≡◌, [], IfOk, option_map, string_bytes};
@@ -15,13 +15,13 @@ use lower::datatypes::{DataType, Metadata};
 use std::alloc::{AllocError, Global};
 use std::collections::BTreeMap;
 
-/// The key under which a field names its extension type.
+/// The key of the name of a field's extension type.
 const NAME_KEY: &str = "ARROW:extension:name";
 
-/// The key of what the extension type says of itself.
+/// The key of the metadata of a field's extension type.
 const DATA_KEY: &str = "ARROW:extension:metadata";
 
-// The pairs of a vector of tables. An ill-made one is a fault of the schema.
+// The pairs of a vector of tables. A malformed one is a fault of the schema.
 fn pairs_in_schema(alloc: Global, tables: &Tables<'_, KeyValueTable>) -> Result<Metadata, Fault>
     ensures { AnswersMeaning (λ pairs. pairs_of pairs.entries) result
         (pairs_from tables.now 0 tables.now.count []) }
@@ -33,7 +33,7 @@ fn pairs_in_schema(alloc: Global, tables: &Tables<'_, KeyValueTable>) -> Result<
     }
 }
 
-/// The pairs of a field, none where there is no vector of them.
+/// Returns the pairs of a field, none without a vector of them.
 #[tactic(auto, unfolding(ipc_model::specs::Schemas::pairs_at))]
 pub(crate) fn read_metadata(alloc: Global, field: &FieldRef<'_>) -> Result<Metadata, Fault>
     ensures { AnswersMeaning (λ pairs. pairs_of pairs.entries) result
@@ -45,7 +45,7 @@ pub(crate) fn read_metadata(alloc: Global, field: &FieldRef<'_>) -> Result<Metad
     }
 }
 
-/// The pairs of a schema, none where there is no vector of them.
+/// Returns the pairs of a schema, none without a vector of them.
 #[tactic(auto, unfolding(ipc_model::specs::Schemas::pairs_at))]
 pub(crate) fn read_schema_metadata(alloc: Global, schema: &SchemaRef<'_>) -> Result<Metadata, Fault>
     ensures { AnswersMeaning (λ pairs. pairs_of pairs.entries) result
@@ -64,7 +64,7 @@ fn value_under<'a>(pairs: &'a Metadata, key: &str) -> Option<&'a String>
     pairs.get(key)
 }
 
-/// The type with the extension that the pairs of its field name, if they do.
+/// Returns the type, as an extension if the pairs of its field name one.
 pub(crate) fn with_extension(
     alloc: Global,
     pairs: &Metadata,

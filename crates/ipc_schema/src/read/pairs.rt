@@ -1,4 +1,4 @@
-//! Pairs of texts beside schemas, fields and files: `custom_metadata` of `Schema.fbs` and of `File.fbs`.
+//! Key-value metadata: `custom_metadata` of `Schema.fbs` and of `File.fbs`.
 ghost use Rattle.std.specs.Prelude.{◌≡◌, [], IfOk};
 ghost use Rattle.lower.specs.Normal.{with_pair};
 ghost use Rattle.lower.specs.TypeViews.{pairs_of};
@@ -12,12 +12,12 @@ use lower::datatypes::Metadata;
 use std::alloc::{AllocError, Global};
 use std::collections::BTreeMap;
 
-/// Why pairs aren't read.
+/// Why pairs can't be read.
 #[derive(Debug, Clone, Copy, PartialEq, Eq)]
 pub enum PairsFault {
-    /// The table of a pair is ill-made.
+    /// The table of a pair is malformed.
     Table(TableFault),
-    /// Memory was refused.
+    /// An allocation failed.
     Memory,
 }
 
@@ -47,8 +47,8 @@ fn put(alloc: Global, pairs: &mut Metadata, key: &str, value: &str) -> Result<()
     Ok(())
 }
 
-// Puts the pair of a table to the others. One without a key or a value is passed over, and a later
-// one takes the place of an earlier one with its key.
+// Inserts the pair of a table. A pair without a key or a value is ignored, and a later pair
+// replaces an earlier one with the same key.
 fn read_pair(alloc: Global, pair: &KeyValueRef<'_>, pairs: &mut Metadata) -> Result<(), PairsFault>
     ensures { GivesPairs (λ _. pairs_of pairs.new.entries) result
         (with_key_value pair.now (pairs_of pairs.old.entries)) }
@@ -63,10 +63,13 @@ fn read_pair(alloc: Global, pair: &KeyValueRef<'_>, pairs: &mut Metadata) -> Res
     Ok(())
 }
 
-/// The pairs of a vector of tables, in the order of their keys. A table without a key or a value is passed over, and a later one takes
-/// the place of an earlier one with its key.
+/// Returns the pairs of a vector of tables, in the order of their keys.
 ///
-/// Ok exactly where each table is well made, memory aside.
+/// A pair without a key or a value is ignored, and a later pair replaces an earlier one with the
+/// same key. Errors:
+///
+/// - `PairsFault::Table`: a table is malformed.
+/// - `PairsFault::Memory`: an allocation failed.
 pub fn read_pairs(alloc: Global, tables: &Tables<'_, KeyValueTable>) -> Result<Metadata, PairsFault>
     ensures { GivesPairs (λ pairs. pairs_of pairs.entries) result
         (pairs_from tables.now 0 tables.now.count []) }

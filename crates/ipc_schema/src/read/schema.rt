@@ -1,4 +1,4 @@
-//! Schemas as they stand in messages.
+//! Reads schemas.
 //!
 //! Arrow columnar format, "Schema message": the header of the first message of a stream is a table
 //! `Schema`, whose fields are tables `Field`.
@@ -27,10 +27,10 @@ use ipc_views::{
 use lower::datatypes::{DataType, Field, IntegerType, Metadata, Schema};
 use std::alloc::{AllocError, Global};
 
-/// How deep fields may go.
+/// The greatest depth of fields.
 const MAX_LEVELS: u64 = 64;
 
-// How a dictionary's keys stand for its values.
+// How the keys of a dictionary encode its values.
 #[derive(Clone, Copy)]
 struct Encoding {
     keys: IntegerType,
@@ -55,7 +55,7 @@ fn deserialize_encoding(table: &DictionaryEncodingRef<'_>) -> Result<Encoding, F
     })
 }
 
-// The encoding of a field, None where it has no dictionary.
+// The encoding of a field, None if it has no dictionary.
 fn read_encoding(field: &FieldRef<'_>) -> Result<Option<Encoding>, Fault>
     ensures { AnswersMeaning (λ e. option_map encoding_seen e) result
         (given (made (field_dictionary field.now)) optional_encoding) }
@@ -93,7 +93,7 @@ fn id_of(encoding: Option<Encoding>) -> Option<i64>
     }
 }
 
-// The field of this name and these pairs, which may be null or not, and its ids.
+// A field of these parts, and its ids.
 fn field_with(
     alloc: Global,
     name: String,
@@ -131,8 +131,8 @@ fn read_name(alloc: Global, field: &FieldRef<'_>) -> Result<String, Fault>
     }
 }
 
-// The field's table at an index of a vector. Nowhere else is one opened, and each time it is a visit, of
-// which there are `most` at the end: also where the table is ill-made.
+// Opens the field at an index of a vector, and counts a visit, even if the table is malformed. No
+// other function opens one. At most `most` visits are allowed.
 fn open_field<'a>(
     tables: &Tables<'a, FieldTable>,
     index: usize,
@@ -153,7 +153,7 @@ fn open_field<'a>(
     in_schema(tables.get(index))
 }
 
-// The field of a table that is open, of as many levels at most.
+// Reads a field whose table is open, of at most so many levels.
 #[cycle(fields)]
 #[tactic(auto, unfolding(ipc_model::specs::Schemas::field_at, ipc_model::specs::Schemas::field_from))]
 fn deserialize_field(
@@ -183,7 +183,7 @@ fn deserialize_field(
     Ok(read)
 }
 
-// The type that a table says, whose children are those of the field that it stands in.
+// The type of a table, with the children of its field.
 #[cycle(fields)]
 #[tactic(auto, unfolding(ipc_model::specs::Schemas::single_at, ipc_model::specs::Schemas::group_at))]
 fn deserialize_type(
@@ -232,7 +232,7 @@ fn deserialize_type(
     }
 }
 
-// The first child of a field, and the ids of all its children: there is one.
+// The first child of a field, and the only id: further children are ignored.
 #[cycle(fields)]
 fn deserialize_child(
     alloc: Global,
@@ -317,14 +317,15 @@ fn is_little_endian(order: Endianness) -> bool
     }
 }
 
-/// The schema of a table, and what IPC adds to it. `visits` counts how many times the table of
-/// a field is opened, where it stands in the message of the table or wherever else such a table
-/// stands.
+/// Returns the schema of a table, and what IPC adds to it.
 ///
-/// Faults: those of [`deserialize_schema`] but `Schema(NotASchema)`. Whatever the answer,
-/// `visits` grows by no more than the message has bytes, and where it is Ok, by the number of
-/// fields at all levels. If the schema is refused for one of its fields, it grows by at least
-/// one. `visits` and the length of the message are together below `2^64`.
+/// `visits` counts how many times the table of a field is opened. `visits` and the length of the
+/// message must be less than `2^64` together. Errors are those of [`deserialize_schema`] except
+/// `Fault::Schema(SchemaFault::NotASchema)`. Whether it fails or not, `visits` grows by at most the
+/// number of bytes of the message, and:
+///
+/// - On success it grows by the number of fields at all levels.
+/// - If the error is due to one of the fields, it grows by at least one.
 #[tactic(auto, unfolding(ipc_model::specs::Schemas::schema_at, crate::specs::Reading::fields_vector))]
 pub fn fb_to_schema(
     alloc: Global,
@@ -374,16 +375,17 @@ fn read_message(
     }
 }
 
-/// What [`deserialize_schema`] answers, with each visit counted: `visits` grows by one each
-/// time the table of a field is opened, whether that is well made or not.
+/// Reads a schema as [`deserialize_schema`] does, and counts visits.
 ///
-/// Whatever the answer, it grows by no more than the message has bytes, so a field table that
-/// is shared over and over is opened no more often than that. Where the answer is Ok, it grows
-/// by the number of fields at all levels. If the schema is refused for one of its fields, it
-/// grows by at least one. It counts no bytes: each field has a copy of its name, its pairs and
-/// its ids, also where tables share them.
+/// `visits` grows by one each time the table of a field is opened, even if the table is malformed.
+/// Whether the call fails or not, it grows by at most the number of bytes of the message. So a
+/// field table that is shared many times is opened no more often than that. Also:
 ///
-/// `visits` and the length of the message are together below `2^64`.
+/// - On success it grows by the number of fields at all levels.
+/// - If the error is due to one of the fields, it grows by at least one.
+///
+/// It doesn't count bytes: each field has a copy of its name, its metadata and its ids, even if
+/// tables share them. `visits` and the length of the message must be less than `2^64` together.
 pub fn deserialize_schema_counted(
     alloc: Global,
     message: &[u8],
@@ -391,7 +393,7 @@ pub fn deserialize_schema_counted(
 ) -> Result<(Schema, IpcSchema), Fault>
     requires { visits.now + length message.now < 2 ^ 64 }
     ensures meaning { GivesMessage schema_seen result message.now }
-    // the ids that are answered have the shape of the fields
+    // the returned ids have the shape of the fields
     ensures fits { IfOk result (λ r. AllFit (fields_view r.0.fields.items)
         (all_ids_view r.1.fields.items)) }
     ensures counted { IfOk result (λ r. visits.new ≡ visits.old + fields_count (fields_view r.0.fields.items)) }
@@ -403,22 +405,30 @@ pub fn deserialize_schema_counted(
     Ok(read)
 }
 
-/// The schema that a message holds, and what IPC adds to it: the ids of dictionaries, and the order
-/// of bytes in the numbers of bodies.
+/// Returns the schema of a message, and what IPC adds to it.
 ///
-/// Ok exactly where the message means a schema. Faults: `Schema(Table(..))` where a table of it is
-/// ill-made; `Schema(NotASchema)` where its header is none or another; `OutOfSpec(MissingFields)`
-/// where the schema has no vector of fields; `Schema(NoName)`, `Schema(NoType)` where a field has
-/// none; `Schema(NoChild)` where a list, a map, a struct or a union has no child;
-/// `Schema(NoIndexType)` where a dictionary has no type of its keys; `Schema(BadInteger)` where an
-/// integer has another width than 8, 16, 32 or 64 bits; `Schema(BadTime)` where a time's unit and
-/// width don't go together; `Schema(BadSize)` where a fixed size is below 0; `Schema(BadDecimal)`
-/// where a decimal has another width than 128 or 256 bits, or a precision or scale below 0;
-/// `Schema(TooDeep)` where fields go to a 65th level; `Schema(TooManyFields)` where more field tables
-/// are met than the message has bytes; `Memory`.
+/// IPC adds the ids of dictionaries, and the byte order of the numbers in bodies. It succeeds on
+/// exactly the messages that mean a schema (Arrow columnar format, "Schema message"), unless an
+/// allocation fails. Errors:
+///
+/// - `Fault::Schema(SchemaFault::Table(..))`: a table is malformed.
+/// - `Fault::Schema(SchemaFault::NotASchema)`: the message has no header, or another one.
+/// - `Fault::OutOfSpec(OutOfSpecKind::MissingFields)`: the schema has no vector of fields.
+/// - `Fault::Schema(SchemaFault::NoName)`, `NoType`: a field has no name, or no type.
+/// - `Fault::Schema(SchemaFault::NoChild)`: a list, a map, a struct or a union has no child.
+/// - `Fault::Schema(SchemaFault::NoIndexType)`: a dictionary has no type of its keys.
+/// - `Fault::Schema(SchemaFault::BadInteger)`: the width of an integer isn't 8, 16, 32 or 64 bits.
+/// - `Fault::Schema(SchemaFault::BadTime)`: the width of a time doesn't fit its unit.
+/// - `Fault::Schema(SchemaFault::BadSize)`: a fixed size is negative.
+/// - `Fault::Schema(SchemaFault::BadDecimal)`: the width of a decimal isn't 128 or 256 bits, or its
+///   precision or scale is negative.
+/// - `Fault::Schema(SchemaFault::TooDeep)`: fields are nested more than 64 levels deep.
+/// - `Fault::Schema(SchemaFault::TooManyFields)`: more field tables are visited than the message
+///   has bytes.
+/// - `Fault::Memory`: an allocation failed.
 pub fn deserialize_schema(alloc: Global, message: &[u8]) -> Result<(Schema, IpcSchema), Fault>
     ensures meaning { GivesMessage schema_seen result message.now }
-    // the ids that are answered have the shape of the fields
+    // the returned ids have the shape of the fields
     ensures fits { IfOk result (λ r. AllFit (fields_view r.0.fields.items)
         (all_ids_view r.1.fields.items)) }
 {

@@ -1,4 +1,4 @@
-//! Types without children as tables say them.
+//! Reads types without children.
 //!
 //! Arrow columnar format, "Data Types"; the tables are those of `Schema.fbs`.
 ghost use Rattle.std.specs.Prelude.{◌≡◌, IfOk, option_map};
@@ -17,7 +17,7 @@ use ipc_views::{
 use lower::datatypes::{DataType, IntegerType, IntervalUnit, TimeUnit, UnionMode};
 use std::alloc::{AllocError, Global};
 
-// A slot of a table of a schema. An ill-made one is a fault of the schema.
+// A slot of a table of a schema. A malformed one is a fault of the schema.
 pub(crate) fn in_schema<T>(slot: Result<T, TableFault>) -> Result<T, Fault>
     ensures { result ≡ in_schema slot }
 {
@@ -169,7 +169,7 @@ fn deserialize_decimal(decimal: &DecimalRef<'_>) -> Result<DataType, Fault>
     decimals(precision, scale, bit_width)
 }
 
-// 32 bits count seconds or milliseconds, 64 bits microseconds or nanoseconds.
+// Seconds and milliseconds have 32 bits, microseconds and nanoseconds 64 bits.
 fn times(unit: TimeUnitTag, bit_width: i32) -> Result<DataType, Fault>
     ensures { AnswersMeaning type_view result (option_map plain (time_of unit bit_width)) }
 {
@@ -191,7 +191,7 @@ fn deserialize_time(time: &TimeRef<'_>) -> Result<DataType, Fault>
     times(unit, bit_width)
 }
 
-// The name of a time zone, where there is one.
+// The name of the timezone, if there is one.
 fn deserialize_timezone(
     alloc: Global,
     timestamp: &TimestampRef<'_>,
@@ -213,7 +213,7 @@ fn deserialize_timestamp(alloc: Global, timestamp: &TimestampRef<'_>) -> Result<
     Ok(DataType::Timestamp(time_unit(unit), timezone))
 }
 
-// The ids of a union's children, where they are told.
+// The type ids of a union's children, if there are any.
 pub(crate) fn deserialize_ids(
     alloc: Global,
     union: &UnionRef<'_>,
@@ -236,8 +236,9 @@ fn copied_ids(alloc: Global, ids: &TypeIds<'_>) -> Result<Vec<i32>, AllocError>
     Ok(copy)
 }
 
-/// The type that a table says, where it has no children. Those of a type with children stand beside
-/// it, so that one is refused.
+/// Returns the type of a table that has no children.
+///
+/// It refuses a type with children, which are in the table of its field.
 #[tactic(auto, unfolding(ipc_model::specs::Schemas::plain_at))]
 pub(crate) fn deserialize_plain(alloc: Global, type_: &TypeRef<'_>) -> Result<DataType, Fault>
     ensures { AnswersMeaning type_view result

@@ -1,4 +1,4 @@
-//! Clones. One that is Ok is the same type, field or schema as its source; one fails only where there is no memory.
+//! Clones. A clone is equal to its source, and fails only if an allocation fails.
 ghost use Rattle.std.specs.Prelude.{◌≡◌, IfOk};
 ghost use Rattle.lower.specs.TypeViews.{type_view, field_view, fields_view, pairs_of, ids_of, schema_view};
 
@@ -6,7 +6,7 @@ use super::{DataType, Field, Metadata, Schema};
 use std::alloc::AllocError;
 
 impl DataType {
-    /// The same type once more.
+    /// Returns a copy of the type. It fails only if an allocation fails.
     #[cycle(clones)]
     pub fn clone(&self) -> Result<DataType, AllocError>
         ensures { IfOk result (λ copy. type_view copy ≡ type_view self.now) }
@@ -62,7 +62,7 @@ impl DataType {
 }
 
 impl Field {
-    /// The same field once more.
+    /// Returns a copy of the field. It fails only if an allocation fails.
     #[cycle(clones)]
     pub fn clone(&self) -> Result<Field, AllocError>
         ensures { IfOk result (λ copy. field_view copy ≡ field_view self.now) }
@@ -84,7 +84,7 @@ fn clone_boxed(field: &Box<Field>) -> Result<Box<Field>, AllocError>
     Ok(Box::new(*Box::allocator(field), Field::clone(field)?)?)
 }
 
-/// The same fields once more.
+/// Returns a copy of the fields. It fails only if an allocation fails.
 #[cycle(clones)]
 pub fn clone_fields(fields: &Vec<Field>) -> Result<Vec<Field>, AllocError>
     ensures { IfOk result (λ copy. fields_view copy.items ≡ fields_view fields.now.items) }
@@ -105,7 +105,7 @@ pub(crate) fn clone_ids(ids: &Option<Vec<i32>>) -> Result<Option<Vec<i32>>, Allo
     }
 }
 
-/// The same pairs once more.
+/// Returns a copy of the pairs. It fails only if an allocation fails.
 pub fn clone_metadata(metadata: &Metadata) -> Result<Metadata, AllocError>
     ensures { IfOk result (λ copy. pairs_of copy.entries ≡ pairs_of metadata.now.entries) }
 {
@@ -114,7 +114,7 @@ pub fn clone_metadata(metadata: &Metadata) -> Result<Metadata, AllocError>
 }
 
 impl Schema {
-    /// The same schema once more.
+    /// Returns a copy of the schema. It fails only if an allocation fails.
     pub fn clone(&self) -> Result<Schema, AllocError>
         ensures { IfOk result (λ copy. schema_view copy ≡ schema_view self.now) }
     {

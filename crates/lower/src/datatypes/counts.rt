@@ -1,14 +1,16 @@
-//! What the columns of a type take in a batch.
+//! How many nodes and buffers columns have in a record batch.
 //!
-//! Arrow columnar format, "Recordbatch message": a column has a node for itself and those of its
-//! children, in pre-order, and its buffers go along.
+//! Arrow columnar format, "RecordBatch message": nodes and buffers are in pre-order, those of a
+//! column before those of its children.
 ghost use Rattle.std.specs.Prelude.{◌≡◌, ◌≤◌, ◌^◌, ◌↔◌, IsTrue, MatchOption};
 ghost use Rattle.lower.specs.TypeViews.{type_view, fields_view};
 ghost use Rattle.lower.specs.Counts.{nodes, fields_nodes, buffers, fields_buffers, levels, fields_levels, is_dictionary};
 
 use super::{DataType, Field, UnionMode};
 
-/// The nodes of a column of the type, or None where a `u64` is too small for them.
+/// Returns the number of field nodes of a column of this type and its children.
+///
+/// It is `None` exactly if the number is `2^64` or more.
 #[cycle(nodes)]
 pub fn count_nodes(data_type: &DataType) -> Option<u64>
     ensures { MatchOption result
@@ -28,7 +30,9 @@ pub fn count_nodes(data_type: &DataType) -> Option<u64>
     }
 }
 
-/// The nodes of a column of each field, or None where a `u64` is too small for them.
+/// Returns the number of field nodes of all columns of these fields.
+///
+/// It is `None` exactly if the number is `2^64` or more.
 #[cycle(nodes)]
 pub fn count_all_nodes(fields: &[Field]) -> Option<u64>
     ensures { MatchOption result
@@ -42,9 +46,11 @@ pub fn count_all_nodes(fields: &[Field]) -> Option<u64>
     Some(sum)
 }
 
-/// The buffers of a column of the type, or None where a `u64` is too small for them.
+/// Returns the number of buffers of a column of this type and its children.
 ///
-/// `extra` is what a union has in front: 1 before version 5 of the metadata, else 0.
+/// `extra` is the number of buffers that each union has in front of its own: 1 for metadata before
+/// version 5 (a validity bitmap), else 0. The result is `None` exactly if the number is `2^64` or
+/// more.
 #[cycle(buffers)]
 pub fn count_buffers(data_type: &DataType, extra: u64) -> Option<u64>
     requires { extra ≤ 1 }
@@ -74,8 +80,10 @@ pub fn count_buffers(data_type: &DataType, extra: u64) -> Option<u64>
     }
 }
 
-/// The buffers of a column of each field, or None where a `u64` is too small for them; `extra` is
-/// that of [`count_buffers`].
+/// Returns the number of buffers of all columns of these fields.
+///
+/// `extra` is that of [`count_buffers`]. The result is `None` exactly if the number is `2^64` or
+/// more.
 #[cycle(buffers)]
 pub fn count_all_buffers(fields: &[Field], extra: u64) -> Option<u64>
     requires { extra ≤ 1 }
@@ -90,7 +98,9 @@ pub fn count_all_buffers(fields: &[Field], extra: u64) -> Option<u64>
     Some(sum)
 }
 
-/// Whether the fields go no deeper than `limit` levels, of which they are the first.
+/// Returns whether the fields are nested at most `limit` levels deep.
+///
+/// The fields themselves are the first level. Dictionaries and extensions add no level.
 #[cycle(levels)]
 pub fn is_within_levels(fields: &[Field], limit: u64) -> bool
     ensures { IsTrue result ↔ fields_levels (fields_view fields.now) ≤ limit }
@@ -122,7 +132,7 @@ fn is_type_within_levels(data_type: &DataType, limit: u64) -> bool
     }
 }
 
-/// Whether the type is a dictionary once its extensions are taken off.
+/// Returns whether the type, without its extensions, is a dictionary.
 pub fn is_dictionary_type(data_type: &DataType) -> bool
     ensures { result ≡ is_dictionary (type_view data_type.now) }
 {

@@ -1,4 +1,4 @@
-//! How a field is made, and what is printed of a type.
+//! Making a field, and printing a type.
 ghost use Rattle.std.specs.Prelude.{◌≡◌, [], string_bytes};
 ghost use Rattle.lower.specs.TypeTrees.{field};
 ghost use Rattle.lower.specs.TypeViews.{type_view, field_view, pairs_of};
@@ -7,7 +7,7 @@ use super::{DataType, Field, Metadata};
 use std::fmt;
 
 impl Field {
-    /// A field of this name and type without metadata. It takes no memory.
+    /// Returns a field without metadata. It allocates nothing.
     pub fn new(name: String, data_type: DataType, is_nullable: bool) -> Field
         ensures { field_view result ≡ field (string_bytes name) (type_view data_type) is_nullable [] }
     {
@@ -20,7 +20,7 @@ impl Field {
         }
     }
 
-    /// The field with this metadata in place of its own. It takes no memory.
+    /// Returns the field with its metadata replaced. It allocates nothing.
     pub fn with_metadata(self, metadata: Metadata) -> Field
         ensures { field_view result ≡ field (string_bytes self.name) (type_view self.data_type) self.is_nullable (pairs_of metadata.entries) }
     {
@@ -39,7 +39,7 @@ impl Field {
     }
 }
 
-/// As `{:?}` prints it.
+/// Prints the type as `{:?}` does.
 impl fmt::Display for DataType {
     fn fmt<W: fmt::Write>(&self, f: &mut fmt::Formatter<W>) -> fmt::Result {
         fmt::Debug::fmt(self, f)

@@ -1,4 +1,8 @@
 //! The normal form of types.
+//!
+//! In a field's metadata, the keys `ARROW:extension:name` and `ARROW:extension:metadata` are those
+//! of the field's type. The type is an extension, or a dictionary whose values are one; otherwise
+//! the keys are absent. Arrow columnar format, "Extension Types".
 ghost use Rattle.std.specs.Prelude.{◌≡◌, IfOk, option_map, string_bytes};
 ghost use Rattle.lower.specs.TypeViews.{type_view, field_view, fields_view, pairs_of, text_of};
 ghost use Rattle.lower.specs.Normal.{norm, norm_field, norm_fields, norm_pairs, extension_of, extension_of_values, without, with_pair, put_text, put_extension};
@@ -12,7 +16,8 @@ pub(super) const NAME_KEY: &str = "ARROW:extension:name";
 pub(super) const DATA_KEY: &str = "ARROW:extension:metadata";
 
 impl DataType {
-    /// The type in its normal form.
+    /// Returns the type with all nested fields in normal form. It fails only if an allocation
+    /// fails.
     #[cycle(normal)]
     pub fn normal(&self) -> Result<DataType, AllocError>
         ensures { IfOk result (λ n. type_view n ≡ norm (type_view self.now)) }
@@ -67,7 +72,7 @@ fn normal_boxed(field: &Box<Field>) -> Result<Box<Field>, AllocError>
     Ok(Box::new(*Box::allocator(field), normal_field(field)?)?)
 }
 
-/// The fields in their normal form.
+/// Returns the fields in normal form. It fails only if an allocation fails.
 #[cycle(normal)]
 pub fn normal_fields(fields: &Vec<Field>) -> Result<Vec<Field>, AllocError>
     ensures { IfOk result (λ n. fields_view n.items ≡ norm_fields (fields_view fields.now.items)) }

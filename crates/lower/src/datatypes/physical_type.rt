@@ -1,43 +1,43 @@
-//! How values lie in memory.
+//! The memory layouts of columns.
 ghost use Rattle.std.specs.Prelude.{◌≡◌};
 
 use super::{DataType, IntegerType, IntervalUnit};
 use crate::types::PrimitiveType;
 
-/// How the slots of a column lie in memory (Arrow columnar format, "Physical memory layout").
+/// The memory layout of a column (Arrow columnar format, "Physical Memory Layout").
 ///
-/// Several data types have the same physical type: a date of 32 bits lies as an integer does.
+/// Several data types can have the same layout: a 32-bit date has that of a 32-bit integer.
 #[derive(Debug, Clone, Copy, PartialEq, Eq)]
 pub enum PhysicalType {
-    /// No memory at all.
+    /// No memory.
     Null,
-    /// A bit for each slot.
+    /// One bit for each slot.
     Boolean,
-    /// A number for each slot.
+    /// One number for each slot.
     Primitive(PrimitiveType),
-    /// Bytes one after another, with offsets of 32 bits.
+    /// Concatenated bytes, with 32-bit offsets.
     Binary,
-    /// As many bytes for each slot.
+    /// The same number of bytes for each slot.
     FixedSizeBinary,
-    /// Bytes one after another, with offsets of 64 bits.
+    /// Concatenated bytes, with 64-bit offsets.
     LargeBinary,
-    /// UTF-8 bytes one after another, with offsets of 32 bits.
+    /// Concatenated UTF-8 bytes, with 32-bit offsets.
     Utf8,
-    /// UTF-8 bytes one after another, with offsets of 64 bits.
+    /// Concatenated UTF-8 bytes, with 64-bit offsets.
     LargeUtf8,
-    /// Slots of a child one after another, with offsets of 32 bits.
+    /// Concatenated slots of a child, with 32-bit offsets.
     List,
-    /// As many slots of a child for each slot.
+    /// The same number of slots of a child for each slot.
     FixedSizeList,
-    /// Slots of a child one after another, with offsets of 64 bits.
+    /// Concatenated slots of a child, with 64-bit offsets.
     LargeList,
-    /// A slot of each child.
+    /// One slot of each child.
     Struct,
-    /// A slot of one child.
+    /// One slot of one child.
     Union,
-    /// Lists of pairs.
+    /// Lists of key-value pairs.
     Map,
-    /// A key of this type for each slot.
+    /// One key of this type for each slot.
     Dictionary(IntegerType),
 }
 
@@ -45,8 +45,8 @@ impl DataType {
     ghost use Rattle.lower.specs.TypeViews.{type_view};
     ghost use Rattle.lower.specs.Physical.{physical, logical};
 
-    /// How the columns of this type lie in memory. An extension lies as the type that it is stored
-    /// as.
+    /// Returns the memory layout of columns of this type. An extension has that of its storage
+    /// type.
     pub fn to_physical_type(&self) -> PhysicalType
         ensures { result ≡ physical (type_view self.now) }
     {
@@ -97,7 +97,7 @@ impl DataType {
         }
     }
 
-    /// The type without its extensions.
+    /// Returns the type without its extensions.
     pub fn to_logical_type(&self) -> &DataType
         ensures { type_view result.now ≡ logical (type_view self.now) }
     {
@@ -137,7 +137,10 @@ impl From<PrimitiveType> for DataType {
 
     ghost from_gives = { λ number data_type. (type_view data_type ≡ plain (number_type number)) × (physical (type_view data_type) ≡ Primitive number) };
 
-    /// The type of an array of these numbers where no other is named, which lies in memory as they do.
+    /// Returns the default type of an array of these numbers.
+    ///
+    /// Its layout is that of the numbers. For 128 and 256 bits it is a decimal of precision 32 and
+    /// scale 32.
     fn from(number: PrimitiveType) -> DataType {
         match number {
             PrimitiveType::Int8 => DataType::Int8,

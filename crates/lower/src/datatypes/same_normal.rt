@@ -1,4 +1,4 @@
-//! Whether two types have one normal form, which isn't made to tell.
+//! Whether two types have the same normal form, without building it.
 ghost use Rattle.std.specs.Prelude.{◌≡◌, ◌↔◌, ◌∷◌, [], ◌||◌, true, IsTrue, MatchOption, string_bytes};
 ghost use Rattle.lower.specs.TypeViews.{type_view, field_view, fields_view, pairs_of, ids_of};
 ghost use Rattle.lower.specs.Normal.{norm, norm_field, norm_fields, norm_pairs, kept_pairs, is_extension_key};
@@ -8,15 +8,16 @@ use super::normal::{DATA_KEY, NAME_KEY};
 use super::{DataType, Field, Metadata, is_same_type};
 use std::collections::btree_map;
 
-/// Whether two types are the same in their normal form: but for what the metadata of their fields say of
-/// extensions. It takes no memory.
+/// Returns whether two types have the same normal form.
+///
+/// They may differ in what the metadata of their fields say of extensions. It allocates nothing.
 pub fn is_same_normal_type(data_type: &DataType, other: &DataType) -> bool
     ensures { IsTrue result ↔ norm (type_view data_type.now) ≡ norm (type_view other.now) }
 {
     has_same_normal(data_type, other)
 }
 
-// The test of it, level by level.
+// Compares level by level.
 #[cycle(same_normal)]
 fn has_same_normal(data_type: &DataType, other: &DataType) -> bool
     ensures { result ≡ same_type (norm (type_view data_type.now)) (norm (type_view other.now)) }
@@ -91,7 +92,7 @@ fn has_same_fields(fields: &Vec<Field>, others: &Vec<Field>) -> bool
     true
 }
 
-// Whether the metadata have one normal form: where the types have, these put in the same pairs.
+// Whether the metadata have the same normal form, for types that have: these add the same pairs.
 fn has_same_metadata(field: &Field, other: &Field) -> bool
     requires { same_type (norm (type_view field.now.data_type)) (norm (type_view other.now.data_type)) ≡ true }
     ensures { result ≡ same_pairs
@@ -101,7 +102,7 @@ fn has_same_metadata(field: &Field, other: &Field) -> bool
     has_same_pairs(&field.metadata, &other.metadata)
 }
 
-// Whether the pairs are the same but for those of extensions.
+// Whether the pairs are the same, apart from those of extensions.
 fn has_same_pairs(metadata: &Metadata, other: &Metadata) -> bool
     ensures { result ≡ same_pairs (kept_pairs (pairs_of metadata.now.entries)) (kept_pairs (pairs_of other.now.entries)) }
 {
@@ -120,7 +121,7 @@ fn has_same_pairs(metadata: &Metadata, other: &Metadata) -> bool
     next_kept(&mut others).is_none()
 }
 
-// The next pair that isn't one of extensions.
+// The next pair that isn't one of an extension.
 fn next_kept<'a>(
     pairs: &mut btree_map::Iter<'a, String, String>,
 ) -> Option<(&'a String, &'a String)>
@@ -135,7 +136,7 @@ fn next_kept<'a>(
     None
 }
 
-// Whether it is one of the two keys of extensions.
+// Whether the key is one of the two extension keys.
 fn is_extension_key(key: &String) -> bool
     ensures { result ≡ is_extension_key (string_bytes key.now) }
 {

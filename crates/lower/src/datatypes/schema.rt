@@ -1,4 +1,4 @@
-//! The columns of a table.
+//! Schemas.
 ghost use Rattle.std.specs.Prelude.{◌≡◌, IfOk, []};
 
 use super::clones::clone_metadata;
@@ -6,7 +6,7 @@ use super::normal::normal_fields;
 use super::{Field, Metadata};
 use std::alloc::AllocError;
 
-/// The fields of a table, in the order of its columns.
+/// The fields of a table in the order of its columns, and key-value metadata.
 #[derive(Debug, Drop, PartialEq, Eq)]
 pub struct Schema {
     pub fields: Vec<Field>,
@@ -17,8 +17,9 @@ impl Schema {
     ghost use Rattle.lower.specs.TypeViews.{schema_view, fields_view, pairs_of};
     ghost use Rattle.lower.specs.Normal.{norm_schema};
 
-    /// The schema with each field in its normal form, and its own metadata as it stands. The normal
-    /// form of a normal form is itself.
+    /// Returns the schema with each field in normal form, and its own metadata unchanged.
+    ///
+    /// Applying it twice gives the same as once. It fails only if an allocation fails.
     pub fn normal(&self) -> Result<Schema, AllocError>
         ensures normal { IfOk result (λ n. schema_view n ≡ norm_schema (schema_view self.now)) }
         ensures stable { IfOk result (λ n. norm_schema (schema_view n) ≡ schema_view n) }
@@ -28,7 +29,7 @@ impl Schema {
         Ok(Schema { fields, metadata })
     }
 
-    /// The schema with this metadata in place of its own. It takes no memory.
+    /// Returns the schema with its metadata replaced. It allocates nothing.
     pub fn with_metadata(self, metadata: Metadata) -> Schema
         ensures { schema_view result ≡ (fields_view self.fields.items, pairs_of metadata.entries) }
     {
@@ -42,7 +43,7 @@ impl From<Vec<Field>> for Schema {
 
     ghost from_gives = { λ fields schema. schema_view schema ≡ (fields_view fields.items, []) };
 
-    /// A schema of these fields without metadata. It takes no memory.
+    /// Returns a schema of these fields without metadata. It allocates nothing.
     fn from(fields: Vec<Field>) -> Schema {
         let metadata = Metadata::new(*fields.allocator());
         Schema { fields, metadata }

@@ -1,4 +1,4 @@
-//! What is asked of an array of any kind, beside its parts.
+//! Tests, downcasts and printing of arrays of any layout.
 ghost use Rattle.std.specs.Prelude.{◌≡◌, ◌↔◌, ◌<◌, IsTrue, MatchOption, not};
 ghost use Rattle.lower_arrays.specs.Layouts.{len_of, is_own_valid};
 ghost use Rattle.lower_arrays.specs.Primitives.{primitive_layout, IsPrimitiveOf};
@@ -13,15 +13,17 @@ use lower_rules::numeric::Numeric;
 use std::fmt;
 
 impl AnyArray {
-    /// Whether it has no slot.
+    /// Returns whether there is no slot.
     pub fn is_empty(&self) -> bool
         ensures { IsTrue result ↔ (len_of (layout_of self.now) ≡ 0) }
     {
         self.len() == 0
     }
 
-    /// Whether the slot at `index` isn't null by the array's own validity: none of an array of nulls,
-    /// each of a union. A slot of a dictionary is valid where its key is.
+    /// Returns whether the slot at `index` is valid by the array's own validity.
+    ///
+    /// No slot of an array of nulls is, and each of a union is. A slot of a dictionary is valid if
+    /// its key is.
     pub fn is_valid(&self, index: usize) -> bool
         requires { index < len_of (layout_of self.now) }
         ensures { result ≡ is_own_valid (layout_of self.now) index }
@@ -35,7 +37,7 @@ impl AnyArray {
         }
     }
 
-    /// Whether the slot at `index` is null, as [`AnyArray::is_valid`] tells it.
+    /// Returns whether the slot at `index` is null, in the sense of [`AnyArray::is_valid`].
     pub fn is_null(&self, index: usize) -> bool
         requires { index < len_of (layout_of self.now) }
         ensures { result ≡ not (is_own_valid (layout_of self.now) index) }
@@ -43,8 +45,7 @@ impl AnyArray {
         !self.is_valid(index)
     }
 
-    /// The array of numbers of the type `T` that it is, or `None` where it is one of other numbers or
-    /// of another kind.
+    /// Returns the array as one of numbers of type `T`, if it is.
     pub fn as_primitive<T: Numeric>(&self) -> Option<&PrimitiveArray<T>>
         ensures { MatchOption result
             (¬ (IsPrimitiveOf T.primitive (layout_of self.now)))
@@ -57,7 +58,7 @@ impl AnyArray {
     }
 }
 
-// The name of a kind, the type and the length.
+// Prints a name, the data type and the length.
 fn fmt_brief<W: fmt::Write>(
     name: &str,
     data_type: &DataType,
@@ -70,7 +71,7 @@ fn fmt_brief<W: fmt::Write>(
         .finish()
 }
 
-/// An array without children is printed with its slots, another with its type and its length.
+/// Prints the slots if there are no children, else the data type and the length.
 impl fmt::Debug for AnyArray {
     fn fmt<W: fmt::Write>(&self, f: &mut fmt::Formatter<W>) -> fmt::Result {
         match self {
@@ -87,42 +88,42 @@ impl fmt::Debug for AnyArray {
     }
 }
 
-/// The type and the length.
+/// Prints the data type and the length.
 impl fmt::Debug for ListArray {
     fn fmt<W: fmt::Write>(&self, f: &mut fmt::Formatter<W>) -> fmt::Result {
         fmt_brief("ListArray", self.data_type(), self.len(), f)
     }
 }
 
-/// The type and the length.
+/// Prints the data type and the length.
 impl fmt::Debug for FixedSizeListArray {
     fn fmt<W: fmt::Write>(&self, f: &mut fmt::Formatter<W>) -> fmt::Result {
         fmt_brief("FixedSizeListArray", self.data_type(), self.len(), f)
     }
 }
 
-/// The type and the length.
+/// Prints the data type and the length.
 impl fmt::Debug for StructArray {
     fn fmt<W: fmt::Write>(&self, f: &mut fmt::Formatter<W>) -> fmt::Result {
         fmt_brief("StructArray", self.data_type(), self.len(), f)
     }
 }
 
-/// The type and the length.
+/// Prints the data type and the length.
 impl fmt::Debug for UnionArray {
     fn fmt<W: fmt::Write>(&self, f: &mut fmt::Formatter<W>) -> fmt::Result {
         fmt_brief("UnionArray", self.data_type(), self.len(), f)
     }
 }
 
-/// The type and the length.
+/// Prints the data type and the length.
 impl fmt::Debug for MapArray {
     fn fmt<W: fmt::Write>(&self, f: &mut fmt::Formatter<W>) -> fmt::Result {
         fmt_brief("MapArray", self.data_type(), self.len(), f)
     }
 }
 
-/// The type and the length.
+/// Prints the data type and the length.
 impl fmt::Debug for DictionaryArray {
     fn fmt<W: fmt::Write>(&self, f: &mut fmt::Formatter<W>) -> fmt::Result {
         fmt_brief("DictionaryArray", self.data_type(), self.len(), f)

@@ -1,4 +1,4 @@
-//! What an array does with its children.
+//! Slicing and cloning of all children.
 ghost use Rattle.std.specs.Prelude.{◌≡◌, ◌+◌, IfOk, map};
 ghost use Rattle.lower_arrays.specs.Layouts.{layouts};
 ghost use Rattle.lower_arrays.specs.Children.{AllReach};
@@ -30,7 +30,7 @@ impl Child for AnyArray {
     }
 }
 
-/// The `len` slots from `offset` on of each child. It takes no memory.
+/// Returns the `len` slots from `offset` of each child. It allocates nothing.
 #[cycle(slices)]
 pub fn sliced_each(mut children: Vec<AnyArray>, offset: usize, len: usize) -> Vec<AnyArray>
     requires { AllReach (offset + len) (layouts (map layout_of children.items)) }
@@ -42,7 +42,9 @@ pub fn sliced_each(mut children: Vec<AnyArray>, offset: usize, len: usize) -> Ve
     children
 }
 
-/// The same children once more, which share their memory with these.
+/// Returns clones of the children, in the same memory.
+///
+/// It fails if an allocation fails or the count of owners can't grow.
 #[cycle(copies)]
 pub fn copy_each(alloc: Global, children: &[AnyArray]) -> Result<Vec<AnyArray>, AllocError>
     ensures { IfOk result (λ copies. map layout_of copies.items ≡ map layout_of children.now) }

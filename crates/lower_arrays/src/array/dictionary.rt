@@ -1,4 +1,4 @@
-//! Arrays whose slots are places among the values of a dictionary.
+//! Arrays whose slots are values of a dictionary.
 ghost use Rattle.std.specs.Prelude.{◌≡◌, ◌↔◌, pos, ◌+◌, ◌<◌, ◌≤◌, true, length, get_or, IsTrue, IfOk, MatchResult};
 ghost use Rattle.std.specs.Option.{option_copied};
 ghost use Rattle.lower.specs.TypeViews.{type_view};
@@ -21,11 +21,10 @@ use std::alloc::AllocError;
 use std::marker::Model;
 use std::rc::Rc;
 
-/// Slots that are places among the values of a dictionary (Arrow columnar format,
-/// "Dictionary-encoded Layout").
+/// An array of keys, each the index of a dictionary's value.
 ///
-/// A slot is null where its key is, and where the value that its key names is. Clones and slices
-/// share the values.
+/// Arrow columnar format, "Dictionary-encoded Layout". A slot is null if its key is, or if the
+/// value that its key selects is. Clones and slices share the values.
 #[cycle(arrays)]
 #[derive(Drop)]
 pub struct DictionaryArray {
@@ -58,7 +57,7 @@ impl Model for DictionaryArray {
     ghost size_decreases = { λ a h. one_child a.values.value };
 }
 
-/// Whether it is an array of keys and the values that they name.
+/// Returns whether the array is a [`DictionaryArray`].
 pub fn is_dictionary(array: &AnyArray) -> bool
     ensures { IsTrue result ↔ HasKeys (level (layout_of array.now)).parts }
 {
@@ -66,12 +65,16 @@ pub fn is_dictionary(array: &AnyArray) -> bool
 }
 
 impl DictionaryArray {
-    /// An array of the values that the keys name, null where the key or the value is.
+    /// Returns an array of the values that the keys select.
     ///
-    /// `PhysicalType` where the data type isn't a dictionary with keys of this type, or the keys have
-    /// another data type than their integers; `DictionaryValues` where the values haven't the type
-    /// that the dictionary's type names, both in their normal form (see [`DataType::normal`]);
-    /// `DictionaryKey` where a key that isn't null is negative, or not less than there are values.
+    /// A slot is null if its key is, or if its value is. Errors, each as `Error::OutOfSpec`:
+    ///
+    /// - `Rule::PhysicalType`: `data_type` isn't a dictionary with keys of this integer type, or
+    ///   the array of keys has another data type than its integers.
+    /// - `Rule::DictionaryValues`: the type of `values` differs from the one that `data_type`
+    ///   names, both in their normal form (see [`DataType::normal`]).
+    /// - `Rule::DictionaryKey`: a key that isn't null is negative, or not below the number of
+    ///   values.
     #[tactic(auto, using(crate::proofs::Checked::dictionaries))]
     pub fn try_new(
         data_type: DataType,
@@ -89,7 +92,7 @@ impl DictionaryArray {
         })
     }
 
-    /// The type of its slots.
+    /// Returns the data type.
     pub fn data_type(&self) -> &DataType
         ensures tree { type_view result.now ≡ self.now.type }
         ensures valid { IsDictionary self.now }
@@ -97,7 +100,7 @@ impl DictionaryArray {
         &self.data_type
     }
 
-    /// Whether its type says that the order of the values means something.
+    /// Returns whether the order of the values has a meaning, by the data type.
     pub fn is_ordered(&self) -> bool
         ensures order { result ≡ is_ordered self.now.type }
         ensures valid { IsDictionary self.now }
@@ -105,7 +108,7 @@ impl DictionaryArray {
         is_ordered(&self.data_type)
     }
 
-    /// The keys, with one for each null too.
+    /// Returns the keys, which include one for each null.
     pub fn keys(&self) -> &DictionaryKeys
         ensures keys { keys_seen result.now ≡ self.now.keys }
         ensures valid { IsDictionary self.now }
@@ -113,7 +116,7 @@ impl DictionaryArray {
         &self.keys
     }
 
-    /// The values, of which the keys name some.
+    /// Returns the values, which may include some that no key selects.
     pub fn values(&self) -> &AnyArray
         ensures values { layout_of result.now ≡ self.now.values }
         ensures valid { IsDictionary self.now }
@@ -121,7 +124,9 @@ impl DictionaryArray {
         &self.values
     }
 
-    /// Another owner of the values. It fails only where they have as many owners as can be counted.
+    /// Returns another owner of the values.
+    ///
+    /// It fails only if the count of owners can't grow.
     pub fn shared_values(&self) -> Result<Rc<AnyArray>, AllocError>
         ensures values { IfOk result (λ values. layout_of values.value ≡ self.now.values) }
         ensures valid { IfOk result (λ values. IsArray (layout_of values.value)) }
@@ -129,8 +134,9 @@ impl DictionaryArray {
         self.values.clone()
     }
 
-    /// The bits that say which keys are valid, or `None` where all are. A slot is null also where the
-    /// value is that its key names.
+    /// Returns the validity bitmap of the keys, or `None` if there is none.
+    ///
+    /// A slot is null also if the value that its key selects is.
     pub fn validity(&self) -> Option<&Bitmap>
         ensures bits { option_copied result ≡ self.now.keys.validity }
         ensures valid { IsDictionary self.now }
@@ -138,7 +144,7 @@ impl DictionaryArray {
         self.keys.validity()
     }
 
-    /// How many slots it has.
+    /// Returns the number of slots.
     pub fn len(&self) -> usize
         ensures len { result ≡ length self.now.keys.integers }
         ensures valid { IsDictionary self.now }
@@ -146,21 +152,21 @@ impl DictionaryArray {
         self.keys.len()
     }
 
-    /// Whether it has no slot.
+    /// Returns whether there is no slot.
     pub fn is_empty(&self) -> bool
         ensures { IsTrue result ↔ (length self.now.keys.integers ≡ 0) }
     {
         self.keys.len() == 0
     }
 
-    /// How many keys are null.
+    /// Returns the number of null keys.
     pub fn null_count(&self) -> usize
         ensures { result ≡ null_count_of self.now.keys.validity }
     {
         self.keys.null_count()
     }
 
-    /// Whether the key at `index` isn't null.
+    /// Returns whether the key at `index` isn't null.
     pub fn is_valid(&self, index: usize) -> bool
         requires { index < length self.now.keys.integers }
         ensures { result ≡ is_valid self.now.keys.validity index }
@@ -168,7 +174,7 @@ impl DictionaryArray {
         self.keys.is_valid(index)
     }
 
-    /// The place that the key at `index` names among the values.
+    /// Returns the key at `index` as an index into the values.
     pub fn key_value(&self, index: usize) -> usize
         requires within { index < length self.now.keys.integers }
         requires valid { is_valid self.now.keys.validity index ≡ true }
@@ -178,7 +184,7 @@ impl DictionaryArray {
         self.keys.place(index, self.values.len())
     }
 
-    /// The `len` slots from `offset` on: their keys, over the same values. It takes no memory.
+    /// Returns the `len` slots from `offset`, with the same values. It allocates nothing.
     pub fn sliced(self, offset: usize, len: usize) -> Self
         requires { offset + len ≤ length self.keys.integers }
         ensures { result ≡ cut_dictionary offset len self }
@@ -199,7 +205,9 @@ impl DictionaryArray {
 impl Clone for DictionaryArray {
     ghost is_clone = { λ a b. b ≡ a };
 
-    /// The same slots once more, which share their keys and values with these.
+    /// Returns an array of the same slots, in the same memory.
+    ///
+    /// It fails if an allocation fails or the count of owners can't grow.
     fn clone(&self) -> Result<Self, AllocError> {
         Ok(DictionaryArray {
             data_type: self.data_type.clone()?,

@@ -1,4 +1,4 @@
-//! Arrays of lists of one size.
+//! Arrays of lists of one length.
 ghost use Rattle.std.specs.Prelude.{◌≡◌, ◌+◌, ◌*◌, ◌<◌, ◌≤◌, ◌↔◌, MatchResult, IsTrue, IfOk};
 ghost use Rattle.std.specs.Option.{option_copied};
 ghost use Rattle.lower.specs.TypeViews.{type_view};
@@ -18,8 +18,7 @@ use lower_rules::rules::check_fixed_list;
 use std::alloc::AllocError;
 use std::marker::Model;
 
-/// A list of as many of the child's slots for each slot (Arrow columnar format, "Fixed-Size List
-/// Layout").
+/// An array of lists of one length (Arrow columnar format, "Fixed-Size List Layout").
 #[cycle(arrays)]
 #[derive(Drop)]
 pub struct FixedSizeListArray {
@@ -55,13 +54,15 @@ impl Model for FixedSizeListArray {
 }
 
 impl FixedSizeListArray {
-    /// An array of lists of the size that the data type names, of which those are null whose bit isn't
-    /// set.
+    /// Returns an array of lists that the slots of the child make up.
     ///
-    /// `PhysicalType` where the data type isn't one of lists of a fixed size, `ZeroSize` where that
-    /// size is 0, `ChildLength` where the child's slots aren't a whole number of lists, `ChildType`
-    /// where the child hasn't the type of its field, `ValidityLength` where the validity hasn't a bit
-    /// for each slot.
+    /// A slot is null if its bit in `validity` isn't set. Errors, each as `Error::OutOfSpec`:
+    ///
+    /// - `Rule::PhysicalType`: `data_type` isn't one of lists of one length.
+    /// - `Rule::ZeroSize`: this length is 0.
+    /// - `Rule::ChildLength`: the number of slots of `values` isn't a multiple of it.
+    /// - `Rule::ChildType`: `values` has another type than the field in `data_type`.
+    /// - `Rule::ValidityLength`: `validity` has another number of bits than there are lists.
     #[tactic(auto, using(crate::proofs::Checked::fixed_lists))]
     pub fn try_new(
         data_type: DataType,
@@ -83,7 +84,7 @@ impl FixedSizeListArray {
         })
     }
 
-    /// The type of its slots.
+    /// Returns the data type.
     pub fn data_type(&self) -> &DataType
         ensures tree { type_view result.now ≡ self.now.type }
         ensures valid { IsArray (fixed_list_layout self.now) }
@@ -91,7 +92,7 @@ impl FixedSizeListArray {
         &self.data_type
     }
 
-    /// How many slots of the child a slot has.
+    /// Returns the number of slots of the child in each list.
     pub fn size(&self) -> usize
         ensures size { result ≡ self.now.size }
         ensures valid { IsArray (fixed_list_layout self.now) }
@@ -99,7 +100,7 @@ impl FixedSizeListArray {
         self.size
     }
 
-    /// The child: the slots of all lists, with those of each null too.
+    /// Returns the child: the slots of all lists, which include those of each null.
     pub fn values(&self) -> &AnyArray
         ensures child { layout_of result.now ≡ self.now.child }
         ensures valid { IsArray (fixed_list_layout self.now) }
@@ -107,7 +108,7 @@ impl FixedSizeListArray {
         &self.values
     }
 
-    /// The bits that say which slots are valid, or `None` where all are.
+    /// Returns the validity bitmap, or `None` if there is none: all slots are valid.
     pub fn validity(&self) -> Option<&Bitmap>
         ensures bits { option_copied result ≡ self.now.validity }
         ensures valid { IsArray (fixed_list_layout self.now) }
@@ -115,7 +116,7 @@ impl FixedSizeListArray {
         self.validity.as_ref()
     }
 
-    /// How many slots it has.
+    /// Returns the number of slots.
     pub fn len(&self) -> usize
         ensures len { result ≡ self.now.len }
         ensures valid { IsArray (fixed_list_layout self.now) }
@@ -123,21 +124,21 @@ impl FixedSizeListArray {
         self.len
     }
 
-    /// Whether it has no slot.
+    /// Returns whether there is no slot.
     pub fn is_empty(&self) -> bool
         ensures { IsTrue result ↔ (self.now.len ≡ 0) }
     {
         self.len == 0
     }
 
-    /// How many slots are null.
+    /// Returns the number of null slots.
     pub fn null_count(&self) -> usize
         ensures { result ≡ null_count_of self.now.validity }
     {
         unset_bits(&self.validity)
     }
 
-    /// Whether the slot at `index` isn't null.
+    /// Returns whether the slot at `index` isn't null.
     pub fn is_valid(&self, index: usize) -> bool
         requires { index < self.now.len }
         ensures { result ≡ is_valid self.now.validity index }
@@ -145,7 +146,7 @@ impl FixedSizeListArray {
         is_valid_at(&self.validity, index)
     }
 
-    /// The `len` slots from `offset` on: their slots of the child. It takes no memory.
+    /// Returns the `len` slots from `offset`, with their slots of the child. It allocates nothing.
     #[cycle(slices)]
     pub fn sliced(self, offset: usize, len: usize) -> Self
         requires { offset + len ≤ self.len }
@@ -169,7 +170,7 @@ impl FixedSizeListArray {
         }
     }
 
-    // The same slots once more.
+    // A clone.
     #[cycle(copies)]
     pub(super) fn copy(&self) -> Result<Self, AllocError>
         ensures { IfOk result (λ copy. copy ≡ self.now) }
@@ -187,7 +188,9 @@ impl FixedSizeListArray {
 impl Clone for FixedSizeListArray {
     ghost is_clone = { λ a b. b ≡ a };
 
-    /// The same slots once more, which share their memory with these.
+    /// Returns an array of the same slots, in the same memory.
+    ///
+    /// It fails if an allocation fails or the count of owners can't grow.
     fn clone(&self) -> Result<Self, AllocError> {
         self.copy()
     }

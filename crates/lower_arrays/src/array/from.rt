@@ -1,4 +1,4 @@
-//! An array of each kind as one of any kind. None takes memory.
+//! Conversions into [`AnyArray`]. None allocates.
 ghost use Rattle.std.specs.Prelude.{◌≡◌};
 ghost use Rattle.lower_types.specs.declared.PrimitiveType.TheVariants as Named;
 ghost use Rattle.lower_arrays.specs.Flat.{null_layout, boolean_layout, fixed_layout, bytes_layout, texts_layout};

@@ -21,9 +21,9 @@ use lower_rules::rules::check_list;
 use std::alloc::AllocError;
 use std::marker::Model;
 
-/// A list of a child's slots for each slot (Arrow columnar format, "Variable-size List Layout").
+/// An array of lists (Arrow columnar format, "Variable-size List Layout").
 ///
-/// With offsets of `i64` it is an array of a large type.
+/// With 64-bit offsets its data type is a large one.
 #[cycle(arrays)]
 #[derive(Drop)]
 pub struct ListArray {
@@ -58,12 +58,15 @@ impl Model for ListArray {
 }
 
 impl ListArray {
-    /// An array of lists, each of the child's slots from an offset to the next, of which those are
-    /// null whose bit isn't set.
+    /// Returns an array of lists: slot `i` is between offsets `i` and `i + 1`.
     ///
-    /// `ValidityLength` where the validity hasn't a bit for each slot, `OffsetsPastValues` where the
-    /// last offset is past the end of the child, `PhysicalType` where the data type isn't one of
-    /// lists with such offsets, `ChildType` where the child hasn't the type of its field.
+    /// A slot is null if its bit in `validity` isn't set. Errors, each as `Error::OutOfSpec`:
+    ///
+    /// - `Rule::ValidityLength`: `validity` has another number of bits than there are lists.
+    /// - `Rule::OffsetsPastValues`: the last offset is greater than the number of slots of
+    ///   `values`.
+    /// - `Rule::PhysicalType`: `data_type` isn't one of lists with such offsets.
+    /// - `Rule::ChildType`: `values` has another type than the field in `data_type`.
     #[tactic(auto, using(crate::proofs::Checked::lists))]
     pub fn try_new(
         data_type: DataType,
@@ -89,7 +92,7 @@ impl ListArray {
         })
     }
 
-    /// The type of its slots.
+    /// Returns the data type.
     pub fn data_type(&self) -> &DataType
         ensures tree { type_view result.now ≡ self.now.type }
         ensures valid { IsArray (list_layout self.now) }
@@ -97,7 +100,7 @@ impl ListArray {
         &self.data_type
     }
 
-    /// The offsets, one more than there are slots.
+    /// Returns the offsets, one more than there are slots.
     pub fn offsets(&self) -> &ListOffsets
         ensures places { list_places result.now ≡ self.now.offsets }
         ensures width { list_width result.now ≡ self.now.width }
@@ -106,7 +109,7 @@ impl ListArray {
         &self.offsets
     }
 
-    /// The child that the offsets point into, which may have more slots than those of the lists.
+    /// Returns the child that the offsets point into. It may have slots of no list.
     pub fn values(&self) -> &AnyArray
         ensures child { layout_of result.now ≡ self.now.child }
         ensures valid { IsArray (list_layout self.now) }
@@ -114,7 +117,7 @@ impl ListArray {
         &self.values
     }
 
-    /// The bits that say which slots are valid, or `None` where all are.
+    /// Returns the validity bitmap, or `None` if there is none: all slots are valid.
     pub fn validity(&self) -> Option<&Bitmap>
         ensures bits { option_copied result ≡ self.now.validity }
         ensures valid { IsArray (list_layout self.now) }
@@ -122,7 +125,7 @@ impl ListArray {
         self.validity.as_ref()
     }
 
-    /// How many slots it has.
+    /// Returns the number of slots.
     pub fn len(&self) -> usize
         ensures len { result ≡ span_count self.now.offsets }
         ensures valid { IsArray (list_layout self.now) }
@@ -130,21 +133,21 @@ impl ListArray {
         self.offsets.len() - 1
     }
 
-    /// Whether it has no slot.
+    /// Returns whether there is no slot.
     pub fn is_empty(&self) -> bool
         ensures { IsTrue result ↔ (span_count self.now.offsets ≡ 0) }
     {
         self.offsets.len() == 1
     }
 
-    /// How many slots are null.
+    /// Returns the number of null slots.
     pub fn null_count(&self) -> usize
         ensures { result ≡ null_count_of self.now.validity }
     {
         unset_bits(&self.validity)
     }
 
-    /// Whether the slot at `index` isn't null.
+    /// Returns whether the slot at `index` isn't null.
     pub fn is_valid(&self, index: usize) -> bool
         requires { index < span_count self.now.offsets }
         ensures { result ≡ is_valid self.now.validity index }
@@ -152,7 +155,7 @@ impl ListArray {
         is_valid_at(&self.validity, index)
     }
 
-    /// The `len` slots from `offset` on: their offsets, over the same child. It takes no memory.
+    /// Returns the `len` slots from `offset`, with the same child. It allocates nothing.
     pub fn sliced(self, offset: usize, len: usize) -> Self
         requires { offset + len ≤ span_count self.offsets }
         ensures { result ≡ cut_list offset len self }
@@ -171,8 +174,9 @@ impl ListArray {
         }
     }
 
-    /// The list at `index`, of a null too: slots of the child, which share its memory. It fails only
-    /// where there is no memory for a clone of the child.
+    /// Returns the list at `index`, even if it is null.
+    ///
+    /// It is a slice of the child. It fails only if a clone of the child does.
     #[tactic(auto, using(lower_flat::proofs::SpanPlaces::offset_next, lower_flat::proofs::SpanPlaces::offset_last))]
     pub fn value(&self, index: usize) -> Result<AnyArray, AllocError>
         requires { index < span_count self.now.offsets }
@@ -185,7 +189,7 @@ impl ListArray {
         Ok(self.values().clone()?.sliced(start, end - start))
     }
 
-    /// It as an array of any kind: `LargeList` where its offsets are of 64 bits, else `List`.
+    /// Returns the array as `LargeList` if its offsets have 64 bits, else as `List`.
     pub fn boxed(self) -> AnyArray
         ensures layout { layout_of result ≡ list_layout self }
         ensures small { self.width ≡ Int32 → result ≡ ListOf self }
@@ -197,7 +201,7 @@ impl ListArray {
         }
     }
 
-    // The same slots once more.
+    // A clone.
     #[cycle(copies)]
     pub(super) fn copy(&self) -> Result<Self, AllocError>
         ensures { IfOk result (λ copy. copy ≡ self.now) }
@@ -214,7 +218,9 @@ impl ListArray {
 impl Clone for ListArray {
     ghost is_clone = { λ a b. b ≡ a };
 
-    /// The same slots once more, which share their memory with these.
+    /// Returns an array of the same slots, in the same memory.
+    ///
+    /// It fails if an allocation fails or the count of owners can't grow.
     fn clone(&self) -> Result<Self, AllocError> {
         self.copy()
     }

@@ -18,7 +18,9 @@ use lower_rules::rules::check_map;
 use std::alloc::AllocError;
 use std::marker::Model;
 
-/// A list of pairs for each slot, each a key and a value (Arrow columnar format, "Map Layout").
+/// An array of maps, which are lists of key-value pairs.
+///
+/// Arrow columnar format, "Map Layout".
 #[cycle(arrays)]
 #[derive(Drop)]
 pub struct MapArray {
@@ -53,13 +55,15 @@ impl Model for MapArray {
 }
 
 impl MapArray {
-    /// An array of maps, each of the child's pairs from an offset to the next, of which those are
-    /// null whose bit isn't set.
+    /// Returns an array whose slot `i` is the pairs between offsets `i` and `i + 1`.
     ///
-    /// `ValidityLength` where the validity hasn't a bit for each slot, `OffsetsPastValues` where the
-    /// last offset is past the end of the child, `PhysicalType` where the data type isn't one of
-    /// maps, `MapChild` where the child's type isn't a struct of two fields, `ChildType` where the
-    /// child hasn't the type of its field.
+    /// A slot is null if its bit in `validity` isn't set. Errors, each as `Error::OutOfSpec`:
+    ///
+    /// - `Rule::ValidityLength`: `validity` has another number of bits than there are maps.
+    /// - `Rule::OffsetsPastValues`: the last offset is greater than the number of pairs.
+    /// - `Rule::PhysicalType`: `data_type` isn't one of maps.
+    /// - `Rule::MapChild`: the type of the pairs isn't a struct of two fields.
+    /// - `Rule::ChildType`: the pairs have another type than the field in `data_type`.
     #[tactic(auto, using(crate::proofs::Checked::maps))]
     pub fn try_new(
         data_type: DataType,
@@ -85,7 +89,7 @@ impl MapArray {
         })
     }
 
-    /// The type of its slots.
+    /// Returns the data type.
     pub fn data_type(&self) -> &DataType
         ensures tree { type_view result.now ≡ self.now.type }
         ensures valid { IsArray (map_layout self.now) }
@@ -93,7 +97,7 @@ impl MapArray {
         &self.data_type
     }
 
-    /// The offsets, one more than there are slots.
+    /// Returns the offsets, one more than there are slots.
     pub fn offsets(&self) -> &OffsetsBuffer<i32>
         ensures places { result.now ≡ self.now.offsets }
         ensures valid { IsArray (map_layout self.now) }
@@ -101,7 +105,7 @@ impl MapArray {
         &self.offsets
     }
 
-    /// The pairs that the offsets point into, which may be more than those of the slots.
+    /// Returns the pairs that the offsets point into. They may include pairs of no slot.
     pub fn field(&self) -> &AnyArray
         ensures child { layout_of result.now ≡ self.now.child }
         ensures valid { IsArray (map_layout self.now) }
@@ -109,7 +113,7 @@ impl MapArray {
         &self.field
     }
 
-    /// The bits that say which slots are valid, or `None` where all are.
+    /// Returns the validity bitmap, or `None` if there is none: all slots are valid.
     pub fn validity(&self) -> Option<&Bitmap>
         ensures bits { option_copied result ≡ self.now.validity }
         ensures valid { IsArray (map_layout self.now) }
@@ -117,7 +121,7 @@ impl MapArray {
         self.validity.as_ref()
     }
 
-    /// How many slots it has.
+    /// Returns the number of slots.
     pub fn len(&self) -> usize
         ensures len { result ≡ span_count self.now.offsets }
         ensures valid { IsArray (map_layout self.now) }
@@ -125,21 +129,21 @@ impl MapArray {
         self.offsets.len() - 1
     }
 
-    /// Whether it has no slot.
+    /// Returns whether there is no slot.
     pub fn is_empty(&self) -> bool
         ensures { IsTrue result ↔ (span_count self.now.offsets ≡ 0) }
     {
         self.offsets.len() == 1
     }
 
-    /// How many slots are null.
+    /// Returns the number of null slots.
     pub fn null_count(&self) -> usize
         ensures { result ≡ null_count_of self.now.validity }
     {
         unset_bits(&self.validity)
     }
 
-    /// Whether the slot at `index` isn't null.
+    /// Returns whether the slot at `index` isn't null.
     pub fn is_valid(&self, index: usize) -> bool
         requires { index < span_count self.now.offsets }
         ensures { result ≡ is_valid self.now.validity index }
@@ -147,7 +151,7 @@ impl MapArray {
         is_valid_at(&self.validity, index)
     }
 
-    /// The `len` slots from `offset` on: their offsets, over the same child. It takes no memory.
+    /// Returns the `len` slots from `offset`, with the same pairs. It allocates nothing.
     pub fn sliced(self, offset: usize, len: usize) -> Self
         requires { offset + len ≤ span_count self.offsets }
         ensures { result ≡ cut_map offset len self }
@@ -166,7 +170,7 @@ impl MapArray {
         }
     }
 
-    // The same slots once more.
+    // A clone.
     #[cycle(copies)]
     pub(super) fn copy(&self) -> Result<Self, AllocError>
         ensures { IfOk result (λ copy. copy ≡ self.now) }
@@ -183,7 +187,9 @@ impl MapArray {
 impl Clone for MapArray {
     ghost is_clone = { λ a b. b ≡ a };
 
-    /// The same slots once more, which share their memory with these.
+    /// Returns an array of the same slots, in the same memory.
+    ///
+    /// It fails if an allocation fails or the count of owners can't grow.
     fn clone(&self) -> Result<Self, AllocError> {
         self.copy()
     }

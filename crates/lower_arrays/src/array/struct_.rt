@@ -1,4 +1,4 @@
-//! Arrays of records.
+//! Arrays of structs.
 ghost use Rattle.std.specs.Prelude.{◌≡◌, ◌+◌, ◌<◌, ◌≤◌, ◌↔◌, map, MatchResult, IsTrue, IfOk};
 ghost use Rattle.std.specs.Option.{option_copied};
 ghost use Rattle.lower.specs.TypeViews.{type_view};
@@ -17,7 +17,9 @@ use lower_rules::rules::check_struct;
 use std::alloc::AllocError;
 use std::marker::Model;
 
-/// A record for each slot: a slot of each child (Arrow columnar format, "Struct Layout").
+/// An array of structs: each slot is one slot of each child.
+///
+/// Arrow columnar format, "Struct Layout".
 #[cycle(arrays)]
 #[derive(Drop)]
 pub struct StructArray {
@@ -53,12 +55,16 @@ impl Model for StructArray {
 }
 
 impl StructArray {
-    /// An array of records of the children's slots, of which those are null whose bit isn't set.
+    /// Returns an array of structs of the children's slots.
     ///
-    /// `NoChild` where there is no child, `PhysicalType` where the data type isn't one of structs,
-    /// `ChildCount` where there are not as many children as fields, `ValidityLength` where the
-    /// validity hasn't a bit for each slot, `ChildType` where a child hasn't the type of its field,
-    /// `ChildLength` where a child hasn't as many slots as the first one.
+    /// A slot is null if its bit in `validity` isn't set. Errors, each as `Error::OutOfSpec`:
+    ///
+    /// - `Rule::NoChild`: there is no child.
+    /// - `Rule::PhysicalType`: `data_type` isn't a struct.
+    /// - `Rule::ChildCount`: there are not as many children as fields.
+    /// - `Rule::ValidityLength`: `validity` has another number of bits than there are slots.
+    /// - `Rule::ChildType`: a child has another type than its field.
+    /// - `Rule::ChildLength`: a child has another length than the first one.
     #[tactic(auto, using(crate::proofs::Checked::structs))]
     pub fn try_new(
         data_type: DataType,
@@ -77,7 +83,7 @@ impl StructArray {
         })
     }
 
-    /// The type of its slots.
+    /// Returns the data type.
     pub fn data_type(&self) -> &DataType
         ensures tree { type_view result.now ≡ self.now.type }
         ensures valid { IsArray (struct_layout self.now) }
@@ -85,7 +91,7 @@ impl StructArray {
         &self.data_type
     }
 
-    /// The children, each with as many slots as the array.
+    /// Returns the children, each with as many slots as the array.
     pub fn values(&self) -> &[AnyArray]
         ensures children { map layout_of result.now ≡ self.now.children }
         ensures valid { IsArray (struct_layout self.now) }
@@ -93,7 +99,7 @@ impl StructArray {
         &self.values
     }
 
-    /// The bits that say which slots are valid, or `None` where all are.
+    /// Returns the validity bitmap, or `None` if there is none: all slots are valid.
     pub fn validity(&self) -> Option<&Bitmap>
         ensures bits { option_copied result ≡ self.now.validity }
         ensures valid { IsArray (struct_layout self.now) }
@@ -101,7 +107,7 @@ impl StructArray {
         self.validity.as_ref()
     }
 
-    /// How many slots it has.
+    /// Returns the number of slots.
     pub fn len(&self) -> usize
         ensures len { result ≡ self.now.len }
         ensures valid { IsArray (struct_layout self.now) }
@@ -109,21 +115,21 @@ impl StructArray {
         self.len
     }
 
-    /// Whether it has no slot.
+    /// Returns whether there is no slot.
     pub fn is_empty(&self) -> bool
         ensures { IsTrue result ↔ (self.now.len ≡ 0) }
     {
         self.len == 0
     }
 
-    /// How many slots are null.
+    /// Returns the number of null slots.
     pub fn null_count(&self) -> usize
         ensures { result ≡ null_count_of self.now.validity }
     {
         unset_bits(&self.validity)
     }
 
-    /// Whether the slot at `index` isn't null.
+    /// Returns whether the slot at `index` isn't null.
     pub fn is_valid(&self, index: usize) -> bool
         requires { index < self.now.len }
         ensures { result ≡ is_valid self.now.validity index }
@@ -131,7 +137,7 @@ impl StructArray {
         is_valid_at(&self.validity, index)
     }
 
-    /// The `len` slots from `offset` on, of each child. It takes no memory.
+    /// Returns the `len` slots from `offset`, of each child. It allocates nothing.
     #[cycle(slices)]
     pub fn sliced(self, offset: usize, len: usize) -> Self
         requires { offset + len ≤ self.len }
@@ -151,7 +157,7 @@ impl StructArray {
         }
     }
 
-    // The same slots once more.
+    // A clone.
     #[cycle(copies)]
     pub(super) fn copy(&self) -> Result<Self, AllocError>
         ensures { IfOk result (λ copy. copy ≡ self.now) }
@@ -168,7 +174,9 @@ impl StructArray {
 impl Clone for StructArray {
     ghost is_clone = { λ a b. b ≡ a };
 
-    /// The same slots once more, which share their memory with these.
+    /// Returns an array of the same slots, in the same memory.
+    ///
+    /// It fails if an allocation fails or the count of owners can't grow.
     fn clone(&self) -> Result<Self, AllocError> {
         self.copy()
     }

@@ -1,4 +1,4 @@
-//! Arrays whose slots are of several types.
+//! Arrays of unions.
 ghost use Rattle.std.specs.Prelude.{◌≡◌, ◌↔◌, pos, None, ◌+◌, ◌<◌, ◌≤◌, length, map, get_or, IsTrue, IfOk, MatchResult};
 ghost use Rattle.std.specs.Option.{option_copied};
 ghost use Rattle.lower.specs.TypeViews.{type_view};
@@ -21,10 +21,10 @@ use lower_rules::rules::check_union;
 use std::alloc::AllocError;
 use std::marker::Model;
 
-/// For each slot the slot of one of several children, whose id its type is (Arrow columnar format,
-/// "Union Layout").
+/// An array of unions: each slot is one slot of one child.
 ///
-/// Slot i of a sparse union is slot i of its child, slot i of a dense one the slot at offset i.
+/// Arrow columnar format, "Union Layout". The type id of a slot selects its child. Slot `i` of a
+/// sparse union is slot `i` of its child; slot `i` of a dense one is the slot at offset `i`.
 #[cycle(arrays)]
 #[derive(Drop)]
 pub struct UnionArray {
@@ -59,17 +59,23 @@ impl Model for UnionArray {
 }
 
 impl UnionArray {
-    /// An array whose slot i is of the child that the id at i names: its slot i where no offsets are
-    /// given, else its slot at offset i.
+    /// Returns an array whose slot `i` is of the child with type id `types[i]`.
     ///
-    /// `PhysicalType` where the data type isn't a union, `UnionChildren` where there are no children
-    /// or more than 127, `ChildCount` where there are not as many children as fields, `UnionIds`
-    /// where the ids that the type gives are not as many as children, not distinct, or not from 0 to
-    /// 126, `UnionType` where an id of a slot names no child, `UnionOffsets` where the type is dense
-    /// and there is not an offset for each slot, or sparse and there are offsets, `ChildType` where a
-    /// child hasn't the type of its field, `ChildLength` where a child of a sparse union has another
-    /// length, `UnionOffset` where an offset of a dense union is negative, or not less than its
-    /// child's length.
+    /// It is the child's slot `i` without offsets, else its slot at offset `i`. Errors, each as
+    /// `Error::OutOfSpec`:
+    ///
+    /// - `Rule::PhysicalType`: `data_type` isn't a union.
+    /// - `Rule::UnionChildren`: there are no children, or more than 127.
+    /// - `Rule::ChildCount`: there are not as many children as fields.
+    /// - `Rule::UnionIds`: the ids in `data_type` are not one for each child, not distinct, or not
+    ///   from 0 to 126.
+    /// - `Rule::UnionType`: the type id of a slot selects no child.
+    /// - `Rule::UnionOffsets`: `data_type` is dense and there is not one offset for each slot, or
+    ///   it is sparse and there are offsets.
+    /// - `Rule::ChildType`: a child has another type than its field.
+    /// - `Rule::ChildLength`: a child of a sparse union has another length than the union.
+    /// - `Rule::UnionOffset`: an offset of a dense union is negative, or not below the length of
+    ///   its child.
     #[tactic(auto, using(crate::proofs::Checked::unions))]
     pub fn try_new(
         data_type: DataType,
@@ -89,7 +95,7 @@ impl UnionArray {
         })
     }
 
-    /// The type of its slots.
+    /// Returns the data type.
     pub fn data_type(&self) -> &DataType
         ensures tree { type_view result.now ≡ self.now.type }
         ensures valid { IsUnion self.now }
@@ -97,7 +103,7 @@ impl UnionArray {
         &self.data_type
     }
 
-    /// The id of each slot's child.
+    /// Returns the type ids of the slots.
     pub fn types(&self) -> &Buffer<i8>
         ensures ids { result.now ≡ self.now.types }
         ensures valid { IsUnion self.now }
@@ -105,7 +111,7 @@ impl UnionArray {
         &self.types
     }
 
-    /// The children.
+    /// Returns the children.
     pub fn fields(&self) -> &[AnyArray]
         ensures children { map layout_of result.now ≡ self.now.children }
         ensures valid { IsUnion self.now }
@@ -113,7 +119,7 @@ impl UnionArray {
         &self.fields
     }
 
-    /// The place of each slot in its child, or `None` where the union is sparse.
+    /// Returns the index of each slot in its child, or `None` if sparse.
     pub fn offsets(&self) -> Option<&Buffer<i32>>
         ensures places { option_copied result ≡ self.now.offsets }
         ensures valid { IsUnion self.now }
@@ -121,7 +127,7 @@ impl UnionArray {
         self.offsets.as_ref()
     }
 
-    /// None: a union has no validity of its own.
+    /// Returns `None`: a union has no validity bitmap.
     pub fn validity(&self) -> Option<&Bitmap>
         ensures bits { option_copied result ≡ None }
         ensures valid { IsUnion self.now }
@@ -130,7 +136,7 @@ impl UnionArray {
         None
     }
 
-    /// How many slots it has.
+    /// Returns the number of slots.
     pub fn len(&self) -> usize
         ensures len { result ≡ length self.now.types }
         ensures valid { IsUnion self.now }
@@ -138,21 +144,21 @@ impl UnionArray {
         self.types.len()
     }
 
-    /// Whether it has no slot.
+    /// Returns whether there is no slot.
     pub fn is_empty(&self) -> bool
         ensures { IsTrue result ↔ (length self.now.types ≡ 0) }
     {
         self.types.len() == 0
     }
 
-    /// 0: which slots are null is said by the children.
+    /// Returns 0: a union has no nulls of its own, only its children have.
     pub fn null_count(&self) -> usize
         ensures { result ≡ 0 }
     {
         0
     }
 
-    /// The id of the child that the slot at `index` is of.
+    /// Returns the type id of the slot at `index`.
     pub fn type_at(&self, index: usize) -> i8
         requires { index < length self.now.types }
         ensures { result ≡ get_or self.now.types index (pos 0) }
@@ -160,7 +166,7 @@ impl UnionArray {
         self.types.as_slice()[index]
     }
 
-    /// The number of the child that the slot at `index` is of, and the slot's place there.
+    /// Returns the child of the slot at `index`, and the slot's index there.
     #[tactic(auto, using(crate::proofs::Unions::index_rules))]
     pub fn index(&self, index: usize) -> (usize, usize)
         requires { index < length self.now.types }
@@ -176,8 +182,10 @@ impl UnionArray {
         }
     }
 
-    /// The `len` slots from `offset` on: of a sparse union those of each child, of a dense one their
-    /// offsets, over the same children. It takes no memory.
+    /// Returns the `len` slots from `offset`. It allocates nothing.
+    ///
+    /// A sparse union slices each child. A dense one slices its offsets, and keeps its children
+    /// whole.
     #[cycle(slices)]
     pub fn sliced(self, offset: usize, len: usize) -> Self
         requires { offset + len ≤ length self.types }
@@ -206,7 +214,7 @@ impl UnionArray {
         }
     }
 
-    // The same slots once more.
+    // A clone.
     #[cycle(copies)]
     pub(super) fn copy(&self) -> Result<Self, AllocError>
         ensures { IfOk result (λ copy. copy ≡ self.now) }
@@ -223,7 +231,9 @@ impl UnionArray {
 impl Clone for UnionArray {
     ghost is_clone = { λ a b. b ≡ a };
 
-    /// The same slots once more, which share their memory with these.
+    /// Returns an array of the same slots, in the same memory.
+    ///
+    /// It fails if an allocation fails or the count of owners can't grow.
     fn clone(&self) -> Result<Self, AllocError> {
         self.copy()
     }

@@ -1,4 +1,4 @@
-//! The rules of dictionaries.
+//! The rules of dictionaries (Arrow columnar format, "Dictionary-encoded Layout").
 ghost use Rattle.std.specs.Prelude.{◌≡◌, ◌↔◌, IsTrue, MatchResult};
 ghost use Rattle.lower.specs.TypeViews.{type_view};
 ghost use Rattle.lower.specs.Normal.{norm};
@@ -10,7 +10,7 @@ use crate::keys::DictionaryKeys;
 use lower::datatypes::{DataType, PhysicalType, is_same_normal_type, is_same_type};
 use lower::error::{Error, Rule};
 
-// Whether the type is one of a dictionary whose values have this type, both in their normal form.
+// Whether the type is a dictionary of values of this type, both in their normal form.
 fn is_dictionary_of(data_type: &DataType, values: &DataType) -> bool
     ensures { IsTrue result ↔ norm (type_view values.now) ≡ norm (values_type (type_view data_type.now)) }
 {
@@ -20,12 +20,15 @@ fn is_dictionary_of(data_type: &DataType, values: &DataType) -> bool
     }
 }
 
-/// Whether a dictionary can have this type and these keys, over `len` values of this type.
+/// Checks a dictionary with this type, these keys, and `len` values of type `values`.
 ///
-/// `PhysicalType` where the data type isn't a dictionary with keys of this type, or the keys have
-/// another data type than their integers; `DictionaryValues` where the values haven't the type that
-/// the dictionary's type names, both in their normal form; `DictionaryKey` where a key that isn't null is negative, or not
-/// less than `len`.
+/// Errors, each as `Error::OutOfSpec`:
+///
+/// - `Rule::PhysicalType`: `data_type` isn't a dictionary with keys of this integer type, or the
+///   array of keys has another data type than its integers.
+/// - `Rule::DictionaryValues`: `values` differs from the type of values that `data_type` names,
+///   both in their normal form.
+/// - `Rule::DictionaryKey`: a key that isn't null is negative, or not below `len`.
 pub fn check_dictionary(
     data_type: &DataType,
     keys: &DictionaryKeys,

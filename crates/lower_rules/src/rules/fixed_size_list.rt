@@ -1,4 +1,4 @@
-//! The rules of lists of one size.
+//! The rules of lists of one length (Arrow columnar format, "Fixed-Size List Layout").
 ghost use Rattle.std.specs.Prelude.{MatchResult};
 ghost use Rattle.lower.specs.TypeViews.{type_view};
 ghost use Rattle.lower_rules.specs.Rules.{FixedListRules, BreaksFixedListRules};
@@ -9,12 +9,15 @@ use lower::datatypes::{DataType, PhysicalType};
 use lower::error::{Error, Rule};
 use lower_flat::validity::fits;
 
-/// Whether lists of one size can have this type, over a child of this type with `len` slots.
+/// Checks lists of one length, with a child of type `child` and `len` slots.
 ///
-/// `PhysicalType` where the data type isn't one of lists of a fixed size, `ZeroSize` where that
-/// size is 0, `ChildLength` where the child's slots aren't a whole number of lists, `ChildType`
-/// where the child hasn't the type of its field, `ValidityLength` where the validity hasn't a bit
-/// for each list.
+/// Errors, each as `Error::OutOfSpec`:
+///
+/// - `Rule::PhysicalType`: `data_type` isn't one of lists of one length.
+/// - `Rule::ZeroSize`: this length is 0.
+/// - `Rule::ChildLength`: `len` isn't a multiple of it.
+/// - `Rule::ChildType`: `child` isn't the type of the field in `data_type`.
+/// - `Rule::ValidityLength`: `validity` has another number of bits than there are lists.
 pub fn check_fixed_list(
     data_type: &DataType,
     child: &DataType,

@@ -1,4 +1,4 @@
-//! The rules of lists.
+//! The rules of lists (Arrow columnar format, "Variable-size List Layout").
 ghost use Rattle.std.specs.Prelude.{MatchResult};
 ghost use Rattle.lower.specs.TypeViews.{type_view};
 ghost use Rattle.lower_rules.specs.AnyOffsets.{list_places, list_width};
@@ -11,11 +11,14 @@ use lower::datatypes::DataType;
 use lower::error::{Error, Rule};
 use lower_flat::validity::fits;
 
-/// Whether lists can have this type and these offsets, over a child of this type with `len` slots.
+/// Checks lists with these offsets, and a child of type `child` and `len` slots.
 ///
-/// `ValidityLength` where the validity hasn't a bit for each slot, `OffsetsPastValues` where the
-/// last offset is past the end of the child, `PhysicalType` where the data type isn't one of lists
-/// with such offsets, `ChildType` where the child hasn't the type of its field.
+/// Errors, each as `Error::OutOfSpec`:
+///
+/// - `Rule::ValidityLength`: `validity` has another number of bits than there are lists.
+/// - `Rule::OffsetsPastValues`: the last offset is greater than `len`.
+/// - `Rule::PhysicalType`: `data_type` isn't one of lists with such offsets.
+/// - `Rule::ChildType`: `child` isn't the type of the field in `data_type`.
 pub fn check_list(
     data_type: &DataType,
     offsets: &ListOffsets,

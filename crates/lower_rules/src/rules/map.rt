@@ -1,4 +1,4 @@
-//! The rules of maps.
+//! The rules of maps (Arrow columnar format, "Map Layout").
 ghost use Rattle.std.specs.Prelude.{MatchResult};
 ghost use Rattle.lower.specs.TypeViews.{type_view};
 ghost use Rattle.lower_rules.specs.Rules.{MapRules, BreaksMapRules};
@@ -10,12 +10,15 @@ use lower::error::{Error, Rule};
 use lower::offset::OffsetsBuffer;
 use lower_flat::validity::fits;
 
-/// Whether maps can have this type and these offsets, over pairs of this type, `len` of them.
+/// Checks maps with these offsets, and `len` pairs of type `pairs`.
 ///
-/// `ValidityLength` where the validity hasn't a bit for each slot, `OffsetsPastValues` where the
-/// last offset is past the end of the pairs, `PhysicalType` where the data type isn't one of maps,
-/// `MapChild` where the pairs' type isn't a struct of two fields, `ChildType` where the pairs
-/// haven't the type of their field.
+/// Errors, each as `Error::OutOfSpec`:
+///
+/// - `Rule::ValidityLength`: `validity` has another number of bits than there are maps.
+/// - `Rule::OffsetsPastValues`: the last offset is greater than `len`.
+/// - `Rule::PhysicalType`: `data_type` isn't one of maps.
+/// - `Rule::MapChild`: `pairs` isn't a struct of two fields.
+/// - `Rule::ChildType`: `pairs` isn't the type of the field in `data_type`.
 pub fn check_map(
     data_type: &DataType,
     offsets: &OffsetsBuffer<i32>,

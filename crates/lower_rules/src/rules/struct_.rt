@@ -1,4 +1,4 @@
-//! The rules of structs.
+//! The rules of structs (Arrow columnar format, "Struct Layout").
 ghost use Rattle.std.specs.Prelude.{◌≡◌, map, get_or, IfOk, MatchResult};
 ghost use Rattle.std.specs.List.{All};
 ghost use Rattle.lower.specs.TypeViews.{type_view};
@@ -11,12 +11,16 @@ use lower::datatypes::{DataType, PhysicalType};
 use lower::error::{Error, Rule};
 use lower_flat::validity::fits;
 
-/// How many records these children make, where they can have this type and this validity.
+/// Checks a struct with these children, and returns its number of slots.
 ///
-/// `NoChild` where there is no child, `PhysicalType` where the data type isn't one of structs,
-/// `ChildCount` where there are not as many children as fields, `ValidityLength` where the validity
-/// hasn't a bit for each slot, `ChildType` where a child hasn't the type of its field, `ChildLength`
-/// where a child hasn't as many slots as the first one.
+/// Errors, each as `Error::OutOfSpec`:
+///
+/// - `Rule::NoChild`: there is no child.
+/// - `Rule::PhysicalType`: `data_type` isn't a struct.
+/// - `Rule::ChildCount`: there are not as many children as fields.
+/// - `Rule::ValidityLength`: `validity` has another number of bits than there are slots.
+/// - `Rule::ChildType`: a child has another type than its field.
+/// - `Rule::ChildLength`: a child has another length than the first one.
 pub fn check_struct<C: Child>(
     data_type: &DataType,
     children: &[C],

@@ -1,4 +1,4 @@
-//! The rules of unions.
+//! The rules of unions (Arrow columnar format, "Union Layout").
 ghost use Rattle.std.specs.Prelude.{map, IfOk, MatchResult};
 ghost use Rattle.std.specs.List.{All};
 ghost use Rattle.lower.specs.TypeViews.{type_view};
@@ -12,7 +12,7 @@ use lower::buffer::Buffer;
 use lower::datatypes::{DataType, PhysicalType};
 use lower::error::{Error, Rule};
 
-// Whether a union of so many children can have this type, these types of its slots and these offsets.
+// Checks all but the types and the lengths of the children, of which there are `count`.
 fn check_ids(
     data_type: &DataType,
     types: &[i8],
@@ -44,16 +44,22 @@ fn check_ids(
     Ok(())
 }
 
-/// Whether a union of these children can have this type, these types of its slots and these
-/// offsets.
+/// Checks a union with these children, type ids and offsets.
 ///
-/// `PhysicalType` where the data type isn't a union, `UnionChildren` where there are no children or
-/// more than 127, `ChildCount` where there are not as many children as fields, `UnionIds` where the
-/// ids that the type gives are not as many as children, not distinct, or not from 0 to 126,
-/// `UnionType` where an id of a slot names no child, `UnionOffsets` where the type is dense and there
-/// is not an offset for each slot, or sparse and there are offsets, `ChildType` where a child hasn't
-/// the type of its field, `ChildLength` where a child of a sparse union has another length,
-/// `UnionOffset` where an offset of a dense union is negative, or not less than its child's length.
+/// Errors, each as `Error::OutOfSpec`:
+///
+/// - `Rule::PhysicalType`: `data_type` isn't a union.
+/// - `Rule::UnionChildren`: there are no children, or more than 127.
+/// - `Rule::ChildCount`: there are not as many children as fields.
+/// - `Rule::UnionIds`: the ids in `data_type` are not one for each child, not distinct, or not from
+///   0 to 126.
+/// - `Rule::UnionType`: the type id of a slot selects no child.
+/// - `Rule::UnionOffsets`: the union is dense and has not one offset for each slot, or it is sparse
+///   and has offsets.
+/// - `Rule::ChildType`: a child has another type than its field.
+/// - `Rule::ChildLength`: a child of a sparse union has another length than the union.
+/// - `Rule::UnionOffset`: an offset of a dense union is negative, or not below the length of its
+///   child.
 pub fn check_union<C: Child>(
     data_type: &DataType,
     types: &[i8],
