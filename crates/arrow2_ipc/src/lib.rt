@@ -1,7 +1,7 @@
-//! arrow2's `chunk` and `io::ipc`, and what they stand on, under arrow2's paths. `io::ipc::fault` and
-//! `io::ipc::format` are paths of this library's own.
+//! arrow2's `chunk` and `io::ipc`, and what they need, under arrow2's paths.
 //!
-//! Nothing is written here: each item is one of a crate below, where its contract stands.
+//! `io::ipc::fault` and `io::ipc::format` are paths of this library. All items are re-exported from
+//! the crates below, which have their contracts.
 #![tactic(auto)]
 
 pub mod array;

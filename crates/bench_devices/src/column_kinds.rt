@@ -36,6 +36,7 @@ pub enum ColumnKind {
     Dictionary,
 }
 
+/// All kinds of columns, and of a union both modes.
 pub const COLUMN_KINDS: [ColumnKind; 16] = [
     ColumnKind::Null,
     ColumnKind::Boolean,

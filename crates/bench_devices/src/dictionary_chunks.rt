@@ -12,6 +12,8 @@ use std::rc::Rc;
 #[derive(Drop)]
 pub struct DictionaryChunks {
     pub schema: Schema,
+    /// The chunks `a`, `b` and `c`.
+    ///
     /// `a` and `b` have the dictionary 5, 6, and the keys 1, 0 and 0, 1. `c` has the dictionary 7,
     /// and the keys 0, 0.
     pub chunks: [Chunk<AnyArray>; 3],
@@ -41,6 +43,7 @@ impl DictionaryChunks {
     }
 }
 
+/// Makes the schema and the three chunks.
 pub fn make_dictionary_chunks(alloc: Global) -> Result<DictionaryChunks, Fault> {
     Ok(DictionaryChunks {
         schema: dictionary_schema(alloc)?,

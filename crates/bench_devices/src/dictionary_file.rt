@@ -45,9 +45,10 @@ const OLD_CHUNKS: &str = "
     next end
     ";
 
-/// Adds to a trace what appending changed of a file: the bytes up to the end of its last block, and
-/// the chunks that its old metadata give. Where these chunks are other ones, the trace has a line
-/// for each.
+/// Adds to a trace what appending changed of a file.
+///
+/// That is the bytes up to the end of its last block, and the chunks that its old metadata give. If
+/// these are others, the trace has a line for each.
 pub fn add_kept(
     alloc: Global,
     chunks: &DictionaryChunks,

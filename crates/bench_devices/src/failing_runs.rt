@@ -1,4 +1,4 @@
-//! Runs in which the first call of a device fails, then the second, and so on.
+//! Runs in which one call of a device after the other fails.
 
 use crate::trace::Trace;
 use ipc_devices::Fault;
@@ -7,8 +7,9 @@ use std::fmt;
 
 /// Calls on a device that are made again and again, each time with another failure.
 pub trait FailingRun {
-    /// What the calls return where this call of their device fails, counted from 1, or none where
-    /// it is `NEVER`.
+    /// What the calls return if this call of their device fails.
+    ///
+    /// It is counted from 1; with `NEVER` none fails.
     fn run(&self, alloc: Global, failing: u64) -> Result<Trace, Fault>;
 }
 

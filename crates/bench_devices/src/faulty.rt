@@ -16,7 +16,9 @@ fn broken() -> io::Error {
 /// The number of a call that is never made.
 pub const NEVER: u64 = 0;
 
-/// A file in memory of whose calls one fails: a read, a write, a flush or a seek.
+/// A file in memory that fails in one of its calls.
+///
+/// A call is a read, a write, a flush or a seek.
 #[derive(Drop)]
 pub struct Flaky {
     file: Cursor<Vec<u8>>,
@@ -130,8 +132,9 @@ pub struct Barred {
 }
 
 impl Barred {
-    /// A file of these bytes, in which each read fails whose buffer reaches into the offsets from
-    /// `start` to before `end`.
+    /// A file of these bytes, whose offsets from `start` to before `end` can't be read.
+    ///
+    /// Each read fails whose buffer reaches into them.
     pub fn new(bytes: Vec<u8>, start: u64, end: u64) -> Barred {
         Barred {
             file: Cursor::new(bytes),

@@ -1,4 +1,4 @@
-//! The documented example, two columns of two rows, and helpers that many tests use.
+//! The example of the programs, two columns of two rows, and helpers of many tests.
 
 use crate::trace::Answer;
 use ipc_base::chunk::Chunk;
@@ -7,8 +7,9 @@ use lower::datatypes::{DataType, Field, Schema};
 use lower_arrays::array::{AnyArray, Int32Array};
 use std::alloc::Global;
 
-/// The schema and the chunk of the documented example: the columns `x` and `y` of 32-bit numbers,
-/// of two rows.
+/// The schema and the chunk of the example.
+///
+/// It has the columns `x` and `y` of 32-bit numbers, of two rows.
 #[derive(Drop)]
 pub struct Example {
     pub schema: Schema,
@@ -26,6 +27,7 @@ impl Example {
     }
 }
 
+/// Makes the schema and the chunk.
 pub fn make_example(alloc: Global) -> Result<Example, Fault> {
     Ok(Example {
         schema: schema(alloc)?,
@@ -50,8 +52,9 @@ pub fn int32(alloc: Global, numbers: &[i32]) -> Result<AnyArray, Fault> {
     Ok(AnyArray::from(Int32Array::from_slice(alloc, numbers)?))
 }
 
-/// An empty vector with room for the bytes of any test, so that a device over it never grows. A
-/// refused allocation is tried again.
+/// An empty vector with room for the bytes of any test.
+///
+/// A device on it never grows. A refused allocation is tried again.
 pub fn empty_buffer(alloc: Global) -> Result<Vec<u8>, Fault> {
     match Vec::with_capacity(alloc, 8192) {
         Ok(bytes) => Ok(bytes),
@@ -66,8 +69,7 @@ pub fn buffer_of(alloc: Global, bytes: &[u8]) -> Result<Vec<u8>, Fault> {
     Ok(copy)
 }
 
-/// The error of a call, if it returned one. `Fault::Memory` is passed on as an error of this
-/// function.
+/// The error of a call, if it returned one. `Fault::Memory` is returned as an error instead.
 pub fn error_of<X: Drop>(outcome: Result<X, Fault>) -> Result<Option<Fault>, Fault> {
     match outcome {
         Ok(_) => Ok(None),

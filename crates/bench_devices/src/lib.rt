@@ -1,5 +1,6 @@
-//! Devices that fail or that move few bytes, and what the tests of several crates share: chunks, a
-//! file, and traces of what calls return.
+//! Devices that fail or that move few bytes, and fixtures of several test crates.
+//!
+//! The fixtures are chunks, a file, and traces of what calls return.
 #![tactic(auto)]
 
 pub mod column_kinds;

@@ -5,7 +5,7 @@ use ipc_devices::{Failures, Reads, Seeks, Writes};
 use std::alloc::AllocError;
 use std::io;
 
-/// A file in memory whose writes fail for want of memory, from one of them on.
+/// A file in memory whose writes fail, from one of them on, as if it couldn't grow.
 #[derive(Drop)]
 pub struct OutOfMemory<F> {
     file: F,
@@ -23,6 +23,7 @@ impl<F> OutOfMemory<F> {
         }
     }
 
+    /// The file.
     pub fn into_inner(self) -> F {
         self.file
     }

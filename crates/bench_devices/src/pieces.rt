@@ -7,8 +7,9 @@ use ipc_devices::{Failures, MemFile, Reads};
 use std::alloc::{AllocError, Global};
 use std::io;
 
-/// A device that gives pieces of bytes, and returns 0 once at the end of each, as a pipe does whose
-/// writer pauses.
+/// A device that returns its bytes in pieces.
+///
+/// It returns 0 once at the end of each, as a pipe does whose writer pauses.
 #[derive(Drop)]
 pub struct Pieces {
     piece: MemFile<Vec<u8>>,

@@ -54,9 +54,9 @@ pub enum Call {
     Stream,
     /// The device, after all calls.
     Device,
-    /// The bytes up to the end of the last block of a file that was appended to.
+    /// The bytes of a file before an append, up to the end of its last block.
     OldBytes,
-    /// The chunks of a file that was appended to, by the metadata that were read before.
+    /// The chunks of a file before an append, by the metadata that were read then.
     OldChunks,
 }
 
@@ -257,6 +257,7 @@ pub struct Trace {
 }
 
 impl Trace {
+    /// A trace without lines.
     pub fn new() -> Trace {
         let unused = Step {
             call: Call::Start,
@@ -282,7 +283,7 @@ impl Trace {
         self.add(call, Answer::of(outcome));
     }
 
-    /// Adds a line that says how many calls of the device failed.
+    /// Adds a line with the number of failed calls of the device.
     pub fn add_failures(&mut self, failures: u64) {
         let answer = match failures {
             0 => Answer::NoFailure,
@@ -292,8 +293,10 @@ impl Trace {
         self.add(Call::Device, answer);
     }
 
-    /// Adds two lines on a device: how many of its calls failed, and whether it has all of these
-    /// bytes, the first of them, or others.
+    /// Adds two lines on a device.
+    ///
+    /// They say how many of its calls failed, and whether it has all of these bytes, a prefix of
+    /// them, or others.
     pub fn add_device<D: TestFile>(&mut self, device: Watched<D>, expected: &[u8]) {
         self.add_failures(device.failures());
         let bytes = device.into_inner().into_bytes();

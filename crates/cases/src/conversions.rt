@@ -1,9 +1,11 @@
-//! Runs of `ipconvert`: `{"words": [WORD, ..], "input": STREAM, "path": FILE}`, with the stream at
-//! its input, if there is one, and the file at the path that the words name. Its output is what it
-//! writes; with the first word `append` that is the file at the path.
+//! Runs of `ipconvert`.
 //!
-//! What a run writes can be part of a case: the stream
-//! `{"converted": STREAM, "words": [WORD, ..]}`, or the file `{"converted": RUN, ..}`.
+//! A run is `{"words": [WORD, ..], "input": STREAM, "path": FILE}`: the arguments, the stream at
+//! its input, if there is one, and the file at the path in the arguments. Its output is what it
+//! writes; with the first argument `append` that is the file at the path.
+//!
+//! What a run writes can be part of a case. It is the stream
+//! `{"converted": STREAM, "words": [WORD, ..]}` or the file `{"converted": RUN, ..}`.
 
 use crate::programs::{Program, Run, run_beside, run_of, words_of};
 use cases_files::files::file;
@@ -75,8 +77,7 @@ fn is_to_file(words: &[String]) -> bool {
     }
 }
 
-/// Puts the bytes that `ipconvert` writes, as hex digits, in place of each `"converted"` part of a
-/// case.
+/// Replaces each `"converted"` part of a case by what `ipconvert` writes, as hex digits.
 pub fn put_converted(d: &mut Decoder, case: &mut Value) {
     if let Value::Object(members) = case {
         for parts in members.values_mut() {

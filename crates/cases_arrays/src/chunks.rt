@@ -1,5 +1,7 @@
-//! Chunks, as text: `{"columns": [[..], ..], "rows": 2}`. A column whose type isn't that of its
-//! field is `{"slots": [..], "type": ".."}`, with the `Debug` text of the type.
+//! Chunks, as text: `{"columns": [[..], ..], "rows": 2}`.
+//!
+//! A column whose type isn't that of its field is `{"slots": [..], "type": ".."}`, with the `Debug`
+//! text of the type.
 
 use crate::arrays::arrays;
 use crate::slots::put_slots;

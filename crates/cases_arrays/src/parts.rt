@@ -1,12 +1,15 @@
-//! The parts of arrays as they are stored, as text: `{"len": 2, "nulls": 1, "validity": "01", ..}`
-//! and the parts of the kind.
+//! The parts of arrays as they are stored, as text.
 //!
-//! Values at null slots are included, and so are values outside of a slice. An array without
-//! children has `"type"`, the `Debug` text of its type, and `"values"`: bits, numbers, or bytes as
-//! hex digits, with `"offsets"` or the `"size"` of each value. A list has `"offsets"` or a
-//! `"size"`, and `"child"`, the parts of its child; a struct has `"children"`; a union has
-//! `"types"`, `"offsets"`, the `"places"` of its slots, each the index of a child and an index in
-//! it, and `"children"`; a dictionary has `"ordered"`, `"keys"` and `"values"`.
+//! `{"len": 2, "nulls": 1, "validity": "01", ..}`, and the parts of the kind. Values at null slots
+//! and outside of a slice are included.
+//!
+//! - An array without children has `"type"`, the `Debug` text of its type, and `"values"`. These
+//!   are bits, numbers, or bytes as hex digits, with `"offsets"` or the `"size"` of each.
+//! - A list has `"offsets"` or a `"size"`, and `"child"`, the parts of its child.
+//! - A struct has `"children"`.
+//! - A union has `"types"`, `"offsets"`, `"children"`, and the `"places"` of its slots: each the
+//!   index of a child and an index in it.
+//! - A dictionary has `"ordered"`, `"keys"` and `"values"`.
 ghost use Rattle.std.specs.Prelude.{◌<◌};
 
 use crate::slots::put_slots;

@@ -1,11 +1,11 @@
-//! Schemas: `{"fields": [FIELD, ..], "metadata": {..}, "ids": [ID, ..], "order": "big"}`, of which
-//! only the fields are required. Without `"ids"` the ids are the default ones, without `"order"`
-//! numbers are little-endian.
+//! Schemas.
 //!
-//! An id is `{"id": 7, "children": [ID, ..]}`, where either may be left out.
-//!
-//! A schema that a case wants may have more parts: `"version": "V5"`, the version of its message,
-//! and `"visits": 3`, how many tables of fields are opened to decode it.
+//! - A schema is `{"fields": [FIELD, ..], "metadata": {..}, "ids": [ID, ..], "order": "big"}`. Only
+//!   the fields are required. By default the ids are the default ones, and numbers are
+//!   little-endian.
+//! - An id is `{"id": 7, "children": [ID, ..]}`, where either may be left out.
+//! - A schema that a case wants may also have `"version": "V5"`, the version of its message, and
+//!   `"visits": 3`, how many tables of fields are opened to decode it.
 
 use cases_notation::decoder::Decoder;
 use cases_notation::text::Text;

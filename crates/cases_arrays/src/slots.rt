@@ -1,9 +1,10 @@
 //! Slots, as text.
 //!
-//! `null`, `true`, a number, in quotes where 64 bits don't hold it; bytes as hex digits in quotes,
-//! texts in quotes; `[..]`, the slots of a list or of a struct, or the parts of a number of several
-//! parts; `{"5":..}`, the slot of a union by its type id. A slot of a dictionary is the value that
-//! its key refers to.
+//! - `null`, `true`, or a number, in quotes if it has more than 64 bits
+//! - bytes as hex digits in quotes, texts in quotes
+//! - `[..]`: the slots of a list or of a struct, or the parts of a number that has several
+//! - `{"5":..}`: the slot of a union, by its type id
+//! - for a dictionary, the value that the key refers to
 ghost use Rattle.std.specs.Prelude.{◌<◌};
 
 use cases_notation::text::Text;
@@ -100,7 +101,7 @@ fn put_wide(out: &mut Text, high: i128, low: u128) {
     out.put("\"]");
 }
 
-/// Appends a whole number, in quotes where 64 bits don't hold it.
+/// Appends an integer, in quotes if it has more than 64 bits.
 pub fn put_whole(out: &mut Text, number: i128) {
     if number < i128::from(i64::MIN) || number > i128::from(u64::MAX) {
         out.name(&number);

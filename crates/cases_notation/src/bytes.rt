@@ -1,16 +1,19 @@
 //! Bytes, and bits.
 //!
-//! Bytes are a part, or a list of parts. A part is hex digits, `{"text": ".."}`, `{"zeros": 56}`,
-//! `{"message": TABLE}` or `{"footer": TABLE}`, which `tables.rt` encodes, or
-//! `{"framed": TABLE, "body": [PART, ..], "times": 2}`: so many encapsulated messages, each with
-//! this body (one, where the times are left out). A part may also change the bytes of the parts
-//! before it: `{"cut": 44}` leaves so many bytes, `{"set": [[26, 3], ..]}` sets the byte at an
-//! offset. `{"repeat": [PART, ..], "times": 7}` repeats plain parts, in which
-//! `{"u32": 316, "step": -48}` is a number of 32 bits, little-endian, to which the step is added at
-//! each turn.
+//! Bytes are a part, or a list of parts:
 //!
-//! Bits are `"1011"`, that of the first slot first, or `{"bytes": BYTES, "bits": 9}`: the first
-//! nine bits of these bytes, the least significant bit of a byte first.
+//! - hex digits; `{"text": ".."}`; `{"zeros": 56}`
+//! - `{"message": TABLE}`, `{"footer": TABLE}`: encoded by `tables.rt`
+//! - `{"framed": TABLE, "body": [PART, ..], "times": 2}`: so many encapsulated messages, each with
+//!   this body. By default there is one.
+//! - `{"cut": 44}`: leaves so many of the bytes before it
+//! - `{"set": [[26, 3], ..]}`: sets bytes before it, each by its offset and value
+//! - `{"repeat": [PART, ..], "times": 7}`: repeats plain parts. In these
+//!   `{"u32": 316, "step": -48}` is a little-endian number of 32 bits, to which the step is added
+//!   at each turn.
+//!
+//! Bits are `"1011"`, the first slot's bit first, or `{"bytes": BYTES, "bits": 9}`. The latter are
+//! the first nine bits of these bytes, the lowest bit of a byte first.
 
 ghost use Rattle.std.specs.Prelude.{◌<◌};
 

@@ -1,5 +1,6 @@
-//! The damages of a message that are tried one by one: it is cut after each byte, and each byte is
-//! set to others.
+//! Damages of a message, tried one by one.
+//!
+//! It is cut after each byte, and each byte is set to others.
 
 use crate::decoder::Decoder;
 use crate::text::Text;
@@ -23,6 +24,7 @@ pub struct Tried {
 }
 
 impl Tried {
+    /// No damage was tried yet.
     pub fn new(alloc: Global) -> Tried {
         let mut differ = Text::new(alloc);
         differ.put("[");

@@ -15,6 +15,7 @@ pub struct Decoder {
 }
 
 impl Decoder {
+    /// A decoder without a failure.
     pub fn new(alloc: Global) -> Decoder {
         Decoder {
             alloc,
@@ -22,6 +23,7 @@ impl Decoder {
         }
     }
 
+    /// The allocator of what is decoded.
     pub fn alloc(&self) -> Global {
         self.alloc
     }
@@ -73,18 +75,21 @@ impl Decoder {
         Vec::new(self.alloc)
     }
 
+    /// Appends an item. A failed allocation is recorded as the failure.
     pub fn push<T: Drop>(&mut self, list: &mut Vec<T>, item: T) {
         if list.push(item).is_err() {
             self.out_of_memory();
         }
     }
 
+    /// Appends bytes. A failed allocation is recorded as the failure.
     pub fn extend(&mut self, list: &mut Vec<u8>, bytes: &[u8]) {
         if list.extend_from_slice(bytes).is_err() {
             self.out_of_memory();
         }
     }
 
+    /// The value in a box. A failed allocation is recorded as the failure, and gives None.
     pub fn boxed<T: Drop>(&mut self, value: T) -> Option<Box<T>> {
         let held = Box::new(self.alloc, value);
         self.take(held)

@@ -1,5 +1,6 @@
-//! The notation of test cases: JSON is decoded to types, tables and bytes, and answers are built as
-//! text.
+//! The notation of test cases.
+//!
+//! JSON is decoded to types, tables and bytes, and results are built as text.
 #![tactic(auto)]
 
 pub mod bytes;

@@ -1,5 +1,6 @@
-//! Answers in their order: of equal ones that follow one another, the answer and how many they are:
-//! `[["NoColumns", 72], ["Columns", 56]]`.
+//! Results in order, where equal ones in a row are counted.
+//!
+//! `[["NoColumns", 72], ["Columns", 56]]`: each result, and how often it follows itself.
 
 use crate::decoder::Decoder;
 use crate::text::Text;
@@ -13,6 +14,7 @@ pub struct Runs {
 }
 
 impl Runs {
+    /// No answers yet.
     pub fn new(alloc: Global) -> Runs {
         Runs {
             last: String::new(alloc),

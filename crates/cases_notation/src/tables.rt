@@ -1,23 +1,25 @@
-//! The Flatbuffers tables of messages and files, which are encoded to bytes. They may have what no
-//! schema of this library has, as integers of 24 bits.
+//! The Flatbuffers tables of messages and files, which are encoded to bytes.
 //!
-//! A message is `{"header": HEADER, "version": "V4", "body_length": 128}`; the default version is
-//! V5, the default length 0. A header is `{"schema": SCHEMA}`, `{"record_batch": BATCH}` or
-//! `{"dictionary_batch": {"id": 7, "data": BATCH, "is_delta": false}}`, in which the data may be
-//! left out. A schema is `{"fields": [FIELD, ..], "endianness": "Big", "metadata": PAIRS}`, of
-//! which all but the fields may be left out. A batch is
-//! `{"length": 3, "nodes": [[3, 1], ..], "buffers": [[64, 12], ..]}`: of a node the length and the
-//! null count, of a buffer the offset and the length. A footer is `{"schema": SCHEMA,
-//! "dictionaries": [BLOCK, ..], "record_batches": [BLOCK, ..], "metadata": PAIRS}`, of which each
-//! may be left out, and may have a version. A block is `[1024, 200, 64]`, its offset and the
-//! lengths of its metadata and its body, or, in a file, the index of a message. Pairs are
-//! `[["k", "v"], ..]`.
+//! They may have what no schema of this library has, such as integers of 24 bits.
 //!
-//! A field is `{"name": "f", "type": TYPE, "nullable": true, "children": [FIELD, ..], "dictionary":
-//! DICTIONARY}`, of which all but the name and the type may be left out. It may have
-//! `"metadata": PAIRS`, and `"lists": 63` nests it in so many lists of its name. A dictionary is
-//! `{"id": 7, "index_type": ["Int", 16, false], "is_ordered": true}`. `tables/types.rt` describes
-//! the types.
+//! - A message is `{"header": HEADER, "version": "V4", "body_length": 128}`. The defaults are V5
+//!   and 0.
+//! - A header is `{"schema": SCHEMA}`, `{"record_batch": BATCH}` or
+//!   `{"dictionary_batch": {"id": 7, "data": BATCH, "is_delta": false}}`. The data may be left out.
+//! - A schema is `{"fields": [FIELD, ..], "endianness": "Big", "metadata": PAIRS}`. Only the fields
+//!   are required.
+//! - A batch is `{"length": 3, "nodes": [[3, 1], ..], "buffers": [[64, 12], ..]}`. A node has a
+//!   length and a null count, a buffer an offset and a length.
+//! - A footer has the members `"schema"`, `"dictionaries": [BLOCK, ..]`,
+//!   `"record_batches": [BLOCK, ..]`, `"metadata": PAIRS` and a version. Each may be left out.
+//! - A block is `[1024, 200, 64]`: its offset, and the lengths of its metadata and its body. In a
+//!   file it may be the index of a message.
+//! - Pairs are `[["k", "v"], ..]`.
+//! - A field has the members `"name": "f"`, `"type": TYPE`, `"nullable": true`,
+//!   `"children": [FIELD, ..]`, `"dictionary": DICTIONARY` and `"metadata": PAIRS`. Only the name
+//!   and the type are required. `"lists": 63` nests it in so many lists of its name.
+//! - A dictionary is `{"id": 7, "index_type": ["Int", 16, false], "is_ordered": true}`.
+//! - A type is described in `tables/types.rt`.
 
 mod types;
 

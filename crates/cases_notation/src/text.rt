@@ -25,6 +25,7 @@ enum Missing {
 }
 
 impl Text {
+    /// An empty text.
     pub fn new(alloc: Global) -> Text {
         Text {
             alloc,

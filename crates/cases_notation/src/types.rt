@@ -1,19 +1,23 @@
 //! Types and fields.
 //!
-//! A type is a name, as `"int32"`, or a list of a name and its parameters: `["list", FIELD]`,
-//! `["large_list", FIELD]`, `["fixed_size_list", FIELD, 2]`, `["struct", [FIELD, ..]]`,
-//! `["map", FIELD, SORTED]`, `["lists", TYPE, 3]` (lists of lists of lists of this type; their
-//! fields are nullable and named item, unless a fourth parameter,
-//! `{"name": "f", "nullable": false}`, has another name), `["twins", TYPE, 3]` (structs of two
-//! structs of two structs of two fields of this type, all unnamed and not nullable),
-//! `["union", "dense", [FIELD, ..], [ID, ..]]` (the ids may be left out),
-//! `["dictionary", "int32", TYPE, ORDERED]`, `["fixed_size_binary", 16]`, `["decimal", 5, 2]`,
-//! `["decimal256", 5, 2]`, `["timestamp", "s", ZONE]` (the zone may be left out),
-//! `["time32", "ms"]`, `["time64", "ns"]`, `["duration", "us"]`, `["interval", "months"]` (or
-//! `"days"`, `"nanoseconds"`), `["extension", NAME, TYPE, TEXT]` (the text may be left out).
+//! A type without parameters is its name, such as `"int32"`. The others are lists:
 //!
-//! A field is `{"name": "a", "type": TYPE, "nullable": false, "metadata": {"k": "v"}}`, or a type
-//! alone: a nullable field without a name.
+//! - `["list", FIELD]`, `["large_list", FIELD]`, `["fixed_size_list", FIELD, 2]`
+//! - `["struct", [FIELD, ..]]`, `["map", FIELD, SORTED]`
+//! - `["union", "dense", [FIELD, ..], [ID, ..]]`; the ids may be left out
+//! - `["dictionary", "int32", TYPE, ORDERED]`
+//! - `["fixed_size_binary", 16]`, `["decimal", 5, 2]`, `["decimal256", 5, 2]`
+//! - `["timestamp", "s", ZONE]`; the zone may be left out
+//! - `["time32", "ms"]`, `["time64", "ns"]`, `["duration", "us"]`
+//! - `["interval", "months"]`, or `"days"` or `"nanoseconds"`
+//! - `["extension", NAME, TYPE, TEXT]`; the text may be left out
+//! - `["lists", TYPE, 3]`: lists of lists of lists of this type. Their fields are nullable and
+//!   named item, unless there is a fourth parameter `{"name": "f", "nullable": false}`.
+//! - `["twins", TYPE, 3]`: a struct of two structs of two structs of two fields of this type. All
+//!   fields are unnamed and not nullable.
+//!
+//! A field is `{"name": "a", "type": TYPE, "nullable": false, "metadata": {"k": "v"}}`. A type
+//! alone is a nullable field without a name.
 
 use crate::decoder::{Decoder, named};
 use lower::datatypes::{DataType, Field, IntegerType, IntervalUnit, Metadata, TimeUnit, UnionMode};
@@ -445,8 +449,7 @@ fn put_text(d: &mut Decoder, out: &mut Metadata, key: &str, text: &str) {
     let _ = d.take(held);
 }
 
-/// Whether the byte order of a case is little-endian, from its member `order`; true if that is left
-/// out.
+/// Whether the byte order in the member `order` is little-endian, as it is by default.
 pub fn is_little_endian(d: &mut Decoder, value: &Value) -> bool {
     match value.get("order") {
         None => true,

@@ -1,6 +1,8 @@
-//! Projections: `"chosen": [2, 0]` reads these columns and gives them in this order, `"limit": 2`
-//! reads at most so many rows. Readers take columns in ascending order, so what they return is
-//! brought into the order of the case.
+//! Projections: the columns and rows that a case reads.
+//!
+//! `"chosen": [2, 0]` reads these columns and gives them in this order. `"limit": 2` reads at most
+//! so many rows. Readers return columns in ascending order, so these are put into the order of the
+//! case.
 
 ghost use Rattle.std.specs.Prelude.{IfSome};
 ghost use Rattle.ipc_projections.specs.Projections.{IsPrepared};

@@ -1,11 +1,15 @@
-//! Records: `{"fields": [FIELD, ..], "nodes": [[2, 0], ..], "buffers": [[0, 8], ..], "body":
-//! BYTES}`, the message of a record batch with its body. Each node is a length and a count of
-//! nulls, each buffer an offset and a length. `"message": BYTES` may replace the nodes and buffers.
+//! Records: the messages of record batches, with their bodies.
 //!
-//! `"order": "big"` makes numbers big-endian, `"version": "V4"` is the metadata version,
-//! `"ids": [ID, ..]` are the ids of the fields as in `cases_arrays`, columns are chosen as in
-//! `projections.rt`, and `"dictionaries": [[ID, ARRAY], ..]` are the values of dictionaries that
-//! were read before.
+//! A record is
+//! `{"fields": [FIELD, ..], "nodes": [[2, 0], ..], "buffers": [[0, 8], ..], "body": BYTES}`. Each
+//! node is a length and a null count, each buffer an offset and a length. `"message": BYTES` may
+//! replace the nodes and buffers. A record may also have
+//!
+//! - `"order": "big"`: big-endian numbers
+//! - `"version": "V4"`: the metadata version
+//! - `"ids": [ID, ..]`: the ids of the fields, as in `cases_arrays`
+//! - chosen columns, as in `projections.rt`
+//! - `"dictionaries": [[ID, ARRAY], ..]`: the values of dictionaries that were read before
 
 ghost use Rattle.std.specs.Prelude.{IfSome, length};
 ghost use Rattle.std.specs.Option.{option_copied};
@@ -46,8 +50,9 @@ pub struct Record {
     pub form: RecordForm,
 }
 
-/// What a reader needs to decode a record batch: parts of the schema, and the choices of the
-/// caller.
+/// What a reader needs to decode a record batch.
+///
+/// It has parts of the schema, and the choices of the caller.
 #[derive(Drop)]
 pub struct RecordForm {
     pub fields: Vec<Field>,

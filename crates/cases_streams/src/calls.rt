@@ -1,6 +1,7 @@
-//! The calls of batches that are encoded, of dictionary trackers and of devices; and of streams: of
-//! their frames and messages, of readers and writers, and of the plain program. With
-//! `"big_endian": true` the numbers in bodies have their highest byte first.
+//! The calls of encoded batches, dictionary trackers, devices and streams.
+//!
+//! Those of streams are of their frames and messages, of readers and writers, and of the plain
+//! program. With `"big_endian": true` the numbers in bodies have their highest byte first.
 
 mod appended;
 mod devices;

@@ -1,4 +1,4 @@
-//! Calls that fail for want of memory, and what a reader, a writer and a tracker do after it.
+//! Allocations that fail, and what a reader, a writer and a tracker do then.
 //!
 //! In an ordinary run no allocation fails. `make refused` runs the tests with each of their
 //! allocations failing in turn.

@@ -120,7 +120,7 @@ fn schema_of_all_kinds(alloc: Global) -> Result<Schema, Fault> {
     schema_of(alloc, &chunk_of_all_kinds(alloc)?)
 }
 
-// What the message of a schema says, with the highest byte of numbers first.
+// Reads back the schema message of a schema, in big-endian order.
 fn read_back(alloc: Global, schema: &Schema) -> Result<(Schema, IpcSchema), Fault> {
     let ids = default_ipc_fields(alloc, &schema.fields)?;
     let message = schema_to_bytes_as(alloc, schema, &ids, false)?;

@@ -1,5 +1,6 @@
-//! A device fails at each of its calls in turn, while streams are written and read, and while
-//! messages are written.
+//! A device fails at each of its calls in turn.
+//!
+//! Streams are written and read on it, and messages are written.
 
 use crate::scenario::{Scenario, ScenarioRun, StreamFixture, make_stream_fixture, run_one_byte};
 use crate::{message_write, stream_read, stream_write};
@@ -55,8 +56,8 @@ fn device_fails_at_each_call(rt: HostRuntime) -> Result<(), Fault> {
     Ok(())
 }
 
-// The first scenario, if any, that hasn't the trace of a run without a failure where its device
-// moves one byte a call: its name, that trace, and its own.
+// The first scenario, if any, whose trace is another one on a device that moves one byte a call.
+// Returns its name, the trace of a run without a failure, and its own.
 fn first_other_by_single_bytes(
     alloc: Global,
     fixture: &StreamFixture,

@@ -1,5 +1,7 @@
-//! `Watched` devices that fail, that take nothing and that count their flushes, vectors that grow,
-//! writers that flush, and runs of many bytes that are read.
+//! Properties of devices that no contract states.
+//!
+//! There are `Watched` devices that fail, that take nothing and that count their flushes. There are
+//! vectors that grow, writers that flush, and reads of many bytes.
 
 use arrow2_ipc::io::ipc::write::{FileWriter, StreamWriter, WriteOptions};
 use bench_devices::fixtures::{error_of, make_example};

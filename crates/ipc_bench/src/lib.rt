@@ -1,6 +1,10 @@
-//! Tests of streams, and of what needs no file, that no contract says and no case of `cases` can
-//! say: devices that fail or move few bytes, allocations that fail, memory that arrays share, and
-//! public calls that nothing else makes.
+//! Tests of streams, and of calls that need no file.
+//!
+//! They test what no contract states and no case can express:
+//!
+//! - devices that fail or move few bytes, and allocations that fail;
+//! - memory that arrays share;
+//! - public calls that nothing else makes.
 #![tactic(auto)]
 
 #[cfg(test)]

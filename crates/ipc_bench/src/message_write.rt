@@ -44,7 +44,9 @@ pub const ON_ALLOCATION_FAILURE: &[&str] = &[
     ",
 ];
 
-/// Writes a continuation, a message of one byte with a body of one byte, and two bytes.
+/// Writes a continuation, a message, and two bytes.
+///
+/// The message has one byte, and its body too.
 pub fn write_messages<D: TestFile>(alloc: Global, mut device: Watched<D>) -> Result<Trace, Fault> {
     let message = EncodedData {
         ipc_message: Vec::from_slice(alloc, b"b")?,

@@ -1,4 +1,4 @@
-//! Some columns of a wide record batch are read, from a device that counts the bytes that it gives.
+//! Some columns of a wide record batch are read, from a device that counts bytes.
 
 use arrow2_ipc::array::{AnyArray, equal};
 use arrow2_ipc::chunk::Chunk;

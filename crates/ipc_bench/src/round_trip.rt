@@ -1,4 +1,4 @@
-//! The example is written to a device that moves one byte a call, and read from it.
+//! The example is written to, and read from, a device that moves single bytes.
 
 use crate::stream_read::next_example;
 use arrow2_ipc::io::ipc::fault::{Fault, Watched, Writes};

@@ -18,7 +18,9 @@ pub enum Scenario {
     WriteMessages,
 }
 
-/// The chunks `a`, `b` and `c`, and the stream of these, as a writer with these options writes it.
+/// The chunks `a`, `b` and `c`, and their stream.
+///
+/// It is the one that a writer with these options writes.
 #[derive(Drop)]
 pub struct StreamFixture {
     pub chunks: DictionaryChunks,

@@ -1,5 +1,7 @@
-//! Clones and slices of arrays share the memory of their values. No contract says so: a test sees
-//! it by `into_vec`, which returns the vector of a buffer only where the buffer has no other owner.
+//! Clones and slices of arrays share the memory of their values.
+//!
+//! No contract states this. A test sees it by `into_vec`, which only returns the vector of a buffer
+//! without another owner.
 
 use ipc_devices::Fault;
 use lower::bitmap::Bitmap;

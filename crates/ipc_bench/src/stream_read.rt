@@ -1,4 +1,4 @@
-//! Streams are read: on a device that may fail, and on one that pauses inside a message.
+//! Streams are read, on a device that may fail or that pauses inside a message.
 
 use crate::scenario::StreamFixture;
 use arrow2_ipc::io::ipc::fault::{Failures, Fault, Reads, Watched};
@@ -110,7 +110,7 @@ pub const ON_ALLOCATION_FAILURE: &[&str] = &[
     ",
 ];
 
-/// Reads the stream of the three chunks from a device, by five calls of a reader.
+/// Reads the stream of the three chunks, by five calls of a reader.
 pub fn read_stream<D: TestFile>(
     alloc: Global,
     fixture: &StreamFixture,

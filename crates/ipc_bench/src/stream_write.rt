@@ -113,7 +113,7 @@ pub const ON_ALLOCATION_FAILURE: &[&str] = &[
     ",
 ];
 
-/// Writes the stream of the three chunks to a device, and makes three more calls after its end.
+/// Writes the stream of the three chunks, and makes three more calls after its end.
 pub fn write_stream<D: TestFile>(
     alloc: Global,
     fixture: &StreamFixture,

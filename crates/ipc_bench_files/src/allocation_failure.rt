@@ -1,7 +1,7 @@
-//! Allocations that fail while files are written, read and appended to, and while batches are read.
+//! Allocations that fail while files are written, read and appended to.
 //!
-//! In an ordinary run no allocation fails. `make refused` runs the tests with each of their
-//! allocations failing in turn.
+//! Batches are also read. In an ordinary run no allocation fails. `make refused` runs the tests
+//! with each of their allocations failing in turn.
 
 use crate::scenario::{Scenario, ScenarioRun, make_file_fixture};
 use crate::{append, append_sessions, batch_read, file_read, file_write};

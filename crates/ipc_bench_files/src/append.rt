@@ -157,7 +157,7 @@ fn is_too_large(outcome: Result<(), Fault>) -> Result<bool, Fault> {
     Ok(matches!(fault, Some(Fault::Argument(ArgFault::TooLarge))))
 }
 
-// The same by metadata that say that the file has this many bytes.
+// The same, by metadata with this size of the file in bytes.
 fn start_appending_at(alloc: Global, size: u64) -> Result<(), Fault> {
     let bytes = make_example_file(alloc)?;
     let mut metadata = read_file_metadata(alloc, &mut MemFile::new(bytes.as_slice()))?;

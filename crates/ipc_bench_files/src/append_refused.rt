@@ -1,4 +1,4 @@
-//! A call that refuses to append to a file leaves a lent one as it was, byte for byte.
+//! A refused append leaves all bytes of a borrowed file as they were.
 
 use crate::scenario::{FileFixture, make_file_fixture};
 use arrow2_ipc::array::AnyArray;
@@ -14,8 +14,8 @@ fn metadata_of(alloc: Global, file: &[u8]) -> Result<FileMetadata, Fault> {
     read_file_metadata(alloc, &mut MemFile::new(buffer_of(alloc, file)?))
 }
 
-// The error of `try_from_file` on a lent file, if there is one and all bytes are as they were.
-// `Memory` is passed on as an error of this function.
+// The error of `try_from_file` on a borrowed file, if all its bytes are as they were. `Memory` is
+// returned as an error of this function.
 fn refused_writer(
     alloc: Global,
     file: &[u8],
@@ -111,7 +111,7 @@ fn file_that_ends_in_a_dictionary_is_as_it_was(rt: HostRuntime) -> Result<(), Fa
     Ok(())
 }
 
-// Whether a session on a lent file is refused with all bytes as they were, or isn't refused.
+// Whether a session on a borrowed file is refused with all bytes as they were, or isn't refused.
 fn keeps_if_refused(alloc: Global, file: &[u8], chunks: &[Chunk<AnyArray>]) -> Result<bool, Fault> {
     let mut device = MemFile::new(buffer_of(alloc, file)?);
     let is_refused = append_session(alloc, &mut device, chunks).is_err();

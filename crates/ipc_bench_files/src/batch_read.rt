@@ -194,7 +194,7 @@ fn read_first_columns<D: TestFile>(
     )
 }
 
-/// Reads the first dictionary of the fixture's file twice, and then its first record batch twice.
+/// Reads the first dictionary of the fixture's file and its first record batch, each twice.
 pub fn read_batches<D: TestFile>(
     alloc: Global,
     fixture: &FileFixture,

@@ -1,5 +1,6 @@
-//! A device fails at each of its calls in turn, while files are written, read and appended to, and
-//! while batches are read.
+//! A device fails at each of its calls in turn.
+//!
+//! Files are written, read and appended to on it, and batches are read.
 
 use crate::scenario::{FileFixture, Scenario, ScenarioRun, make_file_fixture, run_one_byte};
 use crate::{append, batch_read, file_read, file_write};
@@ -66,8 +67,8 @@ fn device_fails_at_each_call(rt: HostRuntime) -> Result<(), Fault> {
     Ok(())
 }
 
-// The first scenario, if any, that hasn't the trace of a run without a failure where its device
-// moves one byte a call: its name, that trace, and its own.
+// The first scenario, if any, whose trace is another one on a device that moves one byte a call.
+// Returns its name, the trace of a run without a failure, and its own.
 fn first_other_by_single_bytes(
     alloc: Global,
     fixture: &FileFixture,

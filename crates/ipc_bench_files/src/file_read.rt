@@ -1,4 +1,6 @@
-//! A file is read: on a device that may fail, and one column where another can't be read.
+//! A file is read.
+//!
+//! The device may fail, and a column is read while another can't be.
 
 use crate::example_file::make_example_file;
 use crate::scenario::FileFixture;
@@ -225,8 +227,10 @@ pub const ON_ALLOCATION_FAILURE: &[&str] = &[
     ",
 ];
 
-/// Reads the file of the fixture from a device: its metadata, its chunks by seven calls of a
-/// reader, and its first chunk by other calls.
+/// Reads the file of the fixture from a device.
+///
+/// It reads its metadata, its chunks by seven calls of a reader, and its first chunk by other
+/// calls.
 pub fn read_file<D: TestFile>(
     alloc: Global,
     fixture: &FileFixture,

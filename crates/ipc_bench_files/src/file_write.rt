@@ -207,8 +207,9 @@ pub const START_ON_ALLOCATION_FAILURE: &[&str] = &[
     ",
 ];
 
-/// Writes the file of the fixture to a device, and makes four more calls after its end. The chunk
-/// `c` is refused: its dictionary can't replace that of `a`.
+/// Writes the file of the fixture, and makes four more calls after its end.
+///
+/// The chunk `c` is refused: its dictionary can't replace that of `a`.
 pub fn write_file<D: TestFile>(
     alloc: Global,
     fixture: &FileFixture,

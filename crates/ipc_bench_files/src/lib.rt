@@ -1,6 +1,10 @@
-//! Tests of files that no contract says and no case of `cases` can say: devices that fail or move
-//! few bytes, allocations that fail, files that begin inside a device, files that are too long, and
-//! sessions that append to a file.
+//! Tests of files.
+//!
+//! They test what no contract states and no case can express:
+//!
+//! - devices that fail or move few bytes, and allocations that fail;
+//! - files that begin inside a device, and files that are too long;
+//! - sessions that append to a file.
 #![tactic(auto)]
 
 #[cfg(test)]

@@ -1,4 +1,4 @@
-//! The example is written to a device that moves one byte a call, and read from it.
+//! The example is written to, and read from, a device that moves single bytes.
 
 use arrow2_ipc::io::ipc::fault::{Fault, Watched, Writes};
 use arrow2_ipc::io::ipc::read::{FileReader, read_file_metadata};

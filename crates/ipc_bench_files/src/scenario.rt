@@ -22,8 +22,9 @@ pub enum Scenario {
     AppendTwice,
 }
 
-/// The chunks `a`, `b` and `c`, and the file of `a`, `b`, `a`, `b` and `a`, as a writer with these
-/// options writes it.
+/// The chunks `a`, `b` and `c`, and the file of `a`, `b`, `a`, `b` and `a`.
+///
+/// It is the one that a writer with these options writes.
 #[derive(Drop)]
 pub struct FileFixture {
     pub chunks: DictionaryChunks,

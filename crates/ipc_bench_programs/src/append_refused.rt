@@ -1,4 +1,4 @@
-//! `ipconvert append` that is refused leaves a lent file as it was, byte for byte.
+//! A refused `ipconvert append` leaves all bytes of a borrowed file as they were.
 
 use arrow2_ipc::io::ipc::fault::{Fault, MemFile};
 use arrow2_ipc::io::ipc::write::WriteOptions;
@@ -13,7 +13,8 @@ fn make_file(alloc: Global) -> Result<Vec<u8>, Fault> {
     make_dictionary_file(alloc, &chunks, WriteOptions::default())
 }
 
-// Whether `ipconvert append` of this input to a lent file is refused, with all bytes as they were.
+// Whether `ipconvert append` of this input to a borrowed file is refused, with all bytes as they
+// were.
 fn is_refused(alloc: Global, file: &[u8], input: &[u8]) -> Result<bool, Fault> {
     let words = vec![in alloc; "append".to_string(alloc)?, "p".to_string(alloc)?]?;
     let mut device = MemFile::new(buffer_of(alloc, file)?);

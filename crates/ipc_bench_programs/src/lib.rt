@@ -1,5 +1,6 @@
-//! Tests of what `ipcat` and `ipconvert` do where a device or an allocation fails, which no run of
-//! a program can show.
+//! Tests of `ipcat` and `ipconvert` on devices and allocations that fail.
+//!
+//! No run of a program can show this.
 #![tactic(auto)]
 
 #[cfg(test)]

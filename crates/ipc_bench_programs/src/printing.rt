@@ -138,8 +138,8 @@ impl io::Write for Counted<'_> {
     }
 }
 
-// An input that notes how many bytes were printed when it was first asked for those from an offset
-// on.
+// An input that records how many bytes were printed when its bytes from an offset on were first
+// read.
 #[derive(Drop)]
 struct Observer<'a> {
     input: Cursor<Vec<u8>>,

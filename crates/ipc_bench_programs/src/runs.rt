@@ -8,7 +8,7 @@ use bench_devices::fixtures::empty_buffer;
 use ipc_tools::{cat, convert};
 use std::alloc::Global;
 
-// These words.
+// These arguments.
 fn words_of(alloc: Global, words: &[&str]) -> Result<Vec<String>, Fault> {
     let mut list = Vec::new(alloc);
     for word in words {
@@ -17,7 +17,7 @@ fn words_of(alloc: Global, words: &[&str]) -> Result<Vec<String>, Fault> {
     Ok(list)
 }
 
-// The output of a run that ended with this status and these errors. A run without memory says so.
+// The output of a successful run. The error is `Memory` if the run reported that, else `Ended`.
 fn output_of(status: u8, out: Vec<u8>, err: &[u8]) -> Result<Vec<u8>, Fault> {
     if status == 0 && err.is_empty() {
         Ok(out)

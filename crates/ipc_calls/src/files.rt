@@ -1,4 +1,4 @@
-//! Lists of calls of a writer of files, those that set its pairs among them.
+//! Lists of calls of a file writer, including those that set its pairs.
 ghost use Rattle.std.specs.Prelude.{◌≡◌, IfOk, OnErr};
 ghost use Rattle.lower.specs.TypeViews.{pairs_of};
 ghost use Rattle.ipc_model.specs.WriterStates.{IsRun, answered};
@@ -17,20 +17,20 @@ use lower::datatypes::clones::clone_metadata;
 use lower_arrays::array::AnyArray;
 use std::alloc::{AllocError, Global};
 
-/// A call of a writer of files, with its arguments. The schema is that of the writer.
+/// A call of a file writer with its arguments. The schema is the writer's.
 #[derive(Clone, Copy)]
 pub enum FileCall<'a> {
     /// `set_custom_metadata` with these pairs.
     SetCustomMetadata(&'a Metadata),
     /// `start`.
     Start,
-    /// `write` with these ids, or without.
+    /// `write` with these ids, or without any.
     Write(&'a Chunk<AnyArray>, Option<&'a [IpcField]>),
     /// `finish`.
     Finish,
 }
 
-// Sets a copy of the pairs. `AllocError` if there is no memory for it.
+// Sets a copy of the pairs. `AllocError` if they can't be copied.
 fn set_pairs<W: Writes + Drop>(
     writer: &mut FileWriter<W>,
     pairs: &Metadata,
@@ -43,10 +43,9 @@ fn set_pairs<W: Writes + Drop>(
     Ok(writer.set_custom_metadata(copy))
 }
 
-/// Makes a call, and returns its answer.
+/// Makes a call, and returns its result.
 ///
-/// Errors: `AllocError` if no memory was left to copy the pairs that are to be set; nothing was
-/// done then.
+/// `AllocError` if the pairs to be set can't be copied; nothing was done then.
 pub fn run_call<W: Writes + Drop>(
     writer: &mut FileWriter<W>,
     call: &FileCall,
@@ -63,13 +62,14 @@ pub fn run_call<W: Writes + Drop>(
     }
 }
 
-/// Makes the calls in order, also those after a refused one, and returns the answer of each. The
-/// pairs are then those of the last `set_custom_metadata` that was Ok, or else those from before.
-/// A file in memory has the chunks that it had, and then exactly those of the writes that were Ok;
-/// if it is finished, its footer has the pairs.
+/// Makes the calls in order, also after a refused one, and returns all results.
 ///
-/// Errors: `AllocError` if no memory was left to copy pairs or to keep an answer; the calls before
-/// that were made, and none after it.
+/// The pairs are then those of the last `set_custom_metadata` that was `Ok`, or else those from
+/// before. A file in memory has the chunks that it had, and then exactly those whose `write`
+/// returned `Ok`. If it is finished, its footer has the pairs.
+///
+/// `AllocError` if pairs can't be copied or a result can't be stored. The calls before that were
+/// made, and none after it.
 pub fn run_calls<W: Writes + Drop>(
     alloc: Global,
     writer: &mut FileWriter<W>,

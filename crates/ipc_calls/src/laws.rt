@@ -1,29 +1,31 @@
-//! Whole streams and whole files in memory, by any list of calls of their writers.
+//! Theorems on streams and files in memory, written by any list of calls.
 ghost use Rattle.ipc_calls.specs.CallRows.{BegunRowsLaw, PairRowsLaw};
 ghost use Rattle.ipc_calls.specs.WholeLaws.{FileOfCallsLaw, OneHeadLaw, StreamOfCallsLaw};
 
-/// If calls of a new writer in an empty memory finish the stream, its bytes are a finished stream:
-/// of the schema and the ids of the `start` that was Ok, with exactly the chunks of the writes that
-/// were Ok, in order. Refused calls, each with arguments of its own, may be among them.
+/// A stream in memory that a new writer finished has exactly the written chunks.
+///
+/// These are the chunks whose `write` returned `Ok`, in order. The memory was empty before. The
+/// schema and the ids are those of the `start` that was `Ok`. Refused calls, each with its own
+/// arguments, may be in the list.
 pub fn whole_streams()
     ensures { StreamOfCallsLaw }
 {}
 
-/// If each `start` of a list of calls, refused ones too, has one schema and one choice of ids, the
-/// stream has these.
+/// If each `start`, also a refused one, has one schema and ids, the stream has them.
 pub fn calls_of_one_schema()
     ensures { OneHeadLaw }
 {}
 
-/// If calls of a new writer in an empty memory finish the file, its bytes are a whole file of the
-/// writer's schema and ids: with the pairs that were set last, none if none were set, and exactly
-/// the chunks of the writes that were Ok, in order; and a stream of the same without the first
-/// eight bytes.
+/// A file in memory that a new writer finished has exactly the written chunks.
+///
+/// These are the chunks whose `write` returned `Ok`, in order. The memory was empty before. The
+/// schema and the ids are the writer's, and the pairs are those that were set last, or none.
+/// Without its first eight bytes it is a stream of the same.
 pub fn whole_files()
     ensures { FileOfCallsLaw }
 {}
 
-/// Lists of calls, what they leave, and what they don't.
+/// Worked examples of lists of calls: what they write, and what they don't.
 pub fn examples_of_calls()
     ensures heads { BegunRowsLaw }
     ensures pairs { PairRowsLaw }

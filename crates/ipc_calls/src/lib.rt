@@ -1,4 +1,4 @@
-//! Lists of public calls of a writer, each with its own arguments, and what the bytes mean then.
+//! Lists of calls of a writer, each with its own arguments, and the bytes after them.
 #![tactic(auto)]
 
 pub mod files;

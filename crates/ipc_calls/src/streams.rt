@@ -1,4 +1,4 @@
-//! Lists of calls of a writer of streams, each with a schema or with ids of its own.
+//! Lists of calls of a stream writer, each with its own schema or ids.
 ghost use Rattle.std.specs.Prelude.{◌≡◌, IfOk, OnErr, option_map};
 ghost use Rattle.lower.specs.TypeViews.{fields_view, pairs_of};
 ghost use Rattle.ipc_base.specs.IdTrees.{all_ids_view};
@@ -17,18 +17,18 @@ use lower::datatypes::Schema;
 use lower_arrays::array::AnyArray;
 use std::alloc::{AllocError, Global};
 
-/// A call of a writer of streams, with its arguments.
+/// A call of a stream writer with its arguments.
 #[derive(Clone, Copy)]
 pub enum WriterCall<'a> {
-    /// `start` with this schema and these ids, or with ids by default.
+    /// `start` with this schema and these ids, or with default ids.
     Start(&'a Schema, Option<&'a Vec<IpcField>>),
-    /// `write` with these ids, or without.
+    /// `write` with these ids, or without any.
     Write(&'a Chunk<AnyArray>, Option<&'a [IpcField]>),
     /// `finish`.
     Finish,
 }
 
-// A copy of the ids, where there are some.
+// A copy of the ids, if there are any.
 fn copied(ids: Option<&Vec<IpcField>>) -> Result<Option<Vec<IpcField>>, AllocError>
     ensures { IfOk result (λ copy.
         option_map (λ v. all_ids_view v.items) copy ≡ vec_ids ids.entry) }
@@ -39,7 +39,7 @@ fn copied(ids: Option<&Vec<IpcField>>) -> Result<Option<Vec<IpcField>>, AllocErr
     }
 }
 
-// Starts a stream with a copy of the ids. `AllocError` if there is no memory for it.
+// Starts a stream with a copy of the ids. `AllocError` if they can't be copied.
 fn start_with<W: Writes + Drop>(
     writer: &mut StreamWriter<W>,
     schema: &Schema,
@@ -55,9 +55,9 @@ fn start_with<W: Writes + Drop>(
     Ok(writer.start(schema, handed))
 }
 
-/// Makes a call, and returns its answer.
+/// Makes a call, and returns its result.
 ///
-/// Errors: `AllocError` if no memory was left to copy the ids of a `start`; nothing was done then.
+/// `AllocError` if the ids of a `start` can't be copied; nothing was done then.
 pub fn run_call<W: Writes + Drop>(
     writer: &mut StreamWriter<W>,
     call: &WriterCall,
@@ -73,12 +73,13 @@ pub fn run_call<W: Writes + Drop>(
     }
 }
 
-/// Makes the calls in order, also those after a refused one, and returns the answer of each. A
-/// stream in memory then has the head of the `start` that was Ok, by its schema and its ids, and
-/// exactly the chunks of the writes that were Ok, behind those that it had.
+/// Makes the calls in order, also after a refused one, and returns all results.
 ///
-/// Errors: `AllocError` if no memory was left to copy the ids of a `start` or to keep an answer;
-/// the calls before that were made, and none after it.
+/// A stream in memory then has the schema and ids of the `start` that was `Ok`. After the chunks
+/// that it had, it has exactly those whose `write` returned `Ok`.
+///
+/// `AllocError` if the ids of a `start` can't be copied or a result can't be stored. The calls
+/// before that were made, and none after it.
 pub fn run_calls<W: Writes + Drop>(
     alloc: Global,
     writer: &mut StreamWriter<W>,

@@ -1,4 +1,4 @@
-//! Reads the columns of Arrow's record batches, by their types.
+//! Reads the columns of record batches, by their types.
 #![tactic(auto)]
 
 pub mod read;

@@ -1,4 +1,4 @@
-//! From the entries of a batch to its columns.
+//! Reads columns from the entries of a batch.
 pub mod array;
 pub mod deserialize;
 pub mod ids;

@@ -1,7 +1,7 @@
-//! Columns that are written out, and how many bytes their arrays hold at most.
+//! Worked examples of columns, and how many bytes their arrays retain at most.
 ghost use Rattle.ipc_columns.specs.HeldListedRows.{HeldListedRows};
 
-/// Which offsets an array holds that no buffer lists.
+/// The offsets that an array retains although no buffer has them.
 #[tactic(auto, using(crate::proofs::HeldListedRows::held_listed_rows))]
 pub fn bytes_listed()
     ensures { HeldListedRows }

@@ -1,4 +1,4 @@
-//! Goes on with a file by the chunks of a stream.
+//! Appends the chunks of a stream to a file.
 ghost use Rattle.std.specs.Prelude.{◌≡◌, ◌⊎◌, IfErr, IfOk, IsTrue};
 ghost use Rattle.lower.specs.TypeViews.{schema_view};
 ghost use Rattle.ipc_base.specs.IdTrees.{all_ids_view};
@@ -24,18 +24,32 @@ use ipc_schema_write::dictionaries::are_same_ids;
 use lower::datatypes::{Schema, is_same_schema};
 use std::alloc::Global;
 
-/// Writes the chunks of the stream at `input` behind those of the file at `file`, each as soon as it is read, and a footer with all of them.
-/// The file begins where its device does, and the device has to stand there. The file's byte order and its pairs stay. Both devices are
-/// given back, and nothing behind the mark was taken of the input. No call of either failed.
+/// Appends the chunks of the stream `input` to the file `file`.
 ///
-/// Faults before anything is written, so that the file is as it was: those of [`read_file_metadata`], `try_from_file` and
-/// [`read_stream_metadata`]; `Argument(FieldsDiffer)` where the stream's schema isn't the file's, both in their normal form, or its ids
-/// aren't. Faults after that: those of the calls of [`StreamReader`] and [`FileWriter`], and `Argument(TooLarge)` where `2^64 - 1` chunks
-/// came and no end. Then the file is finished with the chunks that were taken, unless its device failed, no memory was left for its footer,
-/// or it has more than `2^25` blocks; its old chunks still stand even so, where they need no byte behind the place where writing went on.
-/// Where the file is in memory, each fault but `Memory` and `Io` names a condition that holds. `Io`
+/// Each chunk is written as soon as it is read, and then a footer with all chunks. The file begins
+/// where its device begins, and the device must be there. The file keeps its byte order and its
+/// pairs. On `Ok` both devices are returned, no call of either failed, and nothing after the end
+/// mark was read from the input.
+///
+/// # Errors
+/// Before anything is written, so that the file is as it was:
+///
+/// - Those of [`read_file_metadata`], `try_from_file` and [`read_stream_metadata`].
+/// - `Argument(FieldsDiffer)`: the schemas of the stream and the file differ in their normal form,
+///   or their dictionary ids differ.
+///
+/// After that:
+///
+/// - Those of the calls of [`StreamReader`] and [`FileWriter`].
+/// - `Argument(TooLarge)`: `2^64 - 1` chunks came and no end.
+///
+/// The file is then finished with the chunks that were written. It isn't if its device failed, no
+/// memory was left for its footer, or it has more than `2^25` blocks. Even so its old chunks are
+/// still there, if they need no byte after the append offset.
+///
+/// If the file is in memory, each error but `Memory` and `Io` names a condition that is true. `Io`
 /// comes only if a call of one of the devices failed, or if the file is in memory and its growth
-/// was refused.
+/// was refused. An error drops both devices: pass `&mut` to keep what was written.
 pub fn append_stream<F: Reads + Writes + Seeks + Drop, R: Reads + Drop>(
     alloc: Global,
     file: F,
@@ -64,7 +78,7 @@ pub fn append_stream<F: Reads + Writes + Seeks + Drop, R: Reads + Drop>(
     Ok((writer.into_inner(), reader.into_inner()))
 }
 
-// Refuses a stream whose schema, in the normal form, isn't this one, or whose ids aren't these.
+// Refuses a stream with another schema, in the normal form, or other dictionary ids.
 fn check_schema(metadata: &StreamMetadata, schema: &Schema, ids: &[IpcField]) -> Result<(), Fault>
     ensures exact { Answers result (AreSame (schema_view metadata.now.schema) (all_ids_view metadata.now.ipc_schema.fields.items) (schema_view schema.now) (all_ids_view ids.now)) (λ _. Unit {0}) }
     ensures only { IfErr result (λ e. OwnFault e (e ≡ Argument FieldsDiffer)) }

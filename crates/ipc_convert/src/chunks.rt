@@ -1,4 +1,4 @@
-//! Chunks that are copied, one after the other.
+//! Copies chunks in order.
 ghost use Rattle.std.specs.Prelude.{◌≡◌, ℕ, ◌∷◌, [], IfErr, IfOk, List, OnOk};
 ghost use Rattle.ipc_devices.specs.Device.{Rises};
 ghost use Rattle.ipc_devices.specs.Faults.{OnIo, OnRefused, OwnFault};
@@ -11,16 +11,16 @@ use ipc_base::chunk::Chunk;
 use ipc_devices::fault::{ArgFault, Fault};
 use lower_arrays::array::AnyArray;
 
-/// How chunks came to an end.
+/// How a source ended.
 #[derive(Clone, Copy, PartialEq, Eq)]
 pub enum Ending {
     /// The input waits: more may come.
     Waits,
-    /// No more come.
+    /// There are no more chunks.
     Over,
 }
 
-/// What comes next.
+/// The next item of a source.
 #[derive(Drop)]
 pub enum Next {
     /// A chunk.
@@ -29,57 +29,61 @@ pub enum Next {
     End(Ending),
 }
 
-/// What chunks are read from.
+/// Something that chunks are read from.
 pub trait Source {
     ghost use Rattle.ipc_convert.specs.declared.chunks.Ending.{Ending};
     ghost use Rattle.ipc_devices.specs.declared.fault.Fault.{Fault};
 
-    // Which chunks came from one state to another.
+    // These chunks came between two states.
     ghost came: { Self → List ChunkMeant → Self → Type 0 };
 
-    // From one state to another no chunk came, and so it ended.
+    // No chunk came between two states, and the source ended so.
     ghost stopped: { Self → Ending → Self → Type 0 };
 
-    // In one state this fault comes in place of the next chunk.
+    // In a state this error comes in place of the next chunk.
     ghost breaks: { Self → Fault → Type 0 };
 
-    // How many calls of its device failed.
+    // How many calls of the device failed.
     ghost failures: { Self → ℕ };
 
-    /// The next chunk, or that none comes: then no call of its device failed. A fault, `Memory`
-    /// and `Io` aside, comes only where `breaks` says it; `Io` only if a call of its device failed.
+    /// The next chunk, or how the source ended.
+    ///
+    /// On `Ok` no call of the device failed. An error other than `Memory` and `Io` comes only as
+    /// `breaks` says; `Io` only if a call of the device failed.
     fn next_chunk(&mut self) -> Result<Next, Fault>
         ensures came { IfOk result (λ next. CameNext came stopped self.old next self.new) }
         ensures done { OnOk result (failures self.new ≡ failures self.old) }
         ensures failed { OnIo result (Rises (failures self.old) (failures self.new)) }
         ensures broken { IfErr result (λ e. OwnFault e (breaks self.old e)) };
 
-    // Laws: at first none came, and what came twice stands one behind the other.
+    // Lemmas: nothing comes without a call; what came in two steps is joined.
     ghost came_nothing: { Nothing came };
 
     ghost came_in_order: { MovedInTurn came };
 }
 
-/// What chunks are written to.
+/// Something that chunks are written to.
 pub trait Sink {
     ghost use Rattle.ipc_devices.specs.declared.fault.Fault.{Fault};
     ghost use Rattle.lower_arrays.specs.declared.array.AnyArray.{AnyArray};
 
-    // Which chunks were taken from one state to another.
+    // These chunks were taken between two states.
     ghost took: { Self → List ChunkMeant → Self → Type 0 };
 
-    // In one state the chunk of these columns isn't taken, by this fault.
+    // In a state a chunk of these columns is refused by this error.
     ghost refuses: { Self → List AnyArray → Fault → Type 0 };
 
-    // How many calls of its device failed.
+    // How many calls of the device failed.
     ghost failures: { Self → ℕ };
 
-    // From one state to another a call of its device failed, or memory was refused its growth.
+    // Between two states a call of the device failed, or memory's growth was refused.
     ghost fails: { Self → Self → Type 0 };
 
-    /// Takes a chunk: if it is `Ok`, no call of its device failed. A fault, `Io` aside, leaves all
-    /// as it was, and comes, `Memory` aside too, only where `refuses` says it; `Io` only if a call
-    /// of its device failed, or if it is memory whose growth was refused.
+    /// Takes a chunk.
+    ///
+    /// On `Ok` no call of the device failed. An error other than `Io` changes nothing. An error
+    /// other than `Memory` and `Io` comes only as `refuses` says. `Io` comes only if a call of the
+    /// device failed, or if it is memory whose growth was refused.
     fn take_chunk(&mut self, chunk: &Chunk<AnyArray>) -> Result<(), Fault>
         ensures taken { OnOk result (took self.old (chunk_seen chunk.now ∷ []) self.new) }
         ensures done { OnOk result (failures self.new ≡ failures self.old) }
@@ -87,19 +91,24 @@ pub trait Sink {
         ensures kept { OnRefused result (took self.old [] self.new) }
         ensures refused { IfErr result (λ e. OwnFault e (refuses self.old chunk.now e)) };
 
-    // Laws: at first none were taken, and what was taken twice stands one behind the other.
+    // Lemmas: nothing is taken without a call; what two steps took is joined.
     ghost took_nothing: { Nothing took };
 
     ghost took_in_order: { MovedInTurn took };
 }
 
-/// Reads all chunks that come, and writes each as soon as it is read: just these were taken then,
-/// and no call of either device failed.
+/// Writes each chunk of a source to a sink as soon as it is read.
 ///
-/// Faults: that of the source where one came in place of a chunk, that of the sink where it refused the chunk that came, and
-/// `Argument(TooLarge)` where `2^64 - 1` chunks came and no end. The chunks that were taken by then are the first that came; after `Io`
-/// alone that isn't said. `Io` comes only if a call of one of the devices failed, or if the sink is
-/// memory whose growth was refused.
+/// On `Ok` exactly these chunks were written, and no call of either device failed.
+///
+/// # Errors
+/// - That of the source in place of a chunk.
+/// - That of the sink for a chunk that it refused.
+/// - `Argument(TooLarge)`: `2^64 - 1` chunks came and no end.
+/// - `Io` only if a call of one of the devices failed, or if the sink is memory whose growth was
+///   refused.
+///
+/// After an error other than `Io` the chunks that were written are the first that came.
 pub fn copy_chunks<S: Source, T: Sink>(source: &mut S, sink: &mut T) -> Result<Ending, Fault>
     ensures copied { IfOk result (λ ending. Copied S.came S.stopped T.took source.old sink.old ending source.new sink.new) }
     ensures done { OnOk result
@@ -117,7 +126,7 @@ pub fn copy_chunks<S: Source, T: Sink>(source: &mut S, sink: &mut T) -> Result<E
     Err(Fault::Argument(ArgFault::TooLarge))
 }
 
-// Writes the next chunk, where one comes, else says how it ended.
+// Writes the next chunk, or returns how the source ended.
 fn copy_next<S: Source, T: Sink>(source: &mut S, sink: &mut T) -> Result<Option<Ending>, Fault>
     ensures copied { IfOk result (λ ending. CopiedOne S.came S.stopped T.took source.old sink.old ending source.new sink.new) }
     ensures done { OnOk result

@@ -25,16 +25,23 @@ use lower::datatypes::clones::clone_metadata;
 use lower::datatypes::{Metadata, Schema};
 use std::alloc::Global;
 
-/// Copies the stream at `input` as a file to `out`: its schema, in the normal form and with the ids of its dictionaries, then each chunk
-/// as soon as it is read, and the footer, without pairs, where the stream ends by its mark or waits for more. Both devices are given back,
-/// and nothing behind the mark was taken of the input. No call of either failed.
+/// Copies the stream `input` as a file to `out`.
 ///
-/// Faults before anything is written: those of [`read_stream_metadata`], and the `Argument` faults of a schema that can't be written.
-/// Faults after that: those of the calls of [`StreamReader`] and [`FileWriter`], and `Argument(TooLarge)` where `2^64 - 1` chunks came and
-/// no end. Then the file is finished with the chunks that were taken, unless its device failed or no memory was left for its footer. Each
-/// fault but `Memory` and `Io` names a condition that holds. `Io` comes only if a call of one of
-/// the devices failed, or if `out` is memory whose growth was refused. A fault drops both devices:
-/// to keep what was written, hand in lent ones (`&mut`).
+/// The file has the stream's schema in its normal form, with its dictionary ids, and no pairs. Each
+/// chunk is written as soon as it is read, and then the footer, if the stream ends or waits. On
+/// `Ok` both devices are returned, no call of either failed, and nothing after the end mark was
+/// read from the input.
+///
+/// # Errors
+/// - Before anything is written: those of [`read_stream_metadata`], and the `Argument` errors of a
+///   schema that can't be written.
+/// - After that: those of the calls of [`StreamReader`] and [`FileWriter`].
+/// - `Argument(TooLarge)` also if `2^64 - 1` chunks came and no end.
+///
+/// After the latter two the file is finished with the chunks that were written, unless its device
+/// failed or no memory was left for its footer. Each error but `Memory` and `Io` names a condition
+/// that is true. `Io` comes only if a call of one of the devices failed, or if `out` is memory
+/// whose growth was refused. An error drops both devices: pass `&mut` to keep what was written.
 pub fn stream_to_file<R: Reads + Drop, W: Writes + Drop>(
     alloc: Global,
     input: R,
@@ -63,18 +70,23 @@ pub fn stream_to_file<R: Reads + Drop, W: Writes + Drop>(
     Ok((reader.into_inner(), writer.into_inner()))
 }
 
-/// Copies the file at `file` as a file to `out`: its schema, in the normal form and with the ids of
-/// its dictionaries, then the chunk at each block, in their order and each as soon as it is read,
-/// and the footer with the file's own pairs. The file begins where its device does, and the device
-/// has to stand there. The dictionaries are read with the first block. Both devices are given back,
-/// and no call of either failed.
+/// Copies the file `file` as a file to `out`.
 ///
-/// Faults before anything is written: those of [`read_file_metadata`], and the `Argument` faults of a schema that can't be written, or that
-/// is too heavy with the pairs (`TooLarge`). Faults after that: those of the calls of [`FileReader`] and [`FileWriter`]. Then the file is
-/// finished with the chunks that were taken, unless its device failed or no memory was left for its footer. Where the file that is read is
-/// in memory, each fault but `Memory` and `Io` names a condition that holds. `Io` comes only if a
-/// call of one of the devices failed, or if `out` is memory whose growth was refused. A fault drops
-/// both devices: to keep what was written, hand in lent ones (`&mut`).
+/// The copy has the file's schema in its normal form, with its dictionary ids, and its pairs. The
+/// chunk of each block is written as soon as it is read, in order, and then the footer. The
+/// dictionaries are read with the first block. The file begins where its device begins, and the
+/// device must be there. On `Ok` both devices are returned, and no call of either failed.
+///
+/// # Errors
+/// - Before anything is written: those of [`read_file_metadata`], and the `Argument` errors of a
+///   schema that can't be written, or that is too heavy with the pairs (`TooLarge`).
+/// - After that: those of the calls of [`FileReader`] and [`FileWriter`]. The copy is then finished
+///   with the chunks that were written, unless its device failed or no memory was left for its
+///   footer.
+///
+/// If `file` is in memory, each error but `Memory` and `Io` names a condition that is true. `Io`
+/// comes only if a call of one of the devices failed, or if `out` is memory whose growth was
+/// refused. An error drops both devices: pass `&mut` to keep what was written.
 pub fn file_to_file<F: Reads + Seeks + Drop, W: Writes + Drop>(
     alloc: Global,
     file: F,
@@ -103,7 +115,7 @@ pub fn file_to_file<F: Reads + Seeks + Drop, W: Writes + Drop>(
     Ok((file, writer.into_inner()))
 }
 
-// A writer of a file that is started.
+// A writer of a file, already started.
 fn begin_file<W: Writes + Drop>(
     alloc: Global,
     out: W,
@@ -125,8 +137,8 @@ fn begin_file<W: Writes + Drop>(
     Ok(writer)
 }
 
-// Finishes a file, whatever came of the copy, and answers that. Where the copy was `Ok`, `Io` says
-// that a call failed that sends the end.
+// Finishes a file, whatever the result of the copy, and returns that result. If the copy was `Ok`,
+// `Io` comes from a call that sends the end.
 pub(crate) fn finish_file<W: Writes + Drop>(
     copied: Result<Ending, Fault>,
     writer: &mut FileWriter<W>,

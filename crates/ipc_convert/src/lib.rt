@@ -1,4 +1,4 @@
-//! Copies streams and files as streams, as files, or behind the chunks of a file: chunk by chunk, over any devices.
+//! Copies streams and files, in either format, and appends streams to files.
 #![tactic(auto)]
 
 pub mod append;

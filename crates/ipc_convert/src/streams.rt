@@ -20,16 +20,22 @@ use ipc_readers::read::stream::{StreamReader, read_stream_metadata};
 use ipc_write::stream::StreamWriter;
 use std::alloc::Global;
 
-/// Copies the stream at `input` to `out`: its schema, in the normal form and with the ids of its dictionaries, then each chunk as soon as
-/// it is read, and the mark where the stream ends by one. Where the stream waits for more, so does what is written. Both devices are given
-/// back, and nothing behind the mark was taken of the input. No call of either failed.
+/// Copies the stream `input` as a stream to `out`.
 ///
-/// Faults: those of [`read_stream_metadata`] and of the calls of [`StreamReader`] and [`StreamWriter`]; the `Argument` faults among them
-/// tell that a schema or a chunk can't be written, or, as `TooLarge`, that `2^64 - 1` chunks came and no end. Each but `Memory` and `Io`
-/// names a condition that holds. `Io` comes only if a call of one of the devices failed, or if
-/// `out` is memory whose growth was refused. The chunks that were taken by then have been written,
-/// without the mark. A fault drops both devices: to keep what was written, hand in lent ones
-/// (`&mut`).
+/// The copy has the stream's schema in its normal form, with its dictionary ids. Each chunk is
+/// written as soon as it is read, and the end mark if the stream has one. If the stream waits for
+/// more, so does the copy. On `Ok` both devices are returned, no call of either failed, and nothing
+/// after the end mark was read from the input.
+///
+/// # Errors
+/// - Those of [`read_stream_metadata`] and of the calls of [`StreamReader`] and [`StreamWriter`].
+///   An `Argument` error says that a schema or a chunk can't be written.
+/// - `Argument(TooLarge)` also if `2^64 - 1` chunks came and no end.
+///
+/// Each error but `Memory` and `Io` names a condition that is true. `Io` comes only if a call of
+/// one of the devices failed, or if `out` is memory whose growth was refused. The chunks that were
+/// taken before the error have been written, without the end mark. An error drops both devices:
+/// pass `&mut` to keep what was written.
 pub fn stream_to_stream<R: Reads + Drop, W: Writes + Drop>(
     alloc: Global,
     input: R,
@@ -57,18 +63,22 @@ pub fn stream_to_stream<R: Reads + Drop, W: Writes + Drop>(
     Ok((reader.into_inner(), writer.into_inner()))
 }
 
-/// Copies the file at `file` as a stream to `out`: its schema, in the normal form and with the ids
-/// of its dictionaries, then the chunk at each block, in their order and each as soon as it is
-/// read, and the mark. The file begins where its device does, and the device has to stand there.
-/// The pairs of the file itself are left out: a stream has none. The dictionaries are read with the
-/// first block. Both devices are given back, and no call of either failed.
+/// Copies the file `file` as a stream to `out`.
 ///
-/// Faults: those of [`read_file_metadata`] and of the calls of [`FileReader`] and [`StreamWriter`]; the `Argument` faults among them tell
-/// that the schema or a chunk can't be written. Where the file is in memory, each but `Memory` and
-/// `Io` names a condition that holds. `Io` comes only if a call of one of the devices failed, or if
-/// `out` is memory whose growth was refused. The chunks that were taken by then have been written,
-/// without the mark. A fault drops both devices: to keep what was written, hand in lent ones
-/// (`&mut`).
+/// The copy has the file's schema in its normal form, with its dictionary ids, but not the file's
+/// pairs, as a stream has none. The chunk of each block is written as soon as it is read, in order,
+/// and then the end mark. The dictionaries are read with the first block. The file begins where its
+/// device begins, and the device must be there. On `Ok` both devices are returned, and no call of
+/// either failed.
+///
+/// # Errors
+/// Those of [`read_file_metadata`] and of the calls of [`FileReader`] and [`StreamWriter`]. An
+/// `Argument` error says that the schema or a chunk can't be written.
+///
+/// If the file is in memory, each error but `Memory` and `Io` names a condition that is true. `Io`
+/// comes only if a call of one of the devices failed, or if `out` is memory whose growth was
+/// refused. The chunks that were taken before the error have been written, without the end mark. An
+/// error drops both devices: pass `&mut` to keep what was written.
 pub fn file_to_stream<F: Reads + Seeks + Drop, W: Writes + Drop>(
     alloc: Global,
     file: F,
@@ -97,7 +107,7 @@ pub fn file_to_stream<F: Reads + Seeks + Drop, W: Writes + Drop>(
     Ok((file, writer.into_inner()))
 }
 
-// Ends a stream by the mark where its source is over.
+// Writes the end mark of a stream if its source is over.
 fn end_stream<W: Writes + Drop>(ending: Ending, writer: &mut StreamWriter<W>) -> Result<(), Fault>
     ensures ends { OnOk result (EndsAsSource W.known W.memory ending (seen writer.old) (seen writer.new)) }
     ensures done { OnOk result

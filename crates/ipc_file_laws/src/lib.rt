@@ -1,4 +1,4 @@
-//! What the bytes of a file's writer mean.
+//! What the bytes of a file writer mean.
 #![tactic(auto)]
 
 pub mod laws;

@@ -1,4 +1,4 @@
-//! Readers of files, which give the chunks of their blocks one after the other.
+//! Readers of files, which return the chunks of their blocks in order.
 #![tactic(auto)]
 
 pub mod read;

@@ -1,9 +1,11 @@
-//! Laws of files that are read.
+//! Theorems on files that are read.
 ghost use Rattle.ipc_file_round_trip.specs.Laws.{AgreeingAnswersLaw, AgreeingChunksLaw, AgreeingFilesLaw, BatchesLaw, ChosenLaw, ReadableStreamLaw, StreamLaw, WholeFileLaw, WrittenLaw};
 
-/// A whole file is read as what it means, and by any columns, each asked for once, and any limit as the first rows of these columns. One
-/// that was written has the schema in its normal form with its ids, its pairs and its chunks; so the batch at each block, read at any
-/// time, is its chunk, and without the first eight bytes it can be read as a stream of the same.
+/// Reading a written file gives its schema, its ids, its pairs and its chunks.
+///
+/// The schema is in its normal form. The batch at each block, read at any time, is its chunk. Any
+/// columns, each requested once, and any limit give the first rows of these columns. Without its
+/// first eight bytes the file can be read as a stream of the same.
 pub fn files_read_back()
     ensures whole { WholeFileLaw }
     ensures chosen { ChosenLaw }
@@ -13,9 +15,11 @@ pub fn files_read_back()
     ensures readable { ReadableStreamLaw }
 {}
 
-/// Two files of the same metadata that agree at a block for the columns that are asked for, in its message and in the ranges that the
-/// buffers of these columns list, give the same there, whatever else stands in them, and so does what is read of the block; two that agree
-/// at all blocks and have the same dictionaries give the same chunks.
+/// A block's chunk depends only on its message and the requested columns' buffers.
+///
+/// If two files with the same metadata agree in these bytes, whatever else they have, a read of the
+/// block gives the same. If they agree so at all blocks and have the same dictionaries, they give
+/// the same chunks.
 pub fn files_that_agree()
     ensures chunks { AgreeingChunksLaw }
     ensures answers { AgreeingAnswersLaw }

@@ -19,16 +19,16 @@ use ipc_projections::read::projection::is_projection;
 use lower_arrays::array::AnyArray;
 use std::alloc::Global;
 
-/// All of a file.
+/// The content of a file.
 #[derive(Drop)]
 pub struct WholeFile {
-    /// What its footer says.
+    /// The content of its footer.
     pub metadata: FileMetadata,
     /// Its chunks, in the order of the footer.
     pub chunks: Vec<Chunk<AnyArray>>,
 }
 
-// Adds the chunk of the next block, and answers whether there was one.
+// Adds the chunk of the next block, and returns whether there was one.
 fn push_next<R: Reads + Seeks + Drop>(
     reader: &mut FileReader<R>,
     chunks: &mut Vec<Chunk<AnyArray>>,
@@ -46,7 +46,7 @@ fn push_next<R: Reads + Seeks + Drop>(
     }
 }
 
-// The chunks of all blocks, up to the first fault.
+// The chunks of all blocks, up to the first error.
 fn read_chunks<R: Reads + Seeks + Drop>(
     alloc: Global,
     reader: &mut FileReader<R>,
@@ -61,7 +61,7 @@ fn read_chunks<R: Reads + Seeks + Drop>(
     Ok(chunks)
 }
 
-// All of a file in memory whose metadata were read, by the columns that are asked for and one limit.
+// The requested columns and rows of a file in memory, by its metadata.
 fn read_by(
     alloc: Global,
     bytes: &[u8],
@@ -86,7 +86,7 @@ fn read_by(
     })
 }
 
-// What the footer of a file in memory says.
+// The metadata of a file in memory.
 fn read_metadata(alloc: Global, bytes: &[u8]) -> Result<FileMetadata, Fault>
     ensures meaning { GivesPart file_seen result (metadata_of bytes.now) }
     ensures reason { IfErr result (λ e. OwnFault e (FileReason 0 bytes.now e)) }
@@ -96,12 +96,17 @@ fn read_metadata(alloc: Global, bytes: &[u8]) -> Result<FileMetadata, Fault>
     read_file_metadata(alloc, &mut input)
 }
 
-/// Reads a file, from its first block to its last.
+/// Reads a file in memory, from its first block to its last.
 ///
-/// Ok exactly where the file has a meaning, and each of its blocks has, memory aside; then these are its metadata and its chunks. As
-/// [`FileReader`] reads the dictionaries with the first block, those of a file without one aren't judged. Faults, but for `Memory`: that of
-/// [`read_file_metadata`] where the metadata have no meaning; where they have, that of [`read_file_dictionaries`] where the dictionaries
-/// have none; and then that of [`read_batch`] at the first block that has none. `Io` never comes.
+/// It is `Ok` exactly if the metadata and each block are valid, unless an allocation fails. The
+/// dictionaries are read with the first block: without blocks they aren't checked.
+///
+/// # Errors
+/// They come in this order, `Memory` at any time, `Io` never.
+///
+/// - That of [`read_file_metadata`], if the metadata are invalid.
+/// - That of [`read_file_dictionaries`], if the dictionaries are invalid.
+/// - That of [`read_batch`], at the first block that is invalid.
 ///
 /// [`read_file_dictionaries`]: ipc_files::read::file::read_file_dictionaries
 /// [`read_batch`]: ipc_files::read::file::read_batch
@@ -114,7 +119,7 @@ pub fn read_file(alloc: Global, bytes: &[u8]) -> Result<WholeFile, Fault>
     read_by(alloc, bytes, metadata, None, None)
 }
 
-// Whether the columns that are asked for are among so many, each asked for once.
+// Whether the requested columns are among `count`, each requested once.
 fn are_there(projection: &Option<Vec<usize>>, count: usize) -> bool
     ensures { IsTrue result ↔ IsProjection (items_of projection.now) count }
 {
@@ -124,13 +129,18 @@ fn are_there(projection: &Option<Vec<usize>>, count: usize) -> bool
     }
 }
 
-/// Reads some columns of a file, or all where there is no projection, and at most `limit` rows of it. The chunks have the columns in the
-/// order in which they are asked for; one comes for each block, of no rows behind the last of the limit. None where the schema doesn't have
-/// one of them, or one is named twice; then no chunk was read.
+/// Reads some columns and rows of a file in memory.
 ///
-/// Ok exactly where the metadata and, by these columns and the limit, each block have a meaning, memory aside. The rows, joined, are the
-/// first rows of these columns. Faults: those of [`read_file`], of the first block that has no meaning by these columns and by what the
-/// blocks before it leave of the limit.
+/// - `projection`: indexes of the columns, in whose order the chunks have them; None reads all.
+/// - `limit`: the most rows of all chunks together; None reads all rows.
+///
+/// There is one chunk for each block, without rows after the limit. All rows together are the first
+/// of these columns. The result is None if an index isn't in the schema or comes twice; no chunk
+/// was read then. It is `Ok` exactly if the metadata, and each block by these columns and the
+/// limit, are valid, unless an allocation fails.
+///
+/// The errors are those of [`read_file`], for the requested columns and the rows that the blocks
+/// before leave of the limit.
 pub fn read_file_columns(
     alloc: Global,
     bytes: &[u8],

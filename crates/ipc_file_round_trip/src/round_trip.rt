@@ -1,4 +1,4 @@
-//! What a writer of files wrote is what a reader of files reads.
+//! What a file writer wrote is what a file reader reads.
 ghost use Rattle.std.specs.Prelude.{IfErr, IfOk, not};
 ghost use Rattle.lower.specs.TypeViews.{fields_view, pairs_of};
 ghost use Rattle.ipc_model.specs.WriterStates.{answered};
@@ -18,23 +18,31 @@ use ipc_write::calls::StreamCall;
 use lower::datatypes::{Metadata, Schema};
 use std::alloc::Global;
 
-/// What was read of a file, and what the calls of its writer answered.
+/// The file that was read back, and the results of its writer's calls.
 #[derive(Drop)]
 pub struct FileRoundTrip {
-    /// All of the file.
+    /// The content of the file.
     pub file: WholeFile,
-    /// What each call answered.
+    /// The result of each call.
     pub answers: Vec<Result<(), Fault>>,
 }
 
-/// Makes these calls of a writer of a file in memory, also those behind a refused one, ends the file where none of them did, and reads it
-/// back: it has the schema in its normal form, with the ids that are handed in, or 0, 1, 2 and on, in the order of bytes of the options,
-/// these pairs, and exactly the chunks of the writes that were Ok.
+/// Makes these calls of a file writer in memory, and reads the file back.
 ///
-/// Faults: `Argument(TooLarge)` where the weight of the schema and the pairs is above `2^30`, before any call, or where the file has more
-/// than `2^25` blocks; `State(NotStarted)` where no `start` was Ok; `State(Failed)` where a call answered `Io`, and `Io` where the vector
-/// has no room for the end, both of which come only where its growth was refused; `Memory`. What was written is
-/// never refused where it is read.
+/// Calls after a refused one are made too. The file is finished at the end unless one of the calls
+/// did it. It has the schema in its normal form, these pairs, the byte order of the options, and
+/// exactly the chunks whose `write` returned `Ok`. The dictionary ids are `ipc_fields`, or 0, 1, 2
+/// and so on.
+///
+/// # Errors
+/// Reading back only fails with `Memory`.
+///
+/// - `Argument(TooLarge)`: the schema and the pairs weigh more than `2^30`, before any call; or the
+///   file has more than `2^25` blocks.
+/// - `State(NotStarted)`: no `start` was `Ok`.
+/// - `State(Failed)`: a call returned `Io`; `Io`: the vector has no room for the end. Both come
+///   only if the vector's growth was refused.
+/// - `Memory`.
 pub fn file_round_trip(
     alloc: Global,
     schema: Schema,

@@ -1,4 +1,4 @@
-//! Writes a file of two chunks into memory, and reads one column of its second block.
+//! Writes a file of two chunks into memory, and reads a column of the second.
 #![tactic(auto)]
 
 use arrow2_ipc::array::{AnyArray, Int64Array};
@@ -34,7 +34,7 @@ fn write(alloc: Global) -> Result<Vec<u8>, Fault> {
     Ok(writer.into_inner())
 }
 
-/// The column of this number, at this block, where the file has both.
+/// The column with this index in this block, if the file has both.
 fn column(
     alloc: Global,
     file: &[u8],

@@ -1,4 +1,6 @@
-//! Goes on with files that are there: the Arrow columnar format, "IPC File Format".
+//! Appends to existing files.
+//!
+//! Arrow columnar format, "IPC File Format".
 ghost use Rattle.std.specs.Prelude.{◌≡◌, [], ◌-◌, ◌^◌, ◌≤◌, min, max, IsTrue, IfErr, IfOk, OnOk};
 ghost use Rattle.ipc_devices.specs.Device.{GoesTo, Rises};
 ghost use Rattle.ipc_devices.specs.Faults.{OnIo, OwnFault, UnlessIo};
@@ -26,10 +28,10 @@ use ipc_views::Block;
 use ipc_write::stream::WriterState;
 use std::alloc::Global;
 
-/// What a file begins with: `ARROW1`, and two bytes 0.
+/// The length of a file's head: `ARROW1` and two zero bytes.
 const HEAD_LEN: u64 = 8;
 
-// Where a block ends, or the greatest number where that is too small for it.
+// The end offset of a block, at most `u64::MAX`.
 fn end_of(block: &Block) -> Result<u64, Fault>
     ensures ok { IfOk result (λ end. end ≡ min (2 ^ 64 - 1) (end_of block.now)) }
     ensures natural { OnOk result (HasNegative block.now → ⊥) }
@@ -42,7 +44,7 @@ fn end_of(block: &Block) -> Result<u64, Fault>
     Ok(body.saturating_add(block.body_length as u64))
 }
 
-// The greatest of this place and of the ends of some blocks.
+// The greatest of an offset and the ends of some blocks.
 fn greatest_end(from: u64, blocks: &[Block]) -> Result<u64, Fault>
     ensures ok { IfOk result (λ end. end ≡ max from (min (2 ^ 64 - 1) (greatest_end blocks.now))) }
     ensures natural { OnOk result (HaveNegative blocks.now → ⊥) }
@@ -55,7 +57,7 @@ fn greatest_end(from: u64, blocks: &[Block]) -> Result<u64, Fault>
     Ok(end)
 }
 
-// Refuses a schema and pairs that can't be written, and a file that is too long.
+// Refuses a schema or pairs that can't be written, and a file that is too long.
 fn check_written(alloc: Global, metadata: &FileMetadata) -> Result<(), Fault>
     ensures ok { OnOk result (CanBeWritten (file_seen metadata.now)) }
     ensures only { IfErr result (RefusesToGoOn (file_seen metadata.now)) }
@@ -64,7 +66,7 @@ fn check_written(alloc: Global, metadata: &FileMetadata) -> Result<(), Fault>
     if metadata.size > MOST || !is_light(&metadata.schema, &metadata.custom_metadata) {
         return Err(Fault::Argument(ArgFault::TooLarge));
     }
-    // it is made to be judged
+    // serialized only to check it
     let ipc_schema = &metadata.ipc_schema;
     let _ = serialize_schema(
         alloc,
@@ -75,14 +77,14 @@ fn check_written(alloc: Global, metadata: &FileMetadata) -> Result<(), Fault>
     Ok(())
 }
 
-// Where writing goes on in a file of this size whose blocks end here.
+// The append offset in a file of this size whose blocks end at `end`.
 fn place_in(size: u64, end: u64) -> u64
     ensures { result ≡ max 8 (min size end) }
 {
     end.min(size).max(HEAD_LEN)
 }
 
-// Judges whether a file of these metadata can be appended to, and says where.
+// Checks whether a file can be appended to, and returns the append offset.
 fn place_to_go_on(alloc: Global, metadata: &FileMetadata) -> Result<u64, Fault>
     ensures place { IfOk result (λ place. place ≡ goes_on (file_seen metadata.now)) }
     ensures ok { OnOk result (MayGoOn (file_seen metadata.now)) }
@@ -97,8 +99,8 @@ fn place_to_go_on(alloc: Global, metadata: &FileMetadata) -> Result<u64, Fault>
     Ok(place_in(metadata.size, end))
 }
 
-// The dictionaries of a file. Its device is only read, and then it stands at this place: whatever is answered, its bytes stay, and `Io` comes
-// just where a call of it failed.
+// Reads the dictionaries of a file, and then seeks to an offset. The device's bytes never change,
+// and `Io` comes exactly if a call of it failed.
 fn dictionaries_of<W: Reads + Seeks>(
     alloc: Global,
     device: &mut W,
@@ -124,26 +126,25 @@ fn dictionaries_of<W: Reads + Seeks>(
 
 /// Prepares to append to a file, by metadata that were read from this device.
 ///
-/// The file must begin where the device does. The device is only read: if reading doesn't change
-/// the bytes of such a device, they are as they were, whatever is answered. On `Ok` the device is
-/// at the offset where writing goes on, and after an error at any offset. [`FileWriter::resume`]
-/// makes the writer.
+/// The file must begin where the device begins. The device is only read: if reading doesn't change
+/// the bytes of such a device, they stay the same, also on an error. On `Ok` the device is at the
+/// append offset. [`FileWriter::resume`] makes the writer.
 ///
-/// Writing goes on behind the block that ends last, or at the end of the file if a block ends
-/// behind that. It never goes on in the first 8 bytes.
+/// The append offset is the end of the block that ends last, or the end of the file if a block ends
+/// after that. It is at least 8, after the file's head. See "IPC File Format" in the Arrow columnar
+/// format.
 ///
 /// # Errors
-/// - `Argument(NoRecordBlocks)` if the file has no record block
-/// - `OutOfSpec(UnexpectedNegativeInteger)` if one of the three numbers of a block is negative
-/// - `Argument(TooLarge)` if the file has more than `2^63 - 1` bytes, or if its schema and its
-///   pairs
-///   weigh more than `2^30`
-/// - `Argument(NotWritable)` if the schema can't be written, `Argument(FieldsShape)` if its ids
-///   don't
-///   fit
-/// - those of [`read_file_dictionaries`]
-/// - `Io` if and only if a call of the device failed
-/// - `Memory`
+/// - `Argument(NoRecordBlocks)`: the file has no record block.
+/// - `OutOfSpec(UnexpectedNegativeInteger)`: one of the three numbers of a block is negative.
+/// - `Argument(TooLarge)`: the file has more than `2^63 - 1` bytes, or its schema and pairs weigh
+///   more than `2^30`.
+/// - `Argument(NotWritable)`: the schema can't be written.
+/// - `Argument(FieldsShape)`: the dictionary ids don't have the shape of the fields.
+/// - Those of [`read_file_dictionaries`].
+/// - `Io` exactly if a call of the device failed; `Memory`.
+///
+/// After an error the device may be at any offset.
 pub fn prepare<W: Reads + Seeks>(
     alloc: Global,
     device: &mut W,
@@ -176,8 +177,8 @@ pub fn prepare<W: Reads + Seeks>(
 impl<W> FileWriter<W> {
     /// The writer that appends to a prepared file, already started.
     ///
-    /// The device must be the one that was handed to [`prepare`], at the offset where that left it.
-    /// This takes no memory, makes no call of the device and cannot fail. The writer keeps the
+    /// The device must be the one that was passed to [`prepare`], at the offset where that left it.
+    /// Nothing is allocated, no call of the device is made, and it can't fail. The writer keeps the
     /// file's byte order and, unless others are set, its pairs. A dictionary whose values the file
     /// has isn't written again. [`finish`](FileWriter::finish) writes a footer with all blocks, old
     /// and new.
@@ -214,12 +215,13 @@ impl<W> FileWriter<W> {
 }
 
 impl<W: Reads + Writes + Seeks + Drop> FileWriter<W> {
-    /// The writer that appends to a file, already started, by metadata that were read from this
-    /// device: [`prepare`], and then [`resume`](FileWriter::resume). It ignores the options.
+    /// The writer that appends to a file, already started.
     ///
-    /// Bytes before the offset where writing goes on are never changed, and the file never gets
-    /// shorter. So whatever a later call answers, these metadata still give the chunks that they
-    /// gave, if these need no byte behind that offset.
+    /// `metadata` were read from this device. It is [`prepare`], and then
+    /// [`resume`](FileWriter::resume); the options are ignored. Bytes before the append offset
+    /// never change, and the file never gets shorter. So after any later call, also a failed one,
+    /// these metadata still give the chunks that they gave, if these need no byte after that
+    /// offset.
     ///
     /// # Errors
     /// Those of [`prepare`]. They leave the file as it was, and drop the device.

@@ -1,4 +1,4 @@
-//! Where the messages of a chunk stand in a file: the struct `Block` of Arrow's `File.fbs`.
+//! The blocks of a chunk's messages: the struct `Block` of Arrow's `File.fbs`.
 ghost use Rattle.std.specs.Prelude.{◌≡◌, ◌+◌, ◌^◌, ◌<◌, ◌≤◌, ◌++◌, ◌∷◌, [], All, IfErr, IfOk, MatchBool, OnOk, length, map, vec_capacity, vec_len};
 ghost use Rattle.ipc_model.specs.Accepted.{most_blocks};
 ghost use Rattle.ipc_file_laws.specs.FileBytes.{all_bytes, block_at, blocks_at, sent_bytes};
@@ -13,7 +13,7 @@ use ipc_footers::footer::MAX_BLOCKS;
 use ipc_views::Block;
 use std::alloc::Global;
 
-// Whether a message ends, by its head and its body, where a signed number of 64 bits can say it.
+// Whether the end offset of a message fits into an `i64`.
 fn is_inside(place: u64, head: u64, body: u64) -> bool
     ensures { MatchBool result (place + head + body < 2 ^ 63) (2 ^ 63 ≤ place + head + body) }
 {
@@ -21,7 +21,7 @@ fn is_inside(place: u64, head: u64, body: u64) -> bool
     place <= MOST && head <= MOST - place && body <= MOST - place - head
 }
 
-// The block of a message that is sent at a place, and the place behind it.
+// The block of a message at an offset, and the offset after it.
 #[tactic(auto, using(crate::proofs::PlacedMessages::placed))]
 fn place_message(encoded: &Encoded<'_>, place: u64) -> Result<(Block, u64), Fault>
     requires { HasWholeBody encoded.now }
@@ -43,7 +43,7 @@ fn place_message(encoded: &Encoded<'_>, place: u64) -> Result<(Block, u64), Faul
     Ok((block, place + head + body))
 }
 
-// The blocks of messages that are sent from a place on, one behind the other, and the place behind them.
+// The blocks of consecutive messages from an offset on, and the offset after them.
 fn place_messages(
     alloc: Global,
     messages: &[Encoded<'_>],
@@ -64,16 +64,16 @@ fn place_messages(
     Ok((blocks, end))
 }
 
-// Where the messages of a chunk go.
+// The blocks of a chunk's messages.
 #[derive(Drop)]
 pub(crate) struct Placed {
     pub(crate) dictionaries: Vec<Block>,
     pub(crate) record_batch: Block,
-    // the place behind all
+    // the offset after all messages
     pub(crate) end: u64,
 }
 
-// The blocks of the messages of a chunk that are sent from a place on.
+// The blocks of a chunk's messages from an offset on.
 pub(crate) fn place_chunk(
     alloc: Global,
     messages: &Messages<'_>,
@@ -92,7 +92,7 @@ pub(crate) fn place_chunk(
     })
 }
 
-// Whether a footer names so many blocks, and a record's more.
+// Whether a footer may have these blocks, `added` more and one of a record.
 fn are_few(dictionaries: usize, records: usize, added: usize) -> bool
     ensures { MatchBool result (dictionaries + records + added + 1 ≤ most_blocks) (most_blocks < dictionaries + records + added + 1) }
 {
@@ -101,7 +101,8 @@ fn are_few(dictionaries: usize, records: usize, added: usize) -> bool
         && added < MAX_BLOCKS - dictionaries - records
 }
 
-// Makes room for the blocks of a chunk with so many dictionaries, and refuses more blocks than a footer may name.
+// Allocates room for the blocks of a chunk with so many dictionaries. More blocks than a footer may
+// have are refused.
 pub(crate) fn make_room(
     dictionary_blocks: &mut Vec<Block>,
     record_blocks: &mut Vec<Block>,
@@ -122,7 +123,7 @@ pub(crate) fn make_room(
     Ok(())
 }
 
-// Adds blocks for which there is room.
+// Adds blocks, for which there must be room.
 pub(crate) fn add_all(blocks: &mut Vec<Block>, added: &[Block])
     requires { vec_len blocks.old + length added.now ≤ vec_capacity blocks.old }
     ensures { blocks.new.items ≡ blocks.old.items ++ added.now }
@@ -130,7 +131,7 @@ pub(crate) fn add_all(blocks: &mut Vec<Block>, added: &[Block])
     let _ = blocks.extend_from_slice(added);
 }
 
-// Adds a block for which there is room.
+// Adds a block, for which there must be room.
 pub(crate) fn add(blocks: &mut Vec<Block>, block: Block)
     requires { vec_len blocks.old + 1 ≤ vec_capacity blocks.old }
     ensures { blocks.new.items ≡ blocks.old.items ++ block ∷ [] }

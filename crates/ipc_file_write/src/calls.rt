@@ -1,4 +1,4 @@
-//! Lists of calls of a writer of files, what they answer, and what its bytes mean after them.
+//! Lists of calls of a file writer, their results, and the bytes after them.
 ghost use Rattle.std.specs.Prelude.{◌≡◌, ◌⊎◌, IfErr, IfOk, OnErr, OnOk, not};
 ghost use Rattle.lower.specs.TypeViews.{fields_view, pairs_of};
 ghost use Rattle.ipc_model.specs.WriterStates.{IsRun, answered};
@@ -20,10 +20,10 @@ use ipc_write::stream::WriterState;
 use lower::datatypes::{Metadata, Schema};
 use std::alloc::{AllocError, Global};
 
-/// Makes a call, and answers what it answers, exactly where the call does. `start` has the schema and the ids that the writer was made
-/// with, `write` the ids of the start.
+/// Makes a call and returns its result.
 ///
-/// Faults: those of the call, after which the writer is as that call leaves it.
+/// `start` has the schema and ids that the writer was made with, `write` the ids of the start.
+/// After an error the writer is as that call leaves it.
 pub fn run_call<W: Writes + Drop>(
     writer: &mut FileWriter<W>,
     call: &StreamCall,
@@ -38,11 +38,12 @@ pub fn run_call<W: Writes + Drop>(
     }
 }
 
-/// Makes all calls, one after the other, those that come after a refused one too, and answers what each
-/// answered. In memory, the file then has the chunks that it had, behind them those of the writes that were Ok, and no others.
+/// Makes the calls in order, also after a refused one, and returns all results.
 ///
-/// `AllocError` where no memory was left to keep an answer: the calls up to that one were made, and no
-/// other was.
+/// A file in memory then has the chunks that it had, and after them exactly those whose `write`
+/// returned `Ok`.
+///
+/// `AllocError` if a result can't be stored. The calls up to that one were made, and none after it.
 pub fn run_calls<W: Writes + Drop>(
     alloc: Global,
     writer: &mut FileWriter<W>,
@@ -63,16 +64,16 @@ pub fn run_calls<W: Writes + Drop>(
     Ok(answers)
 }
 
-/// A file in memory, and what the calls of its writer answered.
+/// A file in memory, and the results of its writer's calls.
 #[derive(Drop)]
 pub struct WrittenFile {
-    /// Its bytes.
+    /// The bytes of the file.
     pub bytes: Vec<u8>,
-    /// What each call of a list answered, in order; of a list of chunks, what the write of each did.
+    /// The result of each call in order, or of the `write` of each chunk.
     pub answers: Vec<Result<(), Fault>>,
 }
 
-// The bytes of a file that is ended, now or by an earlier call.
+// The bytes of a file that is finished, now or by an earlier call.
 fn ended(mut writer: FileWriter<Vec<u8>>) -> Result<Vec<u8>, Fault>
     ensures ok { IfOk result (λ bytes. EndsFile (seen writer) bytes.items) }
     ensures state { OnOk result (((seen writer).state ≡ Started) ⊎ ((seen writer).state ≡ Finished)) }
@@ -87,13 +88,19 @@ fn ended(mut writer: FileWriter<Vec<u8>>) -> Result<Vec<u8>, Fault>
     }
 }
 
-/// Makes these calls of a writer of a file in memory, also those behind a refused one, and ends the file where none of them did: it has the
-/// schema in its normal form, with the ids that are handed in, or 0, 1, 2 and on, these pairs, and exactly the chunks of the writes that
-/// were Ok.
+/// Makes these calls of a file writer in memory, and finishes the file.
 ///
-/// Faults: `Argument(TooLarge)` where the weight of the schema and the pairs is above `2^30`, before any call, or where the file has more
-/// than `2^25` blocks; `State(NotStarted)` where no `start` was Ok; `State(Failed)` where a call answered `Io`, and `Io` where the vector
-/// has no room for the end, both of which come only where its growth was refused; `Memory`.
+/// Calls after a refused one are made too. The file is finished at the end unless one of the calls
+/// did it. It then has the schema in its normal form, these pairs, and exactly the chunks whose
+/// `write` returned `Ok`. The dictionary ids are `ipc_fields`, or 0, 1, 2 and so on.
+///
+/// # Errors
+/// - `Argument(TooLarge)`: the schema and the pairs weigh more than `2^30`, before any call; or the
+///   file has more than `2^25` blocks.
+/// - `State(NotStarted)`: no `start` was `Ok`.
+/// - `State(Failed)`: a call returned `Io`; `Io`: the vector has no room for the end. Both come
+///   only if the vector's growth was refused.
+/// - `Memory`.
 pub fn write_file(
     alloc: Global,
     schema: Schema,

@@ -1,4 +1,4 @@
-//! Sends bytes to the device of a writer, and makes those that begin and end a file.
+//! Sends bytes to a device, and makes the ends of a file.
 ghost use Rattle.std.specs.Prelude.{◌≡◌, ◌^◌, ◌<◌, ◌++◌, IfOk, OnErr, OnOk, length, map};
 ghost use Rattle.lower_arrays.specs.AnyLayouts.{layout_of};
 ghost use Rattle.ipc_schema_write.specs.WriterAnswers.{byte_order};
@@ -28,26 +28,26 @@ use lower::types::Endianness;
 use lower_arrays::array::AnyArray;
 use std::alloc::{AllocError, Global};
 
-/// What a file begins with: `ARROW1`, and two bytes 0, so that the first message stands at a multiple of 8.
+/// The head of a file: `ARROW1`, padded with zeros to 8 bytes.
 const FILE_HEAD: [u8; 8] = *b"ARROW1\0\0";
 
-/// What a file ends with.
+/// The last bytes of a file.
 const ARROW_MAGIC: [u8; 6] = *b"ARROW1";
 
-/// What stands before the length of a message.
+/// The continuation marker before the length of a message.
 const CONTINUATION_MARKER: [u8; 4] = [0xff; 4];
 
-/// What ends a stream: the marker, and the length 0.
+/// The end mark of a stream: the marker and the length 0.
 const END_OF_STREAM: [u8; 8] = [0xff, 0xff, 0xff, 0xff, 0, 0, 0, 0];
 
-// What ends a file: the mark, so many bytes 0, and then these bytes, its footer and what stands behind that.
+// The end of a file: the end mark, `zeros` zero bytes, and the footer and tail in `bytes`.
 #[derive(Drop)]
 pub(crate) struct Ending {
     pub(crate) zeros: u64,
     pub(crate) bytes: Vec<u8>,
 }
 
-// Sends all of these bytes. After a failure nothing more is sent.
+// Sends all of these bytes. If the device fails, the state is `Failed`.
 pub(crate) fn send<W: Writes>(
     writer: &mut W,
     state: &mut WriterState,
@@ -62,7 +62,7 @@ pub(crate) fn send<W: Writes>(
     note_failure(state, sent)
 }
 
-// Sends the mark, the bytes 0, and the footer.
+// Sends the end mark, the zero bytes, the footer and the tail.
 fn send_ending<W: Writes>(writer: &mut W, ending: &Ending) -> Result<(), Fault>
     ensures { Sends W.known W.grows (seen_by W.failures W.room W.memory writer.old)
         (seen_by W.failures W.room W.memory writer.new) result (ending_bytes ending.now) }
@@ -72,11 +72,11 @@ fn send_ending<W: Writes>(writer: &mut W, ending: &Ending) -> Result<(), Fault>
         Piece::Zeros(ending.zeros as usize),
         Piece::Bytes(&ending.bytes),
     ];
-    // No number is among them, so that any order of bytes will do.
+    // There are no numbers in it, so that either byte order will do.
     send_pieces(writer, &pieces, Endianness::Little)
 }
 
-// Sends the last bytes of a file, and then what the device may have kept back.
+// Sends the end of a file, and flushes the device.
 fn send_and_flush<W: Writes>(writer: &mut W, ending: &Ending) -> Result<(), Fault>
     ensures sends { Delivers W.known W.grows (seen_by W.failures W.room W.memory writer.old)
         (seen_by W.failures W.room W.memory writer.new) result (ending_bytes ending.now) }
@@ -86,7 +86,7 @@ fn send_and_flush<W: Writes>(writer: &mut W, ending: &Ending) -> Result<(), Faul
     Ok(())
 }
 
-// Sends the last bytes of a file. After a failure nothing more is sent.
+// Sends the end of a file, and flushes the device. If that fails, the state is `Failed`.
 pub(crate) fn send_last<W: Writes>(
     writer: &mut W,
     state: &mut WriterState,
@@ -101,7 +101,7 @@ pub(crate) fn send_last<W: Writes>(
     note_failure(state, sent)
 }
 
-// What a file begins with whose schema message has these metadata.
+// The first bytes of a file whose schema message has these metadata.
 pub(crate) fn beginning(alloc: Global, metadata: &[u8]) -> Result<Vec<u8>, AllocError>
     requires { length metadata.now < 2 ^ 31 }
     ensures { IfOk result (λ bytes. bytes.items ≡ file_head ++ (prefix (length metadata.now) ++ metadata.now)) }
@@ -114,7 +114,7 @@ pub(crate) fn beginning(alloc: Global, metadata: &[u8]) -> Result<Vec<u8>, Alloc
     Ok(bytes)
 }
 
-// A footer, and what stands behind it.
+// A footer and the tail after it.
 pub(crate) fn footer_and_tail(alloc: Global, footer: &[u8]) -> Result<Vec<u8>, AllocError>
     requires { length footer.now < 2 ^ 31 }
     ensures { IfOk result (λ bytes. bytes.items ≡ footer.now ++ tail_of footer.now) }
@@ -126,7 +126,7 @@ pub(crate) fn footer_and_tail(alloc: Global, footer: &[u8]) -> Result<Vec<u8>, A
     Ok(bytes)
 }
 
-// Sends the messages of a chunk. After a failure nothing more is sent.
+// Sends the messages of a chunk. If the device fails, the state is `Failed`.
 fn send_messages<W: Writes>(
     writer: &mut W,
     state: &mut WriterState,
@@ -142,8 +142,9 @@ fn send_messages<W: Writes>(
     note_failure(state, sent)
 }
 
-// Encodes a chunk, of which these dictionaries are to be written, sends its messages to this place of a file, and answers where they stand.
-// All memory is taken before the first byte. After a failure of the device nothing more is sent.
+// Encodes a chunk and these new dictionaries, sends their messages, and returns their blocks. They
+// are sent to the offset `place`. All memory is allocated before the first byte is sent. If the
+// device fails, the state is `Failed`.
 pub(crate) fn send_chunk<W: Writes>(
     alloc: Global,
     writer: &mut W,

@@ -1,4 +1,6 @@
-//! Writes files: Arrow columnar format, "IPC File Format".
+//! Writes files.
+//!
+//! Arrow columnar format, "IPC File Format".
 ghost use Rattle.std.specs.Prelude.{◌≡◌, [], All, IfErr, IfOk, IfSome, IsOkAnd, IsTrue, None, OnErr, OnOk, map, not, ◌≤◌, ◌-◌, ◌+◌, ◌^◌};
 ghost use Rattle.lower.specs.TypeViews.{fields_view, pairs_of, schema_view};
 ghost use Rattle.ipc_devices.specs.Device.{before};
@@ -36,14 +38,14 @@ use std::alloc::Global;
 use std::collections::BTreeMap;
 use std::mem::replace;
 
-// What a file is started with: its ids, and the bytes that it begins with.
+// The ids that a file is started with, and its first bytes.
 #[derive(Drop)]
 pub(crate) struct Starting {
     pub(crate) ipc_fields: Vec<IpcField>,
     pub(crate) bytes: Vec<u8>,
 }
 
-// Refuses columns that don't have the types of these fields, one each, both in their normal form.
+// Checks that there is one column for each field, with its type in the normal form.
 fn check_types(columns: &[AnyArray], fields: &[Field]) -> Result<(), Fault>
     ensures ok { OnOk result (HaveTypes columns.now (map field_normal fields.now)) }
     ensures arrays { OnOk result (All (λ array. IsArray (layout_of array)) columns.now) }
@@ -61,7 +63,7 @@ fn check_types(columns: &[AnyArray], fields: &[Field]) -> Result<(), Fault>
 }
 
 impl<W: Writes + Drop> FileWriter<W> {
-    // Refuses a writer that takes no pairs any more.
+    // Refuses the states in which pairs can't be set.
     fn check_open(&self) -> Result<(), Fault>
         ensures ok { OnOk result (fault_if_over self.now.state ≡ None) }
         ensures first { IfSome (fault_if_over self.now.state) (λ e. result ≡ Err (State e)) }
@@ -74,7 +76,10 @@ impl<W: Writes + Drop> FileWriter<W> {
         }
     }
 
-    /// A writer of a file with this schema, which writes nothing yet. It takes no memory, so it is Ok.
+    /// A writer of a file. Nothing is written or allocated yet, so it is `Ok`.
+    ///
+    /// `ipc_fields` are the dictionary ids of the fields; without them the dictionaries get 0, 1, 2
+    /// and so on, in pre-order.
     pub fn new(
         alloc: Global,
         writer: W,
@@ -108,9 +113,10 @@ impl<W: Writes + Drop> FileWriter<W> {
         })
     }
 
-    /// A writer of a file, already started: [`new`](FileWriter::new), and then [`start`](FileWriter::start).
+    /// A writer of a file, already started.
     ///
-    /// Faults: those of `start`, after which all that was handed in is dropped.
+    /// It is [`new`](FileWriter::new), and then [`start`](FileWriter::start). The errors are those
+    /// of `start`; the arguments are dropped then.
     pub fn try_new(
         alloc: Global,
         writer: W,
@@ -133,8 +139,9 @@ impl<W: Writes + Drop> FileWriter<W> {
         Ok(file)
     }
 
-    /// The memory that was handed in by [`set_scratches`](FileWriter::set_scratches), for another writer. Empty vectors are left in its
-    /// place.
+    /// Takes the scratch memory, to pass it to another writer, and leaves empty vectors.
+    ///
+    /// It is what [`set_scratches`](FileWriter::set_scratches) was given, or empty.
     pub fn get_scratches(&mut self) -> EncodedData
         ensures handed { result ≡ scratches_of self.old }
         ensures message { (scratches_of self.new).ipc_message.items ≡ [] }
@@ -144,8 +151,9 @@ impl<W: Writes + Drop> FileWriter<W> {
         replace(&mut self.encoded_message, EncodedData::empty(self.alloc))
     }
 
-    /// Takes memory that another writer has handed out, in place of what this one holds. No call writes by it: it is kept for
-    /// [`get_scratches`](FileWriter::get_scratches) alone.
+    /// Replaces the scratch memory. No call writes into it.
+    ///
+    /// It is only kept for [`get_scratches`](FileWriter::get_scratches).
     pub fn set_scratches(&mut self, scratches: EncodedData)
         ensures handed { scratches_of self.new ≡ scratches }
         ensures same { seen self.new ≡ seen self.old }
@@ -153,31 +161,36 @@ impl<W: Writes + Drop> FileWriter<W> {
         self.encoded_message = scratches;
     }
 
-    /// How far the writer is.
+    /// The state of the writer.
     pub fn state(&self) -> WriterState
         ensures { result ≡ (seen self.now).state }
     {
         self.state
     }
 
-    /// The schema, as it was handed in.
+    /// The schema that the writer was made with.
     pub fn schema(&self) -> &Schema
         ensures { schema_view result.now ≡ ((seen self.now).fields, (seen self.now).metadata) }
     {
         &self.schema
     }
 
-    /// The device that was written to.
+    /// The device.
     pub fn into_inner(self) -> W
         ensures { result ≡ (seen self).device }
     {
         self.writer
     }
 
-    /// Sets the pairs that the footer will say, in place of those that were set before. It takes no memory.
+    /// Sets the pairs of texts for the footer, in place of earlier ones.
     ///
-    /// Faults: `State(Finished)`, `State(Failed)` by the writer's state; `Argument(TooLarge)` where the weight of the schema and the pairs
-    /// is above `2^30`. After these the writer is as it was.
+    /// Nothing is allocated.
+    ///
+    /// # Errors
+    /// After each the writer is as before.
+    ///
+    /// - `State(Finished)`, `State(Failed)`: the writer's state.
+    /// - `Argument(TooLarge)`: the schema and the pairs weigh more than `2^30`.
     pub fn set_custom_metadata(&mut self, metadata: Metadata) -> Result<(), Fault>
         ensures first { StateComesFirst (fault_if_over (seen self.old).state) (seen self.old) result (seen self.new) }
         ensures ok { OnOk result (TakesPairs (seen self.old) (seen self.new) (pairs_of metadata.entries)) }
@@ -194,8 +207,8 @@ impl<W: Writes + Drop> FileWriter<W> {
         Ok(())
     }
 
-    // Judges whether the file may start, and makes all that is sent then. Pairs that were set have room beside a schema that can be
-    // written.
+    // Checks whether the file may start, and makes its first bytes. Pairs that were set fit beside
+    // a schema that can be written.
     fn starting(&self) -> Result<Starting, Fault>
         ensures first { IfSome (fault_unless_new self.now.state) (λ e. result ≡ Err (State e)) }
         ensures ok { IfOk result (MayStart (seen self.now)) }
@@ -216,13 +229,20 @@ impl<W: Writes + Drop> FileWriter<W> {
         Ok(Starting { ipc_fields, bytes })
     }
 
-    /// Writes what a file begins with, and the schema in its normal form. Where no ids were handed in, the dictionaries get 0, 1, 2 and
-    /// on, in pre-order.
+    /// Writes the head of the file and the schema message.
     ///
-    /// Faults: `State(AlreadyStarted)`, `State(Finished)`, `State(Failed)` by the writer's state; `Argument(FieldsShape)` where the ids
-    /// don't fit the fields; `Argument(NotWritable)` where the schema can't be written; `Memory`: after these nothing was sent and the
-    /// writer is as it was. `Io` where the device failed, or where it is memory whose growth was refused: then some of the first bytes
-    /// may have been sent, and each later `start`, `write` and `finish` answers `State(Failed)`.
+    /// The schema is written in its normal form. Without dictionary ids the dictionaries get 0, 1,
+    /// 2 and so on, in pre-order.
+    ///
+    /// # Errors
+    /// After any but `Io`, nothing was sent and the writer is as before.
+    ///
+    /// - `State(AlreadyStarted)`, `State(Finished)`, `State(Failed)`: the writer's state.
+    /// - `Argument(FieldsShape)`: the ids don't have the shape of the fields.
+    /// - `Argument(NotWritable)`: the schema can't be written.
+    /// - `Memory`.
+    /// - `Io`: the device failed, or it is memory whose growth was refused. Some of the first bytes
+    ///   may have been sent, and each later `start`, `write` and `finish` returns `State(Failed)`.
     pub fn start(&mut self) -> Result<(), Fault>
         ensures first { StateComesFirst (fault_unless_new (seen self.old).state) (seen self.old) result (seen self.new) }
         ensures step { SendsBeginning W.known W.grows W.failures W.room W.memory (seen self.old) result (seen self.new) }
@@ -240,8 +260,7 @@ impl<W: Writes + Drop> FileWriter<W> {
         Ok(())
     }
 
-    // Judges all of a chunk but the lengths of its columns and the places of its messages, and lists the dictionaries that are to be
-    // written.
+    // Checks a chunk except the lengths in it, and lists the dictionaries to be written.
     fn check_write(
         &self,
         columns: &[AnyArray],
@@ -263,18 +282,30 @@ impl<W: Writes + Drop> FileWriter<W> {
         Ok(list)
     }
 
-    /// Writes a chunk, whose columns have the types of the schema: the dictionaries that are new, and then the columns. Ids that are
-    /// handed in are those of the start.
+    /// Writes a chunk: its new dictionaries, then its columns.
     ///
-    /// Faults: `State(NotStarted)`, `State(Finished)`, `State(Failed)` by the writer's state; `Argument(FieldsDiffer)` for other ids;
-    /// `Argument(ColumnCount)` for another number of columns; `Argument(ColumnType)` for a column of another type, both in their normal
-    /// form; `Argument(SharedDictionary)` with the id where dictionaries of one id have other values; `Argument(DictionaryReplaced)` with
-    /// the id where its values are others than were written before; `Argument(TooLong)` where an array, also one in the values of a
-    /// dictionary, has more than `2^63 - 1` slots that would be written; `Argument(TooLarge)` where the body of a message would have more
-    /// than `2^63 - 1` bytes, or end at a place past that, or the file would have more than `2^25` blocks; `Memory`: after these nothing
-    /// was sent, and the writer, its blocks and the dictionaries that it remembers are as they were. `Io` where the device failed, or
-    /// where it is memory whose growth was refused: then some of the first bytes may have been sent, and each later `start`, `write` and
-    /// `finish` answers `State(Failed)`.
+    /// - `columns`: one for each field, with the field's type.
+    /// - `ipc_fields`: None, or the dictionary ids of the start.
+    ///
+    /// # Errors
+    /// After any but `Io`, nothing was sent, and the writer, its blocks and the dictionaries that
+    /// it remembers are as before.
+    ///
+    /// - `State(NotStarted)`, `State(Finished)`, `State(Failed)`: the writer's state.
+    /// - `Argument(FieldsDiffer)`: the ids are others.
+    /// - `Argument(ColumnCount)`: there aren't as many columns as fields.
+    /// - `Argument(ColumnType)`: a column doesn't have its field's type, comparing both in their
+    ///   normal form.
+    /// - `Argument(SharedDictionary)` with the id: columns of one dictionary id have different
+    ///   values.
+    /// - `Argument(DictionaryReplaced)` with the id: other values were already written for it.
+    /// - `Argument(TooLong)`: an array, also in dictionary values, has more than `2^63 - 1` slots
+    ///   to be written.
+    /// - `Argument(TooLarge)`: the body of a message would have more than `2^63 - 1` bytes, or end
+    ///   after that offset; or the file would have more than `2^25` blocks.
+    /// - `Memory`.
+    /// - `Io`: the device failed, or it is memory whose growth was refused. Some of the first bytes
+    ///   may have been sent, and each later `start`, `write` and `finish` returns `State(Failed)`.
     pub fn write(
         &mut self,
         columns: &Chunk<AnyArray>,
@@ -289,7 +320,7 @@ impl<W: Writes + Drop> FileWriter<W> {
     {
         let dictionaries = self.check_write(columns.arrays(), ipc_fields)?;
         let count = dictionaries.len();
-        // There is room to keep all, so that nothing fails once something was sent.
+        // Room for all is allocated here, so that nothing can fail after sending.
         make_room(&mut self.dictionary_blocks, &mut self.record_blocks, count)?;
         self.dictionary_tracker.make_room(count)?;
         let placed = send_chunk(
@@ -308,7 +339,7 @@ impl<W: Writes + Drop> FileWriter<W> {
         Ok(())
     }
 
-    // Judges whether the file may end, and makes all that is sent then.
+    // Checks whether the file may end, and makes its last bytes.
     fn finishing(&self) -> Result<Ending, Fault>
         ensures first { IfSome (fault_unless_started self.now.state) (λ e. result ≡ Err (State e)) }
         ensures ok { IfOk result (λ ending. MayFinish (seen self.now) ending) }
@@ -329,7 +360,7 @@ impl<W: Writes + Drop> FileWriter<W> {
         Ok(Ending { zeros, bytes })
     }
 
-    // How many bytes 0 stand before the last `count` bytes of the file, which stand behind the mark.
+    // How many zero bytes follow the end mark, before the last `count` bytes.
     fn zeros_before(&self, count: u64) -> u64
         requires { count ≤ 2 ^ 32 }
         ensures { result ≡ (seen self.now).size - (seen self.now).place - (8 + count) }
@@ -338,12 +369,17 @@ impl<W: Writes + Drop> FileWriter<W> {
         behind.saturating_sub(count + 8)
     }
 
-    /// Writes the mark that ends the stream, and the footer, and flushes the device. A file that is appended to ends no earlier than it
-    /// did: where it would, bytes 0 stand between the mark and the footer.
+    /// Writes the end mark of the stream and the footer, and flushes the device.
     ///
-    /// Faults: `State(NotStarted)`, `State(Finished)`, `State(Failed)` by the writer's state; `Argument(TooLarge)` where the file has
-    /// more than `2^25` blocks; `Memory`: after these nothing was sent and the writer is as it was. `Io` where the device failed, or
-    /// where it is memory whose growth was refused, after which each later `start`, `write` and `finish` answers `State(Failed)`.
+    /// A file that is appended to doesn't get shorter: if necessary, zero bytes are written between
+    /// the mark and the footer.
+    ///
+    /// # Errors
+    /// - `State(NotStarted)`, `State(Finished)`, `State(Failed)`: the writer's state.
+    /// - `Argument(TooLarge)`: the file has more than `2^25` blocks.
+    /// - `Memory`. After this and the errors above nothing was sent, and the writer is as before.
+    /// - `Io`: the device failed, or it is memory whose growth was refused. Each later `start`,
+    ///   `write` and `finish` returns `State(Failed)`.
     pub fn finish(&mut self) -> Result<(), Fault>
         ensures first { StateComesFirst (fault_unless_started (seen self.old).state) (seen self.old) result (seen self.new) }
         ensures step { SendsEnding W.known W.grows W.failures W.room W.memory (seen self.old) result (seen self.new) }

@@ -1,4 +1,4 @@
-//! From the entries of a batch to its parts, and to the columns that have no children among the entries.
+//! Reads the entries of a batch, and columns that have no children among them.
 pub mod array;
 pub mod body;
 pub mod flat;
@@ -8,6 +8,7 @@ use lower_arrays::array::AnyArray;
 use std::collections::HashMap;
 use std::rc::Rc;
 
-/// The values of dictionaries by their ids (Arrow columnar format, "Dictionary messages"). The arrays that are
-/// read share them.
+/// The values of dictionaries by their ids, which the arrays that are read share.
+///
+/// See "Dictionary messages" in the Arrow columnar format.
 pub type Dictionaries = HashMap<i64, Rc<AnyArray>>;

@@ -1,4 +1,4 @@
-//! What the messages of a chunk do to a reader, and what streams of such messages mean.
+//! Theorems on the messages of a chunk, and on streams and files of them.
 
 ghost use Rattle.ipc_laws.specs.Agreement.{AlikeDictionaryLaw, AlikeRecordLaw, AlikeStreamLaw, OmittedLaw};
 ghost use Rattle.ipc_laws.specs.Blocks.{BlockDictionaryLaw, BlockRecordLaw, PlacedDictionaryLaw, PlacedRecordLaw};
@@ -13,124 +13,141 @@ ghost use Rattle.ipc_laws.specs.Order.{InnerFirstLaw};
 ghost use Rattle.ipc_laws.specs.Places.{AcceptedChunkLaw, FilledLaw, FitLaw, KnownLaw};
 ghost use Rattle.ipc_laws.specs.Runs.{FinishedRunLaw, OmitLaw, OpenFinishLaw, OpenRunLaw, OpenStartLaw, OpenWriteLaw};
 
-/// A dictionary message at the front sets the values of its id, and changes nothing else.
+/// A dictionary message sets the values of its id, and changes nothing else.
 pub fn dictionary_messages()
     ensures { WrittenDictionaryLaw }
 {}
 
-/// Readers that know the same values read the same records, dictionaries and streams, whatever else they know.
+/// Readers with the same values under the used ids read the same.
+///
+/// This applies to record batches, dictionary batches and streams.
 pub fn alike_readers()
     ensures records { AlikeRecordLaw }
     ensures dictionaries { AlikeDictionaryLaw }
     ensures streams { AlikeStreamLaw }
 {}
 
-/// A dictionary message whose values are known under its id may be left out: who read it knows the same.
+/// A dictionary message can be omitted if the reader has its values under its id.
 pub fn omitted_dictionaries()
     ensures { OmittedLaw }
 {}
 
-/// The dictionaries of a chunk are written inner before outer, whichever of them are left out.
+/// The dictionaries of a chunk are written inner before outer, also if some are omitted.
 pub fn ordered_dictionaries()
     ensures { InnerFirstLaw }
 {}
 
-/// Dictionary messages one behind the other take a reader along with what is remembered.
+/// After the dictionary messages of a chunk a reader has what the writer remembers.
 pub fn dictionaries_of_chunks()
     ensures { MovesLaw }
 {}
 
-/// The messages of a chunk give just that chunk.
+/// The messages of a chunk give exactly that chunk.
 pub fn messages_of_chunks()
     ensures { ChunkLaw }
 {}
 
-/// A started stream goes on with the chunk of its messages, and ends by the mark.
+/// The messages of a chunk add it to a started stream; the mark ends that.
 pub fn steps_of_streams()
     ensures start { OpenStartLaw }
     ensures write { OpenWriteLaw }
     ensures finish { OpenFinishLaw }
 {}
 
-/// A stream of calls, refused ones among them, has the chunks that were taken, whichever dictionaries were omitted.
+/// A stream of calls, refused ones included, has the chunks that were taken.
+///
+/// It doesn't matter which dictionaries were omitted.
 pub fn streams_of_chunks()
     ensures open { OpenRunLaw }
     ensures finished { FinishedRunLaw }
     ensures omitted { OmitLaw }
 {}
 
-/// A finished stream of a writable schema has just the chunks that were taken, for each list of calls.
+/// A finished stream of a writable schema has exactly the chunks that were taken.
+///
+/// This applies to each list of calls.
 pub fn streams_of_columns()
     ensures { ColumnRunLaw }
 {}
 
-/// Where the values at the places of some columns are found, their dictionaries are known.
+/// If the values at some columns' dictionary fields are found, their dictionaries are known.
 pub fn known_dictionaries()
     ensures { KnownLaw }
 {}
 
-/// Each dictionary place of an accepted chunk is one of the schema's, there are no more than a reader counts, and
-/// places of one id have the same values: they are those whose values the chunk brings to a writer.
+/// Each dictionary field of an accepted chunk is one of the schema's.
+///
+/// There are no more than a reader counts, and fields of one id have the same values. These are the
+/// values that the chunk offers to a writer.
 pub fn places_of_chunks()
     ensures brought { FilledLaw }
     ensures fit { FitLaw }
 {}
 
-/// The messages of an accepted chunk of a writable schema mean just that chunk.
+/// The messages of an accepted chunk of a writable schema mean exactly that chunk.
 pub fn accepted_chunks()
     ensures { AcceptedChunkLaw }
 {}
 
-/// What a plan of some columns lists, and its body, are these columns.
+/// The entries and the body of a plan of some columns mean these columns.
 pub fn bodies_of_plans()
     ensures { PlanLaw }
 {}
 
-/// A dictionary message of the values at a place, and a record of some columns, mean them.
+/// A dictionary message of some values, and a record batch of some columns, mean them.
 pub fn bodies_of_messages()
     ensures values { ValuesLaw }
     ensures columns { ColumnsLaw }
 {}
 
-/// A message for each dictionary that is listed, in order, is what is sent at the places of a chunk.
+/// What is sent for a chunk's dictionary fields is one message for each listed dictionary.
+///
+/// They come in order.
 pub fn listed_dictionaries()
     ensures { ListedLaw }
 {}
 
-/// What is sent of an accepted chunk of a writable schema means just that chunk, in either order of bytes; and so does what is
-/// encoded of columns without a schema.
+/// What is sent of an accepted chunk of a writable schema means exactly that chunk.
+///
+/// The byte order is either. The same applies to columns that are encoded without a schema.
 pub fn written_chunks()
     ensures written { WrittenChunkLaw }
     ensures encoded { EncodedChunkLaw }
 {}
 
-/// Where no dictionary is replaced, the values of all earlier chunks are still found.
+/// If no dictionary is replaced, the values of all earlier chunks are still found.
 pub fn kept_dictionaries()
     ensures offered { OfferKeptLaw }
     ensures kept { KeptLaw }
     ensures found { StillFoundLaw }
 {}
 
-/// A record that has a meaning keeps it where dictionaries are added and none is replaced; and so does the record of a block of a file.
+/// A valid record batch means the same if dictionaries are added and none is replaced.
+///
+/// The same applies to the record batch of a file's block.
 pub fn kept_records()
     ensures records { KeptRecordLaw }
     ensures chunks { KeptChunkLaw }
 {}
 
-/// A record and a dictionary mean the same wherever their bodies stand in a source.
+/// A record batch or dictionary batch means the same wherever its body is.
 pub fn placed_bodies()
     ensures records { PlacedRecordLaw }
     ensures dictionaries { PlacedDictionaryLaw }
 {}
 
-/// A record that was written has its chunk at its block of a file, and a dictionary sets the values of its id there.
+/// A record batch that was written gives its chunk at its block of a file.
+///
+/// A dictionary batch sets the values of its id there.
 pub fn blocks_of_messages()
     ensures records { BlockRecordLaw }
     ensures dictionaries { BlockDictionaryLaw }
 {}
 
-/// A block for each dictionary that is listed, in order, is what stands at the places of a chunk; and an accepted chunk of a
-/// writable schema that replaces no dictionary adds just itself to a file.
+/// An accepted chunk that replaces no dictionary adds exactly itself to a file.
+///
+/// The schema is writable. The chunk's dictionary fields have one block for each listed dictionary,
+/// in order.
 pub fn chunks_of_files()
     ensures listed { ListedBlocksLaw }
     ensures added { FileChunkLaw }

@@ -15,13 +15,18 @@ use ipc_devices::{Reads, Seeks};
 use ipc_files::read::file::{FileMetadata, deserialize_footer, read_footer};
 use std::alloc::Global;
 
-/// Reads the metadata of a file as [`read_file_metadata`] does, unless its footer costs more than
-/// `limit`, by [`footer_cost`]. The metadata that are returned have at most `limit` fields, pairs,
-/// ids of unions and bytes of texts together; the pairs of the file count too.
+/// Reads the metadata of a file, unless its footer costs more than `limit`.
 ///
-/// Errors: those of [`read_file_metadata`]; `Argument(TooLarge)` exactly if the whole footer was
-/// read and costs more. Only the memory of the footer was taken then. After an error the reader may
-/// be at any position.
+/// The cost is that of [`footer_cost`]. Otherwise it is [`read_file_metadata`]. The returned
+/// metadata have at most `limit` fields, pairs, union ids and text bytes together, the file's own
+/// pairs included.
+///
+/// # Errors
+/// - Those of [`read_file_metadata`].
+/// - `Argument(TooLarge)` exactly if the whole footer was read and costs more. Only the memory of
+///   the footer was allocated then.
+///
+/// After an error the reader may be at any position.
 ///
 /// [`read_file_metadata`]: ipc_files::read::file::read_file_metadata
 pub fn read_file_metadata_within<R: Reads + Seeks>(

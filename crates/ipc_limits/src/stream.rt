@@ -1,4 +1,4 @@
-//! The schema at the front of a stream, within a limit.
+//! The schema message at the beginning of a stream, within a limit.
 ghost use Rattle.std.specs.Prelude.{◌≤◌, IfOk};
 ghost use Rattle.lower.specs.TypeViews.{fields_view};
 ghost use Rattle.ipc_base.specs.Fitting.{AllFit};
@@ -16,13 +16,15 @@ use ipc_readers::read::stream::{StreamMetadata, version_of};
 use ipc_schema::read::schema::deserialize_schema;
 use std::alloc::Global;
 
-/// Reads the schema message at the front of a stream as [`read_stream_metadata`] does, unless its
-/// schema costs more than `limit`, by [`schema_cost`]. The schema that is returned has at most
-/// `limit` fields, pairs, ids of unions and bytes of texts together.
+/// Reads the schema message of a stream, unless its schema costs more than `limit`.
 ///
-/// Errors: those of [`read_stream_metadata`]; `Argument(TooLarge)` exactly if the whole message was
-/// read and its schema costs more. Only the memory of the message was taken then, and what follows
-/// the message is the next to read.
+/// The cost is that of [`schema_cost`]. Otherwise it is [`read_stream_metadata`]. The returned
+/// schema has at most `limit` fields, pairs, union ids and text bytes together.
+///
+/// # Errors
+/// - Those of [`read_stream_metadata`].
+/// - `Argument(TooLarge)` exactly if the whole message was read and its schema costs more. Only the
+///   memory of the message was allocated then, and the next message follows.
 ///
 /// [`read_stream_metadata`]: ipc_readers::read::stream::read_stream_metadata
 #[tactic(auto, unfolding(ipc_readers::specs::Metadata::metadata_at), using(crate::proofs::MetadataRuns::metadata_runs))]

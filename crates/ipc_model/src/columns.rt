@@ -1,4 +1,4 @@
-//! Laws of columns.
+//! Theorems on columns.
 
 ghost use Rattle.ipc_model.specs.Extending.{ExtendLaw};
 ghost use Rattle.ipc_model.specs.HeldColumns.{ReadHeldLaw};
@@ -15,69 +15,68 @@ pub fn nodes_of_columns()
     ensures { NodeLaw }
 {}
 
-/// Columns take as many nodes and buffers as their fields do.
+/// Columns have as many nodes and buffers as their fields need.
 #[tactic(auto, using(crate::proofs::TypeKinds::node_count_law, crate::proofs::TypeKinds::buffer_count_law))]
 pub fn counts_of_fields()
     ensures nodes { NodeCountLaw }
     ensures buffers { BufferCountLaw }
 {}
 
-/// No float is a number of a column: its kind is one of its own, which has no meaning.
+/// A column of floats has a kind of its own, which is never valid.
 #[tactic(auto, using(crate::proofs::TypeKinds::no_float_law))]
 pub fn floats_of_fields()
     ensures { NoFloatLaw }
 {}
 
-/// Each number of a buffer whose bytes are there is one that stands in the bytes, and each integer.
+/// Each number and integer of a buffer is read from its bytes, if present.
 #[tactic(auto, using(crate::proofs::Needs::number_law))]
 pub fn numbers_of_columns()
     ensures { NumberLaw }
 {}
 
-/// The bytes of a buffer that are there are those that it lists and that the source has.
+/// The bytes of a buffer that are present are those within its length and the source.
 #[tactic(auto, using(crate::proofs::Needs::need_law))]
 pub fn needed_bytes()
     ensures { NeedLaw }
 {}
 
-/// A column that is well formed under a limit is so under each smaller one, and its slots are the
-/// first ones.
+/// A valid column stays valid under a smaller limit, which gives its first slots.
 #[tactic(auto, using(crate::proofs::Limits::limit_law))]
 pub fn smaller_limits()
     ensures { LimitLaw }
 {}
 
-/// Whether a column is well formed can be computed.
+/// Whether a column is valid can be computed.
 #[tactic(auto, using(crate::proofs::Decided::well_test_law))]
 pub fn test_of_columns()
     ensures { WellTestLaw }
 {}
 
-/// A column that is well formed is so where its entries stand elsewhere, or have more bytes behind
-/// them, and has the same slots.
+/// A valid column means the same if its entries move or bytes follow its buffers.
 pub fn extended_columns()
     ensures { ExtendLaw }
 {}
 
-/// A column that is well formed needs no more bytes than its buffers list.
+/// A valid column needs at most the encoded length of its buffers.
 pub fn bytes_of_columns()
     ensures { NeededLaw }
 {}
 
-/// The array that a column is read to holds no more bytes than the column needs, and one offset for each
-/// buffer of offsets that is omitted. The values of dictionaries aren't counted.
+/// The array of a column retains at most the bytes that the column needs.
+///
+/// One offset for each empty offset buffer comes on top. Dictionary values aren't counted.
 #[tactic(auto, using(crate::proofs::HeldColumns::read_held_law))]
 pub fn bytes_of_arrays()
     ensures { ReadHeldLaw }
 {}
 
-/// The array that a well formed column is read to has the column's slots, as arrays have slots.
+/// The array of a valid column has the column's slots.
 #[tactic(auto, using(crate::proofs::ReadSlots::read_slots_law))]
 pub fn slots_of_arrays()
     ensures { ReadSlotsLaw }
 {}
 
-/// The array that a well formed column is read to has at its dictionary places the values that are known.
+/// The array of a valid column has the known values at its dictionary fields.
 #[tactic(auto, using(crate::proofs::ReadValues::read_values_law))]
 pub fn values_of_arrays()
     ensures { ReadValuesLaw }

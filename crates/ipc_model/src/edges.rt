@@ -1,5 +1,6 @@
-//! What each word of the definitions decides, shown on what is written out: types, schemas, messages and blocks slot by slot, and the edges of
-//! each limit.
+//! Worked examples that show what each name in the definitions decides.
+//!
+//! They have types, schemas, messages and blocks slot by slot, and both sides of each limit.
 
 ghost use Rattle.ipc_model.specs.AcceptedRows.{EdgeRows, EncodedRows};
 ghost use Rattle.ipc_model.specs.ArrayRows.{CaseRows, KeyTypeRows, KnownRows, OfferWidthRows};
@@ -11,7 +12,7 @@ ghost use Rattle.ipc_model.specs.SchemaRows.{ChildRows, EncodingRows, FieldRows,
 ghost use Rattle.ipc_model.specs.WritableRows.{NestedTypeRows, PlainTypeRows, WritableSchemaRows};
 ghost use Rattle.ipc_model.specs.WriterRows.{RunRows};
 
-/// The types without a child that a schema's tables say.
+/// Types without children in a schema's tables.
 pub fn types_of_schemas()
     ensures integers { IntegerRows }
     ensures plain { PlainRows }
@@ -19,7 +20,7 @@ pub fn types_of_schemas()
     ensures sizes { SizeRows }
 {}
 
-/// Children, dictionaries and extensions of a schema's fields, and what else a field says.
+/// Children, dictionaries and extensions of a schema's fields, and their other slots.
 #[tactic(auto, using(crate::proofs::SchemaRows::encoding_rows))]
 pub fn fields_of_schemas()
     ensures children { ChildRows }
@@ -27,7 +28,7 @@ pub fn fields_of_schemas()
     ensures fields { FieldRows }
 {}
 
-/// Byte orders, levels and visits of schemas.
+/// Byte orders of schemas, their levels, and the number of visited fields.
 #[tactic(auto, using(crate::proofs::SchemaRows::level_rows, crate::proofs::SchemaRows::last_level_rows, crate::proofs::SchemaRows::past_level_rows))]
 pub fn levels_of_schemas()
     ensures some { LevelRows }
@@ -35,7 +36,7 @@ pub fn levels_of_schemas()
     ensures past { PastLevelRows }
 {}
 
-/// The first value of each type, bytes of a fixed number, bits and validities.
+/// The first value of each type, bytes of a fixed size, bits and validities.
 #[tactic(auto, using(crate::proofs::KindRows::width_rows, crate::proofs::KindRows::fixed_rows))]
 pub fn values_of_types()
     ensures widths { WidthRows }
@@ -49,7 +50,7 @@ pub fn offsets_and_keys()
     ensures keys { KeyRows }
 {}
 
-/// The children of unions, maps and structs, and what a type with children says of its bytes.
+/// The children of unions, maps and structs, and the entries of types with children.
 #[tactic(auto, using(crate::proofs::KindRows::union_edge_rows, crate::proofs::KindRows::pair_rows, crate::proofs::KindRows::nested_kind_rows))]
 pub fn children_of_columns()
     ensures unions { UnionEdgeRows }
@@ -65,7 +66,7 @@ pub fn slots_of_messages()
     ensures versions { VersionRows }
 {}
 
-/// How many dictionary messages there may be, and which place of an id says the type of its values.
+/// The most dictionary messages, and which field of an id names its value type.
 #[tactic(auto, using(crate::proofs::MessageRows::count_rows, crate::proofs::MessageRows::first_place_rows, crate::proofs::MessageRows::where_rows))]
 pub fn messages_of_dictionaries()
     ensures counts { CountRows }
@@ -81,7 +82,7 @@ pub fn footers_and_blocks()
     ensures blocks { BlockRows }
 {}
 
-/// Types and schemas that can be written, and that can't.
+/// Types and schemas that can be written, and others that can't.
 #[tactic(auto, using(crate::proofs::WritableRows::plain_type_rows))]
 pub fn writable_schemas()
     ensures plain { PlainTypeRows }
@@ -89,14 +90,16 @@ pub fn writable_schemas()
     ensures schemas { WritableSchemaRows }
 {}
 
-/// Chunks at the edges of what a writer takes, and columns that are encoded without a schema.
+/// Chunks at the limits of what a writer accepts, and columns encoded without a schema.
 #[tactic(auto, using(crate::proofs::AcceptedRows::edge_rows, crate::proofs::AcceptedRows::encoded_rows))]
 pub fn chunks_at_the_edges()
     ensures edges { EdgeRows }
     ensures encoded { EncodedRows }
 {}
 
-/// The arrays that columns of keys and large lists are read to, the values that they have, and what arrays of each width bring to a writer.
+/// The arrays of columns of keys and large lists, and their values.
+///
+/// Also what arrays of each width offer to a writer.
 #[tactic(auto, using(crate::proofs::ArrayRows::key_type_rows, crate::proofs::ArrayRows::known_rows, crate::proofs::ArrayRows::case_rows, crate::proofs::ArrayRows::offer_width_rows))]
 pub fn arrays_of_types()
     ensures keys { KeyTypeRows }
@@ -105,7 +108,7 @@ pub fn arrays_of_types()
     ensures widths { OfferWidthRows }
 {}
 
-/// Columns behind others, and the version and the byte order by which a batch is read.
+/// Columns after others, and the version and byte order by which a batch is read.
 #[tactic(auto, using(crate::proofs::BatchRows::version_batch_rows, crate::proofs::BatchRows::order_batch_rows, crate::proofs::BatchRows::behind_rows))]
 pub fn batches_in_messages()
     ensures versions { VersionBatchRows }
@@ -113,13 +116,13 @@ pub fn batches_in_messages()
     ensures columns { BehindRows }
 {}
 
-/// Where the body of a batch in a file begins, and how much its buffers may list.
+/// The offset of a batch's body in a file, and its buffers' most bytes.
 #[tactic(auto, using(crate::proofs::BatchRows::body_rows))]
 pub fn bodies_in_files()
     ensures { BodyRows }
 {}
 
-/// Which lists of calls of a writer there are, and what they take.
+/// Which lists of calls of a writer there are, and what they write.
 #[tactic(auto, using(crate::proofs::WriterRows::run_rows))]
 pub fn lists_of_calls()
     ensures { RunRows }

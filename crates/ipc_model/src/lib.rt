@@ -1,5 +1,6 @@
-//! What the bytes of Arrow streams and files mean, as definitions (in `specs`). The functions here do
-//! nothing: each states a law of the definitions, which is proved.
+//! What the bytes of Arrow streams and files mean, as definitions (in `specs`).
+//!
+//! The functions here do nothing: each states a theorem on the definitions.
 #![tactic(auto)]
 
 pub mod batches;

@@ -2,13 +2,13 @@
 
 ghost use Rattle.ipc_model.specs.NumberRows.{NumberRows, PartRows, WideRows};
 
-/// Numbers in either byte order, signed and unsigned, and none past the end.
+/// Numbers in either byte order, signed and unsigned, and past the end.
 #[tactic(auto, using(crate::proofs::NumberRows::number_rows))]
 pub fn numbers_in_bytes()
     ensures { NumberRows }
 {}
 
-/// In values of several numbers the bytes of each part are in the order, and the parts stand as they do.
+/// Values of several numbers: the order applies in each part, not to the parts.
 #[tactic(auto, using(crate::proofs::NumberRows::part_rows))]
 pub fn parts_in_bytes()
     ensures { PartRows }

@@ -1,4 +1,4 @@
-//! Columns, messages and streams that are written out, and what they mean.
+//! Worked examples: columns, messages and streams byte by byte, and what they mean.
 
 ghost use Rattle.ipc_model.specs.AcceptedRows.{AcceptedRows};
 ghost use Rattle.ipc_model.specs.ColumnRows.{CountRows, FlatRows, ListRows, MapRows, StructRows, TextRows, UnionRows};
@@ -24,7 +24,7 @@ pub fn text_columns()
     ensures { TextRows }
 {}
 
-/// Lists of any length and of a fixed one.
+/// Lists of any length and of a fixed size.
 #[tactic(auto, using(crate::proofs::ColumnRows::list_rows))]
 pub fn list_columns()
     ensures { ListRows }
@@ -79,7 +79,7 @@ pub fn chosen_columns()
     ensures { ChosenRows }
 {}
 
-/// The weights of schemas, and the places of dictionaries.
+/// The weights of schemas, and their dictionary fields.
 #[tactic(auto, using(crate::proofs::WeightRows::weight_rows, crate::proofs::WeightRows::place_rows))]
 pub fn weights_and_places()
     ensures weights { WeightRows }
@@ -112,7 +112,7 @@ pub fn bytes_needed()
     ensures { NeededRows }
 {}
 
-/// How many bytes arrays hold.
+/// How many bytes arrays retain.
 #[tactic(auto, using(crate::proofs::HeldRows::held_rows))]
 pub fn bytes_held()
     ensures { HeldRows }
@@ -127,12 +127,14 @@ pub fn slices_as_bytes()
     ensures lengths { LengthCutRows }
 {}
 
-/// Chunks that a writer takes, and that it refuses.
+/// Chunks that a writer accepts, and others that it refuses.
 pub fn accepted_chunks()
     ensures { AcceptedRows }
 {}
 
-/// The lengths of nodes and buffers of arrays, what chunks bring to a writer, and which of them it takes.
+/// The lengths of nodes and buffers of arrays.
+///
+/// Also what chunks offer to a writer, and which of them it accepts.
 #[tactic(auto, using(crate::proofs::OfferRows::length_rows, crate::proofs::OfferRows::place_rows, crate::proofs::OfferRows::chunk_rows))]
 pub fn offered_chunks()
     ensures lengths { LengthRows }

@@ -17,7 +17,7 @@ use crate::slots::{PlainSlot, column};
 use crate::well::is_well;
 use std::alloc::{AllocError, Global};
 
-// Whether no listed length is below 0, and their sum is at most `most`.
+// Whether no stated length is negative, and their sum is at most `most`.
 fn are_bounded(entries: &PlainEntries, most: u64) -> bool
     ensures { result ≡ Batches.are_bounded (entries_view entries.now) most }
 {
@@ -31,7 +31,7 @@ fn are_bounded(entries: &PlainEntries, most: u64) -> bool
     total <= most as u128
 }
 
-// How many nodes are left of some where a column takes its own, None where they aren't enough.
+// How many of `count` nodes are left after those of a column. None if they are too few.
 #[tactic(auto, using(crate::proofs::Views::kinds, crate::proofs::Views::lefts))]
 fn nodes_left(kind: &PlainKind, count: usize) -> Option<usize>
     ensures { MatchOption result (count < nodes (kind_view kind.now)) (λ rest. rest + nodes (kind_view kind.now) ≡ count) }
@@ -49,7 +49,7 @@ fn nodes_left(kind: &PlainKind, count: usize) -> Option<usize>
     }
 }
 
-// The same of buffers.
+// The same for buffers.
 #[tactic(auto, using(crate::proofs::Views::kinds, crate::proofs::Views::lefts))]
 fn buffers_left(kind: &PlainKind, extra: usize, count: usize) -> Option<usize>
     ensures { MatchOption result (count < buffers extra (kind_view kind.now)) (λ rest. rest + buffers extra (kind_view kind.now) ≡ count) }
@@ -107,7 +107,7 @@ fn kind_at(kinds: &[PlainKind], index: usize) -> &PlainKind
     &kinds[index]
 }
 
-// How many nodes stand before those of a column.
+// How many nodes precede those of a column.
 #[tactic(auto, using(crate::proofs::Places::places))]
 fn nodes_before(kinds: &[PlainKind], index: usize) -> usize
     requires index { index < length kinds.now }
@@ -122,7 +122,7 @@ fn nodes_before(kinds: &[PlainKind], index: usize) -> usize
     count
 }
 
-// How many buffers do.
+// The same for buffers.
 #[tactic(auto, using(crate::proofs::Places::places))]
 fn buffers_before(kinds: &[PlainKind], extra: usize, index: usize) -> usize
     requires index { index < length kinds.now }
@@ -137,7 +137,7 @@ fn buffers_before(kinds: &[PlainKind], extra: usize, index: usize) -> usize
     count
 }
 
-// The entries of a column: as many as its kind takes, from its place on.
+// The entries of a column: as many as its kind needs, from its position on.
 fn own<'a>(entries: &PlainEntries<'a>, kinds: &[PlainKind], index: usize) -> PlainEntries<'a>
     requires index { index < length kinds.now }
     requires enough { IsEnough entries.now (kinds_view kinds.now) }
@@ -155,7 +155,7 @@ fn own<'a>(entries: &PlainEntries<'a>, kinds: &[PlainKind], index: usize) -> Pla
     }
 }
 
-// Whether a column is well formed, with so many slots.
+// Whether a column is valid and has so many rows.
 #[tactic(auto, using(crate::proofs::Places::read_is, crate::proofs::Places::room_of))]
 fn is_read(
     entries: &PlainEntries,
@@ -209,8 +209,7 @@ fn first_rows(
     own(entries, kinds, chosen[0]).rows(0, limit)
 }
 
-// Whether the entries are enough for all fields, and the chosen columns are well formed, with equal
-// numbers of rows.
+// Whether the entries suffice, and the chosen columns are valid and of one length.
 fn is_batch(
     entries: &PlainEntries,
     most: u64,
@@ -268,15 +267,16 @@ fn columns(
     Ok(columns)
 }
 
-/// Whether each chosen column is one of so many.
+/// Whether each chosen column is less than `count`.
 pub fn is_projection(chosen: &[usize], count: usize) -> bool
     ensures { IsTrue result ↔ All (λ j. j < count) chosen.now }
 {
     chosen.iter().all(|index| *index < count)
 }
 
-/// What a batch means: the slots of the chosen columns, in the order in which they are chosen, or None
-/// where it has no meaning. `most` is how many bytes its buffers may list together.
+/// The slots of the chosen columns of a batch, in the order of `chosen`.
+///
+/// None if the batch is invalid. `most` is how many bytes its buffers may have together.
 pub fn plain_batch(
     alloc: Global,
     entries: &PlainEntries,

@@ -1,4 +1,4 @@
-//! The entries of a batch, nodes and buffers, and the bytes that the buffers point to.
+//! The entries of a batch, nodes and buffers, and the bytes of the buffers.
 //!
 //! Arrow columnar format, "RecordBatch message" and "Physical Memory Layout".
 ghost use Rattle.std.specs.Prelude.{◌≡◌, ◌+◌, ◌*◌, ◌<◌, ◌^◌, nat_le, ◌&&◌};
@@ -13,31 +13,31 @@ use ipc_views::FieldNode;
 use lower_types::Endianness;
 use simdutf8::is_utf8;
 
-/// A listed buffer, and as much of it as is there.
+/// A buffer entry, and those of its bytes that are present.
 #[derive(Clone, Copy, Debug)]
 pub struct PlainPart<'a> {
-    /// Where it stands in the body.
+    /// The offset in the body, in bytes.
     pub offset: i64,
-    /// How many bytes are listed.
+    /// The stated length in bytes.
     pub length: i64,
-    /// Those that are there.
+    /// The bytes that are present.
     pub bytes: &'a [u8],
 }
 
-/// What the columns of a batch are read from.
+/// The entries from which the columns of a batch are read.
 #[derive(Clone, Copy, Debug)]
 pub struct PlainEntries<'a> {
     /// The lengths and null counts of the columns, in pre-order.
     pub nodes: &'a [FieldNode],
-    /// Their buffers, in pre-order.
+    /// The buffers of the columns, in pre-order.
     pub parts: &'a [PlainPart<'a>],
-    /// The order of the bytes of numbers.
+    /// The byte order of numbers.
     pub order: Endianness,
-    /// How many buffers stand in front of a union's own.
+    /// How many buffers precede a union's own.
     pub extra: usize,
 }
 
-// A signed number as a size, 0 where it is below 0.
+// A signed number as a size; a negative one is 0.
 pub(crate) fn size(number: i64) -> usize
     ensures size { result ≡ Entries.size number }
     ensures small { result < 2 ^ 63 }
@@ -55,7 +55,7 @@ fn is_text(bytes: &[u8]) -> bool
 
 #[tactic(auto, using(crate::proofs::PartLists::parts))]
 impl<'a> PlainEntries<'a> {
-    /// The node at an index, one of no slot past the end.
+    /// The node at an index; one without slots past the end.
     pub fn node(&self, a: usize) -> FieldNode
         ensures { result ≡ Entries.node (entries_view self.now) a }
     {
@@ -69,7 +69,7 @@ impl<'a> PlainEntries<'a> {
         }
     }
 
-    /// The buffer at an index, an empty one past the end.
+    /// The buffer at an index; an empty one past the end.
     pub fn part(&self, b: usize) -> PlainPart<'a>
         ensures offset { result.offset ≡ (Entries.buffer (entries_view self.now) b).offset }
         ensures length { result.length ≡ (Entries.buffer (entries_view self.now) b).length }
@@ -86,7 +86,7 @@ impl<'a> PlainEntries<'a> {
         }
     }
 
-    /// Whether `count` bytes of buffer b are listed and there.
+    /// Whether buffer b states `count` bytes, and they are present.
     pub fn has_bytes(&self, b: usize, count: u128) -> bool
         ensures { result ≡ Tests.has_bytes (entries_view self.now) b count }
     {
@@ -95,7 +95,7 @@ impl<'a> PlainEntries<'a> {
             && (count <= size(part.length) as u128 && count <= part.bytes.len() as u128)
     }
 
-    /// How many slots are read of the column at node a.
+    /// How many rows are read of the column at node a.
     pub fn rows(&self, a: usize, limit: Option<usize>) -> usize
         ensures rows { result ≡ Entries.rows (entries_view self.now) a limit }
         ensures small { result < 2 ^ 63 }
@@ -107,7 +107,9 @@ impl<'a> PlainEntries<'a> {
         }
     }
 
-    /// Whether node a has a length, and the validity of its first `rows` slots is there where it is read.
+    /// Whether node a has a length, and a validity that is needed is present.
+    ///
+    /// It is the validity of the first `rows` slots.
     pub fn begins(&self, a: usize, b: usize, rows: usize) -> bool
         ensures { result ≡ Tests.begins (entries_view self.now) a b rows }
     {
@@ -115,7 +117,7 @@ impl<'a> PlainEntries<'a> {
         node.length >= 0 && (node.null_count <= 0 || self.has_bytes(b, rows.div_ceil(8) as u128))
     }
 
-    /// Whether slot i is not null.
+    /// Whether slot i isn't null.
     pub fn is_valid(&self, a: usize, b: usize, i: usize) -> bool
         ensures { result ≡ Columns.is_valid (entries_view self.now) a b i }
     {
@@ -134,7 +136,7 @@ impl<'a> PlainEntries<'a> {
         unsigned_4(self.order, value_bytes(self.part(b).bytes, 4, i)) as usize
     }
 
-    // Whether an empty buffer stands for the one offset 0.
+    // Whether an empty buffer counts as the single offset 0.
     fn is_omitted(&self, b: usize, rows: usize) -> bool
         ensures { result ≡ Columns.is_omitted (entries_view self.now) b rows }
     {
@@ -166,7 +168,7 @@ impl<'a> PlainEntries<'a> {
         true
     }
 
-    /// Whether the offsets of `rows` slots are there, never fall, and aren't negative.
+    /// Whether the offsets of `rows` slots are present, never fall, and aren't negative.
     pub fn has_offsets(&self, b: usize, rows: usize) -> bool
         requires { rows < 2 ^ 63 }
         ensures { result ≡ Tests.has_offsets (entries_view self.now) b 4 rows }
@@ -179,7 +181,7 @@ impl<'a> PlainEntries<'a> {
         self.has_bytes(b, count) && (self.rises(b, rows) && self.last_offset(b, rows) < 1 << 31)
     }
 
-    /// The bytes of slot i, whose offsets stand in buffer b and the bytes themselves in the next.
+    /// The bytes of slot i. The offsets are in buffer b, the bytes in the next.
     pub fn bytes(&self, b: usize, i: usize) -> &'a [u8]
         requires slot { i < 2 ^ 63 }
         requires buffer { b < 2 ^ 63 }
@@ -206,7 +208,7 @@ impl<'a> PlainEntries<'a> {
         true
     }
 
-    /// Whether `rows` texts are there.
+    /// Whether `rows` texts are present.
     pub fn has_texts(&self, b: usize, rows: usize) -> bool
         requires rows { rows < 2 ^ 63 }
         requires buffer { b < 2 ^ 63 }

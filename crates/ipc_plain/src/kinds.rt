@@ -1,4 +1,4 @@
-//! The types of columns, as far as this program goes.
+//! The column types that this program supports.
 //!
 //! Arrow columnar format, "Data Types" and "Buffer Listing for Each Layout".
 ghost use Rattle.std.specs.Prelude.{◌≡◌, ◌<◌, ◌^◌};
@@ -7,20 +7,20 @@ ghost use Rattle.ipc_plain.specs.PlainKinds.{kind_view};
 
 use lower::datatypes::IntegerType;
 
-/// What a column's type says of its bytes.
+/// The layout of a column.
 #[derive(Debug, Drop)]
 pub enum PlainKind {
     /// Integers of up to 64 bits.
     Int(IntegerType),
-    /// Texts, by offsets of 32 bits.
+    /// Texts, with offsets of 32 bits.
     Utf8,
-    /// Lists, by offsets of 32 bits.
+    /// Lists, with offsets of 32 bits.
     List(Box<PlainKind>),
-    /// Records: one slot of each child.
+    /// Structs: one slot of each child.
     Struct(Vec<PlainKind>),
 }
 
-/// The nodes of a column.
+/// How many nodes a column has.
 #[tactic(auto, using(crate::proofs::Views::kinds, crate::proofs::Views::lefts))]
 pub fn node_count(kind: &PlainKind) -> usize
     requires { nodes (kind_view kind.now) < 2 ^ 64 }
@@ -39,8 +39,9 @@ pub fn node_count(kind: &PlainKind) -> usize
     }
 }
 
-/// The buffers of a column. The version of the metadata, `extra`, says nothing here: only a union has
-/// another number of buffers in an older one.
+/// How many buffers a column has.
+///
+/// `extra`, by the version of the metadata, isn't used: it only matters for unions.
 #[tactic(auto, using(crate::proofs::Views::kinds, crate::proofs::Views::lefts))]
 pub fn buffer_count(kind: &PlainKind, extra: usize) -> usize
     requires { buffers extra (kind_view kind.now) < 2 ^ 64 }

@@ -1,6 +1,7 @@
-//! A plain program for what Arrow's batches mean: slow, recursive, over whole lists. Its contracts say
-//! that it computes the definitions, for columns of integers, texts, lists and structs. Other bodies are
-//! compared with it by tests.
+//! A plain reference program for batches: slow, recursive, on whole lists.
+//!
+//! Its contracts say that it computes the definitions, for columns of integers, texts, lists and
+//! structs. Tests compare the readers with it.
 #![tactic(auto)]
 
 pub mod batch;

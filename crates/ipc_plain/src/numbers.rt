@@ -1,4 +1,4 @@
-//! Numbers and bits in bytes. Where the bytes end, zeros follow.
+//! Numbers and bits in bytes. Past the end, bytes are 0.
 //!
 //! Arrow columnar format, "Byte Order (Endianness)" and "Validity bitmaps".
 ghost use Rattle.std.specs.Prelude.{◌≡◌, ◌+◌, ◌*◌, ◌<◌, ◌≤◌, drop, slice_index, slice_range, take};
@@ -11,14 +11,14 @@ ghost use Rattle.lower_types.specs.NumberTypes.{number_in, whole, width_of};
 use lower::datatypes::IntegerType;
 use lower_types::Endianness;
 
-/// The byte at an index, 0 past the end.
+/// The byte at an index; 0 past the end.
 pub fn byte(bytes: &[u8], index: usize) -> u8
     ensures { result ≡ slice_index bytes.now index }
 {
     if index < bytes.len() { bytes[index] } else { 0 }
 }
 
-/// The bytes from `width * index` on, none past the end.
+/// The bytes from `width * index` on; none past the end.
 pub fn value_bytes(bytes: &[u8], width: usize, index: usize) -> &[u8]
     ensures { result.now ≡ drop (width * index) bytes.now }
 {
@@ -28,7 +28,7 @@ pub fn value_bytes(bytes: &[u8], width: usize, index: usize) -> &[u8]
     }
 }
 
-/// The bytes from one place up to another, as far as there are any.
+/// The bytes in a range, as far as there are any.
 pub fn range(bytes: &[u8], from: usize, to: usize) -> &[u8]
     ensures { result.now ≡ slice_range bytes.now from to }
 {
@@ -36,7 +36,7 @@ pub fn range(bytes: &[u8], from: usize, to: usize) -> &[u8]
     if from < end { &bytes[from..end] } else { &[] }
 }
 
-/// So many bytes from a place on, as far as there are any.
+/// `count` bytes from an offset on, as far as there are any.
 #[tactic(auto, using(std::proofs::lemmas::List::take_min, std::proofs::lemmas::List::drop_all))]
 pub fn window(bytes: &[u8], from: usize, count: usize) -> &[u8]
     ensures { result.now ≡ take count (drop from bytes.now) }
@@ -48,14 +48,14 @@ pub fn window(bytes: &[u8], from: usize, count: usize) -> &[u8]
     &rest[..count.min(rest.len())]
 }
 
-/// Bit `index`: the lowest bit of a byte comes first.
+/// Bit `index`: the lowest bit of a byte is the first.
 pub fn bit(bytes: &[u8], index: usize) -> bool
     ensures { result ≡ bit bytes.now index }
 {
     (byte(bytes, index / 8) >> (index % 8)) % 2 == 1
 }
 
-// The number in two bytes, the lowest first, and so on.
+// The number in two bytes, the lowest first. The others likewise.
 fn little_2(bytes: &[u8], from: usize) -> u16
     requires { from ≤ 6 }
     ensures { result ≡ little_from from 2 bytes.now }
@@ -76,7 +76,7 @@ fn little_8(bytes: &[u8]) -> u64
     little_4(bytes, 0) as u64 + 4294967296 * little_4(bytes, 4) as u64
 }
 
-// The number in two bytes, the highest first, and so on.
+// The number in two bytes, the highest first. The others likewise.
 fn big_2(bytes: &[u8], from: usize) -> u16
     requires { from ≤ 6 }
     ensures { result ≡ big_from from 2 bytes.now }

@@ -19,7 +19,7 @@ use ipc_views::{Buffer, Buffers, FieldNode, Nodes, RecordBatchRef};
 use lower_types::Endianness;
 use std::alloc::{AllocError, Global};
 
-// A listed buffer of a source whose body begins at `base`.
+// A buffer entry, in a source whose body begins at `base`.
 #[tactic(auto, using(crate::proofs::Windows::windows))]
 fn part<'a>(source: &'a [u8], base: usize, entry: Buffer) -> PlainPart<'a>
     requires { base < 2 ^ 63 }
@@ -37,7 +37,7 @@ fn part<'a>(source: &'a [u8], base: usize, entry: Buffer) -> PlainPart<'a>
     }
 }
 
-// All listed buffers.
+// All buffer entries.
 #[tactic(auto, using(crate::proofs::Windows::part_more))]
 fn parts<'a>(
     alloc: Global,
@@ -67,7 +67,7 @@ fn nodes(alloc: Global, listed: &Nodes) -> Result<Vec<FieldNode>, AllocError>
     Ok(nodes)
 }
 
-// What a batch lists: None where a list is absent, or where the buffers are compressed.
+// The entries of a batch. None if a list is missing or the buffers are compressed.
 #[tactic(auto, unfolding(ipc_model::specs::Batches::lists_of))]
 fn lists<'a>(batch: &RecordBatchRef<'a>) -> Option<(Nodes<'a>, Buffers<'a>)>
     ensures { MatchOption result (lists_of batch.now ≡ None) (λ r. lists_of batch.now ≡ Some (record { nodes = r.0; buffers = r.1 })) }
@@ -89,22 +89,22 @@ fn lists<'a>(batch: &RecordBatchRef<'a>) -> Option<(Nodes<'a>, Buffers<'a>)>
     }
 }
 
-/// Where the body of a batch lies, and how its numbers are read.
+/// The body of a batch, and how its numbers are read.
 #[derive(Clone, Copy, Debug)]
 pub struct PlainBody<'a> {
-    /// What holds the body.
+    /// The bytes that contain the body.
     pub source: &'a [u8],
-    /// Where in it the body begins.
+    /// The offset of the body in them.
     pub base: usize,
-    /// How many bytes the buffers may list together.
+    /// How many bytes the buffers may have together.
     pub size: u64,
-    /// The order of the bytes of numbers.
+    /// The byte order of numbers.
     pub order: Endianness,
-    /// How many buffers stand in front of a union's own.
+    /// How many buffers precede a union's own.
     pub extra: usize,
 }
 
-// The slots of the chosen columns of what is listed, if it has a meaning.
+// The slots of the chosen columns of these entries. None if they are invalid.
 fn listed_columns(
     alloc: Global,
     listed: &Nodes,
@@ -130,8 +130,9 @@ fn listed_columns(
     plain_batch(alloc, &entries, body.size, kinds, chosen, limit)
 }
 
-/// What a record batch means: the slots of the chosen columns, in the order in which they are chosen, or
-/// None where it has no meaning.
+/// The slots of the chosen columns of a record batch, in the order of `chosen`.
+///
+/// None if the batch is invalid.
 pub fn plain_record(
     alloc: Global,
     batch: &RecordBatchRef,
@@ -153,7 +154,7 @@ pub fn plain_record(
     }
 }
 
-/// The meaning of a record batch has these slots.
+/// A valid record batch means these slots.
 pub fn slots_of_records()
     ensures { RecordLaw }
 {}

@@ -20,7 +20,7 @@ use crate::well::is_well;
 use lower::datatypes::IntegerType;
 use std::alloc::{AllocError, Global};
 
-/// What stands at one place of a column.
+/// The value of one slot of a column.
 #[derive(Debug, Drop, PartialEq, Eq)]
 pub enum PlainSlot {
     Null,
@@ -103,7 +103,7 @@ pub fn slot_at(
     }
 }
 
-// Slot i of each of some columns, one behind the other.
+// Slot i of each of consecutive columns.
 #[cycle(slots)]
 #[tactic(auto, using(crate::proofs::SlotViews::slots))]
 fn slots_at(
@@ -149,7 +149,7 @@ pub fn column(
     Ok(slots)
 }
 
-/// The slots that are read of the column at node a and buffer b, if it is well formed.
+/// The slots that are read of the column at node a and buffer b. None if it is invalid.
 pub fn plain_column(
     alloc: Global,
     entries: &PlainEntries,

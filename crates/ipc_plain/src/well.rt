@@ -1,4 +1,4 @@
-//! Whether columns are well formed.
+//! Checks whether columns are valid.
 //!
 //! Arrow columnar format, "Physical Memory Layout".
 ghost use Rattle.std.specs.Prelude.{◌≡◌, ◌+◌, ◌<◌, ◌^◌};
@@ -39,7 +39,9 @@ fn is_well_utf8(entries: &PlainEntries, a: usize, b: usize, limit: Option<usize>
     entries.begins(a, b, rows) && entries.has_texts(b + 1, rows)
 }
 
-/// Whether the column at node a and buffer b is well formed, as far as its first slots are read.
+/// Whether a column is valid, as far as it is read.
+///
+/// It begins at node a and buffer b.
 #[cycle(well)]
 #[tactic(auto, using(crate::proofs::Views::kinds))]
 pub fn is_well(
@@ -88,8 +90,7 @@ fn is_well_struct(
     all_have_rows(entries, fields, a + 1, b + 1, limit, rows)
 }
 
-// Whether each of some columns, one behind the other, is well formed as far as it is read, and has so
-// many slots.
+// Whether each of consecutive columns is valid, as far as it is read, and has `rows` rows.
 #[cycle(well)]
 fn all_have_rows(
     entries: &PlainEntries,

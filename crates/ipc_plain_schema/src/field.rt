@@ -1,6 +1,7 @@
-//! Fields and their types.
+//! Reads fields and their types.
 //!
-//! Arrow columnar format, "Schema message"; a table `Field` of `Schema.fbs` holds its children's.
+//! Arrow columnar format, "Schema message". A table `Field` of `Schema.fbs` has those of its
+//! children.
 ghost use Rattle.std.specs.Prelude.{◌≡◌, ℕ, IfOk, Option, Some, option_map};
 ghost use Rattle.lower.specs.TypeTrees as trees;
 ghost use Rattle.ipc_base.specs.IdTrees.{no_ids};
@@ -20,7 +21,7 @@ use crate::types::{PlainField, PlainType};
 use ipc_views::{FieldRef, FieldTable, Tables, TypeRef};
 use std::alloc::{AllocError, Global};
 
-// The type without a child.
+// A type without children.
 fn with_leaf(leaf: Leaf, left: usize) -> Option<Seen<PlainType>>
     ensures { (p : trees.Plain) → leaf_of p ≡ leaf → Sees type_view type_other type_count left result (Some (trees.plain p, no_ids)) }
 {
@@ -32,7 +33,7 @@ fn with_leaf(leaf: Leaf, left: usize) -> Option<Seen<PlainType>>
     Some(Seen { plain, left })
 }
 
-// The list of a child, where the type is one.
+// A list of a child. None if the type isn't supported.
 fn list_of(
     alloc: Global,
     single: Single,
@@ -50,7 +51,7 @@ fn list_of(
     }
 }
 
-// The type of one child, by what was read of it.
+// A type with one child, by the child that was read.
 fn with_child(
     alloc: Global,
     single: Single,
@@ -69,7 +70,7 @@ fn with_child(
     }
 }
 
-// The struct of some children, where the type is one.
+// A struct of some children. None if the type isn't supported.
 fn struct_of(group: Group, children: Option<Vec<PlainField>>) -> Option<PlainType>
     ensures { (g : trees.Group) → (all : ReadAll) → group_of g ≡ group
         → IsBare (λ v. fields_view v.items) reads_other children all
@@ -84,7 +85,7 @@ fn struct_of(group: Group, children: Option<Vec<PlainField>>) -> Option<PlainTyp
     }
 }
 
-// The type of several children, by what was read of them.
+// A type with several children, by those that were read.
 fn with_children(group: Group, children: Option<Seen<Vec<PlainField>>>) -> Option<Seen<PlainType>>
     ensures { (g : trees.Group) → (meaning : Option ReadAll) → (before : ℕ) → group_of g ≡ group
         → Sees (λ v. fields_view v.items) reads_other reads_count before children meaning
@@ -99,7 +100,7 @@ fn with_children(group: Group, children: Option<Seen<Vec<PlainField>>>) -> Optio
     }
 }
 
-// Fields with one more behind them.
+// Appends a field to others.
 #[tactic(auto, using(crate::proofs::FieldLists::pushes))]
 fn pushed(
     fields: Option<Vec<PlainField>>,
@@ -119,7 +120,7 @@ fn pushed(
     Ok(Some(fields))
 }
 
-// The same of what was read of them.
+// The same, for what was read of them.
 #[tactic(auto, using(crate::proofs::FieldLists::pushes))]
 fn and_field(
     fields: Seen<Vec<PlainField>>,
@@ -139,7 +140,8 @@ fn and_field(
     Ok(Seen { plain, left })
 }
 
-// The field of a table, of as many levels at most. It is one of the fields that may still be read.
+// The field of a table, with at most so many levels. It counts as one of the fields that may be
+// read.
 #[cycle(fields)]
 fn field_at(
     alloc: Global,
@@ -162,7 +164,7 @@ fn field_at(
     Ok(field_with(head, type_))
 }
 
-// The type that a table says, whose children are those of the field that it stands in.
+// The type in a table, whose children are those of its field.
 #[cycle(fields)]
 fn type_of_field(
     alloc: Global,
@@ -188,7 +190,7 @@ fn type_of_field(
     }
 }
 
-// The first child of a field: there is one.
+// The first child of a field, which must have one.
 #[cycle(fields)]
 fn first_field(
     alloc: Global,
@@ -231,8 +233,9 @@ fn some_fields(
     fields_from(alloc, &tables, levels, left)
 }
 
-/// The fields of some tables, of as many levels at most, None where one has no meaning or where there
-/// are more, at all levels, than may be read.
+/// The fields of some tables, with at most so many levels.
+///
+/// None if one is invalid, or if there are more at all levels than may be read.
 #[cycle(fields)]
 pub(crate) fn fields_from(
     alloc: Global,

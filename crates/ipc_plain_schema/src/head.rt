@@ -1,4 +1,4 @@
-//! What a field's table says beside its type.
+//! Reads the slots of a field's table other than its type.
 //!
 //! Arrow columnar format, "Schema message"; `Field` of `Schema.fbs`.
 ghost use Rattle.std.specs.Prelude.{◌≡◌, ℕ, ◌+◌, IfOk, IsSomeAnd, MatchOption, None, Option, is_some, option_map, string_bytes};
@@ -18,7 +18,7 @@ use ipc_views::{DictionaryEncodingRef, FieldRef};
 use lower::datatypes::Metadata;
 use std::alloc::{AllocError, Global};
 
-/// What a field's table says beside its type.
+/// The slots of a field's table other than its type.
 #[derive(Drop)]
 pub(crate) struct Head {
     name: String,
@@ -28,7 +28,7 @@ pub(crate) struct Head {
     is_encoded: bool,
 }
 
-// Whether the table of a dictionary encoding is well made.
+// Whether the table of a dictionary encoding is well-formed.
 #[tactic(auto, unfolding(ipc_model::specs::Schemas::encoding_at))]
 fn is_encoding(table: &DictionaryEncodingRef<'_>) -> bool
     ensures { result ≡ is_some (Schemas.encoding_at table.now) }
@@ -42,7 +42,7 @@ fn is_encoding(table: &DictionaryEncodingRef<'_>) -> bool
     }
 }
 
-// Whether a field has a dictionary, None where its table is ill-made.
+// Whether a field has a dictionary. None if that table is malformed.
 fn is_encoded(field: &FieldRef<'_>) -> Option<bool>
     ensures { result ≡ option_map is_some (given (made (field_dictionary field.now)) Schemas.optional_encoding) }
 {
@@ -58,7 +58,7 @@ fn is_encoded(field: &FieldRef<'_>) -> Option<bool>
     }
 }
 
-/// What a field's table says beside its type, None where it is ill-made.
+/// The slots of a field's table other than its type. None if it is malformed.
 #[tactic(auto, unfolding(crate::specs::Heads::head_at))]
 pub(crate) fn head_at(alloc: Global, field: &FieldRef<'_>) -> Result<Option<Head>, AllocError>
     ensures { IfOk result (λ r. MatchOption r (head_at field.now ≡ None) (λ head. IsSomeAnd (head_at field.now) (IsHead head))) }
@@ -84,7 +84,7 @@ pub(crate) fn head_at(alloc: Global, field: &FieldRef<'_>) -> Result<Option<Head
     }))
 }
 
-// The field of a head and a type, where the type is none of other kinds.
+// The field of a head and a type. None if the type isn't supported.
 fn field_of(head: Head, data_type: Option<PlainType>) -> Option<PlainField>
     ensures { (encoding : Option Encoding) → (t : ReadType) → is_some encoding ≡ head.is_encoded
         → IsBare type_view type_other data_type t

@@ -1,6 +1,7 @@
-//! A plain program for what Arrow's schema messages mean, over the views of their tables. Its contracts
-//! say that it computes the definition, for fields of integers, texts, lists and structs at any depth.
-//! Other readers are compared with it by tests.
+//! A plain reference program for schema messages, on views of their tables.
+//!
+//! Its contracts say that it computes the definition, for fields of integers, texts, lists and
+//! structs at any depth. Tests compare the reader with it.
 #![tactic(auto)]
 
 mod field;

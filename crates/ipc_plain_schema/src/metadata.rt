@@ -1,4 +1,4 @@
-//! Pairs of texts beside schemas and fields.
+//! Reads the pairs of texts of schemas and fields.
 //!
 //! Arrow columnar format, "Custom Application Metadata"; `custom_metadata` of `Schema.fbs`.
 ghost use Rattle.std.specs.Prelude.{◌≡◌, [], IfOk, option_map};
@@ -12,7 +12,7 @@ use lower::datatypes::Metadata;
 use std::alloc::{AllocError, Global};
 use std::collections::BTreeMap;
 
-// Puts a pair to the others, in the place of one with its key.
+// Adds a pair, and replaces one with its key.
 fn put(alloc: Global, pairs: &mut Metadata, key: &str, value: &str) -> Result<(), AllocError>
     ensures { IfOk result (λ _. pairs_of pairs.new.entries
         ≡ with_pair key.now value.now (pairs_of pairs.old.entries)) }
@@ -23,8 +23,7 @@ fn put(alloc: Global, pairs: &mut Metadata, key: &str, value: &str) -> Result<()
     Ok(())
 }
 
-// The pairs with that of a table, None where it is ill-made. One without a key or a value is passed
-// over.
+// Adds the pair of a table. None if it is malformed. A pair without a key or a value is skipped.
 fn with_key_value(
     alloc: Global,
     pair: &KeyValueRef<'_>,
@@ -48,7 +47,7 @@ fn with_key_value(
     Ok(Some(pairs))
 }
 
-// The pairs of all tables, None where one is ill-made.
+// The pairs of all tables. None if one is malformed.
 fn pairs_from(
     alloc: Global,
     tables: &Tables<'_, KeyValueTable>,
@@ -69,7 +68,7 @@ fn pairs_from(
     Ok(Some(pairs))
 }
 
-/// The pairs of a field, None where they are ill-made.
+/// The pairs of a field. None if they are malformed.
 #[tactic(auto, unfolding(ipc_model::specs::Schemas::pairs_at))]
 pub(crate) fn pairs_of_field(
     alloc: Global,
@@ -85,7 +84,7 @@ pub(crate) fn pairs_of_field(
     }
 }
 
-/// The pairs of a schema, None where they are ill-made.
+/// The pairs of a schema. None if they are malformed.
 #[tactic(auto, unfolding(ipc_model::specs::Schemas::pairs_at))]
 pub(crate) fn pairs_of_schema(
     alloc: Global,

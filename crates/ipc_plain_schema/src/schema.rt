@@ -1,4 +1,4 @@
-//! Schema messages.
+//! Reads schema messages.
 //!
 //! Arrow columnar format, "Schema message".
 ghost use Rattle.std.specs.Prelude.{◌≡◌, IfOk};
@@ -12,18 +12,18 @@ use ipc_views::{Endianness as Order, MessageHeaderRef, MessageRef, SchemaRef};
 use lower_types::Endianness;
 use std::alloc::{AllocError, Global};
 
-/// What a message means, as far as this program goes.
+/// What a message means, as far as this program supports it.
 #[derive(Debug, Drop, PartialEq, Eq)]
 pub enum PlainAnswer {
-    /// It means no schema.
+    /// It isn't a valid schema message.
     NoSchema,
-    /// It means a schema with a type in it that is none of integers, texts, lists and structs.
+    /// It is a schema with a type other than integers, texts, lists and structs.
     Other,
-    /// It means this schema.
+    /// It is this schema.
     Plain(PlainSchema),
 }
 
-/// How deep fields may go.
+/// The most levels of fields.
 const MOST_LEVELS: usize = 64;
 
 fn order_of(order: Order) -> Endianness
@@ -35,7 +35,7 @@ fn order_of(order: Order) -> Endianness
     }
 }
 
-// What the table of a schema means, whose fields may be no more than its message has bytes.
+// The schema in a table. Its fields may be no more than its message has bytes.
 #[tactic(auto, unfolding(ipc_model::specs::Schemas::schema_at))]
 fn schema_at(
     alloc: Global,
@@ -67,14 +67,16 @@ fn schema_at(
     }
 }
 
-/// What a schema message means.
+/// Reads a schema message, as far as this program supports it.
 ///
-/// `Plain` where it means a schema whose types, at all levels, are integers, texts, lists and structs,
-/// or extension types that are stored as these. `Other` where it means one with another type in it, as
-/// a dictionary. `NoSchema` where it means none: a table is ill-made, the header is another, a field has
-/// no name or no type, a list, a map, a struct or a union has no child, an integer, a time, a size or a
-/// decimal is none that there is, fields go to a 65th level, or they are more than the message has
-/// bytes. The error is that memory was refused.
+/// - `Plain`: all types are integers, texts, lists and structs, or extension types stored as these.
+/// - `Other`: a type is another, such as a dictionary.
+/// - `NoSchema`: a table is malformed, or the header is another. Or a field has no name or no type,
+///   or a list, map, struct or union has no child. Or a type is an integer, time, size or decimal
+///   that doesn't exist. Or there are more than 64 levels, or more fields than the message has
+///   bytes.
+///
+/// `AllocError` if an allocation fails.
 #[tactic(auto, unfolding(ipc_model::specs::Schemas::schema_of))]
 pub fn plain_schema(alloc: Global, message: &[u8]) -> Result<PlainAnswer, AllocError>
     ensures { IfOk result (λ answer. FindsPlainly answer (Schemas.schema_of message.now)) }

@@ -4,16 +4,16 @@ ghost use Rattle.ipc_model.specs.Schemas.{made, present};
 
 use ipc_views::TableFault;
 
-/// A part of a message that has a meaning.
+/// A part of a message that is valid.
 #[derive(Drop)]
 pub(crate) struct Seen<T> {
-    /// What it is, None where a type in it is of another kind than those of this program.
+    /// Its value. None if a type in it isn't supported.
     pub(crate) plain: Option<T>,
     /// How many fields may still be read after it.
     pub(crate) left: usize,
 }
 
-/// What a slot holds, None where it is ill-made.
+/// The value of a slot. None if it is malformed.
 pub(crate) fn made<T>(slot: Result<T, TableFault>) -> Option<T>
     ensures { result ≡ made slot }
 {
@@ -23,7 +23,7 @@ pub(crate) fn made<T>(slot: Result<T, TableFault>) -> Option<T>
     }
 }
 
-/// What a slot holds, None where it is ill-made or absent.
+/// The value of a slot. None if it is malformed or absent.
 pub(crate) fn present<T>(slot: Result<Option<T>, TableFault>) -> Option<T>
     ensures { result ≡ present slot }
 {

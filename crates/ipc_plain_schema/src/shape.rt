@@ -1,4 +1,4 @@
-//! What the table of a type says, before the children are read.
+//! Reads the table of a type, without the children.
 //!
 //! Arrow columnar format, "Data Types"; the tables are those of `Schema.fbs`.
 ghost use Rattle.std.specs.Prelude.{◌≡◌, option_map};
@@ -10,7 +10,7 @@ use crate::seen::made;
 use ipc_views::{DecimalRef, IntRef, TimeRef, TimeUnit, TimestampRef, TypeRef};
 use lower::datatypes::IntegerType;
 
-/// A type without a child.
+/// A type without children.
 #[derive(Clone, Copy)]
 pub(crate) enum Leaf {
     Int(IntegerType),
@@ -18,21 +18,21 @@ pub(crate) enum Leaf {
     OtherLeaf,
 }
 
-/// A type of one child.
+/// A type with one child.
 #[derive(Clone, Copy)]
 pub(crate) enum Single {
     List,
     OtherSingle,
 }
 
-/// A type of several children.
+/// A type with several children.
 #[derive(Clone, Copy)]
 pub(crate) enum Group {
     Struct,
     OtherGroup,
 }
 
-/// A type, before its children are read.
+/// A type without its children.
 #[derive(Clone, Copy)]
 pub(crate) enum Shape {
     Leaf(Leaf),
@@ -56,7 +56,7 @@ fn integer_of(width: i32, is_signed: bool) -> Option<IntegerType>
     }
 }
 
-/// The type of integers that a table says, None where there is none of its width.
+/// The integer type in a table. None if there is none of its width.
 #[tactic(auto, unfolding(ipc_model::specs::Schemas::integer_at))]
 pub(crate) fn integer_at(int: &IntRef<'_>) -> Option<IntegerType>
     ensures { result ≡ Schemas.integer_at int.now }
@@ -85,7 +85,7 @@ fn decimal_at(decimal: &DecimalRef<'_>) -> Option<Leaf>
     }
 }
 
-// Times of the day, whose width goes with their unit.
+// Times of the day, whose width must fit their unit.
 #[tactic(auto, unfolding(ipc_model::specs::Schemas::plain_at))]
 fn time_at(time: &TimeRef<'_>) -> Option<Leaf>
     ensures { result ≡ option_map leaf_of (Schemas.plain_at 9 time.now) }
@@ -101,7 +101,7 @@ fn time_at(time: &TimeRef<'_>) -> Option<Leaf>
     }
 }
 
-// Times, whose zone may be named.
+// Timestamps, with or without a time zone.
 #[tactic(auto, unfolding(ipc_model::specs::Schemas::plain_at))]
 fn timestamp_at(timestamp: &TimestampRef<'_>) -> Option<Leaf>
     ensures { result ≡ option_map leaf_of (Schemas.plain_at 10 timestamp.now) }
@@ -111,7 +111,7 @@ fn timestamp_at(timestamp: &TimestampRef<'_>) -> Option<Leaf>
     Some(Leaf::OtherLeaf)
 }
 
-// A size that is not below 0.
+// A size that isn't negative.
 fn size_of(size: i32) -> Option<usize>
     ensures { result ≡ Schemas.size_of size }
 {
@@ -121,7 +121,7 @@ fn size_of(size: i32) -> Option<usize>
     Some(size as usize)
 }
 
-// The type without a child that a table says, None where it says none.
+// The type without children in a table. None if it has none.
 #[tactic(auto, using(crate::proofs::Leaves::leaves), unfolding(ipc_model::specs::Schemas::plain_at))]
 fn leaf_at(type_: &TypeRef<'_>) -> Option<Leaf>
     ensures { result ≡ option_map leaf_of (Schemas.plain_at (type_parts type_.now).0 (type_parts type_.now).1) }
@@ -144,7 +144,7 @@ fn leaf_at(type_: &TypeRef<'_>) -> Option<Leaf>
     Some(Leaf::OtherLeaf)
 }
 
-// The type of one child that a table says, None where it says none.
+// The type with one child in a table. None if it has none.
 #[tactic(auto, unfolding(ipc_model::specs::Schemas::single_at))]
 fn single_at(type_: &TypeRef<'_>) -> Option<Single>
     ensures { result ≡ option_map single_of (Schemas.single_at (type_parts type_.now).0 (type_parts type_.now).1) }
@@ -164,7 +164,7 @@ fn single_at(type_: &TypeRef<'_>) -> Option<Single>
     }
 }
 
-// The type of several children that a table says, None where it says none.
+// The type with several children in a table. None if it has none.
 #[tactic(auto, unfolding(ipc_model::specs::Schemas::group_at))]
 fn group_at(type_: &TypeRef<'_>) -> Option<Group>
     ensures { result ≡ option_map group_of (Schemas.group_at (type_parts type_.now).0 (type_parts type_.now).1) }
@@ -180,7 +180,7 @@ fn group_at(type_: &TypeRef<'_>) -> Option<Group>
     }
 }
 
-/// The type that a table says, None where it is ill-made.
+/// The type in a table. None if it is malformed.
 pub(crate) fn shape_at(type_: &TypeRef<'_>) -> Option<Shape>
     ensures { result ≡ option_map shape_of (form_at (type_parts type_.now)) }
 {

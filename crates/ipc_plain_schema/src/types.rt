@@ -1,11 +1,12 @@
-//! Schemas as far as this program goes.
+//! The schemas that this program supports.
 //!
 //! Arrow columnar format, "Data Types" and "Schema message".
 use lower::datatypes::{IntegerType, Metadata};
 use lower_types::Endianness;
 
-/// A field of a schema, or of another field. An extension type is told by the metadata alone: the type
-/// is the one that it is stored as.
+/// A field of a schema, or of another field.
+///
+/// An extension type is only in the metadata: `data_type` is the type that it is stored as.
 #[cycle(types)]
 #[derive(Debug, Drop, PartialEq, Eq)]
 pub struct PlainField {
@@ -15,7 +16,7 @@ pub struct PlainField {
     pub data_type: PlainType,
     /// Whether a slot may be null.
     pub is_nullable: bool,
-    /// The pairs of texts that belong to the field.
+    /// The field's own pairs of texts.
     pub metadata: Metadata,
 }
 
@@ -25,11 +26,11 @@ pub struct PlainField {
 pub enum PlainType {
     /// Integers of up to 64 bits.
     Int(IntegerType),
-    /// Texts, by offsets of 32 bits.
+    /// Texts, with offsets of 32 bits.
     Utf8,
-    /// Lists, by offsets of 32 bits: the field of their slots.
+    /// Lists, with offsets of 32 bits: the field of their slots.
     List(Box<PlainField>),
-    /// Records: one slot of each child.
+    /// Structs: one slot of each child.
     Struct(Vec<PlainField>),
 }
 
@@ -38,8 +39,8 @@ pub enum PlainType {
 pub struct PlainSchema {
     /// The fields, in their order.
     pub fields: Vec<PlainField>,
-    /// The pairs of texts that belong to the schema.
+    /// The schema's own pairs of texts.
     pub metadata: Metadata,
-    /// The order of the bytes of numbers in the bodies of its batches.
+    /// The byte order of numbers in the bodies of its batches.
     pub order: Endianness,
 }

@@ -1,5 +1,7 @@
-//! Runs `ipcat` and `ipconvert` one after the other, as their mains do, on the file `numbers.arrow`
-//! and on standard input, and prints the words and the exit status of each run.
+//! Runs `ipcat` and `ipconvert` in turn, as their mains do, and prints each run's status.
+//!
+//! They run on the file `numbers.arrow` and on standard input. The arguments of each run are
+//! printed too.
 #![tactic(auto)]
 
 use ipc_tools::{cat, convert};
@@ -13,8 +15,8 @@ enum Program {
     Ipconvert,
 }
 
-// The runs, each with its words. Standard input holds a schema message, which the third run reads,
-// then a stream, and then a stream that is cut inside its second chunk.
+// The runs, each with its arguments. Standard input has a schema message, which the third run
+// reads, then a stream, and then a stream that is cut inside its second chunk.
 const RUNS: [(Program, &str); 9] = [
     (Program::Ipcat, "file numbers.arrow"),
     (Program::Ipcat, "file nosuch.arrow"),
@@ -35,7 +37,7 @@ fn words_in(alloc: Global, line: &str) -> Result<Vec<String>, AllocError> {
     Ok(words)
 }
 
-// Runs a program on the words of a line, and answers its exit status.
+// Runs a program with the arguments in a line, and returns its exit status.
 fn run<R: Files + Input + Print + Eprint + AllocGlobal>(
     rt: &R,
     program: Program,

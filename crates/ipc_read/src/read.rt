@@ -1,4 +1,4 @@
-//! From the entries of a batch to its columns.
+//! Reads columns from the entries of a batch.
 pub mod common;
 pub mod dictionaries;
 pub mod header;

@@ -1,13 +1,19 @@
-//! Arrays that were appended to the parts of a batch are what is read of it.
+//! Arrays that were appended to a batch are read back.
 ghost use Rattle.ipc_round_trip.specs.WrittenArrays.{ChosenArraysLaw, ReadArraysLaw, SameArraysLaw, WrittenArrayLaw, WrittenArraysLaw};
 
-/// Arrays of any kind that `write` of `ipc_encode` appended in either byte order, each behind the one before it, are what `read_record_batch`
-/// of `ipc_read` gives: a record batch of version 5 that lists just these parts, wherever its body begins, means columns of the types of the
-/// fields, which are the arrays' in the normal form, with exactly the arrays' slots. So over memory these are read, or memory is refused, or
-/// the device fails, and no fault is the input's; by a projection and a limit the first slots of the columns that are asked for. Where the
-/// fields have the arrays' own types, what is read has exactly the types and the slots of what was written.
+/// Reading a batch of appended arrays gives exactly their types and slots.
 ///
-/// The arrays have equal lengths, and the values at their dictionary places are known under the ids.
+/// Arrays of any kind are appended by `write` of `ipc_encode`, in either byte order. A record batch
+/// of version 5 that lists these parts is read by `read_record_batch` of `ipc_read`, wherever its
+/// body begins. The fields have the arrays' types in the normal form. Then, reading from memory,
+///
+/// - the columns have the types of the fields and exactly the arrays' slots;
+/// - with a projection and a limit they are the first rows of the requested columns;
+/// - if the fields have the arrays' own types, the types are exactly the same;
+/// - the only errors are `Memory` and `Io`.
+///
+/// The arrays have equal lengths. The reader has the values of their dictionary fields under the
+/// ids.
 pub fn written_arrays_are_read()
     ensures array { WrittenArrayLaw }
     ensures arrays { WrittenArraysLaw }

@@ -7,12 +7,17 @@ use ipc_projections::read::projection::is_projection;
 use ipc_readers::read::stream::{StreamReader, read_stream_metadata};
 use std::alloc::Global;
 
-/// Reads these columns of a stream to its mark, or to where it waits for more. The chunks have them in this order. None where the
-/// schema doesn't have one of them, or one is named twice (see [`is_projection`]); then no chunk was read.
+/// Reads some columns of a stream in memory.
 ///
-/// Faults: those of [`read_stream_metadata`] and of the calls of [`StreamReader`], each of which but `Memory`
-/// says that the bytes mean no stream, or by these columns one that ends in a fault: of those of a message only one that a stream of its
-/// schema, read by these columns, can have comes. `Io` never does.
+/// It reads up to the end mark or the end of `bytes`. `projection` has the indexes of the columns,
+/// and the chunks have them in this order. The result is None if an index isn't in the schema or
+/// comes twice (see [`is_projection`]); no chunk was read then.
+///
+/// # Errors
+/// - Those of [`read_stream_metadata`] and of the calls of [`StreamReader`]. Each of them but
+///   `Memory` comes only if the bytes aren't a valid stream, by these columns. Errors of a message
+///   are only those that a stream of this schema can have, read by these columns.
+/// - `Io` never comes.
 pub fn read_stream_columns(
     alloc: Global,
     bytes: &[u8],
@@ -35,8 +40,10 @@ pub fn read_stream_columns(
     }))
 }
 
-/// What is read of some columns of a stream that was written, each named once, has the head that its writer's bytes mean, and of each
-/// of its chunks these columns, in the order in which they are asked for; it ends where it was ended, or waits. Such a stream can be read by them.
+/// Reading some columns of a written stream gives these columns of its chunks.
+///
+/// The columns are requested once each, and come in the order of the request. The schema is the
+/// written one. The stream ends or waits as the writer left it. Such a stream can always be read.
 pub fn columns_read_back()
     ensures finished { ChosenFinishedLaw }
     ensures readable { ChosenReadableLaw }

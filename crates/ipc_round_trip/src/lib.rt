@@ -1,4 +1,4 @@
-//! What was written is what is read: whole streams in memory, and, as a law, arrays that were appended to a batch.
+//! Reads whole streams in memory, and states that what was written is read back.
 #![tactic(auto)]
 
 pub mod arrays;

@@ -12,18 +12,18 @@ use ipc_readers::read::stream::{StreamMetadata, StreamReader, StreamState, read_
 use lower_arrays::array::AnyArray;
 use std::alloc::Global;
 
-/// All of a stream.
+/// The content of a stream.
 #[derive(Drop)]
 pub struct WholeStream {
-    /// What its schema message says.
+    /// The content of its schema message.
     pub metadata: StreamMetadata,
     /// Its chunks, in order.
     pub chunks: Vec<Chunk<AnyArray>>,
-    /// Whether it ends by its mark. Else it waits for more.
+    /// Whether it ends with the end mark. Otherwise more may follow.
     pub is_finished: bool,
 }
 
-// Adds the next chunk, and answers whether there was one.
+// Adds the next chunk, and returns whether there was one.
 fn push_next<R: Reads + Drop>(
     reader: &mut StreamReader<R>,
     chunks: &mut Vec<Chunk<AnyArray>>,
@@ -41,7 +41,7 @@ fn push_next<R: Reads + Drop>(
     }
 }
 
-// All chunks up to the mark, or up to where the stream waits.
+// All chunks up to the end mark, or until the stream waits.
 pub(crate) fn read_chunks<R: Reads + Drop>(
     alloc: Global,
     reader: &mut StreamReader<R>,
@@ -59,11 +59,13 @@ pub(crate) fn read_chunks<R: Reads + Drop>(
     Ok(chunks)
 }
 
-/// Reads a stream to its mark, or to where it waits for more.
+/// Reads a stream in memory, up to its end mark or the end of `bytes`.
 ///
-/// Faults: those of [`read_stream_metadata`] and of the calls of [`StreamReader`], each of which but `Memory`
-/// says that the bytes mean no stream, or one that ends in a fault: of those of a message only one that a stream of its schema can have
-/// comes. `Io` never does.
+/// # Errors
+/// - Those of [`read_stream_metadata`] and of the calls of [`StreamReader`]. Each of them but
+///   `Memory` comes only if the bytes aren't a valid stream. Errors of a message are only those
+///   that a stream of this schema can have.
+/// - `Io` never comes.
 pub fn read_stream(alloc: Global, bytes: &[u8]) -> Result<WholeStream, Fault>
     ensures { ReadsStream bytes.now result }
 {

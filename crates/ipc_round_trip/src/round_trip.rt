@@ -1,4 +1,4 @@
-//! What a writer of streams wrote is what a reader of streams reads.
+//! What a stream writer wrote is what a stream reader reads.
 ghost use Rattle.std.specs.Prelude.{◌≡◌, ◌⊎◌, IfErr, IfOk, OnOk};
 ghost use Rattle.lower.specs.TypeViews.{fields_view, pairs_of};
 ghost use Rattle.ipc_model.specs.WriterStates.{answered};
@@ -18,16 +18,16 @@ use ipc_write::stream::{StreamWriter, WriterState};
 use lower::datatypes::Schema;
 use std::alloc::Global;
 
-/// What was read of a stream, and what the calls of its writer answered.
+/// The stream that was read back, and the results of its writer's calls.
 #[derive(Drop)]
 pub struct RoundTrip {
-    /// All of the stream.
+    /// The content of the stream.
     pub stream: WholeStream,
-    /// What each call answered.
+    /// The result of each call.
     pub answers: Vec<Result<(), Fault>>,
 }
 
-// The bytes of a stream that is ended, now or by an earlier call.
+// The bytes of a stream that is finished, now or by an earlier call.
 fn ended(mut writer: StreamWriter<Vec<u8>>) -> Result<Vec<u8>, Fault>
     ensures ok { IfOk result (λ bytes. EndsStream (seen writer) bytes.items) }
     ensures state { OnOk result (((seen writer).state ≡ Started) ⊎ ((seen writer).state ≡ Finished)) }
@@ -42,13 +42,19 @@ fn ended(mut writer: StreamWriter<Vec<u8>>) -> Result<Vec<u8>, Fault>
     }
 }
 
-/// Makes these calls of a writer with these options over memory, also those behind a refused one, ends the stream where none
-/// of them did, and reads it back: it has the schema in its normal form, with the ids that are handed in, or 0, 1, 2 and on, and exactly
-/// the chunks of the writes that were Ok.
+/// Makes these calls of a stream writer in memory, and reads the stream back.
 ///
-/// Errors: `State(NotStarted)` if no `start` was Ok; `State(Failed)` if a call answered `Io`, which a
-/// vector does only if its growth was refused; `Io` if the vector had no room for the eight bytes of
-/// the end, and its growth was refused; `Memory`. What was written is never refused when it is read.
+/// Calls after a refused one are made too. The stream is finished at the end unless one of the
+/// calls did it. It has the schema in its normal form, and exactly the chunks whose `write`
+/// returned `Ok`. The dictionary ids are `ipc_fields`, or 0, 1, 2 and so on.
+///
+/// # Errors
+/// Reading back only fails with `Memory`.
+///
+/// - `State(NotStarted)`: no `start` was `Ok`.
+/// - `State(Failed)`: a call returned `Io`, as the growth of the vector was refused.
+/// - `Io`: the vector had no room for the eight bytes of the end, and its growth was refused.
+/// - `Memory`.
 pub fn round_trip(
     alloc: Global,
     schema: &Schema,
@@ -73,8 +79,9 @@ pub fn round_trip(
     Ok(RoundTrip { stream, answers })
 }
 
-/// What is read of a stream that was written has the head and the chunks that its writer's bytes mean, and
-/// ends where it was ended, or waits. Such a stream can be read.
+/// Reading a written stream gives its schema and its chunks.
+///
+/// The stream ends or waits as the writer left it. Such a stream can always be read.
 pub fn reads_back()
     ensures finished { FinishedLaw }
     ensures readable { ReadableLaw }

@@ -1,4 +1,4 @@
-//! Files in memory that sessions write: the first one creates the file, each later one goes on with it.
+//! Files in memory that are created in one session and appended to in later ones.
 ghost use Rattle.std.specs.Prelude.{◌++◌, IfErr, IfOk, not, true};
 ghost use Rattle.lower.specs.TypeViews.{fields_view, pairs_of};
 ghost use Rattle.ipc_devices.specs.Faults.{IsIo};
@@ -19,25 +19,31 @@ use lower::datatypes::{Metadata, Schema};
 use lower_arrays::array::AnyArray;
 use std::alloc::Global;
 
-/// A file in memory that sessions wrote, and what their writes answered.
+/// A file in memory that was written in sessions, and the results of their writes.
 #[derive(Drop)]
 pub struct WrittenSessions {
-    /// Its bytes.
+    /// The bytes of the file.
     pub bytes: Vec<u8>,
-    /// What the write of each chunk of the first session answered, in order.
+    /// The result of the `write` of each chunk of the first session, in order.
     pub first: Vec<Result<(), Fault>>,
     /// The same of each later session.
     pub later: Vec<Vec<Result<(), Fault>>>,
 }
 
-/// Creates a file in memory, writes these chunks, also those behind a refused one, and ends it: it has the schema in its normal form, with
-/// the ids that are handed in, or 0, 1, 2 and on, these pairs, and exactly the chunks of the writes that were Ok. The answers are those of
-/// the writes. Sessions can go on with it.
+/// Creates a file in memory with these chunks, and returns the results of their writes.
 ///
-/// Faults: `Argument(TooLarge)` where the weight of the schema and the pairs is above `2^30`, or where the file has more than `2^25` blocks;
-/// `Argument(FieldsShape)` where the ids don't fit the fields, `Argument(NotWritable)` where the schema can't be written; `State(Failed)`
-/// where a write answered `Io`, and `Io` where the beginning or the end can't be written, both of which come only where the memory that is
-/// written to was refused its growth; `Memory`.
+/// Chunks after a refused one are written too, and then the file is finished. It has the schema in
+/// its normal form, these pairs, and exactly the chunks whose `write` returned `Ok`. The dictionary
+/// ids are `ipc_fields`, or 0, 1, 2 and so on. Later sessions can append to the file.
+///
+/// # Errors
+/// - `Argument(TooLarge)`: the schema and the pairs weigh more than `2^30`, or the file has more
+///   than `2^25` blocks.
+/// - `Argument(FieldsShape)`: the ids don't have the shape of the fields.
+/// - `Argument(NotWritable)`: the schema can't be written.
+/// - `State(Failed)`: a `write` returned `Io`; `Io`: the head or the end can't be written. Both
+///   come only if the growth of the vector was refused.
+/// - `Memory`.
 pub fn create_file(
     alloc: Global,
     schema: Schema,
@@ -63,13 +69,21 @@ pub fn create_file(
     Ok(WrittenFile { bytes, answers })
 }
 
-/// Sessions on a file in memory: the first creates it, and each later one goes on with it, by the metadata that it reads from it, and ends
-/// it again. Then the file has the schema in its normal form, with the ids that are handed in, or 0, 1, 2 and on, these pairs, and exactly
-/// the chunks of the writes that were Ok, of all sessions in order; and without its first eight bytes it is a stream of the same.
+/// Creates a file in memory, and appends to it in later sessions.
 ///
-/// Faults: those of [`create_file`] and of [`run_sessions`]: `Argument(NoRecordBlocks)` where a session goes on with a file that has no
-/// chunk; `Argument(TooLarge)` where one has more than `2^63 - 1` bytes or `2^25` blocks; `Io` where the memory that is written to was
-/// refused its growth, and `State(Failed)` behind a write that was refused so; `Memory`.
+/// Each later session reads the metadata of the file, and finishes it again. The file has the
+/// schema in its normal form, these pairs, and exactly the chunks whose `write` returned `Ok`, of
+/// all sessions in order. The dictionary ids are `ipc_fields`, or 0, 1, 2 and so on. Without its
+/// first eight bytes it is a stream of the same.
+///
+/// # Errors
+/// They are those of [`create_file`] and [`run_sessions`], so:
+///
+/// - `Argument(TooLarge)`, `Argument(FieldsShape)`, `Argument(NotWritable)`, as in [`create_file`].
+/// - `Argument(NoRecordBlocks)`: a later session finds a file without chunks.
+/// - `Argument(TooLarge)`: a later session finds more than `2^63 - 1` bytes or `2^25` blocks.
+/// - `Io`: the growth of the vector was refused; `State(Failed)`: that happened in a `write`.
+/// - `Memory`.
 pub fn write_sessions(
     alloc: Global,
     schema: Schema,

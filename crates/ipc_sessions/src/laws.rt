@@ -1,9 +1,11 @@
-//! Laws of files that sessions left.
+//! Theorems on files that sessions wrote.
 ghost use Rattle.ipc_sessions.specs.Sessions.{BeforeLaw, EndedLaw, MayLaw};
 
-/// A file that a session left is read as its schema, its pairs and its chunks, and as a stream of them where it is one. Where it has a chunk
-/// and isn't too long, it may be appended to, and its chunks need no byte behind the place where writing goes on: so they stay, whatever a
-/// later session's calls answer.
+/// Reading a session's file gives its schema, its pairs and its chunks.
+///
+/// It is also read as a stream of these if it is one. If it has a chunk and isn't too long, it can
+/// be appended to. Its chunks need no byte after the append offset then: they stay, whatever a
+/// later session's calls return.
 pub fn files_that_sessions_left()
     ensures reads { EndedLaw }
     ensures may { MayLaw }

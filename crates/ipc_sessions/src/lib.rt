@@ -1,4 +1,6 @@
-//! Files that are written in sessions: a file is created, and then appended to again and again, each time by a writer of its own.
+//! Files that are created, and then appended to in sessions.
+//!
+//! Each session has its own writer.
 #![tactic(auto)]
 
 pub mod created;

@@ -1,4 +1,4 @@
-//! Sessions on a file that is there: chunks are written behind those that it has, and it is ended again.
+//! Sessions on existing files: chunks are appended, and the file is finished again.
 ghost use Rattle.std.specs.Prelude.{◌≡◌, length, IfErr, IfOk, IsTrue, Ok, OnErr, OnOk, Some};
 ghost use Rattle.ipc_devices.specs.Device.{Rises};
 ghost use Rattle.ipc_devices.specs.Faults.{IsIo, OnIo, OwnFault, UnlessIo};
@@ -18,23 +18,23 @@ use ipc_files::read::file::{FileMetadata, read_file_metadata};
 use lower_arrays::array::AnyArray;
 use std::alloc::{AllocError, Global};
 
-/// What a session leaves: its device, and what its calls answered.
+/// The device after a session, and the results of the session's calls.
 #[derive(Drop)]
 pub struct Session<W> {
-    /// What was written to.
+    /// The device.
     pub device: W,
-    /// What the write of each chunk answered, in order.
+    /// The result of the `write` of each chunk, in order.
     pub answers: Vec<Result<(), Fault>>,
-    /// What [`finish`](FileWriter::finish) answered, which came last.
+    /// The result of [`finish`](FileWriter::finish), the last call.
     pub end: Result<(), Fault>,
 }
 
-/// What some sessions leave that all ended their file: its device, and what their writes answered.
+/// The device after sessions that all finished their file, and the results of their writes.
 #[derive(Drop)]
 pub struct Sessions<W> {
-    /// What was written to.
+    /// The device.
     pub device: W,
-    /// For each session, what the write of each of its chunks answered, in order.
+    /// For each session, the result of the `write` of each of its chunks, in order.
     pub answers: Vec<Vec<Result<(), Fault>>>,
 }
 
@@ -49,10 +49,12 @@ fn write_chunk<W: Writes + Drop>(
     writer.write(chunk, None)
 }
 
-/// Writes chunks, one after the other, those behind a refused one too, and answers what each write answered. In memory, the file then has
-/// the chunks that it had, behind them those of the writes that were Ok, and no others; and nothing before the writer's place was changed.
+/// Writes chunks in order, also after a refused one, and returns all results.
 ///
-/// `AllocError` where no memory was left to keep the answers: then nothing was written.
+/// A file in memory then has the chunks that it had, and after them exactly those whose `write`
+/// returned `Ok`. Nothing before the writer's offset was changed.
+///
+/// `AllocError` if there is no memory for the results; nothing was written then.
 pub fn write_chunks<W: Writes + Drop>(
     alloc: Global,
     writer: &mut FileWriter<W>,
@@ -63,7 +65,7 @@ pub fn write_chunks<W: Writes + Drop>(
     ensures nothing { OnErr result (seen writer.new ≡ seen writer.old) }
     ensures takes { IfOk result (λ answers. TakesChunks W.known W.memory (seen writer.old) (seen writer.new) (taken_of chunks.now answers.items)) }
 {
-    // There is room for all of them, so that no answer is lost once something was written.
+    // Room for all results is allocated here, so that none is lost after writing.
     let mut answers = Vec::with_capacity(alloc, chunks.len())?;
     for chunk in chunks {
         answers.push_reserved(write_chunk(writer, chunk));
@@ -71,7 +73,7 @@ pub fn write_chunks<W: Writes + Drop>(
     Ok(answers)
 }
 
-// Writes chunks, and ends the file, whatever the writes answered.
+// Writes chunks, and finishes the file, whatever the writes returned.
 fn end_session<W: Writes + Drop>(
     alloc: Global,
     mut writer: FileWriter<W>,
@@ -91,16 +93,15 @@ fn end_session<W: Writes + Drop>(
     Ok(session)
 }
 
-/// Prepares to append to the file that begins where its device begins: reads its metadata
-/// ([`read_file_metadata`]), and then is [`prepare`].
+/// Prepares to append to the file that begins where its device begins.
 ///
-/// The device is only read: if reading doesn't change the bytes of such a device, they are as they
-/// were, whatever is answered. On `Ok` the device is at the offset where writing goes on, and after
-/// an error at any offset. [`FileWriter::resume`] makes the writer.
+/// It reads the file's metadata ([`read_file_metadata`]), and then is [`prepare`]. The device is
+/// only read: if reading doesn't change the bytes of such a device, they stay the same, also on an
+/// error. On `Ok` the device is at the append offset. [`FileWriter::resume`] makes the writer.
 ///
 /// # Errors
-/// Those of [`read_file_metadata`] and of [`prepare`]; `Io` if and only if a call of the device
-/// failed.
+/// Those of [`read_file_metadata`] and of [`prepare`]; `Io` exactly if a call of the device failed.
+/// After an error the device may be at any offset.
 pub fn prepare_session<W: Reads + Seeks>(alloc: Global, device: &mut W) -> Result<Prepared, Fault>
     ensures ok { IfOk result (λ prepared.
         ResumesFile W.known W.failures W.memory device.old (resumed device.new prepared)) }
@@ -115,20 +116,19 @@ pub fn prepare_session<W: Reads + Seeks>(alloc: Global, device: &mut W) -> Resul
     Ok(prepared)
 }
 
-/// A session by metadata that were read from this device, of a file that begins where the device
-/// does: the chunks are written behind those that the file has, one after the other, also those
-/// behind a refused one, and the file is ended.
+/// Appends chunks to a file, by metadata that were read from this device.
 ///
-/// In memory, if the end is `Ok`, the file has the schema and the pairs that it had, and behind its
-/// chunks exactly those of the writes that were `Ok`. It is a stream without its first eight bytes
-/// if it was one. Whatever the calls answer, the file is no shorter than it was. Its metadata then
-/// give the dictionaries and the chunks that they gave, if these need no byte behind the offset
-/// where writing goes on. The device is handed back even if the end is refused.
+/// The file must begin where the device begins. Each chunk is written, also after a refused one,
+/// and then the file is finished. The device is returned even if that fails.
+///
+/// In memory, if `end` is `Ok`, the file has the schema and pairs that it had. After its old chunks
+/// it has exactly those whose `write` returned `Ok`. It is a stream without its first eight bytes
+/// if it was one. Whatever the calls return, the file doesn't get shorter. Its old metadata still
+/// give the same dictionaries and chunks, if these need no byte after the append offset.
 ///
 /// # Errors
-/// Those of [`prepare`], and `Memory` if there is none to keep the answers. Nothing is written
-/// then: the file is as it was, and the device is dropped. A device that was lent may be at any
-/// offset.
+/// Those of [`prepare`], and `Memory` if there is none for the results. Nothing is written then:
+/// the file is as it was, and the device is dropped. A borrowed device may be at any offset.
 pub fn append_to_file<W: Reads + Writes + Seeks + Drop>(
     alloc: Global,
     mut device: W,
@@ -151,13 +151,13 @@ pub fn append_to_file<W: Reads + Writes + Seeks + Drop>(
     Ok(session)
 }
 
-/// A session on the file that begins where its device begins: [`append_to_file`] by the metadata
-/// that the file has.
+/// Appends chunks to the file that begins where its device begins.
+///
+/// It is [`append_to_file`], by the metadata that the file has.
 ///
 /// # Errors
-/// Those of [`prepare_session`], and `Memory` if there is none to keep the answers. Nothing is
-/// written then: the file is as it was, and the device is dropped. A device that was lent may be at
-/// any offset.
+/// Those of [`prepare_session`], and `Memory` if there is none for the results. Nothing is written
+/// then: the file is as it was, and the device is dropped. A borrowed device may be at any offset.
 pub fn append_session<W: Reads + Writes + Seeks + Drop>(
     alloc: Global,
     mut device: W,
@@ -178,7 +178,7 @@ pub fn append_session<W: Reads + Writes + Seeks + Drop>(
     Ok(session)
 }
 
-// A session that ended its file.
+// A session, which must finish its file.
 fn whole_session<W: Reads + Writes + Seeks + Drop>(
     alloc: Global,
     device: W,
@@ -200,16 +200,19 @@ fn whole_session<W: Reads + Writes + Seeks + Drop>(
     Ok((left, answers))
 }
 
-/// Sessions on a file, one after the other, each by the metadata that the one before it left: then the file has the schema and the pairs
-/// that it had, and behind its chunks exactly those of the writes that were Ok, in order. It is a stream without its first eight bytes
-/// where it was one.
+/// Appends to a file in sessions, one after the other.
+///
+/// Each uses the metadata that the one before it wrote. The file then has the schema and pairs that
+/// it had. After its old chunks it has exactly those whose `write` returned `Ok`, in order. It is a
+/// stream without its first eight bytes if it was one.
 ///
 /// # Errors
-/// Those of [`append_session`], and of a `finish` that was refused; `Io` only if a call of the
-/// device failed, or if the file is in memory and its growth was refused. The device is dropped
-/// then, with all that was written on it. On one that was lent, the chunks of the sessions before
-/// are still at the blocks of the metadata that the last of these sessions left; the file may be
-/// without a footer.
+/// Those of [`append_session`] and of a `finish` that failed. `Io` comes only if a call of the
+/// device failed, or if the file is in memory and its growth was refused.
+///
+/// The device is dropped then, with all that was written to it. If it was borrowed, the file may
+/// have no footer. The chunks of the sessions before are still at the blocks in the metadata that
+/// the last of these sessions wrote.
 pub fn run_sessions<W: Reads + Writes + Seeks + Drop>(
     alloc: Global,
     mut device: W,

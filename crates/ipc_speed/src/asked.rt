@@ -1,4 +1,4 @@
-//! What the words of a call ask for.
+//! The arguments of a call.
 
 use crate::columns::{Kind, kind_named};
 use ipc_write::common::WriteOptions;
@@ -29,10 +29,10 @@ pub struct Size {
     pub chunks: u32,
 }
 
-/// What the words ask for.
+/// What the arguments ask for.
 #[derive(Clone, Copy)]
 pub struct Asked {
-    /// What the columns hold.
+    /// The values of the columns.
     pub kind: Kind,
     /// What is measured.
     pub measured: Measured,
@@ -40,11 +40,11 @@ pub struct Asked {
     pub options: WriteOptions,
     /// How large the table is.
     pub size: Size,
-    /// Of how many rounds the least times are taken.
+    /// The number of rounds, of which the least times are taken.
     pub rounds: u32,
 }
 
-// The words so far, of which the numbers count from the first on.
+// The arguments so far. The numbers are counted from the first.
 #[derive(Clone, Copy)]
 struct Words {
     kind: Kind,
@@ -55,7 +55,7 @@ struct Words {
 }
 
 impl Words {
-    // Takes a number. More than four are counted alone.
+    // Takes a number. More than four are only counted.
     fn add(&mut self, number: u32) {
         if self.count < 4 {
             self.numbers[self.count] = number;
@@ -79,7 +79,7 @@ impl Words {
         }
     }
 
-    // What all words ask for, where there are three numbers or four.
+    // The whole request, if there are three numbers or four.
     fn asked(self) -> Option<Asked> {
         let [rows, columns, rounds, chunks] = self.numbers;
         let chunks = match self.count {
@@ -101,7 +101,7 @@ impl Words {
     }
 }
 
-/// What the words behind the program's name ask for, where they are well.
+/// The request in the arguments after the program's name, if they are right.
 pub fn read_words<R: Runtime>(rt: &R) -> io::Result<Option<Asked>> {
     let mut taken = Words {
         kind: Kind::Int64,

@@ -9,7 +9,7 @@ use std::alloc::Global;
 use std::rt::Runtime;
 use std::time::{Duration, Instant};
 
-/// Writes the file behind what is there.
+/// Appends the file to `out`.
 pub fn write_file(alloc: Global, table: &Table, out: Vec<u8>) -> Result<Vec<u8>, Fault> {
     let schema = table.schema.clone()?;
     let mut writer = FileWriter::try_new(alloc, out, schema, None, table.options)?;
@@ -31,8 +31,9 @@ pub fn read_file(alloc: Global, bytes: &[u8], chunks: u32) -> Result<usize, Faul
     Ok(rows)
 }
 
-/// How long the first column of the last block takes, whose message is read with it; the footer and the dictionaries are read before.
-/// `Ended` where there is none.
+/// The time to read the first column of the last block, with its message.
+///
+/// The footer and the dictionaries are read before. `Ended` if there is no block.
 pub fn time_block<R: Runtime>(rt: &R, alloc: Global, bytes: &[u8]) -> Result<Duration, Fault> {
     let mut input = MemFile::new(bytes);
     let metadata = read_file_metadata(alloc, &mut input)?;
@@ -56,7 +57,7 @@ pub fn time_block<R: Runtime>(rt: &R, alloc: Global, bytes: &[u8]) -> Result<Dur
         &mut data,
     )?;
     let time = start.elapsed(rt)?;
-    // (so that it is read)
+    // (so that it isn't optimized away)
     if chunk.arrays().is_empty() {
         return Err(Fault::Ended);
     }

@@ -1,13 +1,18 @@
-//! How fast streams and files are written and read, beside plain copies of the same bytes in the same run.
+//! Measures writing and reading of streams and files, compared with plain copies.
 //!
-//! `ipc_speed KIND ROWS COLUMNS ROUNDS [CHUNKS]` writes a stream of so many columns to memory that is used again, reads
-//! it back, and prints for each the least time of all rounds. Each of its chunks has so many rows; where their number
-//! is left out there is one. KIND says what the columns hold: `int64` (also where it is left out), `nulls`, `bits3`,
-//! `boolean`, `list`, `utf8`, `struct`, `dictionary`, `values`, `mixed`. Of these words, which stand before it, `big` writes
-//! numbers in big-endian order, and `file` writes and reads a file in place of a stream. What is written is held beside
-//! a copy into memory that is used again, what is read beside one into fresh memory. With `chosen` one column of a
-//! stream is read, beside the same column in a stream of its own; with `block` one column of the last block of a file,
-//! by itself. With other words it does nothing.
+//! `ipc_speed [big] [file|chosen|block] [KIND] ROWS COLUMNS ROUNDS [CHUNKS]` writes a stream to
+//! memory that is reused, and reads it back. For each it prints the least time of all rounds.
+//!
+//! - KIND: the values of the columns: `int64` (the default), `nulls`, `bits3`, `boolean`, `list`,
+//!   `utf8`, `struct`, `dictionary`, `values` or `mixed`.
+//! - ROWS: the rows of each chunk. CHUNKS: how many chunks there are; 1 by default.
+//! - `big`: writes numbers in big-endian order.
+//! - `file`: writes and reads a file instead.
+//! - `chosen`: reads one column of a stream, and the same column in a stream of its own.
+//! - `block`: reads one column of the last block of a file.
+//!
+//! Writing is compared with a copy into memory that is reused, reading with one into fresh memory.
+//! Without three or four numbers it does nothing; unknown words are ignored.
 #![tactic(auto)]
 
 mod asked;
@@ -25,7 +30,7 @@ use std::alloc::Global;
 use std::num::nearest_usize_to_f64;
 use std::rt::Runtime;
 
-// Times a table, and prints what came of it.
+// Measures a table, and prints the results.
 fn run<R: Runtime>(rt: &R, alloc: Global, table: &Table, asked: &Asked) -> Result<(), Fault> {
     let (best, bytes) = best_of(rt, alloc, table, asked.measured, asked.rounds)?;
     print(rt, "write", best.write, best.copy_again, bytes)?;
@@ -41,7 +46,7 @@ fn run<R: Runtime>(rt: &R, alloc: Global, table: &Table, asked: &Asked) -> Resul
     Ok(())
 }
 
-// Reads the first column of a table, and then the same of a table that has no other.
+// Reads the first column of a table, and then of a table without other columns.
 fn run_chosen<R: Runtime>(
     rt: &R,
     alloc: Global,

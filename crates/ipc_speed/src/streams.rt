@@ -7,7 +7,7 @@ use ipc_readers::read::stream::{StreamReader, StreamState, read_stream_metadata}
 use ipc_write::stream::StreamWriter;
 use std::alloc::Global;
 
-/// Writes the stream behind what is there.
+/// Appends the stream to `out`.
 pub fn write_stream(alloc: Global, table: &Table, out: Vec<u8>) -> Result<Vec<u8>, Fault> {
     let mut writer = StreamWriter::new(alloc, out, table.options);
     writer.start(&table.schema, None)?;
@@ -18,7 +18,7 @@ pub fn write_stream(alloc: Global, table: &Table, out: Vec<u8>) -> Result<Vec<u8
     Ok(writer.into_inner())
 }
 
-// How many rows the next chunks have, so many of them.
+// The rows of the next `chunks` chunks together.
 fn count_rows(reader: StreamReader<MemFile<&[u8]>>, chunks: u32) -> Result<usize, Fault> {
     let mut rows = 0usize;
     for state in reader.take(chunks as usize) {
@@ -29,14 +29,14 @@ fn count_rows(reader: StreamReader<MemFile<&[u8]>>, chunks: u32) -> Result<usize
     Ok(rows)
 }
 
-/// How many rows the stream has, of which all columns are read.
+/// The rows of a stream, of which all columns are read.
 pub fn read_stream(alloc: Global, bytes: &[u8], chunks: u32) -> Result<usize, Fault> {
     let mut input = MemFile::new(bytes);
     let metadata = read_stream_metadata(alloc, &mut input)?;
     count_rows(StreamReader::new(alloc, input, metadata, None)?, chunks)
 }
 
-/// How many rows the stream has, of which the first column is read. `Ended` where it has none.
+/// The rows of a stream, of which the first column is read. `Ended` if it has no column.
 pub fn read_first(alloc: Global, bytes: &[u8], chunks: u32) -> Result<usize, Fault> {
     let first = vec![in alloc; 0usize]?;
     let mut input = MemFile::new(bytes);

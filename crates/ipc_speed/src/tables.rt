@@ -9,7 +9,7 @@ use lower::datatypes::{Field, Metadata, Schema};
 use lower_arrays::array::AnyArray;
 use std::alloc::{AllocError, Global};
 
-/// How a table is written: the chunk, so many times.
+/// A table: a chunk, and how often it is written.
 #[derive(Drop)]
 pub struct Table {
     /// The names and the types of its columns.
@@ -22,13 +22,13 @@ pub struct Table {
     pub options: WriteOptions,
 }
 
-// The field of the column of this number.
+// The field of the column with this index.
 fn field_of(alloc: Global, number: u32, array: &AnyArray) -> Result<Field, AllocError> {
     let data_type = array.data_type().clone()?;
     Ok(Field::new(format!(in alloc; "{number}")?, data_type, true))
 }
 
-/// So many columns of a kind.
+/// A table of columns of a kind.
 pub fn make_table(
     alloc: Global,
     kind: Kind,

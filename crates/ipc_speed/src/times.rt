@@ -17,7 +17,7 @@ use std::time::{Duration, Instant};
 pub struct Times {
     /// Of writing.
     pub write: Duration,
-    /// Of a copy of what was written, into memory that is used again.
+    /// Of a copy of what was written, into memory that is reused.
     pub copy_again: Duration,
     /// Of reading.
     pub read: Duration,
@@ -36,7 +36,7 @@ impl Times {
     }
 }
 
-// Writes the table in place of what `out` holds, in the same memory.
+// Replaces the content of `out` by the table, in the same memory.
 fn time_write<R: Runtime>(
     rt: &R,
     alloc: Global,
@@ -54,7 +54,7 @@ fn time_write<R: Runtime>(
     Ok(start.elapsed(rt)?)
 }
 
-// Copies the bytes in place of what `again` holds, in the same memory.
+// Replaces the content of `again` by the bytes, in the same memory.
 fn time_copy_again<R: Runtime>(
     rt: &R,
     bytes: &[u8],
@@ -82,7 +82,7 @@ fn time_read<R: Runtime>(
     }
 }
 
-// Reads all chunks. `Ended` where they have not so many rows.
+// Reads all chunks. `Ended` if they have another number of rows.
 fn time_chunks<R: Runtime>(
     rt: &R,
     alloc: Global,
@@ -108,14 +108,14 @@ fn time_copy<R: Runtime>(rt: &R, alloc: Global, bytes: &[u8]) -> Result<Duration
     let start = Instant::now(rt)?;
     let fresh = Vec::from_slice(alloc, bytes)?;
     let time = start.elapsed(rt)?;
-    // (so that the copy is made)
+    // (so that the copy isn't optimized away)
     if fresh.len() != bytes.len() {
         return Err(Fault::Ended);
     }
     Ok(time)
 }
 
-// One round. `out` and `again` are used again by the next.
+// One round. The next round reuses `out` and `again`.
 fn measure<R: Runtime>(
     rt: &R,
     alloc: Global,
@@ -132,8 +132,9 @@ fn measure<R: Runtime>(
     })
 }
 
-/// The least times of so many rounds, one at least, and how many bytes were written. A first round, which takes all
-/// memory, isn't counted.
+/// The least times of `rounds` rounds, at least one, and how many bytes were written.
+///
+/// A first round, which allocates all memory, isn't counted.
 pub fn best_of<R: Runtime>(
     rt: &R,
     alloc: Global,
@@ -151,7 +152,7 @@ pub fn best_of<R: Runtime>(
     Ok((best, out.len()))
 }
 
-/// Prints a rate, and what it is of that of a copy.
+/// Prints a rate, and its part of the rate of a copy.
 pub fn print<R: Runtime>(
     rt: &R,
     name: &str,

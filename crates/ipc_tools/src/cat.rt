@@ -1,4 +1,4 @@
-//! `ipcat`: writes the documented example as an Arrow IPC stream, and shows the streams and files that it is given.
+//! `ipcat`: writes an example as an Arrow IPC stream, and prints streams and files.
 ghost use Rattle.std.specs.Prelude.{◌≡◌, ◌⊎◌, ◌≤◌, codes, map, option_and_then, option_map, string_bytes, false, None, Ok, Err, IfErr, IfOk, IfSome, IsSome, OnOk};
 ghost use Rattle.ipc_devices.specs.Faults.{IsIo, OwnFault};
 ghost use Rattle.ipc_plan.specs.Sending.{seen_by};
@@ -33,7 +33,7 @@ use std::alloc::Global;
 
 const USAGE: &str = "usage: ipcat demo | ipcat stream [COLS] | ipcat file PATH [COLS [LIMIT]]\n";
 
-/// The path that the words name, for whoever opens what stands there: that of a file, where the words are right.
+/// The path that the arguments name; None if there is none or they are wrong.
 pub fn path_of(words: &[String]) -> Option<&str>
     ensures { option_map (λ path. path.now) result ≡ option_and_then opened_for (asked (map string_bytes words.now)) }
 {
@@ -43,17 +43,24 @@ pub fn path_of(words: &[String]) -> Option<&str>
     }
 }
 
-/// Does what the words ask for, and answers the exit status: 0, 1 after a fault, whose class stands on
-/// `err` then, and 2 for wrong words, or positions of columns that repeat or aren't in the schema, where `err` has the
-/// usage. `file` is what stands at the path that the words name (see [`path_of`]), and None where that can't be opened, which
-/// is a fault where the words ask for it. A failed write to `err` is ignored.
+/// Runs `ipcat` with these arguments, and returns the exit status.
 ///
-/// Each class but `no memory` and `input or output failed` tells a fault that names a condition which holds: of what `input` gave, or, where
-/// it is in memory, of `file`, as they are read by the columns, and up to the limit, that the words name. Positions are judged where the
-/// schema could be read, and before anything is printed (which rows test: no contract says what is printed). So what was shown whole, with status 0, can be read.
+/// - `input`: the stream for the form `stream`.
+/// - `file`: the file at the path that the arguments name (see [`path_of`]), or None if it can't be
+///   opened. None is an error if the arguments need it.
+/// - `out`: for what is printed. `err`: for the usage or the class of an error; a failed write to
+///   it is ignored.
 ///
-/// With status 0 no call of `out` failed: all that was printed was written to it, behind what was
-/// there, and flushed.
+/// The status is
+///
+/// - 0: all was printed to `out`, after what was there, and flushed. No call of `out` failed. What
+///   was read is valid.
+/// - 1: an error, whose class was written to `err`. A class other than `no memory` and
+///   `input or output failed` names a condition that is true of what `input` gave, or of `file` if
+///   it is in memory. It is read by the columns and up to the limit in the arguments.
+/// - 2: wrong arguments, or column positions that repeat or aren't in the schema. The usage was
+///   written to `err`. Positions are checked after the schema is read, and before anything is
+///   printed. That order is tested by cases: no contract states what is printed.
 pub fn run<R: Reads, F: Reads + Seeks + Drop, O: Writes, E: Writes>(
     alloc: Global,
     words: &[String],
@@ -121,7 +128,7 @@ fn run_form<R: Reads, F: Reads + Seeks + Drop, O: Writes>(
     outcome
 }
 
-// Prints what a form asks for.
+// Prints what a form needs.
 fn print_form<R: Reads, F: Reads + Seeks + Drop, O: Writes>(
     alloc: Global,
     form: Form<'_>,
@@ -170,7 +177,7 @@ fn show_demo<O: Writes>(alloc: Global, printer: &mut Printer<O>) -> Result<Outco
     Ok(Outcome::Done)
 }
 
-// What came of a form, once all is sent that it printed.
+// The outcome of a form, after all that it printed was sent.
 fn sent<O: Writes>(
     shown: Result<Outcome, Fault>,
     printer: &mut Printer<O>,

@@ -1,4 +1,4 @@
-//! The class of a fault, as the programs tell it.
+//! The classes of errors that the programs print.
 ghost use Rattle.std.specs.Prelude.{◌≡◌};
 ghost use Rattle.ipc_plan.specs.Sending.{Sends, seen_by};
 ghost use Rattle.ipc_tools.specs.Classes.{class};
@@ -7,7 +7,7 @@ ghost use Rattle.ipc_tools.specs.Lines.{line_of};
 use arrow2_ipc::io::ipc::fault::{Fault, Writes};
 use ipc_write::common_sync::write_all;
 
-/// The class that stands for this fault on standard error.
+/// The class of an error, as it is printed on standard error.
 pub fn class_of(fault: &Fault) -> &'static str
     ensures { result.now ≡ class fault.now }
 {
@@ -25,7 +25,9 @@ pub fn class_of(fault: &Fault) -> &'static str
     }
 }
 
-/// Writes a line: the name of the program, and the class of the fault that ended it. `Io` where that fails.
+/// Writes a line with the name of the program and the class of an error.
+///
+/// `Io` if that fails.
 pub fn tell<E: Writes>(err: &mut E, program: &str, fault: &Fault) -> Result<(), Fault>
     ensures sends { Sends E.known E.grows (seen_by E.failures E.room E.memory err.old)
         (seen_by E.failures E.room E.memory err.new) result (line_of program.now fault.now) }

@@ -1,4 +1,4 @@
-//! `ipconvert`: copies an Arrow IPC stream or file as a stream or a file, in either byte order; or appends a stream to a file.
+//! `ipconvert`: copies Arrow IPC streams and files, and appends streams to files.
 ghost use Rattle.std.specs.Prelude.{◌≡◌, ◌⊎◌, ◌≤◌, codes, ◌↔◌, map, option_and_then, option_map, string_bytes, false, true, None, Some, Ok, Err, IfErr, IfOk, IfSome, IsTrue, OnOk};
 ghost use Rattle.ipc_devices.specs.Faults.{IsIo, OwnFault};
 ghost use Rattle.ipc_convert.specs.Chunks.{NoneFailed};
@@ -27,33 +27,43 @@ use std::io::ErrorKind;
 
 const USAGE: &str = "usage: ipconvert FROM TO [ORDER] | ipconvert append PATH\n";
 
-/// What the words name, for whoever opens it: a file to read from, or one to go on with, where the words are right.
+/// The file that the arguments name, to read from or to append to.
+///
+/// None if there is none or they are wrong.
 pub fn place_of(words: &[String]) -> Option<Place<'_>>
     ensures { option_map (λ place. (place.path.now, place.is_written)) result ≡ option_and_then place_for (asked (map string_bytes words.now)) }
 {
     place_in(form_of(words)?)
 }
 
-/// Does what the words ask for, and answers the exit status: 0 where all was written, also of a
-/// stream that waits for more; 1 after a fault, whose class stands on `err` then; and 2 for wrong
-/// words, where `err` has the usage. With status 0 no call of `input` or of `out` failed, flushes
-/// included, nor one of a file that was appended to. The words are judged before anything is read.
-/// A failed write to `err` is ignored.
+/// Runs `ipconvert` with these arguments, and returns the exit status.
 ///
-/// Each class but `no memory` and `input or output failed` tells a fault that names a condition which holds: of what `input` gave, or, where
-/// it is in memory, of `file` or `append_to`; or of what can't be written of the one or the other.
+/// `FROM TO [ORDER]` copies. `FROM` is `-`, for the stream `input`, or the path of a file. `TO` is
+/// `stream` or `file`, written to `out`. `ORDER` is the byte order of what is written, `little`
+/// (the default) or `big`.
 ///
-/// `FROM` is `-`, for the stream at `input`, or the path of a file, and `TO` is `stream` or `file`,
-/// written to `out`. `ORDER` is the byte order of what is written, `little` or `big`; where it is
-/// left out it is `little`. `append PATH` writes the chunks of the stream at `input` behind those
-/// of the file at a path, whose byte order stays, and doesn't touch `out`. The file at the path
-/// that the words name (see [`place_of`]) is `file` where it is read, and `append_to` where it is
-/// appended to. It is None where that can't be opened, which is a fault where the words ask for it.
-/// Where all went well, nothing behind the mark was taken of `input`.
+/// `append PATH` appends the chunks of the stream `input` to the file at that path, which keeps its
+/// byte order. `out` isn't used.
 ///
-/// A stream that waits is copied as a stream that waits, or as a whole file. A fault before the schema is sent leaves `out`, or the file
-/// that is appended to, as it was. A fault behind the schema ends a copied stream without a mark; a file is finished with the chunks that
-/// were taken, where its device takes the footer and there is memory for it. After a copy `out` is flushed, also after a fault of it.
+/// - `file`: the file at the path, if it is read; `append_to`: if it is appended to (see
+///   [`place_of`]). It is None if it can't be opened, which is an error if the arguments need it.
+/// - `err`: for the usage or the class of an error; a failed write to it is ignored.
+///
+/// The status is
+///
+/// - 0: all was written, also of a stream that waits for more. No call of `input` or `out` failed,
+///   nor of a file that was appended to, flushes included. Nothing after the end mark was read from
+///   `input`.
+/// - 1: an error, whose class was written to `err`. A class other than `no memory` and
+///   `input or output failed` names a condition that is true. It is one of what `input` gave, of
+///   `file` or `append_to` if that is in memory, or of what can't be written of them.
+/// - 2: wrong arguments, which are checked before anything is read. The usage was written to `err`.
+///
+/// A stream that waits is copied as a stream that waits, or as a whole file. An error before the
+/// schema is sent leaves `out`, or the file that is appended to, as it was. After a later error a
+/// copied stream has no end mark. A file is finished with the chunks that were written, if its
+/// device takes the footer and there is memory for it. `out` is flushed after a copy, also after an
+/// error.
 pub fn run<
     R: Reads,
     F: Reads + Seeks + Drop,
@@ -160,7 +170,7 @@ fn run_form<R: Reads, F: Reads + Seeks + Drop, A: Reads + Writes + Seeks + Drop,
     }
 }
 
-// What stands at a path, where it could be opened.
+// The file at a path, or an `Io` error if it couldn't be opened.
 pub(crate) fn opened<F>(file: Option<F>) -> Result<F, Fault>
     ensures there { IfOk result (λ device. file ≡ Some device) }
     ensures missing { IfErr result IsIo }
@@ -171,8 +181,8 @@ pub(crate) fn opened<F>(file: Option<F>) -> Result<F, Fault>
     }
 }
 
-// What came of a copy, once all is sent that was written. The copy was lent the device, and can say
-// what failed only of the one that it gave back: so the device itself is asked.
+// The result of a copy, after a flush. The contract of the copy speaks of the device that it
+// returned, which is a borrow: so the device itself is asked for failures.
 fn flushed<O: Writes>(
     copied: Result<(), Fault>,
     out: &mut O,

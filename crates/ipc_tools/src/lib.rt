@@ -1,5 +1,4 @@
-//! What the programs do, over any devices: each program's main is three lines around a call of
-//! `start`.
+//! What the programs do, on any devices. The main of each is three lines around a call of `start`.
 #![tactic(auto)]
 
 pub mod cat;

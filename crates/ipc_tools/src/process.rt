@@ -8,8 +8,9 @@ use std::io::ErrorKind;
 use std::rt::Env;
 use std::{env, io, str};
 
-/// The arguments of the process, without the name of the program. `InvalidData` where one of them
-/// isn't UTF-8, `OutOfMemory` where there is no memory for them.
+/// The arguments of the process, without the name of the program.
+///
+/// `InvalidData` if one of them isn't UTF-8, `OutOfMemory` if they can't be allocated.
 pub fn words_of<R: Env + AllocGlobal>(rt: &R) -> io::Result<Vec<String>> {
     let mut words = env::args(rt)?;
     let _program = words.next();
@@ -17,8 +18,9 @@ pub fn words_of<R: Env + AllocGlobal>(rt: &R) -> io::Result<Vec<String>> {
     Ok(words)
 }
 
-/// The words of a call: none where one of them isn't UTF-8, which makes them wrong words. `Memory`
-/// where there was no memory for them.
+/// The arguments of a call; none, which is wrong, if one isn't UTF-8.
+///
+/// `Memory` if they can't be allocated.
 pub(crate) fn known_words(
     alloc: Global,
     words: io::Result<Vec<String>>,

@@ -1,4 +1,4 @@
-//! Lists of calls of a writer of streams, what they answer, and what its bytes mean after them.
+//! Lists of calls of a stream writer, their results, and the bytes after them.
 ghost use Rattle.std.specs.Prelude.{IfOk, OnErr};
 ghost use Rattle.lower.specs.TypeViews.{fields_view, pairs_of};
 ghost use Rattle.ipc_schema_write.specs.WriterAnswers.{written_head_as};
@@ -16,20 +16,21 @@ use lower::datatypes::Schema;
 use lower_arrays::array::AnyArray;
 use std::alloc::{AllocError, Global};
 
-/// A call of a writer of streams.
+/// A call of a stream writer.
 #[derive(Clone, Copy)]
 pub enum StreamCall<'a> {
-    /// `start`, with the ids that are handed in, or else with ids by default.
+    /// `start`, with the ids of the list or else with default ids.
     Start,
-    /// `write`, without ids, so that those of the start count.
+    /// `write` without ids, so that those of the start apply.
     Write(&'a Chunk<AnyArray>),
     /// `finish`.
     Finish,
 }
 
-/// Makes a call, and answers what it answers. A `start` is of this schema, with these ids of its dictionaries, or 0, 1, 2 and on.
+/// Makes a call and returns its result.
 ///
-/// Faults: those of the call, after which the writer is as that call leaves it.
+/// A `start` has this schema and these dictionary ids; without ids they are 0, 1, 2 and so on.
+/// After an error the writer is as that call leaves it.
 pub fn run_call<W: Writes + Drop>(
     writer: &mut StreamWriter<W>,
     schema: &Schema,
@@ -47,12 +48,14 @@ pub fn run_call<W: Writes + Drop>(
     }
 }
 
-/// Makes the calls one after the other, those that come after a refused one too, and answers what each
-/// answered. Each `start` is of this schema, with these ids of its dictionaries, or 0, 1, 2 and on. In memory, the bytes then have the
-/// chunks that they had, and behind them just those of the writes that were Ok.
+/// Makes the calls in order, also after a refused one, and returns all results.
 ///
-/// `AllocError` where no memory was left to copy the ids, or to keep an answer: the calls up to there were made, and no
-/// other was.
+/// Each `start` has this schema and these dictionary ids; without ids they are 0, 1, 2 and so on. A
+/// stream in memory then has the chunks that it had, and after them exactly those whose `write`
+/// returned `Ok`.
+///
+/// `AllocError` if the ids can't be copied or a result can't be stored. The calls before that were
+/// made, and none after it.
 pub fn run_calls<W: Writes + Drop>(
     alloc: Global,
     writer: &mut StreamWriter<W>,
@@ -81,7 +84,7 @@ pub fn run_calls<W: Writes + Drop>(
     Ok(answers)
 }
 
-// What is handed to a call: to `start` a copy of the ids.
+// The ids for a call: a copy of them for `start`, else none.
 fn handed_to(
     call: &StreamCall,
     ipc_fields: &Option<Vec<IpcField>>,

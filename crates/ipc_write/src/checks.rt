@@ -1,4 +1,4 @@
-//! What writers refuse, of streams and of files: by their state, and by what they were started with.
+//! What stream and file writers check: their state, and what they were started with.
 ghost use Rattle.std.specs.Prelude.{◌≡◌, ◌↔◌, IfErr, IfSome, IsSomeAnd, IsTrue, OnErr, OnOk};
 ghost use Rattle.lower_arrays.specs.AnyLayouts.{layout_of};
 ghost use Rattle.lower_arrays.specs.Slots.{IsArray};
@@ -15,9 +15,9 @@ use ipc_schema_write::dictionaries::are_same_ids;
 use lower::datatypes::{DataType, is_same_normal_type};
 use lower_arrays::array::AnyArray;
 
-/// Refuses the states in which a writer takes no chunk and no end.
+/// Refuses the states in which a writer takes no chunk and can't finish.
 ///
-/// Faults: `State(NotStarted)`, `State(Finished)`, `State(Failed)`.
+/// The errors are `State(NotStarted)`, `State(Finished)` and `State(Failed)`.
 pub fn check_started(state: WriterState) -> Result<(), Fault>
     ensures ok { OnOk result (state ≡ Started) }
     ensures only { IfErr result (RefusesState (fault_unless_started state)) }
@@ -30,9 +30,9 @@ pub fn check_started(state: WriterState) -> Result<(), Fault>
     }
 }
 
-/// Refuses the states in which it takes no schema.
+/// Refuses the states in which a writer can't start.
 ///
-/// Faults: `State(AlreadyStarted)`, `State(Finished)`, `State(Failed)`.
+/// The errors are `State(AlreadyStarted)`, `State(Finished)` and `State(Failed)`.
 pub fn check_new(state: WriterState) -> Result<(), Fault>
     ensures ok { OnOk result (state ≡ New) }
     ensures only { IfErr result (RefusesState (fault_unless_new state)) }
@@ -45,9 +45,9 @@ pub fn check_new(state: WriterState) -> Result<(), Fault>
     }
 }
 
-/// Refuses ids that are handed in with a chunk and aren't those that the writer was started with.
+/// Refuses dictionary ids other than those that the writer was started with.
 ///
-/// Fault: `Argument(FieldsDiffer)`.
+/// The error is `Argument(FieldsDiffer)`.
 pub fn check_ids(ipc_fields: Option<&[IpcField]>, own: &[IpcField]) -> Result<(), Fault>
     ensures ok { OnOk result (IfSome (seen_ids ipc_fields.entry) (λ given. given ≡ all_ids_view own.now)) }
     ensures only { IfErr result (λ e. (e ≡ Argument FieldsDiffer)
@@ -59,7 +59,7 @@ pub fn check_ids(ipc_fields: Option<&[IpcField]>, own: &[IpcField]) -> Result<()
     }
 }
 
-/// Whether a column has this type, both in their normal form.
+/// Whether a column has this type, comparing both in their normal form.
 pub fn has_type(column: &AnyArray, data_type: &DataType) -> bool
     ensures same { IsTrue result ↔ HasType column.now (normal_view data_type.now) }
     ensures array { IsArray (layout_of column.now) }
@@ -67,7 +67,7 @@ pub fn has_type(column: &AnyArray, data_type: &DataType) -> bool
     is_same_normal_type(column.data_type(), data_type)
 }
 
-/// What a device answered to a writer, which has failed from then on where the device has.
+/// Returns `sent`, and sets the state to `Failed` if it is an error.
 pub fn note_failure(state: &mut WriterState, sent: Result<(), Fault>) -> Result<(), Fault>
     ensures same { result ≡ sent }
     ensures stays { OnOk sent (state.new ≡ state.old) }

@@ -13,9 +13,10 @@ use ipc_devices::{ArgFault, Fault, Writes};
 use ipc_encode::batches::Encoded;
 use ipc_plan::sending::{send_bytes, send_pieces, zeros};
 
-/// Sends all of these bytes. Where that fails, those that went out are the first ones.
+/// Sends all of these bytes, in order.
 ///
-/// `Io` comes only where the device failed, or where it is memory whose growth was refused, and no other fault comes.
+/// `Io` comes only if the device failed, or if it is memory whose growth was refused. A prefix of
+/// the bytes was sent then. There is no other error.
 pub fn write_all<W: Writes>(writer: &mut W, bytes: &[u8]) -> Result<(), Fault>
     ensures sends { Sends W.known W.grows (seen_by W.failures W.room W.memory writer.old)
         (seen_by W.failures W.room W.memory writer.new) result bytes.now }
@@ -43,10 +44,10 @@ fn write_padded<W: Writes>(writer: &mut W, bytes: &[u8], multiple: usize) -> Res
     send_bytes(writer, zeros(padding(bytes.len(), multiple)))
 }
 
-/// Sends the continuation marker FF FF FF FF and a length: Arrow columnar format, "Encapsulated
-/// message format". It answers how many bytes these are: 8.
+/// Sends the continuation marker FF FF FF FF and a length, and returns 8.
 ///
-/// `Io` comes only where the device failed, or where it is memory whose growth was refused.
+/// 8 is the number of bytes. See "Encapsulated message format" in the Arrow columnar format. `Io`
+/// comes only if the device failed, or if it is memory whose growth was refused.
 #[tactic(auto, unfolding(crate::specs::Framing::prefix_bytes))]
 pub fn write_continuation<W: Writes>(writer: &mut W, total_len: i32) -> Result<usize, Fault>
     ensures answer { IfOk result (λ n. n ≡ 8) }
@@ -59,11 +60,11 @@ pub fn write_continuation<W: Writes>(writer: &mut W, total_len: i32) -> Result<u
     Ok(8)
 }
 
-// Sends what stands before a body: the marker, the length of the padded metadata, and the metadata
-// padded with zeros so that it ends at a multiple of 8. It answers how many bytes these are.
+// Sends the prefix of a message and its metadata, padded with zeros to a multiple of 8 bytes.
+// Returns how many bytes these are.
 //
-// `Argument(TooLarge)` comes where the padded metadata has more than `2^31 - 1` bytes; nothing was
-// sent then.
+// `Argument(TooLarge)` if the padded metadata has more than `2^31 - 1` bytes; nothing was sent
+// then.
 fn write_metadata<W: Writes>(writer: &mut W, metadata: &[u8]) -> Result<usize, Fault>
     ensures len { IfOk result (λ len. len ≡ head_len metadata.now) }
     ensures ok { OnOk result (next_multiple_of (length metadata.now) 8 < 2 ^ 31) }
@@ -79,9 +80,7 @@ fn write_metadata<W: Writes>(writer: &mut W, metadata: &[u8]) -> Result<usize, F
     Ok(8 + padded_len)
 }
 
-// Sends a message that has no body.
-//
-// Faults as of `write_metadata`.
+// Sends a message that has no body. The errors are those of `write_metadata`.
 pub(crate) fn write_head<W: Writes>(writer: &mut W, metadata: &[u8]) -> Result<(), Fault>
     ensures sends { SendsOrRefuses W.known W.grows W.failures W.room W.memory writer.old result writer.new
         (message_bytes metadata.now []) (2 ^ 31 ≤ next_multiple_of (length metadata.now) 8) }
@@ -90,13 +89,16 @@ pub(crate) fn write_head<W: Writes>(writer: &mut W, metadata: &[u8]) -> Result<(
     Ok(())
 }
 
-/// Sends a message: the marker, the length of the padded metadata, the metadata padded with zeros so
-/// that it ends at a multiple of 8, the body padded with zeros to a multiple of 64. It answers the
-/// length of the first three together, and that of the padded body.
+/// Sends a message: its prefix, its padded metadata and its padded body.
 ///
-/// `Argument(TooLarge)` comes where the padded metadata has more than `2^31 - 1` bytes; nothing was
-/// sent then. `Io` comes only where the device failed, or where it is memory whose growth was refused;
-/// what went out by then are the first bytes of the message.
+/// The prefix is the continuation marker and the length of the padded metadata, together 8 bytes.
+/// The metadata are padded with zeros to a multiple of 8 bytes, the body to one of 64. Returns the
+/// length of prefix and padded metadata, and that of the padded body, in bytes.
+///
+/// # Errors
+/// - `Argument(TooLarge)`: the padded metadata has more than `2^31 - 1` bytes; nothing was sent.
+/// - `Io` only if the device failed, or if it is memory whose growth was refused; a prefix of the
+///   message was sent.
 pub fn write_message<W: Writes>(
     writer: &mut W,
     encoded: &EncodedData,
@@ -114,11 +116,11 @@ pub fn write_message<W: Writes>(
     Ok((head_len, encoded.arrow_data.len().next_multiple_of(64)))
 }
 
-/// Sends a message whose body is in pieces, as [`write_message`] does. It answers the length of what stands before the body, and that of
-/// the body.
+/// Sends a message whose body is in pieces, as [`write_message`] does.
 ///
-/// `Io` comes only where the device failed, or where it is memory whose growth was refused; what went out by then are the first bytes of
-/// the message. No other fault comes.
+/// Returns the length of what precedes the body, and that of the body, in bytes. `Io` comes only if
+/// the device failed, or if it is memory whose growth was refused; a prefix of the message was sent
+/// then. There is no other error.
 pub fn write_encoded<W: Writes>(
     writer: &mut W,
     encoded: &Encoded<'_>,
@@ -134,7 +136,7 @@ pub fn write_encoded<W: Writes>(
     Ok((head_len, encoded.body.end))
 }
 
-// Sends messages, one after the other.
+// Sends messages in order.
 fn write_all_encoded<W: Writes>(writer: &mut W, messages: &[Encoded<'_>]) -> Result<(), Fault>
     requires { All IsSendable messages.now }
     ensures { Sends W.known W.grows (seen_by W.failures W.room W.memory writer.old)
@@ -148,8 +150,8 @@ fn write_all_encoded<W: Writes>(writer: &mut W, messages: &[Encoded<'_>]) -> Res
 
 /// Sends the messages of a chunk, those of its dictionaries first.
 ///
-/// `Io` comes only where the device failed, or where it is memory whose growth was refused; what went out by then are the first bytes of
-/// the messages. No other fault comes.
+/// `Io` comes only if the device failed, or if it is memory whose growth was refused; a prefix of
+/// the messages was sent then. There is no other error.
 pub fn write_messages<W: Writes>(writer: &mut W, messages: &Messages<'_>) -> Result<(), Fault>
     requires { AreSendable messages.now }
     ensures { Sends W.known W.grows (seen_by W.failures W.room W.memory writer.old)

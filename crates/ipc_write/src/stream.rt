@@ -1,4 +1,6 @@
-//! Writes streams: Arrow columnar format, "IPC Streaming Format".
+//! Writes streams.
+//!
+//! Arrow columnar format, "IPC Streaming Format".
 ghost use Rattle.std.specs.Prelude.{◌≡◌, ◌≤◌, ◌^◌, All, [], pos, length, map, IfErr, IfOk, IfSome, MatchResult, OnOk};
 ghost use Rattle.std.specs.Int.{next_multiple_of};
 ghost use Rattle.lower.specs.TypeViews.{fields_view, pairs_of};
@@ -38,20 +40,20 @@ use lower_arrays::array::AnyArray;
 use std::alloc::{AllocError, Global};
 pub use writer::StreamWriter;
 
-/// How far a writer is.
+/// The state of a writer.
 #[derive(Clone, Copy, Debug, PartialEq, Eq)]
 pub enum WriterState {
     /// Nothing was written.
     New,
     /// The schema was written.
     Started,
-    /// The end was written.
+    /// The end mark, and in a file the footer, was written.
     Finished,
-    /// A device failed.
+    /// A call returned `Io`.
     Failed,
 }
 
-// Refuses columns that don't have these types, one each.
+// Checks that there is one column for each type, and that it has that type.
 fn check_types(columns: &[AnyArray], types: &[DataType]) -> Result<(), Fault>
     ensures ok { OnOk result (HaveTypes columns.now (map normal_view types.now)) }
     ensures arrays { OnOk result (All (λ array. IsArray (layout_of array)) columns.now) }
@@ -68,7 +70,7 @@ fn check_types(columns: &[AnyArray], types: &[DataType]) -> Result<(), Fault>
     Ok(())
 }
 
-// Sends the message of a schema, which has no body. After a failure nothing more is sent.
+// Sends the message of a schema, which has no body. If the device fails, the state is `Failed`.
 fn send_schema<W: Writes>(
     writer: &mut W,
     state: &mut WriterState,
@@ -88,8 +90,8 @@ fn send_schema<W: Writes>(
     }
 }
 
-// Encodes a chunk, of which these dictionaries are to be written, and sends its messages. All memory is taken before the first byte.
-// After a failure of the device nothing more is sent.
+// Encodes a chunk and these new dictionaries, and sends their messages. All memory is allocated
+// before the first byte is sent. If the device fails, the state is `Failed`.
 fn send_chunk<W: Writes>(
     alloc: Global,
     writer: &mut W,
@@ -109,7 +111,7 @@ fn send_chunk<W: Writes>(
     note_failure(state, sent)
 }
 
-// Sends the mark that ends a stream, and then what the device may have kept back.
+// Sends the end mark of a stream, and flushes the device.
 fn send_mark<W: Writes>(writer: &mut W) -> Result<(), Fault>
     ensures sends { Delivers W.known W.grows (seen_by W.failures W.room W.memory writer.old)
         (seen_by W.failures W.room W.memory writer.new) result (prefix_bytes (pos 0)) }
@@ -141,7 +143,7 @@ fn is_little_endian(order: Endianness) -> bool
 }
 
 impl<W: Writes + Drop> StreamWriter<W> {
-    /// A writer of a stream, which writes nothing yet. It takes no memory.
+    /// A writer of a stream. Nothing is written or allocated yet.
     pub fn new(alloc: Global, writer: W, write_options: WriteOptions) -> StreamWriter<W>
         ensures device { (seen result).device ≡ writer }
         ensures state { (seen result).state ≡ New }
@@ -159,28 +161,35 @@ impl<W: Writes + Drop> StreamWriter<W> {
         }
     }
 
-    /// How far the writer is.
+    /// The state of the writer.
     pub fn state(&self) -> WriterState
         ensures { result ≡ (seen self.now).state }
     {
         self.state
     }
 
-    /// What was written to.
+    /// The device.
     pub fn into_inner(self) -> W
         ensures { result ≡ (seen self).device }
     {
         self.writer
     }
 
-    /// Writes the schema, in its normal form. Where no ids are handed in, the dictionaries get 0, 1, 2
-    /// and on, in pre-order.
+    /// Writes the schema message, with the schema in its normal form.
     ///
-    /// Faults: `State(AlreadyStarted)`, `State(Finished)`, `State(Failed)` by the writer's state;
-    /// `Argument(FieldsShape)` where the ids don't fit the fields; `Argument(NotWritable)` where the schema can't be written with
-    /// these ids, as [`schema_to_bytes_as`] says; `Memory`: after these nothing was sent and the writer is as it was. `Io`
-    /// where the device failed, or where it is memory whose growth was refused: then some of the first bytes may have been
-    /// sent, and each later `start`, `write` and `finish` answers `State(Failed)`.
+    /// `ipc_fields` are the dictionary ids of the fields. Without them the dictionaries get 0, 1, 2
+    /// and so on, in pre-order.
+    ///
+    /// # Errors
+    /// After any but `Io`, nothing was sent and the writer is as before.
+    ///
+    /// - `State(AlreadyStarted)`, `State(Finished)`, `State(Failed)`: the writer's state.
+    /// - `Argument(FieldsShape)`: the ids don't have the shape of the fields.
+    /// - `Argument(NotWritable)`: the schema can't be written with these ids, as
+    ///   [`schema_to_bytes_as`] says.
+    /// - `Memory`.
+    /// - `Io`: the device failed, or it is memory whose growth was refused. Some of the first bytes
+    ///   may have been sent, and each later `start`, `write` and `finish` returns `State(Failed)`.
     pub fn start(&mut self, schema: &Schema, ipc_fields: Option<Vec<IpcField>>) -> Result<(), Fault>
         ensures first { StateComesFirst (fault_unless_new (seen self.old).state) (seen self.old) result (seen self.new) }
         ensures step { let fields = fields_view schema.now.fields.items in
@@ -211,7 +220,7 @@ impl<W: Writes + Drop> StreamWriter<W> {
         Ok(())
     }
 
-    // Judges all of a chunk but the lengths of its columns, and lists the dictionaries that are to be written.
+    // Checks a chunk except its columns' lengths, and lists the dictionaries to be written.
     fn check_write(
         &self,
         columns: &[AnyArray],
@@ -233,18 +242,28 @@ impl<W: Writes + Drop> StreamWriter<W> {
         Ok(list)
     }
 
-    /// Writes a chunk, whose columns have the types of the schema: the dictionaries that are new or others than were written before, and
-    /// then the columns. Ids that are handed in are those of the start.
+    /// Writes a chunk: its new or changed dictionaries, then its columns.
     ///
-    /// Faults: `State(NotStarted)`, `State(Finished)`, `State(Failed)` by the writer's state;
-    /// `Argument(FieldsDiffer)` for other ids; `Argument(ColumnCount)` for another number of columns;
-    /// `Argument(ColumnType)` for a column of another type, both in their normal form;
-    /// `Argument(SharedDictionary)` with the id where dictionaries of one id have other values;
-    /// `Argument(TooLong)` where an array, also one in the values of a dictionary, has more than `2^63 - 1` slots that would be written;
-    /// `Argument(TooLarge)` where the body of a message would have more than `2^63 - 1` bytes; `Memory`: after these nothing was sent, and
-    /// the writer and the dictionaries that it remembers are as they were. `Io`
-    /// where the device failed, or where it is memory whose growth was refused: then some of the first
-    /// bytes may have been sent, and each later `start`, `write` and `finish` answers `State(Failed)`.
+    /// - `columns`: one for each field, with the field's type.
+    /// - `ipc_fields`: None, or the dictionary ids of the start.
+    ///
+    /// # Errors
+    /// After any but `Io`, nothing was sent, and the writer and the dictionaries that it remembers
+    /// are as before.
+    ///
+    /// - `State(NotStarted)`, `State(Finished)`, `State(Failed)`: the writer's state.
+    /// - `Argument(FieldsDiffer)`: the ids are others.
+    /// - `Argument(ColumnCount)`: there aren't as many columns as fields.
+    /// - `Argument(ColumnType)`: a column doesn't have its field's type, comparing both in their
+    ///   normal form.
+    /// - `Argument(SharedDictionary)` with the id: columns of one dictionary id have different
+    ///   values.
+    /// - `Argument(TooLong)`: an array, also in dictionary values, has more than `2^63 - 1` slots
+    ///   to be written.
+    /// - `Argument(TooLarge)`: the body of a message would have more than `2^63 - 1` bytes.
+    /// - `Memory`.
+    /// - `Io`: the device failed, or it is memory whose growth was refused. Some of the first bytes
+    ///   may have been sent, and each later `start`, `write` and `finish` returns `State(Failed)`.
     pub fn write(
         &mut self,
         columns: &Chunk<AnyArray>,
@@ -258,7 +277,7 @@ impl<W: Writes + Drop> StreamWriter<W> {
         ensures means { Appends W.known W.memory (seen self.old) result (seen self.new) (chunk_written columns.now) }
     {
         let dictionaries = self.check_write(columns.arrays(), ipc_fields)?;
-        // There is room to remember all, so that nothing fails once something was sent.
+        // Room for all dictionaries is allocated here, so that nothing can fail after sending.
         self.dictionary_tracker.make_room(dictionaries.len())?;
         send_chunk(
             self.alloc,
@@ -272,12 +291,13 @@ impl<W: Writes + Drop> StreamWriter<W> {
         Ok(())
     }
 
-    /// Writes the mark that ends a stream, and flushes the device.
+    /// Writes the end mark of the stream, and flushes the device.
     ///
-    /// Faults: `State(NotStarted)`, `State(Finished)`, `State(Failed)` by the writer's state, after
-    /// which nothing was sent and the writer is as it was; `Io` where a write or the flush failed,
-    /// or where the device is memory whose growth was refused, after which each later `start`,
-    /// `write` and `finish` answers `State(Failed)`.
+    /// # Errors
+    /// - `State(NotStarted)`, `State(Finished)`, `State(Failed)`: the writer's state. Nothing was
+    ///   sent, and the writer is as before.
+    /// - `Io`: a write or the flush failed, or the device is memory whose growth was refused. Each
+    ///   later `start`, `write` and `finish` returns `State(Failed)`.
     pub fn finish(&mut self) -> Result<(), Fault>
         ensures first { StateComesFirst (fault_unless_started (seen self.old).state) (seen self.old) result (seen self.new) }
         ensures step { SendStep W.known W.grows W.failures W.room W.memory (seen self.old) result (seen self.new)

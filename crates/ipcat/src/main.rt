@@ -1,4 +1,4 @@
-//! `ipcat` writes the documented example as an Arrow IPC stream, and shows the streams and files that it is given.
+//! `ipcat` writes an example as an Arrow IPC stream, and prints streams and files.
 #![tactic(auto)]
 
 use ipc_tools::cat::start;

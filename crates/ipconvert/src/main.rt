@@ -1,4 +1,4 @@
-//! `ipconvert` reads an Arrow IPC stream or file and writes it again as a stream or a file, in either byte order; or goes on with a file.
+//! `ipconvert` copies Arrow IPC streams and files, and appends streams to files.
 #![tactic(auto)]
 
 use ipc_tools::convert::start;

@@ -1,6 +1,11 @@
-//! `"conversion_of"` a run of `ipconvert`, as in `conversions.rt`, gives its status, what it writes
-//! to standard error, what `ipcat` prints of its output, or null where that is empty, and the pairs
-//! of a file that was written; with `"begins": STREAM` whether the output begins with these bytes.
+//! The calls of `ipconvert`.
+//!
+//! `"conversion_of": RUN`, with a run as in `conversions.rt`, gives
+//!
+//! - its status, and what it writes to standard error
+//! - what `ipcat` prints of its output, or null if that is empty
+//! - the pairs of a file that was written
+//! - with `"begins": STREAM`, whether the output begins with these bytes
 
 use crate::conversions::{Conversion, converted, converted_stream};
 use crate::programs::{Program, run_beside, run_of, words};

@@ -1,18 +1,17 @@
-//! The programs. `"ipcat": {"words": [WORD, ..], "input": STREAM}` runs ipcat in memory and gives
-//! its status and what it prints; the input `{"demo": true}` is the stream that `ipcat demo`
-//! writes. Output that isn't UTF-8 is given by its length. With `"path": FILE` that file is at the
-//! path that the words name.
+//! The calls of the programs.
 //!
-//! `"ipconvert"` of the same parts runs ipconvert, and gives its status, its standard error, and
-//! what `ipcat stream` prints of its output, or null where that is empty.
-//!
-//! `"ipcat_cut"` of the same parts runs ipcat on each beginning of the input, and gives how many
-//! there are, the lengths of those on which it waits, how many end too soon, and the lengths of
-//! those with any other result.
-//!
-//! `"ipcat_damaged"` sets each byte of the input in turn to a `"byte"`, and gives how many runs
-//! print the input or refuse it by one of the `"classes"`, and the offsets of the bytes with any
-//! other result.
+//! - `"ipcat": {"words": [WORD, ..], "input": STREAM}` runs ipcat in memory, and gives its status
+//!   and what it prints. The words are its arguments. The input `{"demo": true}` is the stream that
+//!   `ipcat demo` writes. Output that isn't UTF-8 is given by its length. With `"path": FILE` that
+//!   file is at the path in the arguments.
+//! - `"ipconvert"` of the same parts runs ipconvert. It gives its status, its standard error, and
+//!   what `ipcat stream` prints of its output, or null if that is empty.
+//! - `"ipcat_cut"` of the same parts runs ipcat on each prefix of the input. It gives how many
+//!   there are, the lengths of those on which it waits, how many end too soon, and the lengths of
+//!   those with any other result.
+//! - `"ipcat_damaged"` sets each byte of the input in turn to a `"byte"`. It gives how many runs
+//!   print the input or refuse it by one of the `"classes"`, and the offsets of the bytes with any
+//!   other result.
 
 use crate::programs::{Program, Run, run_beside, run_of, words, words_of};
 use cases_files::files::file;

@@ -1,7 +1,10 @@
-//! The calls of arrays. `"slots_of": ARRAY` gives how many slots are null, and the slots;
-//! `"parts_of": ARRAY` the parts as they are stored. The others give `true` or `false`:
-//! `"are_same": [ARRAY, ARRAY]` whether the arrays are equal, `"is_same_as_clone": ARRAY` whether
-//! an array is equal to its clone, `"is_dictionary": ARRAY` whether it is a dictionary.
+//! The calls of arrays.
+//!
+//! - `"slots_of": ARRAY` gives how many slots are null, and the slots.
+//! - `"parts_of": ARRAY` gives the parts as they are stored.
+//! - `"are_same": [ARRAY, ARRAY]` gives whether the arrays are equal.
+//! - `"is_same_as_clone": ARRAY` gives whether an array is equal to its clone.
+//! - `"is_dictionary": ARRAY` gives whether it is a dictionary.
 
 use crate::arrays::array;
 use crate::parts::put_parts;

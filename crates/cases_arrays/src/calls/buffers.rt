@@ -1,8 +1,10 @@
-//! The calls of bitmaps and offsets. `"bits_of": {"bits": BITS, "slice": [OFFSET, LEN]}` gives the
-//! bits, the bytes that hold them and the index of the first bit in these.
-//! `"offsets_of": {"offsets": [..], "slice": [OFFSET, LEN]}` gives offsets of 32 bits, and the last
-//! one. Either slice may be left out. `"offset_of_length": ["int32", 9]` gives the offset for so
-//! many slots, or `null`.
+//! The calls of bitmaps and offsets. A slice may be left out.
+//!
+//! - `"bits_of": {"bits": BITS, "slice": [OFFSET, LEN]}` gives the bits, the bytes that contain
+//!   them, and the index of the first bit in these.
+//! - `"offsets_of": {"offsets": [..], "slice": [OFFSET, LEN]}` gives offsets of 32 bits, and the
+//!   last one.
+//! - `"offset_of_length": ["int32", 9]` gives the offset for so many slots, or `null`.
 
 use crate::arrays::{cut_of, offsets};
 use crate::parts::{put_bits, put_each_offset};
@@ -13,7 +15,7 @@ use lower::bitmap::Bitmap;
 use lower::offset::{Offset, OffsetsBuffer};
 use serde_json::Value;
 
-/// Bits, and the bytes that hold them.
+/// Bits, and the bytes that contain them.
 pub fn bits_of(d: &mut Decoder, out: &mut Text, value: &Value) {
     let part = d.member(value, "bits");
     if let Some(bits) = bits(d, part) {
@@ -71,7 +73,7 @@ fn part_of_offsets(
 // The types of offsets, by whether they have 64 bits.
 const OFFSET_TYPES: [(&str, bool); 2] = [("int32", false), ("int64", true)];
 
-/// The offset for so many slots or bytes, where its type can hold it.
+/// The offset for so many slots or bytes, if it fits into its type.
 pub fn offset_of_length(d: &mut Decoder, out: &mut Text, value: &Value) {
     let (offset_type, length) = d.both(value, "offset_of_length");
     let length = d.count(Some(length), "length");

@@ -1,9 +1,13 @@
-//! The calls of numbers and their bytes, on an array of numbers with a byte order, `"order": "big"`
-//! or `"little"`. `"bytes_of_numbers"` gives the name of the numbers' type, how many bytes each
-//! number has, and the bytes. `"numbers_of_bytes"` has `"bytes"` in place of the values, and gives
-//! the numbers. `"numbers_back_of"` writes them after the bytes `"front"` and reads them back
-//! followed by the bytes `"behind"`: it gives how many bytes there are before `"behind"`, and
-//! whether the numbers are the same.
+//! The calls of numbers and their bytes.
+//!
+//! Each has an array of numbers, and a byte order `"order": "big"` or `"little"`.
+//!
+//! - `"bytes_of_numbers"` gives the name of the type, how many bytes each number has, and the
+//!   bytes.
+//! - `"numbers_of_bytes"` has `"bytes"` in place of the values, and gives the numbers.
+//! - `"numbers_back_of"` writes the numbers after the bytes `"front"`, and reads them back followed
+//!   by the bytes `"behind"`. It gives how many bytes precede `"behind"`, and whether the numbers
+//!   are the same.
 
 use crate::numbers::{NumberKind, array_of_list, number_kind, numbers};
 use crate::slots::put_slots;

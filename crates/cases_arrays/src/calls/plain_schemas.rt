@@ -1,14 +1,14 @@
-//! The calls that decode a schema message by the reader and by the plain program,
-//! `ipc_plain_schema`, which knows only integers, texts, lists and structs.
+//! The calls that decode a schema message by the reader and by the plain program.
 //!
-//! - `"plain_schema_of": BYTES` gives what the plain program decodes: a schema, in which an
-//!   extension type is the type that it is stored as, `"Other"`, a schema with another type, or
-//!   `"NoSchema"`.
+//! The plain program, `ipc_plain_schema`, only supports integers, texts, lists and structs.
+//!
+//! - `"plain_schema_of": BYTES` gives what the plain program decodes: a schema, `"Other"` (a schema
+//!   with another type) or `"NoSchema"`. An extension type is the type that it is stored as.
 //! - `"schema_by_both": BYTES` gives `{"plain": PLAIN, "reader": SCHEMA, "agree": true}`.
 //! - `"damaged_schemas_of": {"bytes": BYTES, "kinds": ["NoSchema", ..]}` decodes the message with
-//!   each damage by both, and gives
+//!   each damage by both. It gives
 //!   `{"cuts": 48, "sets": 192, "differ": [], "kinds": ["NoSchema", ..]}`: how many damages were
-//!   tried, those at which the two differ, and which of these kinds of answers occurred.
+//!   tried, those at which the two differ, and which of these kinds of results occurred.
 //!   `"only_cuts": true` leaves out the damages that set a byte.
 
 use crate::same_schemas::{are_plain, is_same_schema};

@@ -1,14 +1,15 @@
 //! The calls of schemas.
 //!
-//! - `"schema_of": BYTES` decodes a schema message, and gives the schema. `"visits_of": BYTES` does
-//!   so too, and gives the schema with `"visits": 3`, how many tables of fields were opened, or
-//!   `{"fault": FAULT, "visits": 3}` where decoding fails.
-//! - `"schema_bytes_of": SCHEMA` encodes a schema message, and gives its bytes;
-//!   `"schema_back_of": SCHEMA` decodes them, and gives the schema.
-//! - `"weight_of": SCHEMA` gives the weight of a schema's tables, or with `"pairs": {"k": "v"}` the
-//!   weight of a file's schema and of these pairs in its footer; null where 64 bits don't hold it.
-//! - `"normal_of": SCHEMA` gives the normal form, with the default ids; `"is_normal": SCHEMA`
-//!   whether a schema is its own normal form.
+//! - `"schema_of": BYTES` decodes a schema message, and gives the schema.
+//! - `"visits_of": BYTES` does so too, and gives the schema with `"visits": 3`, how many tables of
+//!   fields were opened. If decoding fails it gives `{"fault": FAULT, "visits": 3}`.
+//! - `"schema_bytes_of": SCHEMA` encodes a schema message, and gives its bytes.
+//! - `"schema_back_of": SCHEMA` decodes these bytes, and gives the schema.
+//! - `"weight_of": SCHEMA` gives the weight of a schema's tables. With `"pairs": {"k": "v"}` it is
+//!   the weight of a file's schema and of these pairs in its footer. It is null if it has more than
+//!   64 bits.
+//! - `"normal_of": SCHEMA` gives the normal form, with the default ids.
+//! - `"is_normal": SCHEMA` gives whether a schema is its own normal form.
 //! - `"are_same_schemas": [SCHEMA, SCHEMA]` gives whether a clone of the first and the second are
 //!   the same.
 
@@ -124,8 +125,9 @@ pub fn are_same_schemas(d: &mut Decoder, out: &mut Text, value: &Value) {
     }
 }
 
-/// Appends the weight of a schema's tables, or of a file's schema and pairs; null where 64 bits
-/// don't hold it.
+/// Appends the weight of a schema's tables, or of a file's schema and pairs.
+///
+/// It is null if it has more than 64 bits.
 pub fn weight_of(d: &mut Decoder, out: &mut Text, value: &Value) {
     match weighed(d, value) {
         None => out.put("null"),

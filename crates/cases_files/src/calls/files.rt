@@ -1,23 +1,24 @@
 //! The calls that read files, in the notation of `files.rt`.
 //!
-//! `"file_of": FILE` gives the metadata of a file: `{"blocks": [[8, 152, 64], ..], "columns": ["x:
-//! Int32", ..], "dictionary_blocks": [..], "metadata": [["k", "v"], ..], "order": "little", "size":
-//! 600}`. `"file_within"` with `"limit": 5` beside the parts of a file gives the same, unless its
-//! footer costs more. `"file_schema_of": FILE` gives its schema. `"dictionaries_of": FILE` with
-//! `"shown": [0, ..]` gives `[SLOTS, ..]`, the values of these dictionary ids, null for an id
-//! without values.
+//! Each has the parts of a file. Columns are chosen as in `projections.rt` of `cases_records`.
 //!
-//! `"batches_of": FILE` with `"at": [1, 0, ..]`, and columns that are chosen as in `projections.rt`
-//! of `cases_records`, reads the dictionaries and then the batch of each of these blocks, and gives
-//! `[CHUNK, ..]`, where an error may replace a chunk. `"given_of"` of the same parts gives how many
-//! bytes the device returned for each batch.
-//!
-//! `"cut_files_of": FILE` reads the metadata of the file cut to each length, and gives
-//! `{"cuts": 600, "differ": [], "sets": 0}`: the number of cuts, and the cuts whose metadata can be
-//! read. `"damaged_files_of": {"file": FILE, "places": [[0, 8], ..], "bytes": BYTES}` sets each
-//! byte of these ranges (an offset and a length) to each of these bytes, and reads the metadata,
-//! the dictionaries and each batch. It gives `{"differ": [], "sets": 600}`: the number of damages,
-//! and those that return `Io` or `Memory`.
+//! - `"file_of"` gives the metadata of a file, with the members `"blocks": [[8, 152, 64], ..]`,
+//!   `"columns": ["x: Int32", ..]`, `"dictionary_blocks": [..]`, `"metadata": [["k", "v"], ..]`,
+//!   `"order": "little"` and `"size": 600`.
+//! - `"file_within"` with `"limit": 5` gives the same, unless its footer costs more.
+//! - `"file_schema_of"` gives its schema.
+//! - `"dictionaries_of"` with `"shown": [0, ..]` gives `[SLOTS, ..]`: the values of these
+//!   dictionary ids, null for an id without values.
+//! - `"batches_of"` with `"at": [1, 0, ..]` and chosen columns reads the dictionaries, and then the
+//!   batch of each of these blocks. It gives `[CHUNK, ..]`, where an error may replace a chunk.
+//! - `"given_of"` of the same parts gives how many bytes the device returned for each batch.
+//! - `"cut_files_of"` reads the metadata of the file cut to each length. It gives
+//!   `{"cuts": 600, "differ": [], "sets": 0}`: the number of cuts, and the cuts whose metadata can
+//!   be read.
+//! - `"damaged_files_of": {"file": FILE, "places": [[0, 8], ..], "bytes": BYTES}` sets each byte of
+//!   these ranges (an offset and a length) to each of these bytes. It reads the metadata, the
+//!   dictionaries and each batch, and gives `{"differ": [], "sets": 600}`: the number of damages,
+//!   and those that return `Io` or `Memory`.
 
 ghost use Rattle.std.specs.Prelude.{length};
 ghost use Rattle.std.specs.Option.{option_copied};

@@ -1,9 +1,13 @@
-//! The calls of a reader of files, block by block. `"items_of": FILE` with `"calls": 2`, and
-//! columns that are chosen as in `projections.rt` of `cases_records`, calls `next` so many times.
-//! It gives `{"columns": ["x: Int32", ..], "items": [[ITEM, FINISHED], ..]}`: the columns of the
-//! reader's schema, and for each call its answer (a chunk, null or an error) and whether the reader
-//! is finished after it. With `"device": true` it gives `"bytes": HEX` too, the bytes of the device
-//! that `into_inner` returns after these calls.
+//! The calls of a reader of files, block by block.
+//!
+//! `"items_of": FILE` with `"calls": 2` calls `next` so many times. Columns are chosen as in
+//! `projections.rt` of `cases_records`. It gives
+//!
+//! - `"columns": ["x: Int32", ..]`: the columns of the reader's schema
+//! - `"items": [[ITEM, FINISHED], ..]`: for each call its result (a chunk, null or an error) and
+//!   whether the reader is finished after it
+//! - with `"device": true`, `"bytes": HEX`: the bytes of the device that `into_inner` returns after
+//!   these calls
 
 use crate::calls::files::{Input, metadata_in};
 use crate::files::file;

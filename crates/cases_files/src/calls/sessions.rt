@@ -1,19 +1,19 @@
 //! The calls that write a file in sessions.
 //!
-//! `"created_by": {"fields": [FIELD, ..], "pairs": {"k": "v"}, "chunks": [[ARRAY, ..], ..]}`, with
-//! the ids and the byte order of `written.rt` of `cases_streams`, creates a file of these chunks.
-//! `"sessions_by"` of the same parts appends to it in later sessions, which are
-//! `"later": [[[ARRAY, ..], ..], ..]`. Both give
-//! `{"answers": [..], "chunks": [..], "footer": METADATA}`: the answer of the write of each chunk
-//! (of `"sessions_by"` a list for each session), and what is read from the file, as in
-//! `written_files.rt`.
+//! - `"created_by"` creates a file. Its parts are `"fields": [FIELD, ..]`, `"pairs": {"k": "v"}`
+//!   and `"chunks": [[ARRAY, ..], ..]`, with the ids and the byte order of `written.rt` of
+//!   `cases_streams`.
+//! - `"sessions_by"` of the same parts also appends to it in later sessions, which are
+//!   `"later": [[[ARRAY, ..], ..], ..]`.
+//! - `"session_on": {"on": FILE, "chunks": [[ARRAY, ..], ..]}` appends to a file in one session.
+//!   With `"metadata": true` the metadata of the file are read first and passed to the call. If the
+//!   session returns an error, the file must be unchanged.
+//! - `"sessions_on": {"on": FILE, "later": [..]}` appends to a file in several sessions.
 //!
-//! `"session_on": {"on": FILE, "chunks": [[ARRAY, ..], ..]}` appends to a file in one session. With
-//! `"metadata": true` the metadata of the file are read first and passed to the call. It gives
-//! `"end"` too, the answer of the end of the session, and `"before"`, what is read after the
-//! session at the blocks of the old metadata. If the session returns an error, the file must be
-//! unchanged. `"sessions_on": {"on": FILE, "later": [..]}` appends to a file in several sessions,
-//! and gives what `"sessions_by"` gives.
+//! They give `{"answers": [..], "chunks": [..], "footer": METADATA}`. These are the result of the
+//! write of each chunk (a list for each session, if there may be several), and what is read from
+//! the file, as in `written_files.rt`. `"session_on"` also gives `"end"`, the result of the end of
+//! the session, and `"before"`, what is read after it at the blocks of the old metadata.
 
 use crate::calls::files::metadata_of;
 use crate::calls::written_files::{copy_of, left_by, put_items, put_read};

@@ -1,16 +1,21 @@
 //! The calls that read a whole file at once.
 //!
-//! `"whole_file_of": FILE` gives `{"chunks": [CHUNK, ..], "footer": METADATA}`, with the metadata
-//! as `file_of` gives them. `"file_columns_of": FILE`, with columns and a limit that are chosen as
-//! in `projections.rt` of `cases_records`, gives the same of these columns, or null if the file
-//! doesn't have one of them or one is chosen twice.
+//! - `"whole_file_of": FILE` gives `{"chunks": [CHUNK, ..], "footer": METADATA}`, with the metadata
+//!   as `file_of` gives them.
+//! - `"file_columns_of": FILE` gives the same of some columns and rows, chosen as in
+//!   `projections.rt` of `cases_records`. It is null if the file doesn't have a column or one is
+//!   chosen twice.
+//! - `"file_round_trip_of": {"fields": [FIELD, ..], "pairs": {"k": "v"}, "calls": [CALL, ..]}`
+//!   writes a file and reads it. It may have the ids and the byte order of `written.rt` of
+//!   `cases_streams`.
 //!
-//! `"file_round_trip_of": {"fields": [FIELD, ..], "pairs": {"k": "v"}, "calls": [CALL, ..]}`, with
-//! the ids and the byte order of `written.rt` of `cases_streams`, writes a file and reads it. It
-//! gives `{"answers": [..], "are_ids_same": true, "chunks": [..], "is_schema_same": true, "order":
-//! "little", "pairs": [["k", "v"]]}`: the answer of each call, what is read, whether the schema is
-//! the one that was passed in, and whether the ids are those that were passed in, or the default
-//! ids if none were.
+//! The last one gives these members:
+//!
+//! - `"answers": [..]`: the result of each call
+//! - `"chunks": [..]`, `"order": "little"`, `"pairs": [["k", "v"]]`: what is read
+//! - `"is_schema_same": true`: whether the schema is the one that was passed in
+//! - `"are_ids_same": true`: whether the ids are those that were passed in, or the default ids if
+//!   none were
 
 use crate::calls::files::{put_metadata, put_pairs};
 use crate::files::file;

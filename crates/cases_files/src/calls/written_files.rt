@@ -1,18 +1,15 @@
 //! The calls that write files, in the notation of `written_files.rt`.
 //!
-//! `"file_by": WRITTEN` gives `{"answers": [..], "bytes": HEX, "chunks": [ITEM, ..], "footer":
-//! METADATA}`: the answer of each call of a writer, the bytes, and what is read back: the chunk or
-//! the error of each block, and the metadata, as `file_of` gives them. If the metadata can't be
-//! read, there are no chunks, and the footer is the error. With `"as_stream": true` it gives
-//! `"stream": {"chunks": [..], "end": END}` too, which is read from the bytes after the first
-//! eight.
-//!
-//! `"file_on": {"on": FILE, "calls": [CALL, ..]}` gives the same for a writer that appends to a
-//! file. It gives `"before": [ITEM, ..]` too: what is read after these calls at the blocks of the
-//! old metadata. If the writer can't be created, the file must be unchanged.
-//!
-//! `"whole_file_by": {"fields": [FIELD, ..], "pairs": {"k": "v"}, "calls": [CALL, ..]}` gives the
-//! same for one call that makes these calls, none of which sets pairs, and finishes the file.
+//! - `"file_by": WRITTEN` gives the members `"answers": [..]`, the result of each call of a writer,
+//!   `"bytes": HEX`, and what is read back. These are `"chunks": [ITEM, ..]`, the chunk or the
+//!   error of each block, and `"footer": METADATA`, as `file_of` gives them. If the metadata can't
+//!   be read, there are no chunks, and the footer is the error. With `"as_stream": true` it also
+//!   gives `"stream": {"chunks": [..], "end": END}`, read from the bytes after the first eight.
+//! - `"file_on": {"on": FILE, "calls": [CALL, ..]}` gives the same for a writer that appends to a
+//!   file. It also gives `"before": [ITEM, ..]`: what is read after these calls at the blocks of
+//!   the old metadata. If the writer can't be created, the file must be unchanged.
+//! - `"whole_file_by": {"fields": [FIELD, ..], "pairs": {"k": "v"}, "calls": [CALL, ..]}` gives the
+//!   same for one call that makes these calls, none of which sets pairs, and finishes the file.
 
 use crate::calls::files::{metadata_in, metadata_of, put_metadata};
 use crate::calls::items::{Reader, fields_of, put_next, reader_of_all};
@@ -134,8 +131,9 @@ fn put_file(d: &mut Decoder, out: &mut Text, file: &[u8], value: &Value) {
     put_read(d, out, file, value);
 }
 
-/// Appends what is read from a file, as further members: its metadata, its chunks, and its stream
-/// where a case asks for that.
+/// Appends what is read from a file, as further members.
+///
+/// These are its metadata, its chunks, and its stream if the case wants it.
 pub fn put_read(d: &mut Decoder, out: &mut Text, file: &[u8], value: &Value) {
     out.put(",\"footer\":");
     match metadata_in(d.alloc(), &mut MemFile::new(file)) {

@@ -1,12 +1,15 @@
-//! The calls of types. `"counts_of": [TYPE, EXTRA]` gives how many nodes and buffers a column has,
-//! where a union has so many buffers in front (0 or 1); `"physical_type_of": TYPE` its physical
-//! type.
+//! The calls of types.
 //!
-//! The others give `true` or `false`: `"are_same_types": [TYPE, TYPE]` and
-//! `"are_same_fields": [FIELD, FIELD]`, by way of a clone of the first;
-//! `"logical_type_is": [TYPE, TYPE]`, the type beneath the extensions of the first;
-//! `"key_type_is": ["uint8", TYPE]`; `"is_dictionary_type": TYPE`;
-//! `"is_within_levels": [[FIELD, ..], LEVELS]`.
+//! - `"counts_of": [TYPE, EXTRA]` gives how many nodes and buffers a column has. A union has EXTRA
+//!   (0 or 1) buffers before its own.
+//! - `"physical_type_of": TYPE` gives its physical type.
+//!
+//! The others give `true` or `false`:
+//!
+//! - `"are_same_types": [TYPE, TYPE]`, `"are_same_fields": [FIELD, FIELD]`: on a clone of the first
+//! - `"logical_type_is": [TYPE, TYPE]`: on the first without its extensions
+//! - `"key_type_is": ["uint8", TYPE]`, `"is_dictionary_type": TYPE`
+//! - `"is_within_levels": [[FIELD, ..], LEVELS]`
 
 ghost use Rattle.std.specs.Prelude.{◌≤◌};
 

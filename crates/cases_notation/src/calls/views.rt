@@ -1,7 +1,11 @@
-//! The calls of views. `"views_of": BYTES` gives what the accessors of a message return,
-//! `"footer_views_of": BYTES` those of a file's footer, in the notation of `tables.rt` with no part
-//! left out. An absent part is null. One that is malformed is `{"fault": "Outside"}`, and the parts
-//! beside it are printed all the same. A batch also has whether it is compressed.
+//! The calls of views.
+//!
+//! - `"views_of": BYTES` gives what the accessors of a message return.
+//! - `"footer_views_of": BYTES` gives the same for a file's footer.
+//!
+//! The notation is that of `tables.rt`, with no part left out. An absent part is null. A malformed
+//! one is `{"fault": "Outside"}`, and the other parts are still printed. A batch also has whether
+//! it is compressed.
 
 mod parts;
 mod types;

@@ -1,11 +1,14 @@
 //! The types of tables, by the names of the Arrow format's `Schema.fbs`.
 //!
-//! `"Null"`, `"Binary"`, `"Utf8"`, `"Bool"`, `"List"`, `"Struct"`, `"LargeBinary"`, `"LargeUtf8"`,
-//! `"LargeList"`, `["Int", 24, true]`, `["Decimal", 5, 2, 128]` (precision, scale, bits),
-//! `["FixedSizeBinary", 16]`, `["FixedSizeList", 2]`, `["Map", true]`,
-//! `["Union", "Dense", [5, 7]]`, `["FloatingPoint", "Half"]`, `["Date", "Day"]`,
-//! `["Time", "Second", 32]`, `["Timestamp", "Second", "UTC"]`, `["Interval", "DayTime"]`,
-//! `["Duration", "Second"]`. The ids of a union and the time zone of a timestamp may be null.
+//! - `"Null"`, `"Binary"`, `"Utf8"`, `"Bool"`, `"List"`, `"Struct"`
+//! - `"LargeBinary"`, `"LargeUtf8"`, `"LargeList"`
+//! - `["Int", 24, true]`: bits, and whether it is signed
+//! - `["Decimal", 5, 2, 128]`: precision, scale, bits
+//! - `["FixedSizeBinary", 16]`, `["FixedSizeList", 2]`, `["Map", true]`
+//! - `["Union", "Dense", [5, 7]]`; the ids may be null
+//! - `["FloatingPoint", "Half"]`, `["Date", "Day"]`, `["Time", "Second", 32]`
+//! - `["Timestamp", "Second", "UTC"]`; the time zone may be null
+//! - `["Interval", "DayTime"]`, `["Duration", "Second"]`
 
 use crate::decoder::Decoder;
 use crate::types::{optional_ids, optional_text};

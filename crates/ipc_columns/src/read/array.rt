@@ -1,4 +1,4 @@
-//! Reads columns that have children, a file for each physical type.
+//! Reads columns with children, one file for each physical type.
 pub mod fixed_size_list;
 pub mod list;
 pub mod map;

@@ -41,8 +41,8 @@ use lower::error::{Error, Rule};
 use lower_arrays::array::AnyArray;
 use std::alloc::Global;
 
-// The column of a type without children at a place as an array of the type `own`, which is stored as this
-// one, and the place behind it.
+// Reads a column without children as an array of type `own`, stored as `data_type`. Returns the
+// position after it too, as all of these do.
 fn read_plain<R: Reads + Seeks>(
     alloc: Global,
     data_type: &DataType,
@@ -75,8 +75,7 @@ fn read_plain<R: Reads + Seeks>(
     Ok((array, after))
 }
 
-// The column of a type at a place as an array of the type `own`, which is stored as this one, and the place
-// behind it.
+// Reads a column as an array of type `own`, stored as `data_type`.
 #[cycle(columns)]
 #[tactic(auto, using(crate::proofs::ColumnLevels::columns))]
 fn read_as<R: Reads + Seeks>(
@@ -134,7 +133,7 @@ fn read_as<R: Reads + Seeks>(
     }
 }
 
-// The column of lists at a place, and the place behind it.
+// Reads a column of lists.
 #[cycle(columns)]
 #[tactic(auto, using(crate::proofs::ColumnLevels::columns, ipc_flat_columns::proofs::Refusals::child_faults, ipc_flat_columns::proofs::Reasons::reasons))]
 fn read_list<R: Reads + Seeks>(
@@ -186,7 +185,7 @@ fn read_list<R: Reads + Seeks>(
     Ok((array, after))
 }
 
-// The column of lists of a fixed size from a place on, and the place behind it.
+// Reads a column of lists of a fixed size.
 #[cycle(columns)]
 #[tactic(auto, using(crate::proofs::ColumnLevels::columns, ipc_flat_columns::proofs::Refusals::child_faults, ipc_flat_columns::proofs::Reasons::reasons))]
 fn read_fixed_size_list<R: Reads + Seeks>(
@@ -241,7 +240,7 @@ fn read_fixed_size_list<R: Reads + Seeks>(
     Ok((array, after))
 }
 
-// The column of maps from a place on, and the place behind it.
+// Reads a column of maps.
 #[cycle(columns)]
 #[tactic(auto, using(crate::proofs::ColumnLevels::columns, ipc_flat_columns::proofs::Refusals::child_faults, ipc_flat_columns::proofs::Reasons::reasons))]
 fn read_map<R: Reads + Seeks>(
@@ -291,7 +290,7 @@ fn read_map<R: Reads + Seeks>(
     Ok((array, after))
 }
 
-// The column of structs at a place, and the place behind it.
+// Reads a column of structs.
 #[cycle(columns)]
 #[tactic(auto, using(crate::proofs::ColumnLevels::columns, ipc_flat_columns::proofs::Refusals::child_faults, ipc_flat_columns::proofs::Reasons::reasons))]
 fn read_struct<R: Reads + Seeks>(
@@ -329,7 +328,7 @@ fn read_struct<R: Reads + Seeks>(
     Ok((array, after))
 }
 
-// The columns of some fields, one behind the other from a place on, each of so many slots, and the place behind them.
+// Reads the columns of some fields, each of so many rows.
 #[cycle(columns)]
 #[tactic(auto, using(crate::proofs::ColumnLevels::columns, ipc_flat_columns::proofs::Refusals::child_faults, ipc_flat_columns::proofs::Reasons::reasons))]
 fn read_fields<R: Reads + Seeks>(
@@ -381,8 +380,7 @@ fn read_fields<R: Reads + Seeks>(
     Ok((columns, place))
 }
 
-// The column of a union at a place, and the place behind it: before the children stand the types, and of a dense
-// union the offsets.
+// Reads a column of unions. The type ids, and the offsets of a dense union, precede the children.
 #[cycle(columns)]
 #[tactic(auto, using(crate::proofs::ColumnLevels::columns, ipc_flat_columns::proofs::Refusals::child_faults, ipc_flat_columns::proofs::Reasons::reasons, crate::proofs::UnionReads::union_types_first))]
 fn read_union<R: Reads + Seeks>(
@@ -443,7 +441,7 @@ fn read_union<R: Reads + Seeks>(
     }
 }
 
-// The columns of some fields, one behind the other from a place on, each as a whole, and the place behind them.
+// Reads the columns of some fields, all rows of each.
 #[cycle(columns)]
 #[tactic(auto, using(crate::proofs::ColumnLevels::columns, ipc_flat_columns::proofs::Refusals::child_faults, ipc_flat_columns::proofs::Reasons::reasons))]
 fn read_whole_fields<R: Reads + Seeks>(
@@ -490,18 +488,27 @@ fn read_whole_fields<R: Reads + Seeks>(
     Ok((columns, place))
 }
 
-/// The column of a type at a place, and the place behind it (Arrow columnar format, "RecordBatch message": nodes
-/// and buffers stand in pre-order). The id is that of the field whose type this is, and the others are those of
-/// its child fields. At most `limit` slots are read. Its entries have to be there, by the counts of its type. Whatever the
-/// bytes are, the array holds no more of them than the column's buffers list, and one offset for each buffer of offsets
-/// that lists nothing; the values of dictionaries aside, which are shared.
+/// Reads a column of any type, and returns the position after it.
 ///
-/// `Float` for floats; `InvalidId` where no dictionary is known under the id of a column of keys, `InvalidIdDataType` where
-/// its values have another type; `NegativeFooterLength` where a length, or the offset of a buffer that is used, is below 0,
-/// `InvalidBuffer` where such a buffer is too short, `InvalidBitmap` where one of bits is, `Ended` where the device is,
-/// `InvalidDataType` for bytes or lists of the fixed size 0; where parts break a rule of their array `FallingOffset`,
-/// `Utf8`, `NoChild`, `ChildLength`, `UnionType`, `DictionaryKey`, and the others of [`lower::error::Rule`]. `Io` and
-/// `Memory` come too, and no other.
+/// - `id`, `ids`: the dictionary ids of the field with this type, and of its child fields.
+/// - `place`: the position of the column. The entries that its type needs must be present.
+/// - `limit`: reads at most this many rows; None reads all.
+///
+/// See "RecordBatch message" in the Arrow columnar format: nodes and buffers are in pre-order. The
+/// array retains at most the encoded length of the column's buffers, plus one offset for each empty
+/// offset buffer. Dictionary values aren't counted, as they are shared.
+///
+/// # Errors
+/// - `Float`: the column has floats.
+/// - `InvalidId`: no dictionary was read under the id of a column of keys.
+/// - `InvalidIdDataType`: that dictionary has values of another type.
+/// - `NegativeFooterLength`: a length, or the offset of a buffer in use, is negative.
+/// - `InvalidBuffer`: a buffer in use is too short; `InvalidBitmap`: one of bits is.
+/// - `Ended`: the device is too short.
+/// - `InvalidDataType`: bytes or lists have the fixed size 0.
+/// - `FallingOffset`, `Utf8`, `NoChild`, `ChildLength`, `UnionType`, `DictionaryKey` and others of
+///   [`lower::error::Rule`]: the parts break a rule of their array.
+/// - `Io`, `Memory`.
 #[tactic(auto, using(crate::proofs::ColumnLevels::same_stored))]
 pub fn read<R: Reads + Seeks>(
     alloc: Global,

@@ -1,4 +1,6 @@
-//! Reads the chunks of a file, one after the other: the Arrow columnar format, "IPC File Format".
+//! Reads the chunks of a file in order.
+//!
+//! Arrow columnar format, "IPC File Format".
 mod next;
 mod runs;
 mod state;

@@ -1,4 +1,4 @@
-//! Reads columns without children, a file for each physical type.
+//! Reads columns without children, one file for each physical type.
 pub mod binary;
 pub mod boolean;
 pub mod dictionary;

@@ -1,4 +1,4 @@
-//! The entries of a batch beside the device that has its body.
+//! The entries of a batch, and the offset of its body on a device.
 ghost use Rattle.std.specs.Prelude.{◌<◌, ◌≤◌, ◌^◌, length};
 ghost use Rattle.ipc_flat_columns.specs.Limits.{AreSmall};
 
@@ -7,22 +7,22 @@ use ipc_views::{Buffers, Nodes};
 use lower::types::Endianness;
 use std::snapshot::Snapshot;
 
-/// What a batch lists, and where its body begins on a device.
+/// The entries of a batch, and the offset of its body on a device.
 #[derive(Drop)]
 pub struct Body<'a, R> {
     /// The lengths and null counts of the columns, in pre-order.
     pub nodes: Nodes<'a>,
-    /// Where the memory of the columns lies, in pre-order, counted from the body's first byte.
+    /// The buffers of the columns, in pre-order. Their offsets count from the start of the body.
     pub buffers: Buffers<'a>,
-    /// The place of the body's first byte on the device.
+    /// The offset of the body on the device, in bytes.
     pub base: u64,
-    /// The order of the bytes of a number.
+    /// The byte order of numbers.
     pub order: Endianness,
-    /// How many buffers stand in front of a union's own: 1 before version 5, else 0.
+    /// How many buffers precede a union's own: 1 before version 5, else 0.
     pub extra: usize,
-    /// The values of the dictionaries that are known.
+    /// The dictionaries that were read before.
     pub dictionaries: &'a Dictionaries,
-    /// The device as it was when reading began. It takes no bytes.
+    /// The device when reading began, for proofs. It has no size.
     pub device: Snapshot<R>,
     pub ghost nodes_fit: { length nodes < 2 ^ 64 },
     pub ghost buffers_fit: { length buffers < 2 ^ 64 },
@@ -30,7 +30,7 @@ pub struct Body<'a, R> {
     pub ghost extra_small: { extra ≤ 1 },
 }
 
-/// Where the entries of a column begin.
+/// The position of a column among the entries.
 #[derive(Clone, Copy, Debug, PartialEq, Eq)]
 pub struct Place {
     /// The index of its first node.

@@ -28,9 +28,9 @@ use lower::datatypes::{DataType, PhysicalType};
 use lower_arrays::array::AnyArray;
 use std::alloc::Global;
 
-/// The column of a type without children at a place, by how it lies in memory.
+/// Reads a column without children, by its physical type.
 ///
-/// The faults are those of the calls for its physical type; no other comes.
+/// The errors are those of the call for that type.
 pub fn read_flat<R: Reads + Seeks>(
     alloc: Global,
     physical_type: PhysicalType,
@@ -98,7 +98,7 @@ pub fn read_flat<R: Reads + Seeks>(
     }
 }
 
-/// The place behind a column without children.
+/// The position after a column without children.
 pub fn flat_after<R>(
     physical_type: PhysicalType,
     data_type: &DataType,

@@ -1,4 +1,4 @@
-//! Reads numbers, bits, bytes and offsets out of the buffers of a batch.
+//! Reads numbers, bits, bytes and offsets from the buffers of a batch.
 ghost use Rattle.std.specs.Prelude.{◌≡◌, ◌+◌, ◌*◌, ◌-◌, ◌<◌, ◌≤◌, ◌^◌, ◌↔◌, length, take, drop, vec_len, IsTrue, IfOk, IfErr, IfSome, IsNone, MatchBool, min, ℕ, pos, List, [], ◌∷◌, refl};
 ghost use Rattle.ipc_devices.specs.Device.{Rises, after};
 ghost use Rattle.ipc_devices.specs.Faults.{OnIo, UnlessIo, OwnFault, Answers};
@@ -28,10 +28,10 @@ use lower::offset::{Offset, OffsetsBuffer};
 use lower::types::{Endianness, NativeType, PrimitiveType};
 use std::alloc::Global;
 
-// How many bytes are taken from the device at once.
+// How many bytes are read from the device at once.
 const BLOCK: usize = 4096;
 
-/// A length or an offset as a size: `NegativeFooterLength` where it is below 0.
+/// A length or an offset as a `usize`; `NegativeFooterLength` if it is negative.
 pub fn natural(number: i64) -> Result<usize, Fault>
     ensures exact { Answers result (IsSize number) (λ n. (n ≡ size number) × (n < 2 ^ 63)) }
     ensures only { IfErr result (λ e. e ≡ OutOfSpec NegativeFooterLength) }
@@ -43,7 +43,7 @@ pub fn natural(number: i64) -> Result<usize, Fault>
     Ok(number as usize)
 }
 
-// A length of an entry, where one below 0 counts as none.
+// The length of an entry; a negative one counts as 0.
 fn size_of(number: i64) -> usize
     ensures size { result ≡ size number }
     ensures small { result < 2 ^ 63 }
@@ -51,9 +51,11 @@ fn size_of(number: i64) -> usize
     number.max(0) as usize
 }
 
-/// Reads the next `count` numbers, whose bytes stand in the given order. Where the device shows them they go
-/// straight into their vector, else through a block of 4,096 bytes, and the vector grows as they come: that a
-/// length is listed doesn't mean that the device has it. `Ended` where there are fewer.
+/// Reads the next `count` numbers, whose bytes have the order `order`.
+///
+/// If the device can lend the bytes, they are converted directly, else through a block of 4,096
+/// bytes. Then the vector grows as they come, as the device may not have all that is stated. The
+/// errors are `Ended` if there are fewer, `Io` and `Memory`.
 pub fn read_numbers<T: NativeType, R: Reads>(
     alloc: Global,
     reader: &mut R,
@@ -77,7 +79,8 @@ pub fn read_numbers<T: NativeType, R: Reads>(
     }
 }
 
-// The next `count` numbers, where the device shows their bytes. None where it doesn't, and nothing is given then.
+// The next `count` numbers, if the device can lend their bytes. None if it can't; nothing is read
+// then.
 fn take_shown<T: NativeType, R: Reads>(
     alloc: Global,
     reader: &mut R,
@@ -101,7 +104,7 @@ fn take_shown<T: NativeType, R: Reads>(
         return Ok(None);
     };
     let mut numbers = Vec::new(alloc);
-    // How much was given is known of the reader once it is asked, behind what it shows.
+    // `given` is called for the proof alone: it states how many bytes `pass` read.
     let Some(bytes) = reader.pass(length) else {
         let _given = reader.given();
         return Ok(None);
@@ -146,7 +149,8 @@ fn read_pieces<T: NativeType, R: Reads>(
     Ok(numbers)
 }
 
-// The next `count` bytes, where the device shows them: they are copied once. None where it doesn't, and nothing is given then.
+// A copy of the next `count` bytes, if the device can lend them. None if it can't; nothing is read
+// then.
 fn take_shown_bytes<R: Reads>(
     alloc: Global,
     reader: &mut R,
@@ -164,7 +168,7 @@ fn take_shown_bytes<R: Reads>(
         (count ≤ length (after (R.memory reader.old))) × (v.items ≡ take count (after (R.memory reader.old))))) }
     ensures whole { IsTrue R.still → (R.memory reader.new).whole ≡ (R.memory reader.old).whole }
 {
-    // How much was given is known of the reader once it is asked, behind what it shows.
+    // `given` is called for the proof alone: it states how many bytes `pass` read.
     let Some(bytes) = reader.pass(count) else {
         let _given = reader.given();
         return Ok(None);
@@ -174,7 +178,7 @@ fn take_shown_bytes<R: Reads>(
     Ok(Some(copied?))
 }
 
-// Reads the next `count` bytes: where the device shows them by one copy, else piece by piece.
+// The next `count` bytes: one copy if the device can lend them, else in pieces.
 fn read_next_bytes<R: Reads>(alloc: Global, reader: &mut R, count: usize) -> Result<Vec<u8>, Fault>
     requires small { count < 2 ^ 63 }
     ensures count { IfOk result (λ v. length v.items ≡ count) }
@@ -194,7 +198,7 @@ fn read_next_bytes<R: Reads>(alloc: Global, reader: &mut R, count: usize) -> Res
     }
 }
 
-// Reads `count` numbers, at least one, that stand `offset` bytes behind the place `base`.
+// Reads `count` numbers, at least one, at `offset` bytes after `base`.
 fn read_numbers_at<T: NativeType, R: Reads + Seeks>(
     alloc: Global,
     reader: &mut R,
@@ -216,7 +220,7 @@ fn read_numbers_at<T: NativeType, R: Reads + Seeks>(
     ensures whole { IsTrue R.still → (R.memory reader.new).whole ≡ (R.memory reader.old).whole }
 {
     let Some(place) = base.checked_add(offset as u64) else {
-        // The end has a place below this one.
+        // for the proof: the end of the device, a `u64`, is before this offset
         reader.seek_end()?;
         return Err(Fault::Ended);
     };
@@ -224,7 +228,7 @@ fn read_numbers_at<T: NativeType, R: Reads + Seeks>(
     read_numbers(alloc, reader, count, order)
 }
 
-// Reads `count` bytes, at least one, that stand `offset` bytes behind the place `base`.
+// Reads `count` bytes, at least one, at `offset` bytes after `base`.
 fn read_bytes_at<R: Reads + Seeks>(
     alloc: Global,
     reader: &mut R,
@@ -246,7 +250,7 @@ fn read_bytes_at<R: Reads + Seeks>(
     ensures whole { IsTrue R.still → (R.memory reader.new).whole ≡ (R.memory reader.old).whole }
 {
     let Some(place) = base.checked_add(offset as u64) else {
-        // The end has a place below this one.
+        // for the proof: the end of the device, a `u64`, is before this offset
         reader.seek_end()?;
         return Err(Fault::Ended);
     };
@@ -262,7 +266,7 @@ fn fit(count: usize, width: usize, listed: usize) -> bool
     count <= listed / width
 }
 
-// What a type of numbers is called.
+// The name of a number type in errors.
 fn type_name(primitive: PrimitiveType) -> &'static str {
     match primitive {
         PrimitiveType::Int8 => "i8",
@@ -283,7 +287,7 @@ fn type_name(primitive: PrimitiveType) -> &'static str {
     }
 }
 
-// The fault of a buffer of `listed` bytes that doesn't have `count` values of `width` bytes.
+// The error that `listed` bytes are too few for `count` values of `width` bytes.
 fn too_short(count: usize, type_name: &'static str, width: usize, listed: usize) -> Fault
     ensures buffer { IsBufferFault result }
     ensures told { TellsShort count (min (count * width) (2 ^ 64 - 1)) listed result }
@@ -296,10 +300,13 @@ fn too_short(count: usize, type_name: &'static str, width: usize, listed: usize)
     })
 }
 
-/// The first `count` numbers of the buffer at `index`; none where `count` is 0.
+/// Reads the first `count` numbers of the buffer at `index`.
 ///
-/// `NegativeFooterLength` where the buffer's offset is below 0, `InvalidBuffer` where it is too short,
-/// `Ended` where the device is.
+/// # Errors
+/// - `NegativeFooterLength`: the buffer's offset is negative, also if `count` is 0.
+/// - `InvalidBuffer`: the buffer is too short.
+/// - `Ended`: the device is too short.
+/// - `Io`, `Memory`.
 #[tactic(auto, using(crate::proofs::Refusals::ended_buffer, crate::proofs::Refusals::negative_buffer), unfolding(crate::specs::Bodies::entries))]
 pub fn fetch_numbers<T: NativeType, R: Reads + Seeks>(
     alloc: Global,
@@ -333,8 +340,9 @@ pub fn fetch_numbers<T: NativeType, R: Reads + Seeks>(
     read_numbers_at(alloc, reader, body.base, offset, count, body.order)
 }
 
-/// The first `count` bytes of the buffer at `index`; none where `count` is 0. The faults are those of
-/// [`fetch_numbers`].
+/// Reads the first `count` bytes of the buffer at `index`.
+///
+/// The errors are those of [`fetch_numbers`].
 #[tactic(auto, using(crate::proofs::Refusals::ended_buffer, crate::proofs::Refusals::negative_buffer), unfolding(crate::specs::Bodies::entries))]
 pub fn fetch_bytes<R: Reads + Seeks>(
     alloc: Global,
@@ -366,8 +374,9 @@ pub fn fetch_bytes<R: Reads + Seeks>(
     read_bytes_at(alloc, reader, body.base, offset, count)
 }
 
-/// The first `count` pieces of `width` bytes each of the buffer at `index`; none where `count` is 0. The
-/// faults are those of [`fetch_numbers`].
+/// Reads the first `count` pieces of `width` bytes each of the buffer at `index`.
+///
+/// The errors are those of [`fetch_numbers`].
 #[tactic(auto, using(crate::proofs::Refusals::ended_buffer, crate::proofs::Refusals::negative_buffer), unfolding(crate::specs::Bodies::entries))]
 pub fn fetch_pieces<R: Reads + Seeks>(
     alloc: Global,
@@ -401,32 +410,34 @@ pub fn fetch_pieces<R: Reads + Seeks>(
     read_bytes_at(alloc, reader, body.base, offset, width * count)
 }
 
-/// What a node says of its column (Arrow columnar format, "RecordBatch message").
+/// The node of a column: its rows, and whether some may be null.
+///
+/// See "RecordBatch message" in the Arrow columnar format.
 #[derive(Clone, Copy, Debug, PartialEq, Eq)]
 pub struct Node {
-    /// How many slots are read.
+    /// How many rows are read.
     pub rows: usize,
-    /// Whether the node tells of nulls: its null count is above 0.
+    /// Whether the null count is above 0.
     pub has_nulls: bool,
 }
 
-/// What a column begins with: a node, and a buffer of validity.
+/// The node and the validity of a column.
 #[derive(Drop)]
 pub struct Head {
-    /// How many slots are read.
+    /// How many rows are read.
     pub rows: usize,
-    /// Which of them aren't null; none where the node tells of no null.
+    /// Which rows aren't null; None if the null count isn't above 0.
     pub validity: Option<Bitmap>,
 }
 
-// Whether a node tells of nulls.
+// Whether a null count is above 0.
 fn has_nulls(null_count: i64) -> bool
     ensures { MatchBool result (0 < size null_count) (size null_count ≡ 0) }
 {
     null_count > 0
 }
 
-// How many slots are read of a column of so many.
+// How many rows are read of a column of `count` rows.
 fn limit_rows(limit: Option<usize>, count: usize) -> usize
     ensures rows { result ≡ limited limit count }
     ensures bound { result ≤ count }
@@ -437,8 +448,9 @@ fn limit_rows(limit: Option<usize>, count: usize) -> usize
     }
 }
 
-/// How many slots are read of the column whose node is at `index`, and whether it tells of nulls. A null
-/// count below 0 tells of none. `NegativeFooterLength` where the length is below 0.
+/// Reads the node at `index`, of which at most `limit` rows are read.
+///
+/// A negative null count is as 0. The error is `NegativeFooterLength` if the length is negative.
 #[tactic(auto, using(crate::proofs::Refusals::negative_buffer, crate::proofs::Heads::nodes))]
 pub fn read_node<R: Failures>(
     body: &Body<R>,
@@ -463,7 +475,7 @@ pub fn read_node<R: Failures>(
     })
 }
 
-// Refuses a buffer that doesn't have `count` bits by what is listed of it.
+// Checks that the stated length of a buffer is enough for `count` bits.
 #[tactic(auto, using(crate::proofs::Refusals::negative_buffer), unfolding(crate::specs::Bodies::entries))]
 fn check_bits<R: Failures>(body: &Body<R>, index: usize, count: usize) -> Result<(), Fault>
     requires inside { index < length body.now.buffers }
@@ -486,11 +498,15 @@ fn check_bits<R: Failures>(body: &Body<R>, index: usize, count: usize) -> Result
     Ok(())
 }
 
-/// The first `count` bits of the buffer at `index`, the lowest of each byte first (Arrow columnar format,
-/// "Validity bitmaps").
+/// Reads the first `count` bits of the buffer at `index`.
 ///
-/// `NegativeFooterLength` where the buffer's offset is below 0, `InvalidBitmap` where it is too short,
-/// `Ended` where the device is.
+/// The lowest bit of each byte is the first. See "Validity bitmaps" in the Arrow columnar format.
+///
+/// # Errors
+/// - `NegativeFooterLength`: the buffer's offset is negative.
+/// - `InvalidBitmap`: the buffer is too short.
+/// - `Ended`: the device is too short.
+/// - `Io`, `Memory`.
 #[tactic(auto, using(crate::proofs::Heads::bit_lists))]
 pub fn read_bits<R: Reads + Seeks>(
     alloc: Global,
@@ -516,11 +532,11 @@ pub fn read_bits<R: Reads + Seeks>(
     Ok(Bitmap::try_new(bits, count)?)
 }
 
-/// How many slots are read of the column at a place, and which of them are valid: a bit for each, that is
-/// read where the node tells of nulls and nowhere else (Arrow columnar format, "Validity bitmaps").
+/// Reads the node and the validity of a column.
 ///
-/// `NegativeFooterLength` where the length is below 0, or the offset of a validity that is read; else the
-/// faults are those of [`read_bits`].
+/// The validity is only read if the null count is above 0. See "Validity bitmaps" in the Arrow
+/// columnar format. The errors are `NegativeFooterLength` if the length is negative, and, for a
+/// validity that is read, those of [`read_bits`].
 #[tactic(auto, using(crate::proofs::Heads::heads))]
 pub fn read_head<R: Reads + Seeks>(
     alloc: Global,
@@ -556,10 +572,11 @@ pub fn read_head<R: Reads + Seeks>(
     })
 }
 
-/// Offsets as they lie in a buffer: signed numbers of 32 or 64 bits (Arrow columnar format, "Variable-size
-/// Binary Layout").
+/// Offsets as they are in a buffer: signed numbers of 32 or 64 bits.
+///
+/// See "Variable-size Binary Layout" in the Arrow columnar format.
 pub trait StoredOffset: Offset {
-    // Which of the two.
+    // 32 or 64 bits.
     ghost form: { OffsetWidth };
 
     /// The offset 0.
@@ -601,7 +618,7 @@ impl StoredOffset for i64 {
     }
 }
 
-// Whether a buffer without bytes stands for the one offset 0.
+// Whether a buffer without bytes counts as the single offset 0.
 #[tactic(auto, unfolding(crate::specs::Bodies::entries))]
 fn is_omitted<R: Failures>(body: &Body<R>, index: usize, count: usize) -> bool
     requires inside { index < length body.now.buffers }
@@ -610,7 +627,7 @@ fn is_omitted<R: Failures>(body: &Body<R>, index: usize, count: usize) -> bool
     count == 0 && body.buffers.get(index).length <= 0
 }
 
-// The one offset 0.
+// The single offset 0.
 #[tactic(auto, using(crate::proofs::OffsetLists::zeros))]
 fn only_zero<O: StoredOffset>(alloc: Global) -> Result<OffsetsBuffer<O>, Fault>
     ensures own { OnIo result ⊥ }
@@ -623,7 +640,7 @@ fn only_zero<O: StoredOffset>(alloc: Global) -> Result<OffsetsBuffer<O>, Fault>
     Ok(OffsetsBuffer::try_new(zero)?)
 }
 
-// Refuses a buffer whose offset is below 0, also where no byte of it is needed.
+// Refuses a buffer with a negative offset, also if no byte of it is needed.
 #[tactic(auto, using(crate::proofs::Refusals::negative_column), unfolding(crate::specs::Bodies::entries))]
 fn check_offset<R: Failures>(body: &Body<R>, index: usize) -> Result<(), Fault>
     requires inside { index < length body.now.buffers }
@@ -637,11 +654,17 @@ fn check_offset<R: Failures>(body: &Body<R>, index: usize) -> Result<(), Fault>
     Ok(())
 }
 
-/// The offsets of `count` slots in the buffer at `index`: one more than slots, or the one offset 0 where no
-/// slot is read and the buffer has no bytes (Arrow columnar format, "Variable-size Binary Layout").
+/// Reads the `count + 1` offsets of `count` slots from the buffer at `index`.
 ///
-/// `NegativeFooterLength` where the buffer's offset is below 0, `InvalidBuffer` where it is too short,
-/// `Ended` where the device is, `FallingOffset` where an offset is below 0 or less than the one before it.
+/// If `count` is 0 and the buffer has no bytes, the result is the single offset 0. See
+/// "Variable-size Binary Layout" in the Arrow columnar format.
+///
+/// # Errors
+/// - `NegativeFooterLength`: the buffer's offset is negative.
+/// - `InvalidBuffer`: the buffer is too short.
+/// - `Ended`: the device is too short.
+/// - `FallingOffset`: an offset is negative, or less than the one before it.
+/// - `Io`, `Memory`.
 #[tactic(auto, using(crate::proofs::Refusals::buffer_column))]
 pub fn read_offsets<O: StoredOffset, R: Reads + Seeks>(
     alloc: Global,

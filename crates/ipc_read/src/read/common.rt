@@ -41,7 +41,7 @@ use lower_arrays::array::AnyArray;
 use std::alloc::Global;
 use std::snapshot::Snapshot;
 
-// The entries of a batch, which isn't compressed.
+// The nodes and buffers of a batch that isn't compressed.
 #[tactic(auto, unfolding(ipc_model::specs::Batches::lists_of), using(crate::proofs::NodeLengths::node_lengths, crate::proofs::Refusals::table_faults))]
 pub(crate) fn entries_of<'a>(batch: &RecordBatchRef<'a>) -> Result<(Nodes<'a>, Buffers<'a>), Fault>
     ensures own { OnIo result ⊥ }
@@ -67,7 +67,7 @@ pub(crate) fn entries_of<'a>(batch: &RecordBatchRef<'a>) -> Result<(Nodes<'a>, B
     }
 }
 
-// How many bytes the buffers list together.
+// The sum of the buffers' lengths, in bytes.
 fn listed_bytes(buffers: &Buffers) -> Result<u128, Fault>
     ensures own { OnIo result ⊥ }
     ensures only { IfErr result (λ e. e ≡ OutOfSpec NegativeFooterLength) }
@@ -80,7 +80,7 @@ fn listed_bytes(buffers: &Buffers) -> Result<u128, Fault>
     Ok(total)
 }
 
-// Refuses buffers that are together longer than what holds them.
+// Checks that the buffers are together at most `file_size` bytes long.
 #[tactic(auto, using(crate::proofs::Refusals::list_faults))]
 pub(crate) fn check_lengths(buffers: &Buffers, file_size: u64) -> Result<(), Fault>
     ensures own { OnIo result ⊥ }
@@ -98,7 +98,7 @@ pub(crate) fn check_lengths(buffers: &Buffers, file_size: u64) -> Result<(), Fau
     Ok(())
 }
 
-// Refuses fewer entries than the columns of the fields need.
+// Checks that there are the nodes and buffers that some columns need.
 fn check_counts(nodes: usize, buffers: usize, fields: &[Field], extra: usize) -> Result<(), Fault>
     requires { extra ≤ 1 }
     ensures own { OnIo result ⊥ }
@@ -116,7 +116,7 @@ fn check_counts(nodes: usize, buffers: usize, fields: &[Field], extra: usize) ->
     }
 }
 
-// The order of the bytes of a number.
+// The byte order of numbers.
 pub(crate) fn byte_order(is_little_endian: bool) -> Endianness
     ensures { result ≡ order_of is_little_endian }
 {
@@ -127,7 +127,7 @@ pub(crate) fn byte_order(is_little_endian: bool) -> Endianness
     }
 }
 
-// How many buffers stand in front of a union's own.
+// How many buffers precede a union's own: its validity, before version 5.
 pub(crate) fn count_extra(version: MetadataVersion) -> usize
     ensures extra { result ≡ extra_of version }
     ensures small { result ≤ 1 }
@@ -138,7 +138,7 @@ pub(crate) fn count_extra(version: MetadataVersion) -> usize
     }
 }
 
-// Whether a column is the one that stands at a place of the projection. Where there is none, each is.
+// Whether a column is the one at index `place` of the projection, or there is none.
 fn is_chosen(projection: Option<&[usize]>, place: usize, column: usize) -> bool
     ensures { IsTrue result ↔ IsChosen (option_copied projection.entry) place column }
 {
@@ -151,7 +151,7 @@ fn is_chosen(projection: Option<&[usize]>, place: usize, column: usize) -> bool
     }
 }
 
-// The place behind a column that isn't read, which its type says: no entry is looked at.
+// The position after a column that isn't read, by the counts of its type alone.
 fn skip(data_type: &DataType, extra: usize, place: Place) -> Place
     requires extra { extra ≤ 1 }
     requires nodes { place.node + nodes (type_view data_type.now) < 2 ^ 64 }
@@ -167,12 +167,16 @@ fn skip(data_type: &DataType, extra: usize, place: Place) -> Place
     }
 }
 
-/// The columns of some fields, with their ids, one behind the other from the first entry on: those of the
-/// projection, which are in rising order, or all where there is none, and of each at most `limit` slots (Arrow
-/// columnar format, "RecordBatch message"). Of a column that isn't chosen no byte is read, and nothing is judged.
-/// The entries for all fields have to be there.
+/// Reads the columns of some fields, whose entries begin at the first of the batch.
 ///
-/// The faults are those of [`read`], of a column that is chosen.
+/// - `ids`: the dictionary ids of the fields.
+/// - `projection`: indexes of the columns to read, ascending; None reads all. No byte of another
+///   column is read or checked.
+/// - `limit`: reads at most this many rows of each column; None reads all.
+/// - `body`: the entries of all fields must be present.
+///
+/// See "RecordBatch message" in the Arrow columnar format. The errors are those of [`read`], for a
+/// column that is chosen.
 pub fn read_columns<R: Reads + Seeks>(
     alloc: Global,
     fields: &[Field],
@@ -231,25 +235,45 @@ pub fn read_columns<R: Reads + Seeks>(
     Ok(columns)
 }
 
-/// The columns of a record batch whose body begins at the place `block_offset` of a device and is at
-/// most `file_size` bytes long (Arrow columnar format, "RecordBatch message"): those of the projection,
-/// in rising order, or all where there is none, and of each at most `limit` slots. They come exactly
-/// where the batch has a meaning by these, and there is memory for them. At each dictionary place of a
-/// column, those inside the values of others aside, stand the values that the dictionaries have under
-/// its id. A column that isn't chosen is skipped by what its type takes: no byte of it is read, and it isn't
-/// judged. An empty projection gives a chunk without columns. No more bytes are taken of the device
-/// than the buffers of the chosen columns list, and the arrays hold together no more than these, no more than
-/// `file_size` bytes, and one offset for each buffer of offsets that lists nothing, the values of dictionaries aside.
+/// Reads the columns of a record batch.
 ///
-/// Faults, each `OutOfSpec`: `InvalidFlatbufferCompression`, `InvalidFlatbufferBuffers`,
-/// `InvalidFlatbufferNodes` where these slots are ill-made, `MissingMessageBuffers`,
-/// `MissingMessageNodes` where they are absent or there are fewer nodes than the columns of all fields
-/// take, `ExpectedBuffer` where there are too few buffers, `NegativeFooterLength` where a length is below
-/// 0, `InvalidBuffersLength` where the buffers list more than `file_size` bytes, with how long
-/// they are together (`u64::MAX` where 64 bits are too few) and with `file_size`. Then
-/// `NotYetImplemented(Compressed)`, `Argument(UnequalRows)`, and those of [`read_columns`]. `Io` and
-/// `Memory` come too, and no other. After a fault the reader may stand at any place. The scratch
-/// memory isn't used.
+/// - `fields`, `ipc_schema`: all columns, their dictionary ids and the byte order of the body.
+/// - `projection`: indexes of the columns to read, ascending; None reads all, an empty one gives a
+///   chunk without columns. Another column is skipped by the counts of its type: no byte of it is
+///   read or checked.
+/// - `limit`: reads at most this many rows of each column; None reads all.
+/// - `dictionaries`: the dictionaries that were read before.
+/// - `version`: of the message. Before version 5 a union has a validity buffer, which is skipped.
+/// - `block_offset`: the offset of the body on the device, in bytes.
+/// - `file_size`: how many bytes the buffers may have together: the length of the body or the file.
+/// - `_scratch`: isn't used.
+///
+/// See "RecordBatch message" in the Arrow columnar format. When reading from memory, it is `Ok`
+/// exactly if the batch is valid by these, unless an allocation fails. At each dictionary field,
+/// except inside dictionary values, the chunk then has the values that `dictionaries` has under the
+/// field's id.
+///
+/// At most the encoded length of the chosen columns' buffers is read from the device, also on an
+/// error. The arrays retain at most that, and at most `file_size` bytes, plus one offset for each
+/// empty offset buffer. Dictionary values aren't counted, as they are shared.
+///
+/// # Errors
+/// Each of the first five groups is `OutOfSpec`.
+///
+/// - `InvalidFlatbufferCompression`, `InvalidFlatbufferBuffers`, `InvalidFlatbufferNodes`: this
+///   slot of the batch is malformed.
+/// - `MissingMessageBuffers`, `ExpectedBuffer`: the batch has no buffers, or fewer than the columns
+///   of all fields need.
+/// - `MissingMessageNodes`: the batch has no nodes, or fewer than the columns of all fields need.
+/// - `NegativeFooterLength`: the length of a buffer is negative.
+/// - `InvalidBuffersLength`: the buffers are together longer than `file_size`. It has their sum, at
+///   most `u64::MAX`, and `file_size`.
+/// - `NotYetImplemented(Compressed)`: the batch is compressed.
+/// - Those of [`read_columns`].
+/// - `Argument(UnequalRows)`: the columns have different lengths.
+/// - `Io` exactly if a call of the device failed; `Memory`.
+///
+/// After an error the reader may be at any position.
 #[allow(clippy::too_many_arguments)]
 #[tactic(auto, using(crate::proofs::Refusals::batch_faults, crate::proofs::Reasons::reasons))]
 pub fn read_record_batch<R: Reads + Seeks>(

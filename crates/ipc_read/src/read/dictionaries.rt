@@ -30,8 +30,7 @@ use std::alloc::Global;
 use std::rc::Rc;
 use std::snapshot::Snapshot;
 
-// The type of the values, and the ids in it, of the first dictionary with this id: the field itself, whose type, id
-// and children's ids these are, or one below it.
+// As `first_dict_field`, in one field of this type. `own` and `ids` are its id and its children's.
 #[cycle(places)]
 #[tactic(auto, using(crate::proofs::PlaceLists::first_places))]
 fn find_first_dict_field<'a>(
@@ -66,8 +65,8 @@ fn find_first_dict_field<'a>(
     }
 }
 
-// The type of the values, and the ids in it, of the first dictionary field with this id, in pre-order. None where no
-// field has it.
+// Finds the first dictionary field with this id, in pre-order. Returns the type of its values and
+// the ids in that, or None.
 #[cycle(places)]
 #[tactic(auto, using(crate::proofs::PlaceLists::first_places))]
 pub(crate) fn first_dict_field<'a>(
@@ -91,7 +90,7 @@ pub(crate) fn first_dict_field<'a>(
     None
 }
 
-// Refuses fewer entries than a column of this type needs.
+// Checks that there are the nodes and buffers that a column needs.
 fn check_column(
     node_count: usize,
     buffer_count: usize,
@@ -114,7 +113,7 @@ fn check_column(
     }
 }
 
-// The values of a dictionary: the one column of their batch, read as a whole.
+// The values of a dictionary: the only column of their batch, all rows of it.
 #[allow(clippy::too_many_arguments)]
 #[tactic(auto, using(crate::proofs::ValueReads::values_faults, crate::proofs::Reasons::reasons))]
 fn read_values<R: Reads + Seeks>(
@@ -164,7 +163,7 @@ fn read_values<R: Reads + Seeks>(
     Ok(values)
 }
 
-// The id of a dictionary batch, which is no delta, and the batch of its values.
+// The id of a dictionary batch and the batch of its values. A delta is refused.
 fn head_of<'a>(batch: &DictionaryBatchRef<'a>) -> Result<(i64, RecordBatchRef<'a>), Fault>
     ensures own { OnIo result ⊥ }
     ensures only { IfErr result (λ e. OwnFault e (IsHeadFault e)) }
@@ -187,19 +186,44 @@ fn head_of<'a>(batch: &DictionaryBatchRef<'a>) -> Result<(i64, RecordBatchRef<'a
     }
 }
 
-/// Reads a dictionary batch whose body begins at the place `block_offset` of a device and is at most `file_size` bytes
-/// long, and puts its values under its id, in place of those that it had (Arrow columnar format, "Dictionary messages").
-/// Their type is that of the first field with this id, in pre-order, and the dictionaries in them are those that are
-/// known before. It is done exactly where the batch has a meaning, and there is memory for it; on a fault the
-/// dictionaries stay as they were. No more bytes are taken of the device than the buffers of the values list, and the array
-/// of the values holds no more than these, no more than `file_size` bytes, and one offset for each buffer of offsets that lists nothing.
+/// Reads a dictionary batch and replaces the values of its id.
 ///
-/// Faults, each `OutOfSpec`: `InvalidFlatbufferIsDelta`, `InvalidFlatbufferId`, `InvalidFlatbufferData` where these slots
-/// are ill-made, `InvalidId` with the id where no field has it, `MissingData` where there are no values; of these
-/// `InvalidFlatbufferCompression`, `InvalidFlatbufferBuffers`, `InvalidFlatbufferNodes`, `MissingMessageBuffers`,
-/// `MissingMessageNodes`, `ExpectedBuffer`, `NegativeFooterLength`, `InvalidBuffersLength` with how long
-/// the buffers are together (`u64::MAX` where 64 bits are too few) and with `file_size`. Then `NotYetImplemented(Delta)` where the values are to follow others, `NotYetImplemented(Compressed)`, and those of their column ([`read`]). `Io` and
-/// `Memory` come too, and no other. After a fault the reader may stand at any place. The scratch memory isn't used.
+/// - `fields`, `ipc_schema`: all columns, their dictionary ids and the byte order of the body.
+/// - `dictionaries`: the dictionaries that were read before, which the values may refer to.
+/// - `version`: of the message. Before version 5 a union has a validity buffer, which is skipped.
+/// - `block_offset`: the offset of the body on the device, in bytes.
+/// - `file_size`: how many bytes the buffers may have together: the length of the body or the file.
+/// - `_scratch`: isn't used.
+///
+/// See "Dictionary messages" in the Arrow columnar format. The values have the type of the first
+/// field with this id, in pre-order. When reading from memory, it is `Ok` exactly if the batch is
+/// valid, unless an allocation fails.
+///
+/// At most the encoded length of the values' buffers is read from the device, also on an error. The
+/// array retains at most that, and at most `file_size` bytes, plus one offset for each empty offset
+/// buffer.
+///
+/// # Errors
+/// Each of the first eight groups is `OutOfSpec`.
+///
+/// - `InvalidFlatbufferIsDelta`, `InvalidFlatbufferId`, `InvalidFlatbufferData`: this slot of the
+///   dictionary batch is malformed.
+/// - `MissingData`: the dictionary batch has no values.
+/// - `InvalidId` with the id: no field has it.
+/// - `InvalidFlatbufferCompression`, `InvalidFlatbufferBuffers`, `InvalidFlatbufferNodes`: this
+///   slot of the values' batch is malformed.
+/// - `MissingMessageBuffers`, `ExpectedBuffer`: the values have no buffers, or fewer than their
+///   type needs.
+/// - `MissingMessageNodes`: the values have no nodes, or fewer than their type needs.
+/// - `NegativeFooterLength`: the length of a buffer is negative.
+/// - `InvalidBuffersLength`: the buffers are together longer than `file_size`. It has their sum, at
+///   most `u64::MAX`, and `file_size`.
+/// - Those of the values' column, by [`read`].
+/// - `NotYetImplemented(Delta)`: the values extend those that the id has.
+/// - `NotYetImplemented(Compressed)`: the values are compressed.
+/// - `Io` exactly if a call of the device failed; `Memory`.
+///
+/// After an error the dictionaries are as they were, and the reader may be at any position.
 #[allow(clippy::too_many_arguments)]
 #[tactic(auto, using(crate::proofs::DictionaryMeanings::dictionary_faults, crate::proofs::ValueReasons::value_reasons))]
 pub fn read_dictionary<R: Reads + Seeks>(

@@ -8,9 +8,11 @@ ghost use Rattle.ipc_read.specs.Headers.{LacksHeader, answered_as, needed_header
 use ipc_devices::fault::{Fault, OutOfSpecKind};
 use ipc_views::{MessageHeaderRef, MessageRef};
 
-/// The header of a message, which has to be there. It takes no memory.
+/// The header of a message, without an allocation.
 ///
-/// Faults, each `OutOfSpec`: `MissingMessageHeader` where it is absent, `InvalidFlatbufferHeader` where it is ill-made.
+/// # Errors
+/// - `OutOfSpec(MissingMessageHeader)`: the message has no header.
+/// - `OutOfSpec(InvalidFlatbufferHeader)`: the header is malformed.
 pub fn header_of<'a>(message: &MessageRef<'a>) -> Result<MessageHeaderRef<'a>, Fault>
     ensures value { answered_as header_parts result ≡ needed_header (message_header message.now) }
     ensures only { IfErr result (λ e. OwnFault e (LacksHeader e)) }

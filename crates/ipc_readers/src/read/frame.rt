@@ -1,4 +1,6 @@
-//! Reads the frames of a stream: the Arrow columnar format, "Encapsulated message format".
+//! Reads the frames of a stream.
+//!
+//! Arrow columnar format, "Encapsulated message format".
 ghost use Rattle.std.specs.Prelude.{IfErr};
 ghost use Rattle.ipc_devices.specs.Faults.{OwnFault};
 ghost use Rattle.ipc_devices.specs.declared.fault.Fault.TheVariants.{Ended, OutOfSpec};
@@ -10,11 +12,11 @@ use ipc_devices::fault::{Fault, OutOfSpecKind};
 use ipc_devices::{Reads, fill, read_into};
 use std::io;
 
-// The marker in front of a length, as a number.
+// The continuation marker before a length, as a number.
 const CONTINUATION: u32 = u32::MAX;
 
 impl Begun {
-    // The next 4 bytes as a number. If there are fewer they are kept.
+    // The next 4 bytes as a number. If there are fewer, they are kept.
     fn word<R: Reads>(&mut self, reader: &mut R) -> io::Result<Option<u32>>
         ensures gives { WordGave R.gives (begun_bytes self.old) reader.old result (begun_bytes self.new) reader.new }
     {
@@ -28,7 +30,7 @@ impl Begun {
     }
 }
 
-// Reads what stands behind a prefix of this length.
+// Reads what follows a prefix of this length.
 fn read_sized<R: Reads>(reader: &mut R, size: u32, metadata: &mut Vec<u8>) -> Result<Frame, Fault>
     ensures only { IfErr result (λ e. OwnFault e (IsFramingFault e)) }
     ensures gives { SizedGave R.gives size reader.old result metadata.new.items reader.new }
@@ -43,14 +45,22 @@ fn read_sized<R: Reads>(reader: &mut R, size: u32, metadata: &mut Vec<u8>) -> Re
     Ok(Frame::Message)
 }
 
-/// Reads the next frame, behind the bytes that an earlier call kept, and the metadata of a message in
-/// place of what `metadata` holds. Both forms of a prefix are read. An end of the input in the first 4
-/// bytes is `Waiting`, and they are kept for the next call. Of a device, whatever it is, a frame's own bytes are taken and
-/// no more, or the first of them before a fault.
+/// Reads the next frame of a stream: a message's metadata or the end mark.
 ///
-/// Faults: `OutOfSpec(NegativeFooterLength)` where the stated length is below 0; `Ended` where less
-/// bytes are there than stated; `Io` and `Memory`. No other comes. After a fault what `metadata` and
-/// `begun` hold is of no use.
+/// - `begun`: the bytes of an incomplete prefix that an earlier call read.
+/// - `metadata`: its content is replaced by the metadata of a message.
+///
+/// See "Encapsulated message format" in the Arrow columnar format. A prefix with the continuation
+/// marker and the older one without are both accepted. If the input ends in the first 4 bytes, the
+/// result is `Waiting`, and `begun` keeps these bytes. From any device at most the frame's own
+/// bytes are read.
+///
+/// # Errors
+/// - `OutOfSpec(NegativeFooterLength)`: the stated length is negative.
+/// - `Ended`: the input ends after the first 4 bytes and before the end of the frame.
+/// - `Io`, `Memory`.
+///
+/// After an error `metadata` and `begun` may have any content.
 pub fn read_frame<R: Reads>(
     reader: &mut R,
     begun: &mut Begun,

@@ -11,16 +11,16 @@ use ipc_devices::fault::{Fault, OutOfSpecKind};
 use ipc_read::read::header::header_of;
 use ipc_views::{MessageHeaderRef, MessageRef};
 
-/// What a message behind the schema says of itself and of its body.
+/// The header of a message after the schema, and the length of its body.
 #[derive(Drop)]
 pub struct Message<'a> {
-    /// The header, a table in the metadata.
+    /// The header, as a table in the metadata.
     pub header: MessageHeaderRef<'a>,
-    /// The number of bytes of the body.
+    /// The length of the body in bytes.
     pub body_length: usize,
 }
 
-// The number of bytes of the body, which isn't below 0.
+// The length of the body in bytes. A negative one is refused.
 fn body_length_of(message: &MessageRef<'_>) -> Result<usize, Fault>
     ensures small { IfOk result (λ n. n < 2 ^ 63) }
     ensures value { result ≡ natural_length (message_body_length message.now) }
@@ -34,11 +34,15 @@ fn body_length_of(message: &MessageRef<'_>) -> Result<usize, Fault>
     }
 }
 
-/// Opens the metadata of a message behind the schema. It takes no memory.
+/// Opens the metadata of a message after the schema, without an allocation.
 ///
-/// Faults, each `OutOfSpec`: `InvalidFlatbufferMessage`, `MissingMessageHeader`,
-/// `InvalidFlatbufferHeader`, `InvalidFlatbufferBodyLength`, and `UnexpectedNegativeInteger` where the
-/// body's length is below 0.
+/// # Errors
+/// Each is `OutOfSpec`.
+///
+/// - `InvalidFlatbufferMessage`: the message's table is malformed.
+/// - `MissingMessageHeader`, `InvalidFlatbufferHeader`: it has no header, or a malformed one.
+/// - `InvalidFlatbufferBodyLength`: the body length is malformed.
+/// - `UnexpectedNegativeInteger`: the body length is negative.
 #[tactic(auto, unfolding(crate::specs::Messages::opened), using(crate::proofs::Openings::header_faults))]
 pub fn open_message(metadata: &[u8]) -> Result<Message<'_>, Fault>
     ensures small { IfOk result (λ m. m.body_length < 2 ^ 63) }

@@ -1,4 +1,6 @@
-//! Reads streams: the Arrow columnar format, "IPC Streaming Format".
+//! Reads streams.
+//!
+//! Arrow columnar format, "IPC Streaming Format".
 mod metadata;
 mod next;
 mod reader;

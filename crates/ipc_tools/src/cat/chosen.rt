@@ -1,4 +1,4 @@
-//! Which of its columns are shown of a stream or of a file.
+//! The requested columns of a stream or a file.
 ghost use Rattle.std.specs.Prelude.{IfOk};
 ghost use Rattle.ipc_tools.specs.CatWords.{AreNumbers, NamesNumbers, columns_by};
 ghost use Rattle.ipc_tools.specs.Positions.{ArePositions, IsChoice};
@@ -7,17 +7,17 @@ use crate::cat::forms::Columns;
 use arrow2_ipc::io::ipc::read::is_projection;
 use std::alloc::{AllocError, Global};
 
-/// Which columns of a schema are asked for.
+/// The requested columns of a schema.
 #[derive(Drop)]
 pub enum Chosen {
-    /// Those of a projection, or all where there is none.
+    /// Those of a projection; None means all.
     Columns(Option<Vec<usize>>),
 
     /// A position repeats, or isn't in the schema.
     Others,
 }
 
-/// The columns that are asked for among so many.
+/// The requested columns, of a schema with `count` columns.
 pub fn chosen_among(alloc: Global, columns: Columns<'_>, count: usize) -> Result<Chosen, AllocError>
     requires { NamesNumbers columns }
     ensures { IfOk result (IsChoice (columns_by columns.entry) count) }
@@ -31,7 +31,7 @@ pub fn chosen_among(alloc: Global, columns: Columns<'_>, count: usize) -> Result
     }
 }
 
-// The positions in a word, where each of them is a number that a position can be.
+// The positions in an argument; None if one is too large for a position.
 fn positions_in(alloc: Global, word: &str) -> Result<Option<Vec<usize>>, AllocError>
     requires { AreNumbers word.now }
     ensures { IfOk result (ArePositions word.now) }

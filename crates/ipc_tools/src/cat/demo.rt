@@ -1,4 +1,4 @@
-//! The documented example: two columns of whole numbers, written five times.
+//! The example: two columns of integers, written five times.
 ghost use Rattle.std.specs.Prelude.{◌≡◌, [], map, IfErr, IfOk, OnOk};
 ghost use Rattle.lower.specs.TypeViews.{fields_view, pairs_of};
 ghost use Rattle.lower_arrays.specs.AnyLayouts.{layout_of};
@@ -15,10 +15,10 @@ use arrow2_ipc::io::ipc::fault::{Fault, Writes};
 use arrow2_ipc::io::ipc::write::{StreamWriter, WriteOptions};
 use std::alloc::Global;
 
-// As many bytes as the example takes, and more.
+// More bytes than the example needs.
 const ROOM: usize = 4096;
 
-/// Prints the example, as a stream. `Memory` and `Io` are the only faults.
+/// Prints the example, as a stream. The errors are `Memory` and `Io`.
 pub fn put_demo<W: Writes>(alloc: Global, printer: &mut Printer<W>) -> Result<(), Fault>
     ensures only { IfErr result (λ e. OwnFault e ⊥) }
     ensures prints { OnOk result (Prints W.known W.failures W.memory printer.old printer.new) }
@@ -28,8 +28,7 @@ pub fn put_demo<W: Writes>(alloc: Global, printer: &mut Printer<W>) -> Result<()
     printer.put(&stream)
 }
 
-// Writes the example as a stream, and has it sent on its way. `Memory` and `Io` are the only
-// faults.
+// Writes the example as a stream, and flushes. The errors are `Memory` and `Io`.
 fn write_demo<W: Writes + Drop>(alloc: Global, out: W) -> Result<(), Fault>
     ensures { IfErr result (λ e. OwnFault e ⊥) }
 {

@@ -10,9 +10,10 @@ use std::fs::File;
 use std::io;
 use std::rt::Files;
 
-/// Does what the words ask for, as [`run`] does, with the files of a system and with standard
-/// input, output and error, and answers the exit status. Without memory for the words it is 1, and
-/// 2 where one of them isn't UTF-8.
+/// Runs `ipcat` in a process, and returns the exit status.
+///
+/// It is [`run`] with the files of the system and standard input, output and error. The status is 1
+/// if the arguments can't be allocated, and 2 if one of them isn't UTF-8.
 pub fn start<R: Files + Input + Print + Eprint + AllocGlobal>(
     rt: &R,
     words: io::Result<Vec<String>>,

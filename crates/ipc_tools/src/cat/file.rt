@@ -1,4 +1,4 @@
-//! Prints a file: its schema, and the chunk at each of its blocks row by row.
+//! Prints a file: its schema, and its chunks row by row.
 ghost use Rattle.std.specs.Prelude.{◌≡◌, ◌<◌, IfErr, IfOk, IfSome, IsTrue, List, None, Some, Err, Ok, OnOk, false};
 ghost use Rattle.lower_arrays.specs.declared.array.AnyArray.{AnyArray as Array};
 ghost use Rattle.ipc_devices.specs.Faults.{OwnFault};
@@ -19,8 +19,10 @@ use arrow2_ipc::io::ipc::fault::{Fault, Reads, Seeks, Writes};
 use arrow2_ipc::io::ipc::read::{FileReader, read_file_metadata};
 use std::alloc::Global;
 
-/// Prints what the words ask of a file, block by block. Its metadata are read first, and then the positions of the columns are
-/// judged. Its dictionaries are read with the first block, and other columns aren't read.
+/// Prints the requested columns and rows of a file, block by block.
+///
+/// Its metadata are read first, and then the column positions are checked. Its dictionaries are
+/// read with the first block. Other columns aren't read.
 pub fn show_file<F: Reads + Seeks + Drop, W: Writes>(
     alloc: Global,
     file: F,
@@ -42,7 +44,7 @@ pub fn show_file<F: Reads + Seeks + Drop, W: Writes>(
     Ok(Outcome::Done)
 }
 
-// A reader of what the words ask of a file. There is none where a position isn't in the schema, or repeats.
+// A reader of the requested columns and rows. None if a position isn't in the schema, or repeats.
 fn open_file<F: Reads + Seeks + Drop>(
     alloc: Global,
     file: F,
@@ -63,7 +65,7 @@ fn open_file<F: Reads + Seeks + Drop>(
     Ok(Some(reader))
 }
 
-// Prints the chunks at all blocks.
+// Prints the chunks of all blocks.
 fn show_blocks<F: Reads + Seeks + Drop, W: Writes>(
     reader: &mut FileReader<F>,
     printer: &mut Printer<W>,
@@ -76,7 +78,7 @@ fn show_blocks<F: Reads + Seeks + Drop, W: Writes>(
     Ok(())
 }
 
-// Prints the chunk at the next block, and answers whether there was one.
+// Prints the chunk of the next block, and returns whether there was one.
 fn show_block<F: Reads + Seeks + Drop, W: Writes>(
     reader: &mut FileReader<F>,
     printer: &mut Printer<W>,

@@ -1,45 +1,46 @@
-//! What the words of a call ask for.
+//! The forms of a call's arguments.
 ghost use Rattle.std.specs.Prelude.{◌≡◌, map, option_map, string_bytes, IfSome};
 ghost use Rattle.ipc_tools.specs.CatWords.{HasNumbers, NamesNumbers, asked, wanted_by, columns_by, columns_named, demo_asked, file_asked, is_decimal, limit_named, stream_asked};
 
 /// The program's forms.
 #[derive(Clone, Copy)]
 pub enum Form<'a> {
-    /// `demo`: the documented example, as a stream.
+    /// `demo`: prints the example, as a stream.
     Demo,
 
-    /// `stream`: these columns of a stream.
+    /// `stream`: prints these columns of a stream.
     Stream(Columns<'a>),
 
-    /// `file`: what is named of a file.
+    /// `file`: prints this part of a file.
     File(FileWords<'a>),
 }
 
-/// Which file is shown, and what of it.
+/// A file, and the part of it that is printed.
 #[derive(Clone, Copy)]
 pub struct FileWords<'a> {
-    /// Where the file stands.
+    /// The path of the file.
     pub path: &'a str,
 
-    /// Which columns are shown.
+    /// The columns.
     pub columns: Columns<'a>,
 
-    /// How many rows are shown of all chunks together, or None for all.
+    /// The most rows of all chunks together; None means all.
     pub limit: Option<usize>,
 }
 
-/// Which columns are shown.
+/// The columns that are printed.
 #[derive(Clone, Copy)]
 pub enum Columns<'a> {
     /// All, in the order of the schema.
     All,
 
-    /// Those at these positions, in their order: decimal digits joined by commas. Whether they are in the schema is judged
-    /// when that is read.
+    /// Those at these positions, in their order: decimal digits joined by commas.
+    ///
+    /// They are compared with the schema when that is read.
     At(&'a str),
 }
 
-/// The form that these words ask for, or None where no form has them.
+/// The form of these arguments; None if they have no form.
 pub fn form_of(words: &[String]) -> Option<Form<'_>>
     ensures is { option_map wanted_by result ≡ asked (map string_bytes words.now) }
     ensures numbers { IfSome result HasNumbers }
@@ -97,7 +98,7 @@ fn file_form(words: &[String]) -> Option<Form<'_>>
     }))
 }
 
-// `-`, which stands for all columns, or positions joined by commas.
+// `-`, which means all columns, or positions joined by commas.
 fn columns_in(word: &str) -> Option<Columns<'_>>
     ensures is { option_map columns_by result ≡ columns_named word.now }
     ensures numbers { IfSome result NamesNumbers }
@@ -111,7 +112,7 @@ fn columns_in(word: &str) -> Option<Columns<'_>>
     None
 }
 
-// A number of rows, up to 2^64 - 1.
+// A number of rows, at most `2^64 - 1`.
 fn limit_in(word: &str) -> Option<usize>
     ensures { result ≡ limit_named word.now }
 {
@@ -122,7 +123,7 @@ fn limit_in(word: &str) -> Option<usize>
     }
 }
 
-// Decimal digits alone. Leading zeros are fine.
+// Whether a word has decimal digits only. Leading zeros are allowed.
 fn is_decimal(word: &str) -> bool
     ensures { result ≡ is_decimal word.now }
 {

@@ -1,11 +1,11 @@
-//! An output that is lent, and whether it was flushed since bytes were written to it.
+//! A borrowed output, and whether it was flushed since the last write.
 ghost use Rattle.std.specs.Prelude.{◌≡◌};
 ghost use Rattle.ipc_tools.specs.Outputs.{FlushesOutput, WritesOutput};
 
 use arrow2_ipc::io::ipc::fault::{Fault, Writes};
 use ipc_write::common_sync::write_all;
 
-/// A device that is lent, and whether it was flushed since bytes were written to it.
+/// A borrowed device, and whether it was flushed since the last write.
 #[derive(Drop)]
 pub struct Output<'a, W> {
     device: &'a mut W,
@@ -13,7 +13,7 @@ pub struct Output<'a, W> {
 }
 
 impl<'a, W: Writes> Output<'a, W> {
-    /// Lends a device. What was written to it before may not be flushed yet.
+    /// Borrows a device. It counts as not flushed.
     pub fn new(device: &'a mut W) -> Output<'a, W>
         ensures same_reference { result.device.ghost_name ≡ device.entry.ghost_name }
         ensures now { result.device.now ≡ device.entry.now }
@@ -24,7 +24,7 @@ impl<'a, W: Writes> Output<'a, W> {
         }
     }
 
-    /// The device that was lent.
+    /// The borrowed device.
     pub fn into_inner(self) -> &'a mut W
         ensures same_reference { result.ghost_name ≡ self.entry.device.ghost_name }
         ensures now { result.now ≡ self.entry.device.now }
@@ -32,8 +32,7 @@ impl<'a, W: Writes> Output<'a, W> {
         self.device
     }
 
-    /// Writes all of these bytes. `Io` where a write fails; the bytes that were written by then are
-    /// the first ones.
+    /// Writes all of these bytes. `Io` if a write fails; a prefix of the bytes was written then.
     pub fn write_all(&mut self, bytes: &[u8]) -> Result<(), Fault>
         ensures { WritesOutput W.known W.grows W.failures W.memory self.old result self.new
             bytes.now }
@@ -42,7 +41,7 @@ impl<'a, W: Writes> Output<'a, W> {
         write_all(&mut *self.device, bytes)
     }
 
-    /// Flushes the device. `Io` where that fails.
+    /// Flushes the device. `Io` if that fails.
     pub fn flush(&mut self) -> Result<(), Fault>
         ensures { FlushesOutput W.known W.failures W.memory self.old result self.new }
     {

@@ -1,4 +1,4 @@
-//! What is printed, sent to the output in large writes.
+//! A buffer in front of an output, which is written in large pieces.
 ghost use Rattle.std.specs.Prelude.{◌≡◌, ◌<◌, [], IfErr, OnOk};
 ghost use Rattle.ipc_devices.specs.Faults.{OwnFault};
 ghost use Rattle.ipc_tools.specs.Printing.{Prints, PrintsAll, Puts, SendsKept};
@@ -8,10 +8,10 @@ use arrow2_ipc::io::ipc::fault::{Fault, Writes};
 use itoa::{Buffer, Integer};
 use std::alloc::Global;
 
-// How much is kept before it is sent.
+// How many bytes are buffered before they are written.
 const KEPT: usize = 65_536;
 
-/// Collects bytes for an output. What was sent and what is kept, joined, is what was put, in order.
+/// Buffers bytes for an output. The sent bytes and the buffer are what was put, in order.
 #[derive(Drop)]
 pub struct Printer<'a, W> {
     out: Output<'a, W>,
@@ -19,7 +19,7 @@ pub struct Printer<'a, W> {
 }
 
 impl<'a, W: Writes> Printer<'a, W> {
-    /// A printer that has nothing to send.
+    /// A printer with an empty buffer.
     pub fn new(alloc: Global, out: &'a mut W) -> Self
         ensures same_reference { result.out.device.ghost_name ≡ out.entry.ghost_name }
         ensures now { result.out.device.now ≡ out.entry.now }
@@ -31,7 +31,7 @@ impl<'a, W: Writes> Printer<'a, W> {
         }
     }
 
-    /// The output that was lent. What is kept is given up.
+    /// The borrowed output. The buffer is dropped.
     pub fn into_inner(self) -> &'a mut W
         ensures same_reference { result.ghost_name ≡ self.entry.out.device.ghost_name }
         ensures now { result.now ≡ self.entry.out.device.now }
@@ -39,8 +39,10 @@ impl<'a, W: Writes> Printer<'a, W> {
         self.out.into_inner()
     }
 
-    /// Adds these bytes: many at once are sent without being kept. `Memory` where they can't be
-    /// kept, which changes nothing. `Io` where sending fails: nothing is kept then.
+    /// Adds these bytes. Many at once are sent without being buffered.
+    ///
+    /// `Memory` if they can't be buffered, which changes nothing. `Io` if sending fails; the buffer
+    /// is empty then.
     pub fn put(&mut self, bytes: &[u8]) -> Result<(), Fault>
         ensures puts { Puts W.known W.grows W.failures W.memory self.old result self.new bytes.now }
         ensures only { IfErr result (λ e. OwnFault e ⊥) }
@@ -57,8 +59,9 @@ impl<'a, W: Writes> Printer<'a, W> {
         Ok(())
     }
 
-    /// Sends what is kept, and flushes the output. `Io` where that fails. What couldn't be sent is
-    /// given up: it isn't sent again.
+    /// Sends the buffer, and flushes the output.
+    ///
+    /// `Io` if that fails. Bytes that couldn't be sent are dropped: they aren't sent again.
     pub fn send(&mut self) -> Result<(), Fault>
         ensures sends { SendsKept W.known W.grows W.failures W.memory self.old result self.new }
         ensures only { IfErr result (λ e. OwnFault e ⊥) }
@@ -80,7 +83,7 @@ impl<'a, W: Writes> Printer<'a, W> {
     }
 }
 
-/// Prints a whole number in decimal.
+/// Prints an integer in decimal.
 pub fn put_number<W: Writes, N: Integer>(printer: &mut Printer<W>, number: N) -> Result<(), Fault>
     ensures only { IfErr result (λ e. OwnFault e ⊥) }
     ensures prints { OnOk result (Prints W.known W.failures W.memory printer.old printer.new) }
@@ -88,7 +91,9 @@ pub fn put_number<W: Writes, N: Integer>(printer: &mut Printer<W>, number: N) ->
     printer.put(Buffer::new().format(number).as_bytes())
 }
 
-/// Prints a text in double quotes, in which quotes, backslashes and control bytes are `\x` and two digits.
+/// Prints a text in double quotes.
+///
+/// Quotes, backslashes and control bytes are printed as `\x` and two digits.
 pub fn put_text<W: Writes>(printer: &mut Printer<W>, text: &[u8]) -> Result<(), Fault>
     ensures only { IfErr result (λ e. OwnFault e ⊥) }
     ensures prints { OnOk result (Prints W.known W.failures W.memory printer.old printer.new) }
@@ -112,7 +117,7 @@ fn is_escaped(byte: u8) -> bool {
     byte < 0x20 || byte == 0x7f || byte == b'"' || byte == b'\\'
 }
 
-// The lower case digit of a number below 16.
+// The lower case hexadecimal digit of a number below 16.
 fn hexadecimal(digit: u8) -> u8
     requires { digit < 16 }
 {

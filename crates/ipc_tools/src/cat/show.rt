@@ -1,4 +1,4 @@
-//! Prints a stream: its schema, and each chunk row by row.
+//! Prints a stream: its schema, and its chunks row by row.
 ghost use Rattle.std.specs.Prelude.{◌≡◌, IfErr, IfOk, IfSome, None, OnOk};
 ghost use Rattle.ipc_convert.specs.Sources.{StreamBreaks};
 ghost use Rattle.ipc_devices.specs.Faults.{OwnFault};
@@ -20,17 +20,19 @@ use arrow2_ipc::io::ipc::read::{StreamReader, read_stream_metadata};
 use ipc_convert::chunks::{Ending, Next, Source};
 use std::alloc::Global;
 
-/// What came of a form that met no fault.
+/// The outcome of a form without an error.
 #[derive(Clone, Copy, PartialEq, Eq)]
 pub enum Outcome {
     Done,
 
-    /// The positions of columns repeat, or aren't in the schema.
+    /// Column positions repeat, or aren't in the schema.
     WrongWords,
 }
 
-/// Prints these columns of a stream, up to its end or to where it waits for more. Its schema is read first, and then the positions of the
-/// columns are judged. Other columns aren't read. Where `2^64 - 1` chunks came and no end, it answers `Argument(TooLarge)`.
+/// Prints the requested columns of a stream, until it ends or waits.
+///
+/// Its schema is read first, and then the column positions are checked. Other columns aren't read.
+/// `Argument(TooLarge)` if `2^64 - 1` chunks came and no end.
 pub fn show_stream<R: Reads + Drop, W: Writes>(
     alloc: Global,
     input: R,
@@ -52,7 +54,8 @@ pub fn show_stream<R: Reads + Drop, W: Writes>(
     Ok(Outcome::Done)
 }
 
-// A reader of these columns of a stream, behind its schema. There is none where a position isn't in the schema, or repeats.
+// A reader of the requested columns, after the schema. None if a position isn't in the schema, or
+// repeats.
 fn open_stream<R: Reads + Drop>(
     alloc: Global,
     input: R,
@@ -73,7 +76,7 @@ fn open_stream<R: Reads + Drop>(
     Ok(Some(reader))
 }
 
-// Prints the chunks that come, each before the next is read, and answers how they ended.
+// Prints each chunk before the next is read, and returns how they ended.
 fn show_chunks<R: Reads + Drop, W: Writes>(
     reader: &mut StreamReader<R>,
     printer: &mut Printer<W>,
@@ -90,7 +93,7 @@ fn show_chunks<R: Reads + Drop, W: Writes>(
     Err(Fault::Argument(ArgFault::TooLarge))
 }
 
-// Prints the next chunk, where one comes, else answers how they ended.
+// Prints the next chunk, or returns how the chunks ended.
 fn show_chunk<R: Reads + Drop, W: Writes>(
     reader: &mut StreamReader<R>,
     printer: &mut Printer<W>,
@@ -120,7 +123,7 @@ fn put_ending<W: Writes>(printer: &mut Printer<W>, ending: Ending) -> Result<(),
 }
 
 impl<'a, W: Writes> Printer<'a, W> {
-    /// Prints a chunk row by row, and sends all that is kept.
+    /// Prints a chunk row by row, and sends the buffer.
     pub fn take_chunk(&mut self, chunk: &Chunk<AnyArray>) -> Result<(), Fault>
         ensures only { IfErr result (λ e. OwnFault e ⊥) }
         ensures all { OnOk result (PrintsAll W.known W.failures W.memory self.old self.new) }
@@ -174,7 +177,7 @@ fn put_row<W: Writes>(
     printer.put(b"\n")
 }
 
-// Prints what separates a column from the one before it.
+// Prints the separator before each column but the first.
 fn put_tab<W: Writes>(printer: &mut Printer<W>, column: usize) -> Result<(), Fault>
     ensures only { IfErr result (λ e. OwnFault e ⊥) }
     ensures prints { OnOk result (Prints W.known W.failures W.memory printer.old printer.new) }
@@ -185,7 +188,7 @@ fn put_tab<W: Writes>(printer: &mut Printer<W>, column: usize) -> Result<(), Fau
     printer.put(b"\t")
 }
 
-// Prints what stands in a row. A row that isn't there, which no column of a chunk lacks, prints as `null`.
+// Prints the value in a row. A row outside of the column, which no chunk has, prints as `null`.
 fn put_cell<W: Writes>(printer: &mut Printer<W>, array: &AnyArray, row: usize) -> Result<(), Fault>
     ensures only { IfErr result (λ e. OwnFault e ⊥) }
     ensures prints { OnOk result (Prints W.known W.failures W.memory printer.old printer.new) }

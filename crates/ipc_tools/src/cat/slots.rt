@@ -1,4 +1,4 @@
-//! Prints slots of arrays of any kind.
+//! Prints slots of arrays of any type.
 ghost use Rattle.std.specs.Prelude.{◌+◌, ◌<◌, ◌≤◌, IfErr, OnOk, length, map};
 ghost use Rattle.ipc_devices.specs.Faults.{OwnFault};
 ghost use Rattle.lower_arrays.specs.AnyLayouts.{layout_of};
@@ -13,9 +13,12 @@ use arrow2_ipc::io::ipc::fault::{Fault, Writes};
 use arrow2_ipc::types::i256;
 use lower_arrays::value::{Nesting, Scalar, Value, value_at};
 
-/// Prints slot `index` of an array: `null`, `true`, `false`; a number; a text in double quotes; bytes as `h`
-/// and hexadecimal digits; the slots of a list or a map in brackets, those of a struct in braces; the slot of a
-/// union behind its type id and a colon.
+/// Prints slot `index` of an array.
+///
+/// - `null`, `true`, `false`, or a number;
+/// - a text in double quotes, bytes as `h` and hexadecimal digits;
+/// - the slots of a list or a map in brackets, those of a struct in braces;
+/// - the slot of a union after its type id and a colon.
 #[cycle(slots)]
 pub fn put_slot<W: Writes>(
     printer: &mut Printer<W>,
@@ -40,7 +43,7 @@ pub fn put_slot<W: Writes>(
     }
 }
 
-// Prints slots of children together.
+// Prints the slots of a nested type.
 #[cycle(slots)]
 fn put_nested<W: Writes>(
     printer: &mut Printer<W>,
@@ -63,7 +66,7 @@ fn put_nested<W: Writes>(
     }
 }
 
-// Prints `len` slots of a child from a place on.
+// Prints `len` slots of a child from the index `place` on.
 #[cycle(slots)]
 fn put_list<W: Writes>(
     printer: &mut Printer<W>,
@@ -75,7 +78,7 @@ fn put_list<W: Writes>(
     ensures only { IfErr result (λ e. OwnFault e ⊥) }
     ensures prints { OnOk result (Prints W.known W.failures W.memory printer.old printer.new) }
 {
-    // So many slots there are: none behind `place + len` is asked for.
+    // for the proof alone: `place + index` doesn't overflow, as the child has so many slots
     let _slots = child.len();
     printer.put(b"[")?;
     for index in 0..len {
@@ -85,7 +88,7 @@ fn put_list<W: Writes>(
     printer.put(b"]")
 }
 
-// A child, which has the slot.
+// A child, which has this slot.
 #[tactic(auto, using(lower_arrays::proofs::Children::height_at, lower_arrays::proofs::Children::reach_at))]
 fn child_with(children: &[AnyArray], index: usize, place: usize) -> &AnyArray
     requires inside { index < length children.now }
@@ -115,7 +118,7 @@ fn put_record<W: Writes>(
     printer.put(b"}")
 }
 
-// What stands in front of all but the first.
+// Prints the separator before each but the first.
 fn put_comma<W: Writes>(printer: &mut Printer<W>, index: usize) -> Result<(), Fault>
     ensures only { IfErr result (λ e. OwnFault e ⊥) }
     ensures prints { OnOk result (Prints W.known W.failures W.memory printer.old printer.new) }
@@ -126,7 +129,7 @@ fn put_comma<W: Writes>(printer: &mut Printer<W>, index: usize) -> Result<(), Fa
     printer.put(b", ")
 }
 
-// Prints a whole number in decimal, 256 bits in hexadecimal, and the parts of others in parentheses.
+// Prints an integer in decimal or, of 256 bits, in hexadecimal, and parts in parentheses.
 fn put_scalar<W: Writes>(printer: &mut Printer<W>, number: Scalar) -> Result<(), Fault>
     ensures only { IfErr result (λ e. OwnFault e ⊥) }
     ensures prints { OnOk result (Prints W.known W.failures W.memory printer.old printer.new) }
@@ -153,7 +156,7 @@ fn put_scalar<W: Writes>(printer: &mut Printer<W>, number: Scalar) -> Result<(),
     }
 }
 
-// Prints a number of 256 bits: `0x` and its 64 digits in two's complement, the highest first.
+// Prints a number of 256 bits: `0x` and 64 digits in two's complement, highest first.
 fn put_wide<W: Writes>(printer: &mut Printer<W>, number: i256) -> Result<(), Fault>
     ensures only { IfErr result (λ e. OwnFault e ⊥) }
     ensures prints { OnOk result (Prints W.known W.failures W.memory printer.old printer.new) }

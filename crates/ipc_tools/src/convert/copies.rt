@@ -1,4 +1,4 @@
-//! The copies that the forms ask for. Their devices are lent: whoever hands them in goes on with them.
+//! The copies that the forms need. Their devices are borrowed.
 ghost use Rattle.std.specs.Prelude.{◌≡◌, [], IfErr, IfOk, IsTrue, OnOk};
 ghost use Rattle.ipc_devices.specs.Faults.{OwnFault};
 ghost use Rattle.ipc_model.specs.Streams.{marked};
@@ -17,7 +17,7 @@ use ipc_convert::files::{file_to_file, stream_to_file};
 use ipc_convert::streams::{file_to_stream, stream_to_stream};
 use std::alloc::Global;
 
-/// Writes the stream at `input` again to `out`, as the target says.
+/// Copies the stream `input` to `out`, as the target says.
 pub fn copy_input<R: Reads, O: Writes>(
     alloc: Global,
     input: &mut R,
@@ -38,7 +38,7 @@ pub fn copy_input<R: Reads, O: Writes>(
     }
 }
 
-/// Writes the file at `file` again to `out`, as the target says.
+/// Copies the file `file` to `out`, as the target says.
 pub fn copy_file<F: Reads + Seeks + Drop, O: Writes>(
     alloc: Global,
     file: F,
@@ -57,7 +57,7 @@ pub fn copy_file<F: Reads + Seeks + Drop, O: Writes>(
     }
 }
 
-/// Writes the chunks of the stream at `input` behind those of the file at `file`, whose device it gives back.
+/// Appends the chunks of the stream `input` to the file `file`, whose device it returns.
 pub fn append_input<F: Reads + Writes + Seeks + Drop, R: Reads>(
     alloc: Global,
     file: F,

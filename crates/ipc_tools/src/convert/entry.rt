@@ -10,9 +10,11 @@ use std::fs::OpenOptions;
 use std::io;
 use std::rt::Files;
 
-/// Does what the words ask for, as [`run`] does, with the files of a system and with standard
-/// input, output and error, and answers the exit status. Without memory for the words it is 1, and
-/// 2 where one of them isn't UTF-8. A file that is only read is opened for reading alone.
+/// Runs `ipconvert` in a process, and returns the exit status.
+///
+/// It is [`run`] with the files of the system and standard input, output and error. The status is 1
+/// if the arguments can't be allocated, and 2 if one of them isn't UTF-8. A file that is only read
+/// is opened for reading alone.
 pub fn start<R: Files + Input + Print + Eprint + AllocGlobal>(
     rt: &R,
     words: io::Result<Vec<String>>,
@@ -47,7 +49,7 @@ pub fn start<R: Files + Input + Print + Eprint + AllocGlobal>(
     )
 }
 
-// Opens a file, for writing only where it is written to.
+// Opens a file, for writing only if it is written to.
 fn open<R: Files>(rt: &R, place: Place<'_>) -> Option<Watched<R::File>> {
     let mut options = OpenOptions::new();
     options.read(true).write(place.is_written);

@@ -1,4 +1,4 @@
-//! What the words of a call ask for.
+//! The forms of a call's arguments.
 ghost use Rattle.std.specs.Prelude.{◌≡◌, false, map, option_map, string_bytes};
 ghost use Rattle.ipc_tools.specs.ConvertWords.{asked, wanted_by, copy_named, options_named, place_for};
 
@@ -7,10 +7,10 @@ use arrow2_ipc::io::ipc::write::WriteOptions;
 /// The program's forms.
 #[derive(Clone, Copy)]
 pub enum Form<'a> {
-    /// From a source to a target, which is written with these options.
+    /// Copies a source to a target, which is written with these options.
     Convert(Source<'a>, Target, WriteOptions),
 
-    /// Behind the chunks of the file at a path, from the stream at the input.
+    /// Appends the stream at the input to the file at a path.
     Append(&'a str),
 }
 
@@ -24,24 +24,26 @@ pub enum Source<'a> {
     File(&'a str),
 }
 
-/// What it is written as.
+/// The format that is written.
 #[derive(Clone, Copy)]
 pub enum Target {
     Stream,
     File,
 }
 
-/// A file that the words name.
+/// A file that the arguments name.
 #[derive(Clone, Copy)]
 pub struct Place<'a> {
     /// The path.
     pub path: &'a str,
 
-    /// Whether it is written to, beside being read.
+    /// Whether it is also written to.
     pub is_written: bool,
 }
 
-/// The form that these words ask for, or None where no form has them. A first word `append` always asks for appending.
+/// The form of these arguments; None if they have no form.
+///
+/// If the first is `append`, the form is appending.
 pub fn form_of(words: &[String]) -> Option<Form<'_>>
     ensures { option_map wanted_by result ≡ asked (map string_bytes words.now) }
 {
@@ -55,7 +57,7 @@ pub fn form_of(words: &[String]) -> Option<Form<'_>>
     }
 }
 
-/// The file that a form asks to have opened, if it asks for one.
+/// The file that a form opens, if there is one.
 pub fn place_in(form: Form<'_>) -> Option<Place<'_>>
     ensures { option_map (λ place. (place.path.now, place.is_written)) result ≡ place_for (wanted_by form.entry) }
 {
@@ -88,7 +90,7 @@ fn form_from_to<'a>(from: &'a str, to: &str, write_options: WriteOptions) -> Opt
     Some(Form::Convert(source, target, write_options))
 }
 
-// The order of the bytes of numbers, by its word.
+// The byte order that an argument names.
 fn options_of(order: &str) -> Option<WriteOptions>
     ensures { result ≡ options_named order.now }
 {

@@ -1,7 +1,9 @@
-//! Devices that are lent to a copy, and that their owner goes on with.
+//! Devices that are borrowed by a copy.
 //!
-//! A copy takes its devices, and gives back devices of the same types: its contract doesn't say which ones. These tell it themselves, by each
-//! read that gave bytes, and in front of the bytes that are written to. So what is said of a device that came back is said of the one that was lent.
+//! A copy takes its devices and returns devices of the same types, and its contract doesn't say
+//! that they are the same ones. These carry the name of the borrow in their ghosts. A reader has it
+//! in each read that gave bytes, a writer as the first byte of its memory. So what is stated of the
+//! returned device is true of the borrowed one.
 ghost use Rattle.std.specs.Prelude.{◌≡◌, refl};
 ghost use Rattle.std.proofs.Common.{◌∙◌};
 ghost use Rattle.ipc_tools.specs.Named.{named};
@@ -9,20 +11,20 @@ ghost use Rattle.ipc_tools.specs.Named.{named};
 use arrow2_ipc::io::ipc::fault::{Failures, Reads, Writes};
 use std::io;
 
-/// A device that is lent to be read.
+/// A device that is borrowed for reading.
 #[derive(Drop)]
 pub struct LentReader<'a, R> {
     device: &'a mut R,
 }
 
-/// A device that is lent to be written to.
+/// A device that is borrowed for writing.
 #[derive(Drop)]
 pub struct LentWriter<'a, W> {
     device: &'a mut W,
 }
 
 impl<'a, R> LentReader<'a, R> {
-    /// Lends a device.
+    /// Borrows a device.
     pub fn new(device: &'a mut R) -> LentReader<'a, R>
         ensures same_reference { result.device.ghost_name ≡ device.entry.ghost_name }
         ensures now { result.device.now ≡ device.entry.now }
@@ -30,7 +32,7 @@ impl<'a, R> LentReader<'a, R> {
         LentReader { device }
     }
 
-    /// The device that was lent.
+    /// The borrowed device.
     pub fn into_inner(self) -> &'a mut R
         ensures same_reference { result.ghost_name ≡ self.entry.device.ghost_name }
         ensures now { result.now ≡ self.entry.device.now }
@@ -40,7 +42,7 @@ impl<'a, R> LentReader<'a, R> {
 }
 
 impl<'a, W> LentWriter<'a, W> {
-    /// Lends a device.
+    /// Borrows a device.
     pub fn new(device: &'a mut W) -> LentWriter<'a, W>
         ensures same_reference { result.device.ghost_name ≡ device.entry.ghost_name }
         ensures now { result.device.now ≡ device.entry.now }
@@ -48,7 +50,7 @@ impl<'a, W> LentWriter<'a, W> {
         LentWriter { device }
     }
 
-    /// The device that was lent.
+    /// The borrowed device.
     pub fn into_inner(self) -> &'a mut W
         ensures same_reference { result.ghost_name ≡ self.entry.device.ghost_name }
         ensures now { result.now ≡ self.entry.device.now }

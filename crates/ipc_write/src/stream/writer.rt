@@ -1,4 +1,4 @@
-//! What a writer of a stream holds.
+//! The state of a stream writer.
 ghost use Rattle.std.specs.Prelude.{◌≡◌, false};
 
 use crate::stream::WriterState;
@@ -8,22 +8,23 @@ use lower::datatypes::DataType;
 use lower::types::Endianness;
 use std::alloc::Global;
 
-/// Writes a stream: a schema, then chunks, then the mark that ends it (Arrow columnar format, "IPC Streaming Format").
+/// Writes a stream: a schema, then chunks, then the end mark.
 ///
-/// The order of its calls is `start`, any number of `write`, `finish`; one of these out of its turn is refused, and
-/// a refused call leaves the device, the writer's state and the dictionaries that it remembers as they were. After an `Io` fault each of
-/// these three answers `State(Failed)`; `into_inner` still hands out the device.
+/// See "IPC Streaming Format" in the Arrow columnar format. Call `start`, then `write` any number
+/// of times, then `finish`; another order is refused. A refused call leaves the device, the
+/// writer's state and the dictionaries that it remembers as they were. After `Io` each of the three
+/// returns `State(Failed)`; `into_inner` still returns the device.
 #[derive(Drop)]
 pub struct StreamWriter<W> {
     pub(crate) alloc: Global,
     pub(crate) writer: W,
-    // of the bytes of numbers
+    // the byte order of numbers
     pub(crate) order: Endianness,
     pub(crate) state: WriterState,
     // the types of the columns
     pub(crate) types: Vec<DataType>,
     pub(crate) ipc_fields: Vec<IpcField>,
-    // the dictionaries that were written, which others may replace
+    // the dictionaries that were written; later ones may replace them
     pub(crate) dictionary_tracker: DictionaryTracker,
     ghost replaces: { dictionary_tracker.cannot_replace ≡ false },
 }

@@ -1,4 +1,4 @@
-//! The tables of Arrow's metadata: views of bytes (`..Ref`), and values that are built into bytes.
+//! Arrow's metadata tables: views of bytes (`..Ref`), and values that are built into bytes.
 pub use ipc_tables::file::Footer;
 pub use ipc_tables::message::{
     BodyCompression, BodyCompressionMethod, CompressionType, DictionaryBatch, Message,

@@ -1,5 +1,8 @@
-//! Reading: the chunks of a stream (`StreamReader`) and of a file (`FileReader`), from any device; all of a stream or a file that lies
-//! in memory (`read_stream`, `read_file`); and the calls below them, for a schema, a batch, a dictionary, a footer.
+//! Reading of streams and files.
+//!
+//! - `StreamReader` and `FileReader` read chunk by chunk, from any device.
+//! - `read_stream` and `read_file` read a whole stream or file in memory.
+//! - The other calls read a schema, a batch, a dictionary or a footer.
 pub use ipc_costs::cost::{footer_cost, schema_cost};
 pub use ipc_devices::OutOfSpecKind;
 pub use ipc_file_readers::read::reader::FileReader;

@@ -1,5 +1,8 @@
-//! Writing: streams (`StreamWriter`) and files (`FileWriter`), to any device; files in sessions (`create_file`, `append_session`); and the
-//! calls below them, for a schema, a chunk, an array, a message.
+//! Writing of streams and files.
+//!
+//! - `StreamWriter` and `FileWriter` write chunk by chunk, to any device.
+//! - `create_file` and `append_session` write a file in sessions.
+//! - The other calls write a schema, a chunk, an array or a message.
 pub use ipc_chunks::common::{encode_chunk, encode_chunk_amortized};
 pub use ipc_encode::common::{EncodedData, Record, WriteOptions};
 pub use ipc_encode::serialize::write;

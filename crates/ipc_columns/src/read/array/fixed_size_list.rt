@@ -20,7 +20,7 @@ use lower::error::{Error, Rule};
 use lower_arrays::array::{AnyArray, FixedSizeListArray};
 use std::alloc::Global;
 
-/// The limit of a child that has `size` slots for each of its parent's: none where it is past all lengths.
+/// The limit of a child with `size` slots for each row; None if it overflows.
 pub fn times_limit(limit: Option<usize>, size: usize) -> Option<usize>
     ensures { IsTimes limit size result }
 {
@@ -30,9 +30,14 @@ pub fn times_limit(limit: Option<usize>, size: usize) -> Option<usize>
     }
 }
 
-/// The array of lists of `size` slots each over a child (Arrow columnar format, "Fixed-Size List Layout").
-/// `ChildLength` where the child doesn't have so many slots for each list of the head, `ChildType` where it doesn't have
-/// the type of the field. `Memory` comes too, and no other.
+/// Makes the array of lists of `size` slots each.
+///
+/// See "Fixed-Size List Layout" in the Arrow columnar format.
+///
+/// # Errors
+/// - `ChildLength`: the child doesn't have `size` slots for each row of the head.
+/// - `ChildType`: the child doesn't have the type of the field.
+/// - `Memory`.
 #[tactic(auto, using(crate::proofs::FixedReads::fixed_rules))]
 pub fn make_fixed_size_list(
     alloc: Global,

@@ -1,4 +1,4 @@
-//! Reads what columns of lists have beside their child, and makes their arrays.
+//! Reads the node, validity and offsets of lists, and makes their arrays.
 ghost use Rattle.std.specs.Prelude.{◌≡◌, [], ◌∷◌, ◌+◌, ◌≤◌, IsTrue, IfOk, IfErr};
 ghost use Rattle.ipc_devices.specs.Faults.{OnIo, OwnFault, Answers};
 ghost use Rattle.lower.specs.TypeViews.{type_view};
@@ -31,24 +31,28 @@ use lower::error::{Error, Rule};
 use lower_arrays::array::{AnyArray, ListArray, ListOffsets};
 use std::alloc::Global;
 
-/// What a column of lists has beside its child.
+/// A column of lists without its child.
 #[derive(Drop)]
 pub struct ListHead {
-    /// Which lists aren't null; none where all are.
+    /// Which lists aren't null; None if all aren't.
     pub validity: Option<Bitmap>,
-    /// Where they begin and end in the child.
+    /// The offsets of the lists in the child.
     pub offsets: ListOffsets,
-    /// Where the last one ends: how many slots the child has to have.
+    /// The last offset: how many slots the child must have.
     pub last: usize,
 }
 
-/// What the column of lists at a place has beside its child (Arrow columnar format, "Variable-size List
-/// Layout"): a node, a validity, and offsets of 64 bits where `is_large`, else of 32.
+/// Reads a column of lists without its child: a node, a validity and offsets.
 ///
-/// `NegativeFooterLength` where its length, or the offset of a buffer that is used, is below 0,
-/// `InvalidBuffer` where such a buffer is too short, `InvalidBitmap` where the validity is, `Ended` where the
-/// device is, `FallingOffset` where an offset is below 0 or less than the one before it. `Io` and `Memory` come
-/// too, and no other.
+/// The offsets have 64 bits if `is_large`, else 32. See "Variable-size List Layout" in the Arrow
+/// columnar format.
+///
+/// # Errors
+/// - `NegativeFooterLength`: the node's length, or the offset of a buffer in use, is negative.
+/// - `InvalidBuffer`: a buffer in use is too short; `InvalidBitmap`: the validity is.
+/// - `Ended`: the device is too short.
+/// - `FallingOffset`: an offset is negative, or less than the one before it.
+/// - `Io`, `Memory`.
 #[tactic(auto, using(ipc_flat_columns::proofs::Refusals::buffer_column))]
 pub fn read_list_head<R: Reads + Seeks>(
     alloc: Global,
@@ -92,8 +96,12 @@ pub fn read_list_head<R: Reads + Seeks>(
     })
 }
 
-/// The array of lists over a child. `ChildLength` where the child doesn't have as many slots as the last offset
-/// says, `ChildType` where it doesn't have the type of the field. `Memory` comes too, and no other.
+/// Makes the array of lists.
+///
+/// # Errors
+/// - `ChildLength`: the child doesn't have as many slots as the last offset says.
+/// - `ChildType`: the child doesn't have the type of the field.
+/// - `Memory`.
 #[tactic(auto, using(crate::proofs::ListLevels::list_rules))]
 pub fn make_list(
     alloc: Global,

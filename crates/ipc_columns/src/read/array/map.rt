@@ -1,4 +1,4 @@
-//! Reads what columns of maps have beside their child, and makes their arrays.
+//! Reads the node, validity and offsets of maps, and makes their arrays.
 ghost use Rattle.std.specs.Prelude.{◌≡◌, [], ◌∷◌, ◌+◌, ◌≤◌, IsTrue, IfOk, IfErr};
 ghost use Rattle.ipc_devices.specs.Faults.{OnIo, OwnFault, Answers};
 ghost use Rattle.lower.specs.TypeViews.{type_view};
@@ -30,24 +30,27 @@ use lower::offset::OffsetsBuffer;
 use lower_arrays::array::{AnyArray, MapArray};
 use std::alloc::Global;
 
-/// What a column of maps has beside its child.
+/// A column of maps without its child.
 #[derive(Drop)]
 pub struct MapHead {
-    /// Which maps aren't null; none where all are.
+    /// Which maps aren't null; None if all aren't.
     pub validity: Option<Bitmap>,
-    /// Where they begin and end in the child.
+    /// The offsets of the maps in the child.
     pub offsets: OffsetsBuffer<i32>,
-    /// Where the last one ends: how many slots the child has to have.
+    /// The last offset: how many slots the child must have.
     pub last: usize,
 }
 
-/// What the column of maps at a place has beside its child (Arrow columnar format, "Map Layout"): a node, a
-/// validity, and offsets of 32 bits.
+/// Reads a column of maps without its child: a node, a validity and offsets.
 ///
-/// `NegativeFooterLength` where its length, or the offset of a buffer that is used, is below 0,
-/// `InvalidBuffer` where such a buffer is too short, `InvalidBitmap` where the validity is, `Ended` where the
-/// device is, `FallingOffset` where an offset is below 0 or less than the one before it. `Io` and `Memory` come
-/// too, and no other.
+/// The offsets have 32 bits. See "Map Layout" in the Arrow columnar format.
+///
+/// # Errors
+/// - `NegativeFooterLength`: the node's length, or the offset of a buffer in use, is negative.
+/// - `InvalidBuffer`: a buffer in use is too short; `InvalidBitmap`: the validity is.
+/// - `Ended`: the device is too short.
+/// - `FallingOffset`: an offset is negative, or less than the one before it.
+/// - `Io`, `Memory`.
 #[tactic(auto, using(ipc_flat_columns::proofs::Refusals::buffer_column))]
 pub fn read_map_head<R: Reads + Seeks>(
     alloc: Global,
@@ -79,9 +82,13 @@ pub fn read_map_head<R: Reads + Seeks>(
     })
 }
 
-/// The array of maps over a child. `ChildLength` where the child doesn't have as many slots as the last offset says,
-/// `MapChild` where its type isn't a struct of two fields, `ChildType` where it doesn't have the type of the field.
-/// `Memory` comes too, and no other.
+/// Makes the array of maps.
+///
+/// # Errors
+/// - `ChildLength`: the child doesn't have as many slots as the last offset says.
+/// - `MapChild`: the child's type isn't a struct of two fields.
+/// - `ChildType`: the child doesn't have the type of the field.
+/// - `Memory`.
 #[tactic(auto, using(crate::proofs::MapReads::map_rules))]
 pub fn make_map(
     alloc: Global,

@@ -17,9 +17,15 @@ use lower::datatypes::DataType;
 use lower::error::{Error, Rule};
 use lower_arrays::array::{AnyArray, StructArray};
 
-/// The array of structs of some columns (Arrow columnar format, "Struct Layout"). `NoChild` where there is no
-/// column, `ChildLength` where one doesn't have as many slots as the head says, `ChildCount` and `ChildType` where
-/// they aren't those of its fields. `Memory` comes too, and no other.
+/// Makes the array of structs of some columns.
+///
+/// See "Struct Layout" in the Arrow columnar format.
+///
+/// # Errors
+/// - `NoChild`: there is no column.
+/// - `ChildLength`: a column doesn't have as many slots as the head has rows.
+/// - `ChildCount`, `ChildType`: the columns don't have the number and the types of the fields.
+/// - `Memory`.
 #[tactic(auto, using(crate::proofs::Records::records))]
 pub fn make_struct(own: &DataType, head: Head, columns: Vec<AnyArray>) -> Result<AnyArray, Fault>
     requires lies { physical (type_view own.now) ≡ Struct }

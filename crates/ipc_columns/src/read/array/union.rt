@@ -1,4 +1,4 @@
-//! Reads what columns of unions have beside their children, and makes their arrays.
+//! Reads the type ids and offsets of unions, and makes their arrays.
 ghost use Rattle.std.specs.Prelude.{◌≡◌, ◌+◌, ◌≤◌, ◌*◌, ◌<◌, length, map, IsTrue, IfOk, IfErr};
 ghost use Rattle.ipc_devices.specs.Faults.{OnIo, OwnFault, Answers};
 ghost use Rattle.lower.specs.TypeViews.{type_view};
@@ -45,8 +45,9 @@ fn fetch_types<R: Reads + Seeks>(
     Ok(Buffer::new(types)?)
 }
 
-/// Of a dense union's first `count` slots where each stands in its child: the offsets in the buffer at `index`
-/// (Arrow columnar format, "Dense Union"). The faults are those of [`fetch_numbers`].
+/// Reads the offsets of a dense union's first `count` slots from the buffer at `index`.
+///
+/// See "Dense Union" in the Arrow columnar format. The errors are those of [`fetch_numbers`].
 pub fn read_places<R: Reads + Seeks>(
     alloc: Global,
     reader: &mut R,
@@ -68,12 +69,16 @@ pub fn read_places<R: Reads + Seeks>(
     Ok(Buffer::new(places)?)
 }
 
-/// Which child each slot that is read of the column of a union at a place is of, by its id (Arrow columnar
-/// format, "Union Layout"): a node, whose null count says nothing, and the types, behind the buffer that stands
-/// in front of a union's own before version 5.
+/// Reads the node and the type ids of a union, one for each row.
 ///
-/// `NegativeFooterLength` where the length, or the offset of the types, is below 0, `InvalidBuffer` where these
-/// are too short, `Ended` where the device is. `Io` and `Memory` come too, and no other.
+/// The node's null count isn't used. Before version 5 another buffer precedes the type ids, which
+/// is skipped. See "Union Layout" in the Arrow columnar format.
+///
+/// # Errors
+/// - `NegativeFooterLength`: the node's length, or the offset of the type ids, is negative.
+/// - `InvalidBuffer`: the type ids are too short.
+/// - `Ended`: the device is too short.
+/// - `Io`, `Memory`.
 pub fn read_types<R: Reads + Seeks>(
     alloc: Global,
     reader: &mut R,
@@ -96,13 +101,21 @@ pub fn read_types<R: Reads + Seeks>(
     fetch_types(alloc, reader, body, place.buffer + body.extra, node.rows)
 }
 
-/// The array of a union of some columns (Arrow columnar format, "Union Layout"). `PhysicalType` where the type is
-/// no union, `UnionChildren` where there are no columns or more than 127, `UnionIds` where the ids that the type
-/// gives aren't as many, distinct and from 0 to 126, `UnionType` where the type of a slot names no column,
-/// `ChildCount` and `ChildType` where the columns aren't those of the fields, `UnionOffsets` where a dense union
-/// doesn't have an offset for each slot or a sparse one has offsets, `ChildLength` where a column of a sparse union
-/// doesn't have as many slots, `UnionOffset` where an offset isn't from 0 to below its column's slots. `Memory` comes
-/// too, and no other.
+/// Makes the array of a union of some columns.
+///
+/// See "Union Layout" in the Arrow columnar format.
+///
+/// # Errors
+/// - `PhysicalType`: the type isn't a union.
+/// - `UnionChildren`: there are no columns, or more than 127.
+/// - `UnionIds`: the ids in the type aren't as many as the columns, distinct and from 0 to 126.
+/// - `UnionType`: the type id of a slot names no column.
+/// - `ChildCount`, `ChildType`: the columns don't have the number and the types of the fields.
+/// - `UnionOffsets`: a dense union doesn't have an offset for each slot, or a sparse one has
+///   offsets.
+/// - `ChildLength`: a column of a sparse union doesn't have as many slots as the union.
+/// - `UnionOffset`: an offset is negative, or not less than the number of its column's slots.
+/// - `Memory`.
 #[tactic(auto, using(crate::proofs::UnionRules::union_rules))]
 pub fn make_union(
     own: &DataType,

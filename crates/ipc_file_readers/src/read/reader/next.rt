@@ -17,7 +17,7 @@ use lower::datatypes::Schema;
 use lower_arrays::array::AnyArray;
 use std::alloc::Global;
 
-// A limit, less some rows.
+// A limit less some rows, at least 0.
 fn less(limit: Option<usize>, rows: usize) -> Option<usize>
     ensures { result ≡ less limit rows }
 {
@@ -28,11 +28,14 @@ fn less(limit: Option<usize>, rows: usize) -> Option<usize>
 }
 
 impl<R: Reads + Seeks + Drop> FileReader<R> {
-    /// A reader of the chunks of the file that `metadata` is of. A projection names columns that are there, each once (`is_projection`); without one all
-    /// columns are read, and the call takes no memory. At most `limit` rows come, of all chunks together; without a limit all. The call
-    /// reads nothing.
+    /// A reader of the chunks of the file that `metadata` describes.
     ///
-    /// It answers `Memory` where there is no memory, and no other fault.
+    /// - `projection`: indexes of the columns to return, in this order, none twice (see
+    ///   `is_projection`). None returns all.
+    /// - `limit`: the most rows of all chunks together; None returns all rows.
+    ///
+    /// Nothing is read yet. The error is `Memory`, and comes only with a projection: otherwise
+    /// nothing is allocated.
     pub fn new(
         alloc: Global,
         reader: R,
@@ -58,36 +61,39 @@ impl<R: Reads + Seeks + Drop> FileReader<R> {
         })
     }
 
-    /// The schema of the chunks: that of the file, or, by a projection, its columns' fields in its order, with the metadata of the
-    /// file's schema.
+    /// The schema of the chunks, with the fields of the requested columns in their order.
+    ///
+    /// It has the metadata of the file's schema.
     pub fn schema(&self) -> &Schema
         ensures { result.now ≡ schema_of self.now }
     {
         shown(&self.projection, &self.metadata.schema)
     }
 
-    /// What the footer said.
+    /// The content of the footer.
     pub fn metadata(&self) -> &FileMetadata
         ensures { result.now ≡ metadata_of self.now }
     {
         &self.metadata
     }
 
-    /// What was read from.
+    /// The device.
     pub fn into_inner(self) -> R
         ensures { result ≡ device_of self }
     {
         self.reader
     }
 
-    /// Whether `next` gives None from now on: behind the last block, and after a fault of the dictionaries.
+    /// Whether `next` returns None from now on.
+    ///
+    /// This is so after the last block and after an error in the dictionaries.
     pub fn is_finished(&self) -> bool
         ensures { result ≡ is_over self.now }
     {
         self.current_block >= self.metadata.blocks.len()
     }
 
-    /// Hands out the scratch memory for data and that for messages, and leaves empty vectors in their place.
+    /// Takes the scratch memory for data and for messages, and leaves empty vectors.
     pub fn get_scratches(&mut self) -> (Vec<u8>, Vec<u8>)
         ensures taken { result ≡ scratches_of self.old }
         ensures data_left { (scratches_of self.new).0.items ≡ [] }
@@ -99,7 +105,7 @@ impl<R: Reads + Seeks + Drop> FileReader<R> {
         (data, message)
     }
 
-    /// Takes scratch memory for data and for messages, in place of what the reader has.
+    /// Replaces the scratch memory for data and for messages.
     pub fn set_scratches(&mut self, scratches: (Vec<u8>, Vec<u8>))
         ensures given { scratches_of self.new ≡ scratches }
         ensures same { DiffersInScratches self.old self.new }
@@ -107,7 +113,8 @@ impl<R: Reads + Seeks + Drop> FileReader<R> {
         (self.data_scratch, self.message_scratch) = scratches;
     }
 
-    // Reads the dictionaries, where they weren't read yet. After any fault the reader is as it was, but for its device.
+    // Reads the dictionaries, if they weren't read yet. After an error only the device may have
+    // changed.
     fn read_dictionaries(&mut self) -> Result<(), Fault>
         ensures gave { DictionariesGave R.known R.still R.memory R.failures R.given self.old result self.new }
     {
@@ -124,7 +131,7 @@ impl<R: Reads + Seeks + Drop> FileReader<R> {
         Ok(())
     }
 
-    // The chunk of a block, with the columns that are asked for. The dictionaries were read.
+    // The requested columns of a block. The dictionaries must have been read.
     fn read_block(&mut self, block: usize) -> Result<Chunk<AnyArray>, Fault>
         requires known { IsSome (known_of self.old) }
         requires within { block < vec_len (metadata_of self.old).blocks }
@@ -147,8 +154,8 @@ impl<R: Reads + Seeks + Drop> FileReader<R> {
         in_order(self.alloc, &self.projection, chunk)
     }
 
-    // The chunk of the next block, behind which the reader stands then, also after a fault, one of memory or of the device too:
-    // the dictionaries stay known then, and the limit is as it was. The dictionaries were read.
+    // The chunk of the next block. The dictionaries must have been read. After any error the reader
+    // continues with the block after it, and keeps the dictionaries and the limit.
     fn read_next(&mut self) -> Result<Chunk<AnyArray>, Fault>
         requires known { IsSome (known_of self.old) }
         requires more { is_over self.old ≡ false }
@@ -165,7 +172,7 @@ impl<R: Reads + Seeks + Drop> FileReader<R> {
 impl<R: Reads + Seeks + Drop> Iterator for FileReader<R> {
     type Item = Result<Chunk<AnyArray>, Fault>;
 
-    // At most one item comes for each block that is left.
+    // At most one item for each remaining block.
     ghost remaining = { λ a. at_most (blocks_left a) };
 
     ghost next_gives = { λ a r b. NextStep R.known R.still R.memory R.failures R.given a r b };

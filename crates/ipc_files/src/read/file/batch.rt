@@ -30,7 +30,7 @@ use ipc_views::{MessageHeaderRef, MetadataVersion, RecordBatchRef};
 use lower_arrays::array::AnyArray;
 use std::alloc::Global;
 
-// The record batch in the header of a message, which has to be one.
+// The record batch in the header of a message, or `UnexpectedMessageType`.
 fn record_of(header: MessageHeaderRef<'_>) -> Result<RecordBatchRef<'_>, Fault>
     ensures { result ≡ needed_record header.entry }
 {
@@ -40,7 +40,7 @@ fn record_of(header: MessageHeaderRef<'_>) -> Result<RecordBatchRef<'_>, Fault>
     }
 }
 
-// The columns of a record batch whose body begins at a place of a file.
+// The columns of a record batch whose body is at the offset `body`.
 #[allow(clippy::too_many_arguments)]
 fn read_record<R: Reads + Seeks>(
     alloc: Global,
@@ -90,23 +90,45 @@ fn read_record<R: Reads + Seeks>(
     )
 }
 
-/// Reads the record batch at one of the blocks of a file, any of them, in any order (Arrow columnar format, "IPC File Format"): the
-/// columns of the projection, in rising order, or all where there is none, and of each at most `limit` slots. The index is that of
-/// a block in `metadata`, and the dictionaries are those of [`read_file_dictionaries`]. Each version is that of the block's own
-/// message, and the lengths of bodies aren't used. Of a column that isn't chosen no byte is read, and nothing is judged. No more
-/// bytes are taken of the device than the message, its prefix and what the buffers of the chosen columns list, where it is
-/// refused too; where the message can't be read, no more than its prefix and the length that this states. Where it is Ok, the
-/// arrays hold together no more than these list, no more than the file has bytes, and one offset for each buffer of offsets that lists nothing. At each dictionary
-/// place of a column, those inside the values of others aside, stand the values that the dictionaries have under its id.
+/// Reads the record batch at one block of a file.
 ///
-/// Over memory it is Ok exactly where the block has a meaning by the projection and the limit, and the chunk is then that. Faults:
-/// `OutOfSpec(NegativeFooterLength)` where a number of the block is below 0; `Ended` where its message isn't there, and
-/// `OutOfSpec(UnexpectedNegativeInteger)` where the length of that is below 0; `InvalidFlatbufferMessage`, `MissingMessageHeader`,
-/// `InvalidFlatbufferHeader`, `InvalidFlatbufferVersion` where it is ill-made, and `UnexpectedMessageType` where it is no record batch,
-/// each `OutOfSpec`; those of [`read_record_batch`]; `Io` and `Memory`, the former exactly where a call of the device failed. For a length that
-/// isn't there no more than 65,536 bytes of memory are taken. The metadata of the message are left in `message_scratch`, and
-/// `data_scratch` isn't used; after a fault the reader may stand at any place, and other blocks can be read. The
-/// blocks name places of the device: so the file has to begin where that does.
+/// - `dictionaries`: the result of [`read_file_dictionaries`].
+/// - `metadata`: of a file that begins where the device begins, as blocks have offsets of the
+///   device.
+/// - `projection`: indexes of the columns to read, ascending; None reads all. No byte of another
+///   column is read or checked.
+/// - `limit`: reads at most this many rows of each column; None reads all.
+/// - `index`: the index of any block in `metadata.blocks`.
+/// - `message_scratch`: keeps the metadata of the message. `data_scratch` isn't used.
+///
+/// See "IPC File Format" in the Arrow columnar format. The version is that of the block's own
+/// message; the stated length of the body isn't used.
+///
+/// When reading from memory, it is `Ok` exactly if the block is valid by the projection and the
+/// limit, unless an allocation fails. The chunk is the one that `file_chunk` of `ipc_model`
+/// defines. At each dictionary field, except inside dictionary values, it has the values that
+/// `dictionaries` has under the field's id.
+///
+/// At most the message, its 8-byte prefix and the encoded length of the chosen columns' buffers are
+/// read from the device, also on an error. If the message can't be read, these are at most its
+/// prefix and the length that this states. The arrays retain at most the encoded length of these
+/// buffers, and at most the size of the file, plus one offset for each empty offset buffer.
+/// Dictionary values aren't counted, as they are shared.
+///
+/// # Errors
+/// Each of the first four groups is `OutOfSpec`.
+///
+/// - `NegativeFooterLength`: the block's offset or metadata length is negative.
+/// - `UnexpectedNegativeInteger`: the prefix of the message states a negative length.
+/// - `InvalidFlatbufferMessage`, `MissingMessageHeader`, `InvalidFlatbufferHeader`,
+///   `InvalidFlatbufferVersion`: the message is malformed, or has no header.
+/// - `UnexpectedMessageType`: the message isn't a record batch.
+/// - `Ended`: the device has no whole message at the block. At most 65,536 bytes, or four times the
+///   bytes that were read, are allocated for a length that is only stated.
+/// - Those of [`read_record_batch`].
+/// - `Io` exactly if a call of the device failed; `Memory`.
+///
+/// After an error the reader may be at any position, and other blocks can be read.
 ///
 /// [`read_file_dictionaries`]: crate::read::file::read_file_dictionaries
 #[allow(clippy::too_many_arguments)]

@@ -1,4 +1,6 @@
-//! The messages of a file's blocks: the Arrow columnar format, "IPC File Format" and "Encapsulated message format".
+//! Reads the message at a block of a file.
+//!
+//! Arrow columnar format, "IPC File Format" and "Encapsulated message format".
 ghost use Rattle.std.specs.Prelude.{◌≡◌, ◌+◌, ◌≤◌, length, drop, IsTrue, IfErr, OnOk};
 ghost use Rattle.ipc_devices.specs.Device.{Rises, after};
 ghost use Rattle.ipc_devices.specs.Faults.{OnIo, UnlessIo, OwnFault, Answers};
@@ -16,24 +18,24 @@ use ipc_devices::{Reads, Seeks, read_into};
 use ipc_read::read::header::header_of;
 use ipc_views::{Block, MessageHeaderRef, MessageRef, MetadataVersion};
 
-// The marker in front of a length, as a number.
+// The continuation marker before a length, as a number.
 const CONTINUATION: u32 = u32::MAX;
 
-// Where the message of a block stands, and where its body begins.
+// The offsets of a block's message and of its body.
 #[derive(Clone, Copy, Drop)]
 pub(crate) struct BlockPlace {
     pub(crate) message: u64,
     pub(crate) body: u64,
 }
 
-// What a message in a file says of itself: how long its body is isn't used.
+// The header and the version of a message in a file. Its stated body length isn't used.
 #[derive(Drop)]
 pub(crate) struct BlockMessage<'a> {
     pub(crate) header: MessageHeaderRef<'a>,
     pub(crate) version: MetadataVersion,
 }
 
-// Where a block stands. It is refused as told where a number that says it is below 0.
+// The offsets of a block. A negative offset or metadata length is the error `negative`.
 pub(super) fn place_of(block: &Block, negative: OutOfSpecKind) -> Result<BlockPlace, Fault>
     ensures place { GivesPart place_seen result (placed block.now) }
     ensures only { IfErr result (λ e. e ≡ OutOfSpec negative) }
@@ -48,7 +50,7 @@ pub(super) fn place_of(block: &Block, negative: OutOfSpecKind) -> Result<BlockPl
     })
 }
 
-// The number in the next 4 bytes.
+// The next 4 bytes as a number.
 fn read_word<R: Reads>(reader: &mut R) -> Result<u32, Fault>
     ensures only { IfErr result (λ e. OwnFault e (e ≡ Ended)) }
     ensures monotone { R.failures reader.old ≤ R.failures reader.new }
@@ -65,7 +67,7 @@ fn read_word<R: Reads>(reader: &mut R) -> Result<u32, Fault>
     Ok(u32::from_le_bytes(bytes))
 }
 
-// The length that a prefix states, in the newer form, behind the marker, or in the older one.
+// The length that a prefix states: after the continuation marker, or alone in the older form.
 fn read_prefix<R: Reads>(reader: &mut R) -> Result<u32, Fault>
     ensures only { IfErr result (λ e. OwnFault e (e ≡ Ended)) }
     ensures monotone { R.failures reader.old ≤ R.failures reader.new }
@@ -83,9 +85,10 @@ fn read_prefix<R: Reads>(reader: &mut R) -> Result<u32, Fault>
     read_word(reader)
 }
 
-// Reads the metadata of the message that stands at a place, instead of what `metadata` holds. A length below 0 is refused as
-// told. No more bytes are taken than the prefix and the length that it states, whatever the answer. For a length that isn't
-// there no more than 65,536 bytes of memory are taken.
+// Replaces `metadata` by the metadata of the message at the offset `place`. A negative length is
+// the error `negative`. At most the prefix and the stated length are read, also on an error. At
+// most 65,536 bytes, or four times the bytes that were read, are allocated for a length that is
+// only stated.
 pub(super) fn read_metadata<R: Reads + Seeks>(
     reader: &mut R,
     place: u64,
@@ -112,7 +115,7 @@ pub(super) fn read_metadata<R: Reads + Seeks>(
     Ok(())
 }
 
-// The version, which is judged in each message of a file.
+// The version, which is checked in each message of a file.
 fn version_of(message: &MessageRef<'_>) -> Result<MetadataVersion, Fault>
     ensures value { result ≡ stated_version (message_version message.now) }
     ensures only { IfErr result (λ e. OwnFault e (IsHeaderFault e)) }
@@ -123,7 +126,7 @@ fn version_of(message: &MessageRef<'_>) -> Result<MetadataVersion, Fault>
     }
 }
 
-// Opens the metadata of a message. It takes no memory.
+// Opens the metadata of a message, without an allocation.
 #[tactic(auto, unfolding(crate::specs::Blocks::opened_message), using(crate::proofs::BlockHeaders::header_faults))]
 pub(super) fn open_message(metadata: &[u8]) -> Result<BlockMessage<'_>, Fault>
     ensures exact { answered_as message_seen result ≡ opened_message metadata.now }

@@ -23,7 +23,7 @@ use ipc_views::{Block, DictionaryBatchRef, MessageHeaderRef, MetadataVersion};
 use std::alloc::Global;
 use std::collections::HashMap;
 
-// The dictionary batch in the header of a message, which has to be one.
+// The dictionary batch in the header of a message, or `UnexpectedMessageType`.
 fn dictionary_of(header: MessageHeaderRef<'_>) -> Result<DictionaryBatchRef<'_>, Fault>
     ensures { result ≡ needed_dictionary header.entry }
 {
@@ -33,7 +33,7 @@ fn dictionary_of(header: MessageHeaderRef<'_>) -> Result<DictionaryBatchRef<'_>,
     }
 }
 
-// Puts the values of a dictionary batch, whose body begins at a place of a file, to those that are known.
+// Adds the values of a dictionary batch whose body is at the offset `body`.
 #[allow(clippy::too_many_arguments)]
 fn read_values<R: Reads + Seeks>(
     alloc: Global,
@@ -76,7 +76,7 @@ fn read_values<R: Reads + Seeks>(
     Ok(())
 }
 
-// Reads the dictionary batch at a block, and puts its values to those that are known.
+// Reads the dictionary batch at a block, and adds its values.
 fn read_dictionary_block<R: Reads + Seeks>(
     alloc: Global,
     reader: &mut R,
@@ -120,20 +120,39 @@ fn read_dictionary_block<R: Reads + Seeks>(
     Ok(())
 }
 
-/// Reads the dictionaries of a file, block by block in the order of its footer (Arrow columnar format, "IPC File Format"). Of an
-/// id that comes again the last values count. Each version is that of the block's own message, and the lengths of bodies aren't used.
+/// Reads all dictionaries of a file, in the order of its footer.
 ///
-/// Where there are no blocks it is Ok. Over memory it is Ok exactly where the dictionaries have a meaning, and the values are then those.
-/// No more bytes are taken then than the messages of the blocks, their prefixes and what the buffers of the values list. Where a
-/// block is refused, none are taken of those behind it, and of itself no more than these, or, where its message can't be read,
-/// than the prefix and the length that it states. The array under an id holds, whatever the device,
-/// no more than these list in one of its blocks, no more than the file has bytes, and one offset for each buffer of offsets that lists nothing. The scratch memory isn't used. Faults, of the
-/// first block that is refused: `OutOfSpec(UnexpectedNegativeInteger)` where a number of it is below 0; `Ended` where its message isn't
-/// there, and `OutOfSpec(NegativeFooterLength)` where the length of that is below 0; `InvalidFlatbufferMessage`, `MissingMessageHeader`,
-/// `InvalidFlatbufferHeader`, `InvalidFlatbufferVersion` where it is ill-made, and `UnexpectedMessageType` where it is no dictionary
-/// batch, each `OutOfSpec`; those of [`read_dictionary`]; `Io` and `Memory`, the former exactly where a call of the device failed. For a
-/// length that isn't there no more than 65,536 bytes of memory are taken. After a fault the reader may stand at any place.
-/// The blocks name places of the device: so the file has to begin where that does.
+/// - `metadata`: of a file that begins where the device begins, as blocks have offsets of the
+///   device.
+/// - `scratch`: isn't used.
+///
+/// See "IPC File Format" in the Arrow columnar format. If an id comes again, its last values count.
+/// The version of each block is that of its own message; the stated lengths of bodies aren't used.
+/// Without dictionary blocks it is `Ok`. When reading from memory, it is `Ok` exactly if each block
+/// is valid, unless an allocation fails. The values are those that `file_dictionaries` of
+/// `ipc_model` defines.
+///
+/// At most the messages of the blocks, their 8-byte prefixes and the encoded lengths of the values'
+/// buffers are read from the device. If a block is refused, no byte is read for a later one. If its
+/// message can't be read, at most the prefix and the length that this states are read for it.
+/// Whatever the device returns, the array under an id retains at most the encoded length of the
+/// buffers in one of the id's blocks. It retains at most the size of the file, plus one offset for
+/// each empty offset buffer.
+///
+/// # Errors
+/// They are those of the first block that is refused. Each of the first four groups is `OutOfSpec`.
+///
+/// - `UnexpectedNegativeInteger`: the block's offset or metadata length is negative.
+/// - `NegativeFooterLength`: the prefix of the message states a negative length.
+/// - `InvalidFlatbufferMessage`, `MissingMessageHeader`, `InvalidFlatbufferHeader`,
+///   `InvalidFlatbufferVersion`: the message is malformed, or has no header.
+/// - `UnexpectedMessageType`: the message isn't a dictionary batch.
+/// - `Ended`: the device has no whole message at the block. At most 65,536 bytes, or four times the
+///   bytes that were read, are allocated for a length that is only stated.
+/// - Those of [`read_dictionary`].
+/// - `Io` exactly if a call of the device failed; `Memory`.
+///
+/// After an error the reader may be at any position.
 pub fn read_file_dictionaries<R: Reads + Seeks>(
     alloc: Global,
     reader: &mut R,

@@ -1,4 +1,4 @@
-//! Reads so many bytes and no fewer.
+//! Fills a buffer, or fails.
 ghost use Rattle.std.specs.Prelude.{◌≡◌, ◌+◌, ◌≤◌, length, take, drop, IsTrue, IfErr, OnOk};
 ghost use Rattle.ipc_devices.specs.Device.{Rises, after};
 ghost use Rattle.ipc_devices.specs.Faults.{OnIo, UnlessIo, OwnFault, Answers};
@@ -7,7 +7,7 @@ ghost use Rattle.ipc_devices.specs.declared.fault.Fault.TheVariants.{Ended};
 use ipc_devices::fault::Fault;
 use ipc_devices::{Reads, fill};
 
-// Reads until the buffer is full.
+// Reads until the buffer is full, or returns `Ended`.
 pub(super) fn read_exact<R: Reads>(reader: &mut R, buf: &mut [u8]) -> Result<(), Fault>
     ensures only { IfErr result (λ e. OwnFault e (e ≡ Ended)) }
     ensures monotone { R.failures reader.old ≤ R.failures reader.new }

@@ -30,7 +30,7 @@ fn copied_blocks(alloc: Global, blocks: &Blocks<'_>) -> Result<Vec<Block>, Alloc
     Ok(copy)
 }
 
-// The record blocks, which have to be there.
+// The record blocks, or `MissingRecordBatches`.
 fn read_blocks(alloc: Global, footer: &FooterRef<'_>) -> Result<Vec<Block>, Fault>
     ensures meaning { GivesPart (λ blocks. blocks.items) result (present (footer_record_batches footer.now)) }
     ensures only { IfErr result (λ e. FooterFault e footer.now) }
@@ -42,7 +42,7 @@ fn read_blocks(alloc: Global, footer: &FooterRef<'_>) -> Result<Vec<Block>, Faul
     }
 }
 
-// The dictionary blocks, where there is a vector of them.
+// The dictionary blocks, or None if the footer has no vector of them.
 fn read_dictionary_blocks(
     alloc: Global,
     footer: &FooterRef<'_>,
@@ -57,7 +57,7 @@ fn read_dictionary_blocks(
     }
 }
 
-// The schema, which has to be there, and what IPC adds to it.
+// The schema and what IPC adds to it, or `MissingSchema`.
 fn read_schema(alloc: Global, footer: &FooterRef<'_>) -> Result<(Schema, IpcSchema), Fault>
     ensures meaning { GivesPart schema_seen result (given (present (footer_schema footer.now)) schema_at) }
     ensures only { IfErr result (λ e. FooterFault e footer.now) }
@@ -74,13 +74,21 @@ fn read_schema(alloc: Global, footer: &FooterRef<'_>) -> Result<(Schema, IpcSche
     Ok(read)
 }
 
-/// What a footer says of a file of `size` bytes.
+/// Reads the metadata of a file of `size` bytes from the bytes of its footer.
 ///
-/// Ok exactly where the footer has a meaning. Faults: `OutOfSpec(InvalidFlatbufferFooter)` where its root or one of its own
-/// pairs is ill-made; `OutOfSpec(MissingRecordBatches)` where it has no vector of record blocks, and
-/// `OutOfSpec(InvalidFlatbufferRecordBatches)` where that is ill-made; `OutOfSpec(MissingSchema)` where it has no schema, and
-/// `OutOfSpec(InvalidFlatbufferSchema)` where that can't be opened; `OutOfSpec(InvalidFlatbufferDictionaries)` where the vector of its
-/// dictionary blocks is ill-made; of its schema those of [`fb_to_schema`]; `Memory`.
+/// It is `Ok` exactly if the footer is valid (`footer_at` of `ipc_model`), unless an allocation
+/// fails. See "IPC File Format" in the Arrow columnar format, and `File.fbs`.
+///
+/// # Errors
+/// Each of the first six is `OutOfSpec`.
+///
+/// - `InvalidFlatbufferFooter`: the footer's root, or one of the file's own pairs, is malformed.
+/// - `MissingRecordBatches`: the footer has no vector of record blocks.
+/// - `InvalidFlatbufferRecordBatches`: that vector is malformed.
+/// - `MissingSchema`: the footer has no schema.
+/// - `InvalidFlatbufferSchema`: the schema's table can't be opened.
+/// - `InvalidFlatbufferDictionaries`: the vector of dictionary blocks is malformed.
+/// - Those of [`fb_to_schema`] for the schema; `Memory`.
 #[tactic(auto, unfolding(ipc_model::specs::Files::footer_at))]
 pub fn deserialize_footer(alloc: Global, footer: &[u8], size: u64) -> Result<FileMetadata, Fault>
     ensures meaning { GivesPart file_seen result (given (made (root_at footer.now)) (footer_at size)) }

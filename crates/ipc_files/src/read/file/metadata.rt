@@ -1,4 +1,4 @@
-//! The metadata of a file, which its footer holds.
+//! The metadata of a file, which are in its footer.
 ghost use Rattle.std.specs.Prelude.{◌≡◌, ◌+◌, ◌≤◌, ◌<◌, ◌^◌, ◌⊎◌, length, take, IsTrue, IfOk, IfErr, OnOk};
 ghost use Rattle.ipc_devices.specs.Device.{Rises, after};
 ghost use Rattle.ipc_devices.specs.Faults.{OnIo, UnlessIo, OwnFault, Answers};
@@ -20,31 +20,31 @@ use lower::datatypes::clones::clone_metadata;
 use lower::datatypes::{Metadata, Schema};
 use std::alloc::{AllocError, Global};
 
-// What stands at both ends of a file: ARROW1.
+// The bytes at both ends of a file.
 const ARROW_MAGIC_V2: [u8; 6] = *b"ARROW1";
 
-// What a file of the older Feather format begins with.
+// The first bytes of a file of the older Feather format.
 const ARROW_MAGIC_V1: [u8; 4] = *b"FEA1";
 
-/// What the footer of a file says of all that stands before it.
+/// The metadata of a file, from its footer, and the size of the file.
 #[derive(Debug, Drop)]
 pub struct FileMetadata {
-    /// The names and the types of the columns.
+    /// The names and types of the columns.
     pub schema: Schema,
-    /// The ids of the dictionaries, and the byte order of the bodies.
+    /// The dictionary ids, and the byte order of the bodies.
     pub ipc_schema: IpcSchema,
-    /// Where the record batches stand.
+    /// The blocks of the record batches, with their offsets and lengths in bytes.
     pub blocks: Vec<Block>,
-    /// Where the dictionary batches stand, where the footer says it.
+    /// The blocks of the dictionary batches; None if the footer has no vector of them.
     pub(crate) dictionaries: Option<Vec<Block>>,
-    /// The number of bytes of the file.
+    /// The size of the file in bytes.
     pub size: u64,
-    /// The pairs of texts that belong to the file.
+    /// The file's own pairs of texts.
     pub custom_metadata: Metadata,
 }
 
 impl FileMetadata {
-    /// Where the dictionary batches stand. There are none where the footer has no vector of them. It takes no memory.
+    /// The blocks of the dictionary batches; none if the footer has no vector of them.
     pub fn dictionary_blocks(&self) -> &[Block]
         ensures { result.now ≡ or_no_blocks (optional_blocks self.now.dictionaries) }
     {
@@ -54,7 +54,7 @@ impl FileMetadata {
         }
     }
 
-    /// The same once more; it fails only where there is no memory.
+    /// Makes a copy. `AllocError` if an allocation fails.
     pub fn clone(&self) -> Result<FileMetadata, AllocError>
         ensures schema { IfOk result (λ copy. schema_view copy.schema ≡ schema_view self.now.schema) }
         ensures ids { IfOk result (λ copy.
@@ -81,12 +81,12 @@ impl FileMetadata {
     }
 }
 
-/// A file that begins where its device does means what its bytes mean.
+/// Theorem: for a file that begins where its device begins, `metadata_from 0` is `metadata_of`.
 pub fn files_from_the_beginning()
     ensures { BeginningLaw }
 {}
 
-// Reads what a file has to begin with.
+// Checks that a file begins with `ARROW1`.
 fn read_head<R: Reads>(reader: &mut R) -> Result<(), Fault>
     ensures only { IfErr result (λ e. OwnFault e (HeadFault e)) }
     ensures monotone { R.failures reader.old ≤ R.failures reader.new }
@@ -110,7 +110,7 @@ fn read_head<R: Reads>(reader: &mut R) -> Result<(), Fault>
     Err(Fault::OutOfSpec(OutOfSpecKind::InvalidHeader))
 }
 
-// The length of the footer, as the last ten bytes of a file state it.
+// The length of the footer in bytes, from the last 10 bytes of a file.
 #[tactic(auto, unfolding(crate::specs::Files::footer_length))]
 fn footer_length(tail: &[u8; 10]) -> Result<u32, Fault>
     ensures value { result ≡ footer_length tail.now }
@@ -130,7 +130,7 @@ fn footer_length(tail: &[u8; 10]) -> Result<u32, Fault>
     Ok(length)
 }
 
-// Where the file ends, and how long its footer is.
+// The end offset of the file, and the length of its footer in bytes.
 fn read_footer_len<R: Reads + Seeks>(reader: &mut R) -> Result<(u64, u32), Fault>
     ensures inside { IfOk result (λ t. t.1 + 10 ≤ t.0) }
     ensures short { IfOk result (λ t. t.1 < 2 ^ 31) }
@@ -157,12 +157,12 @@ fn read_footer_len<R: Reads + Seeks>(reader: &mut R) -> Result<(u64, u32), Fault
     Ok((end, length))
 }
 
-/// The footer of a file, as its bytes.
+/// The bytes of a file's footer.
 #[derive(Debug, Drop)]
 pub struct FileFooter {
     /// The table `Footer` of `File.fbs`.
     pub bytes: Vec<u8>,
-    /// The number of bytes of the file.
+    /// The size of the file in bytes.
     pub size: u64,
 }
 
@@ -198,15 +198,28 @@ pub fn read_footer<R: Reads + Seeks>(alloc: Global, reader: &mut R) -> Result<Fi
     })
 }
 
-/// Reads what the footer of a file says. The file begins where the reader stands, and ends where the device does.
+/// Reads the metadata of a file, from its footer.
 ///
-/// Over memory it is Ok exactly where the file's metadata have a meaning; its size is counted from where it begins. Whatever is
-/// answered, no more bytes are taken than the head, the tail and the footer. Faults, over memory each only where it is so: `Ended` where
-/// the file is shorter than its head, the device shorter than the tail, or than that and the footer that it states;
-/// `NotYetImplemented(FeatherV1)` and `OutOfSpec(InvalidHeader)` where it has 6 bytes and begins with `FEA1`, or with anything else
-/// but `ARROW1`; `OutOfSpec(InvalidFooter)` where the device has 10 bytes and doesn't end with that; `OutOfSpec(NegativeFooterLength)` where the
-/// length of the footer is below 0; of the footer those of [`deserialize_footer`]; `Memory`; `Io`, exactly where a call of the device failed. For a stated length
-/// that isn't there no memory is taken. After a fault the reader may stand at any place.
+/// The file begins at the reader's position and ends where the device ends. Its size is counted
+/// from that position.
+///
+/// When reading from memory, it is `Ok` exactly if the metadata are valid (`metadata_from`), unless
+/// an allocation fails. On `Ok` and on an error, at most the head, the tail and the footer are
+/// read. See "IPC File Format" in the Arrow columnar format.
+///
+/// # Errors
+/// When reading from memory, each comes only for its cause.
+///
+/// - `Ended`: the file is shorter than its head, or the device is shorter than the tail, or than
+///   the tail and the footer whose length it states. No memory is allocated for such a footer.
+/// - `NotYetImplemented(FeatherV1)`, `OutOfSpec(InvalidHeader)`: the file has 6 bytes and begins
+///   with `FEA1`, or with anything else but `ARROW1`.
+/// - `OutOfSpec(InvalidFooter)`: the device has 10 bytes and doesn't end with `ARROW1`.
+/// - `OutOfSpec(NegativeFooterLength)`: the stated length of the footer is negative.
+/// - Those of [`deserialize_footer`].
+/// - `Io` exactly if a call of the device failed; `Memory`.
+///
+/// After an error the reader may be at any position.
 pub fn read_file_metadata<R: Reads + Seeks>(
     alloc: Global,
     reader: &mut R,

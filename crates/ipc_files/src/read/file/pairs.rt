@@ -1,4 +1,4 @@
-//! The pairs of texts that belong to a file: `custom_metadata` of `File.fbs`.
+//! Reads a file's own pairs of texts: `custom_metadata` of `File.fbs`.
 ghost use Rattle.std.specs.Prelude.{◌≡◌, []};
 ghost use Rattle.lower.specs.TypeViews.{pairs_of};
 ghost use Rattle.ipc_views.specs.FileSlots.{footer_custom_metadata};
@@ -12,7 +12,7 @@ use lower::datatypes::Metadata;
 use std::alloc::Global;
 use std::collections::BTreeMap;
 
-// A slot of a footer of which no fault of its own tells. An ill-made one is a fault of the footer.
+// The value of a slot whose only error is `InvalidFlatbufferFooter`.
 pub(super) fn in_footer<T>(slot: Result<T, TableFault>) -> Result<T, Fault>
     ensures { result ≡ in_footer slot }
 {
@@ -22,7 +22,7 @@ pub(super) fn in_footer<T>(slot: Result<T, TableFault>) -> Result<T, Fault>
     }
 }
 
-// The pairs of a vector of tables. An ill-made one is a fault of the footer.
+// The pairs of a vector of tables. A malformed pair is `InvalidFlatbufferFooter`.
 fn pairs_in_footer(alloc: Global, tables: &Tables<'_, KeyValueTable>) -> Result<Metadata, Fault>
     ensures { GivesPairs (λ pairs. pairs_of pairs.entries) result
         (pairs_from tables.now 0 tables.now.count []) }
@@ -36,7 +36,7 @@ fn pairs_in_footer(alloc: Global, tables: &Tables<'_, KeyValueTable>) -> Result<
     }
 }
 
-/// The pairs of a footer, none where there is no vector of them.
+/// The pairs of a footer; none if it has no vector of them.
 #[tactic(auto, unfolding(ipc_model::specs::Schemas::pairs_at))]
 pub(super) fn read_custom_metadata(alloc: Global, footer: &FooterRef<'_>) -> Result<Metadata, Fault>
     ensures { GivesPairs (λ pairs. pairs_of pairs.entries) result

@@ -23,14 +23,17 @@ use lower::datatypes::DataType;
 use lower_arrays::array::BinaryArray;
 use std::alloc::Global;
 
-/// The column of bytes at a place (Arrow columnar format, "Variable-size Binary Layout"): a node, and a
-/// validity, offsets of 32 or 64 bits, and bytes, of which those up to the last offset that is used are read.
-/// Its data type is one that lies in memory as such bytes do.
+/// Reads a column of bytes: a node, a validity, offsets and bytes.
 ///
-/// `NegativeFooterLength` where its length, or the offset of a buffer that is used, is below 0,
-/// `InvalidBuffer` where such a buffer is too short, `InvalidBitmap` where the validity is, `Ended` where the
-/// device is, `FallingOffset` where an offset is below 0 or less than the one before it. `Io` and `Memory` come
-/// too, and no other.
+/// `data_type` has this physical type; the offsets have 32 or 64 bits. Only the bytes up to the
+/// last offset in use are read. See "Variable-size Binary Layout" in the Arrow columnar format.
+///
+/// # Errors
+/// - `NegativeFooterLength`: the node's length, or the offset of a buffer in use, is negative.
+/// - `InvalidBuffer`: a buffer in use is too short; `InvalidBitmap`: the validity is.
+/// - `Ended`: the device is too short.
+/// - `FallingOffset`: an offset is negative, or less than the one before it.
+/// - `Io`, `Memory`.
 #[tactic(auto, using(crate::proofs::Refusals::buffer_column))]
 pub fn read_binary<O: StoredOffset, R: Reads + Seeks>(
     alloc: Global,

@@ -22,12 +22,16 @@ use lower::datatypes::DataType;
 use lower_arrays::array::BooleanArray;
 use std::alloc::Global;
 
-/// The column of booleans at a place (Arrow columnar format, "Fixed-size Primitive Layout"): a node, and
-/// a validity and a bit for each slot. Its data type is one that lies in memory as such bits do.
+/// Reads a column of booleans: a node, a validity, and a bit for each slot.
 ///
-/// `NegativeFooterLength` where its length, or the offset of a buffer that is used, is below 0,
-/// `InvalidBitmap` where such a buffer is too short, `Ended` where the device is. `Io` and `Memory` come too,
-/// and no other.
+/// `data_type` has this physical type. See "Fixed-size Primitive Layout" in the Arrow columnar
+/// format.
+///
+/// # Errors
+/// - `NegativeFooterLength`: the node's length, or the offset of a buffer in use, is negative.
+/// - `InvalidBitmap`: a buffer in use is too short.
+/// - `Ended`: the device is too short.
+/// - `Io`, `Memory`.
 #[tactic(auto, using(crate::proofs::Refusals::buffer_column))]
 pub fn read_boolean<R: Reads + Seeks>(
     alloc: Global,

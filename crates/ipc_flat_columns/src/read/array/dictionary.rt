@@ -1,4 +1,4 @@
-//! Reads columns of dictionary keys, over the values that are known.
+//! Reads columns of dictionary keys, whose values were read before.
 ghost use Rattle.std.specs.Prelude.{◌≡◌, ◌+◌, ◌≤◌, Some, IsTrue, IfOk, IfErr};
 ghost use Rattle.ipc_devices.specs.Faults.{OnIo, OwnFault, Answers};
 ghost use Rattle.lower.specs.Normal.{norm};
@@ -34,12 +34,14 @@ use lower_rules::keys::DictionaryKeys;
 use std::alloc::Global;
 use std::rc::Rc;
 
-/// The values that are known under an id, which share their memory with those of the map (Arrow columnar format,
-/// "Dictionary-encoded Layout").
+/// The dictionary values under an id, shared with `body.dictionaries`.
 ///
-/// `InvalidId` where none are known under it, or there is no id: then the fault names 0. `InvalidIdDataType` where
-/// they don't have this type, both in their normal form. `Memory` where the values have as many owners as can be
-/// counted.
+/// See "Dictionary-encoded Layout" in the Arrow columnar format.
+///
+/// # Errors
+/// - `InvalidId`: there are no values under the id, or no id (the error then names 0).
+/// - `InvalidIdDataType`: the values have another type, comparing both in their normal form.
+/// - `Memory`: the values have as many owners as can be counted.
 #[tactic(auto, using(crate::proofs::KnownValues::known_values, crate::proofs::Reasons::reasons))]
 pub fn shared_values<R: Failures>(
     value_type: &DataType,
@@ -66,9 +68,9 @@ pub fn shared_values<R: Failures>(
     Ok(values.clone()?)
 }
 
-/// The keys of the column at a place: integers of one type, which the data type is, read as numbers are.
+/// Reads the keys of a dictionary column, which are numbers of type `data_type`.
 ///
-/// The faults are those of [`read_primitive`].
+/// The errors are those of [`read_primitive`].
 pub fn read_keys<R: Reads + Seeks>(
     alloc: Global,
     keys: IntegerType,
@@ -126,9 +128,13 @@ pub fn read_keys<R: Reads + Seeks>(
     }
 }
 
-/// The array of keys over values. `PhysicalType` where the type is none of dictionaries with such keys,
-/// `DictionaryValues` where the values haven't the type that it names, `DictionaryKey` where a key that isn't null
-/// is below 0, or not less than there are values. `Memory` comes too, and no other.
+/// Makes the array of keys and values.
+///
+/// # Errors
+/// - `PhysicalType`: the type isn't a dictionary with such keys.
+/// - `DictionaryValues`: the values don't have the type that it names.
+/// - `DictionaryKey`: a key that isn't null is negative, or not less than the number of values.
+/// - `Memory`.
 #[tactic(auto, using(crate::proofs::KeyReads::dictionary_rules))]
 pub fn make_dictionary(
     own: &DataType,
@@ -146,12 +152,17 @@ pub fn make_dictionary(
     Ok(AnyArray::Dictionary(array))
 }
 
-/// The column of keys at a place, and the place behind it (Arrow columnar format, "Dictionary-encoded Layout"): a
-/// node, a validity, and a key for each slot. Its values are those that are known under the id, shared. Its type
-/// is one of dictionaries with such keys, which names such values.
+/// Reads a column of keys: a node, a validity, and a key for each slot.
 ///
-/// `InvalidId` and `InvalidIdDataType` as [`shared_values`] says, the faults of [`read_primitive`], and
-/// `DictionaryKey` where a key that isn't null names no value. `Io` and `Memory` come too, and no other.
+/// Returns the column and the position after it. The values are those under the id, shared. `own`
+/// is a dictionary type with such keys and the value type `value_type`. See "Dictionary-encoded
+/// Layout" in the Arrow columnar format.
+///
+/// # Errors
+/// - `InvalidId`, `InvalidIdDataType`: as in [`shared_values`].
+/// - Those of [`read_primitive`].
+/// - `DictionaryKey`: a key that isn't null has no value.
+/// - `Io`, `Memory`.
 #[tactic(auto, using(crate::proofs::Reasons::reasons))]
 pub fn read_dictionary<R: Reads + Seeks>(
     alloc: Global,

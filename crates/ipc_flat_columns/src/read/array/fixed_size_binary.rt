@@ -1,4 +1,4 @@
-//! Reads columns of bytes, as many in each slot.
+//! Reads columns of bytes of a fixed size.
 ghost use Rattle.std.specs.Prelude.{◌≡◌, ◌+◌, ◌<◌, IsTrue, IfOk, IfErr};
 ghost use Rattle.ipc_devices.specs.Faults.{OwnFault, Answers};
 ghost use Rattle.lower.specs.TypeViews.{type_view};
@@ -24,7 +24,7 @@ use lower::datatypes::DataType;
 use lower_arrays::array::FixedSizeBinaryArray;
 use std::alloc::Global;
 
-/// How many bytes a type gives each slot, 0 where it isn't one of bytes of a fixed size.
+/// How many bytes a slot of this type has; 0 unless it is `FixedSizeBinary`.
 pub fn get_size(data_type: &DataType) -> usize
     ensures { result ≡ byte_size (type_view data_type.now) }
 {
@@ -34,13 +34,17 @@ pub fn get_size(data_type: &DataType) -> usize
     }
 }
 
-/// The column of bytes of a fixed size at a place (Arrow columnar format, "Fixed-size Primitive Layout"): a
-/// node, and a validity and `size` bytes for each slot. Its data type is one that lies in memory as such bytes
-/// do, and names this size.
+/// Reads a column of bytes: a node, a validity, and `size` bytes for each slot.
 ///
-/// `InvalidDataType` where the size is 0, `NegativeFooterLength` where its length, or the offset of a buffer
-/// that is used, is below 0, `InvalidBuffer` where such a buffer is too short, `InvalidBitmap` where the validity
-/// is, `Ended` where the device is. `Io` and `Memory` come too, and no other.
+/// `data_type` has this physical type and names this size. See "Fixed-size Primitive Layout" in the
+/// Arrow columnar format.
+///
+/// # Errors
+/// - `InvalidDataType`: the size is 0.
+/// - `NegativeFooterLength`: the node's length, or the offset of a buffer in use, is negative.
+/// - `InvalidBuffer`: a buffer in use is too short; `InvalidBitmap`: the validity is.
+/// - `Ended`: the device is too short.
+/// - `Io`, `Memory`.
 #[tactic(auto, using(crate::proofs::Refusals::buffer_column))]
 pub fn read_fixed_size_binary<R: Reads + Seeks>(
     alloc: Global,

@@ -18,10 +18,11 @@ use ipc_devices::fault::Fault;
 use lower::datatypes::DataType;
 use lower_arrays::array::NullArray;
 
-/// The column of nulls at a place (Arrow columnar format, "Null Layout"): a node, and no buffer. Nothing is
-/// read from the device. Its data type is one that takes no memory.
+/// Reads a column of nulls: a node, and no buffer.
 ///
-/// `NegativeFooterLength` where its length is below 0. `Memory` comes too, and no other.
+/// `data_type` has this physical type. Nothing is read from the device. See "Null Layout" in the
+/// Arrow columnar format. The errors are `NegativeFooterLength` if the node's length is negative,
+/// and `Memory`.
 #[tactic(auto, using(crate::proofs::Refusals::buffer_column))]
 pub fn read_null<R: Failures>(
     data_type: &DataType,

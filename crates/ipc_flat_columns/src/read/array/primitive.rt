@@ -26,13 +26,16 @@ use lower::types::{NativeType, PrimitiveType};
 use lower_arrays::array::{AnyPrimitive, PrimitiveArray};
 use std::alloc::Global;
 
-/// The column of numbers at a place (Arrow columnar format, "Fixed-size Primitive Layout"): a node, and a
-/// validity and a number for each slot, in the body's byte order. Its data type is one that lies in memory as
-/// these numbers do.
+/// Reads a column of numbers: a node, a validity, and a number for each slot.
 ///
-/// `NegativeFooterLength` where its length, or the offset of a buffer that is used, is below 0,
-/// `InvalidBuffer` where such a buffer is too short, `InvalidBitmap` where the validity is, `Ended` where the
-/// device is. `Io` and `Memory` come too, and no other.
+/// `data_type` has this physical type; the numbers have the body's byte order. See "Fixed-size
+/// Primitive Layout" in the Arrow columnar format.
+///
+/// # Errors
+/// - `NegativeFooterLength`: the node's length, or the offset of a buffer in use, is negative.
+/// - `InvalidBuffer`: a buffer in use is too short; `InvalidBitmap`: the validity is.
+/// - `Ended`: the device is too short.
+/// - `Io`, `Memory`.
 pub fn read_primitive<T: NativeType, R: Reads + Seeks>(
     alloc: Global,
     data_type: &DataType,
@@ -61,9 +64,9 @@ pub fn read_primitive<T: NativeType, R: Reads + Seeks>(
     Ok(PrimitiveArray::try_new(data_type, values, head.validity)?)
 }
 
-/// The column of numbers of a type that is known when it runs. Floats aren't read.
+/// Reads a column of numbers, but not floats, by a type known at run time.
 ///
-/// The faults are those of [`read_primitive`].
+/// The errors are those of [`read_primitive`].
 pub fn read_any_primitive<R: Reads + Seeks>(
     alloc: Global,
     primitive: PrimitiveType,

@@ -23,14 +23,19 @@ use lower::datatypes::DataType;
 use lower_arrays::array::Utf8Array;
 use std::alloc::Global;
 
-/// The column of texts at a place (Arrow columnar format, "Variable-size Binary Layout"): a node, and a
-/// validity, offsets of 32 or 64 bits, and UTF-8, of which the bytes up to the last offset that is used are
-/// read, and judged once. Its data type is one that lies in memory as such texts do.
+/// Reads a column of texts: a node, a validity, offsets and UTF-8.
 ///
-/// `NegativeFooterLength` where its length, or the offset of a buffer that is used, is below 0,
-/// `InvalidBuffer` where such a buffer is too short, `InvalidBitmap` where the validity is, `Ended` where the
-/// device is, `FallingOffset` where an offset is below 0 or less than the one before it, `Utf8` where a slot
-/// isn't UTF-8, null or not. `Io` and `Memory` come too, and no other.
+/// `data_type` has this physical type; the offsets have 32 or 64 bits. Only the bytes up to the
+/// last offset in use are read, and checked once. See "Variable-size Binary Layout" in the Arrow
+/// columnar format.
+///
+/// # Errors
+/// - `NegativeFooterLength`: the node's length, or the offset of a buffer in use, is negative.
+/// - `InvalidBuffer`: a buffer in use is too short; `InvalidBitmap`: the validity is.
+/// - `Ended`: the device is too short.
+/// - `FallingOffset`: an offset is negative, or less than the one before it.
+/// - `Utf8`: a slot isn't UTF-8, null or not.
+/// - `Io`, `Memory`.
 #[tactic(auto, using(crate::proofs::Refusals::buffer_column))]
 pub fn read_utf8<O: StoredOffset, R: Reads + Seeks>(
     alloc: Global,

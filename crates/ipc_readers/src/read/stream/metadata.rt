@@ -1,4 +1,4 @@
-//! The schema at the front of a stream.
+//! The schema message at the beginning of a stream.
 ghost use Rattle.std.specs.Prelude.{◌≡◌, IfOk};
 ghost use Rattle.ipc_devices.specs.Faults.{OnIo};
 ghost use Rattle.lower.specs.TypeViews.{fields_view, schema_view};
@@ -16,19 +16,19 @@ use ipc_views::{MessageRef, MetadataVersion};
 use lower::datatypes::Schema;
 use std::alloc::{AllocError, Global};
 
-/// What the message at the front of a stream says of all that follows.
+/// The content of the schema message, which applies to all later messages.
 #[derive(Debug, Drop)]
 pub struct StreamMetadata {
-    /// The names and the types of the columns.
+    /// The names and types of the columns.
     pub schema: Schema,
-    /// The version of the metadata, by which the batches of the stream are read.
+    /// The version of the message, by which all batches are read.
     pub version: MetadataVersion,
-    /// The ids of the dictionaries, and the byte order of the bodies.
+    /// The dictionary ids, and the byte order of the bodies.
     pub ipc_schema: IpcSchema,
 }
 
 impl StreamMetadata {
-    /// The same once more; it fails only where there is no memory.
+    /// Makes a copy. `AllocError` if an allocation fails.
     pub fn clone(&self) -> Result<StreamMetadata, AllocError>
         ensures schema { IfOk result (λ copy. schema_view copy.schema ≡ schema_view self.now.schema) }
         ensures version { IfOk result (λ copy. copy.version ≡ self.now.version) }
@@ -43,10 +43,11 @@ impl StreamMetadata {
     }
 }
 
-/// The version that a message states.
+/// The metadata version of a message.
 ///
-/// Errors: `Schema(Table(..))` if the message's own table is ill-made;
-/// `OutOfSpec(InvalidFlatbufferVersion)` if its version is.
+/// # Errors
+/// - `Schema(Table(..))`: the message's own table is malformed.
+/// - `OutOfSpec(InvalidFlatbufferVersion)`: its version is.
 #[tactic(auto, unfolding(crate::specs::Metadata::version_at))]
 pub fn version_of(message: &[u8]) -> Result<MetadataVersion, Fault>
     ensures version { result ≡ version_at message.now }
@@ -62,13 +63,16 @@ pub fn version_of(message: &[u8]) -> Result<MetadataVersion, Fault>
     }
 }
 
-/// Reads the schema message at the front of a stream. What follows it is the next to read: of a device, whatever it is,
-/// exactly its frame is taken, or the first bytes of that before a fault. The ids that it answers have the shape of the
-/// fields.
+/// Reads the schema message at the beginning of a stream.
 ///
-/// Faults: those of [`read_frame`] and [`deserialize_schema`]; `Ended` where the input ends inside of
-/// the message, or before it; `Schema(NotASchema)` where the mark stands in its place;
-/// `OutOfSpec(InvalidFlatbufferVersion)` where its version is ill-made.
+/// On `Ok`, exactly its frame was read from the device, so the next message follows. On an error it
+/// was at most the frame. The returned dictionary ids have the shape of the fields.
+///
+/// # Errors
+/// - Those of [`read_frame`] and [`deserialize_schema`].
+/// - `Ended`: the input ends before or inside the message.
+/// - `Schema(NotASchema)`: the end mark is in its place.
+/// - `OutOfSpec(InvalidFlatbufferVersion)`: the version of the message is malformed.
 #[tactic(auto, unfolding(crate::specs::Metadata::metadata_at), using(crate::proofs::MetadataRuns::metadata_runs))]
 pub fn read_stream_metadata<R: Reads>(
     alloc: Global,

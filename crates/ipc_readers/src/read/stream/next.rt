@@ -33,7 +33,7 @@ use lower_arrays::array::AnyArray;
 use std::alloc::Global;
 use std::collections::HashMap;
 
-// At most so many dictionary batches stand before a record batch.
+// The most dictionary batches before a record batch.
 const MOST_DICTIONARIES: usize = 65_536;
 
 impl StreamState {
@@ -47,7 +47,7 @@ impl StreamState {
         }
     }
 
-    /// The chunk. The state isn't `Waiting` (see [`StreamState::is_waiting`]).
+    /// The chunk. The state must not be `Waiting` (see [`StreamState::is_waiting`]).
     pub fn unwrap(self) -> Chunk<AnyArray>
         requires { IsWaiting self → ⊥ }
         ensures { HasChunk self result }
@@ -60,7 +60,7 @@ impl StreamState {
 }
 
 impl Batches {
-    // The columns of a record batch of this body that are asked for.
+    // The requested columns of a record batch with this body.
     fn columns(&mut self, batch: RecordBatchRef<'_>, body: &[u8]) -> Result<Chunk<AnyArray>, Fault>
         ensures described { self.new.metadata ≡ self.old.metadata }
         ensures projected { self.new.projection ≡ self.old.projection }
@@ -93,8 +93,7 @@ impl Batches {
         Ok(chunk)
     }
 
-    // Puts the values of a dictionary batch of this body in place of those that its id had. There is room for one more
-    // before the next record batch.
+    // Replaces the values of an id by those of a dictionary batch, and counts the batch.
     fn values(&mut self, batch: DictionaryBatchRef<'_>, body: &[u8]) -> Result<(), Fault>
         requires { self.old.count < most_dictionaries }
         ensures described { self.new.metadata ≡ self.old.metadata }
@@ -125,8 +124,8 @@ impl Batches {
         Ok(())
     }
 
-    // What the batch with this header says of this body: the chunk of a record batch, or None where the values of a dictionary
-    // batch are known then.
+    // Reads the batch with this header and body. Returns the chunk of a record batch, or None for a
+    // dictionary batch, whose values are recorded.
     fn read_batch(
         &mut self,
         header: MessageHeaderRef<'_>,
@@ -179,7 +178,7 @@ impl Batches {
         }
     }
 
-    // What stands behind the metadata of a message. The body is read of the device's own memory where it shows it.
+    // Reads the body of a message. It is borrowed from the device if that can lend it.
     fn read_body<R: Reads>(
         &mut self,
         message: Message<'_>,
@@ -214,12 +213,15 @@ impl Batches {
 }
 
 impl<R: Reads + Drop> StreamReader<R> {
-    /// A reader of the messages behind the schema message of a stream, which `metadata` is of. The ids
-    /// in it have the shape of its fields (see `fits`). A projection names columns that are there, none of them twice (see
-    /// `is_projection`): the chunks have these columns, in this order. An empty one gives chunks without columns. Without a
-    /// projection all columns are read, and the call takes no memory.
+    /// A reader of the messages after the schema message.
     ///
-    /// Fault: `Memory`, where there is a projection. No other comes.
+    /// - `reader`: at the first message after the schema.
+    /// - `metadata`: of that schema message. Its dictionary ids have the shape of its fields (see
+    ///   `fits`).
+    /// - `projection`: indexes of the columns to return, in this order, none twice (see
+    ///   `is_projection`). None returns all; an empty one gives chunks without columns.
+    ///
+    /// The error is `Memory`, and comes only with a projection: otherwise nothing is allocated.
     #[tactic(auto, using(ipc_base::proofs::FitTests::all_test))]
     pub fn new(
         alloc: Global,
@@ -254,36 +256,40 @@ impl<R: Reads + Drop> StreamReader<R> {
         })
     }
 
-    /// What the schema message said.
+    /// The content of the schema message.
     pub fn metadata(&self) -> &StreamMetadata
         ensures { result.now ≡ metadata_of self.now }
     {
         &self.batches.metadata
     }
 
-    /// The schema of the chunks: the columns that are asked for, in this order, or all; with the metadata of the stream's schema.
+    /// The schema of the chunks, with the fields of the requested columns in their order.
+    ///
+    /// It has the metadata of the stream's schema.
     pub fn schema(&self) -> &Schema
         ensures { result.now ≡ schema_of self.now }
     {
         shown(&self.batches.projection, &self.batches.metadata.schema)
     }
 
-    /// Whether `next` gives None from now on: after the mark, and after a fault.
+    /// Whether `next` returns None from now on: after the end mark or an error.
     pub fn is_finished(&self) -> bool
         ensures { result ≡ is_over self.now }
     {
         self.finished
     }
 
-    /// What was read from. Bytes of a prefix that had begun where `next` answered [`StreamState::Waiting`]
-    /// were taken from it, three at most, and go with the reader.
+    /// The device.
+    ///
+    /// If the last call of `next` returned [`StreamState::Waiting`], up to three bytes of a prefix
+    /// were read from it and are lost.
     pub fn into_inner(self) -> R
         ensures { result ≡ device_of self }
     {
         self.reader
     }
 
-    // What stands at the front.
+    // The next item: a batch, the end mark or the end of the input.
     fn read_item(&mut self) -> Result<Found, Fault>
         ensures only { IfErr result (λ e. OwnFault e (IsStreamFault (request_of self.old) e)) }
         ensures finished { is_over self.new ≡ is_over self.old }
@@ -313,7 +319,7 @@ impl<R: Reads + Drop> StreamReader<R> {
         }
     }
 
-    // The next chunk, or None at the mark. The dictionary batches before it are read.
+    // The next chunk, or None at the end mark. The dictionary batches before it are read.
     fn read_next(&mut self) -> Result<Option<StreamState>, Fault>
         ensures only { IfErr result (λ e. OwnFault e (IsStreamFault (request_of self.old) e)) }
         ensures finished { is_over self.new ≡ is_over self.old }
@@ -339,7 +345,7 @@ impl<R: Reads + Drop> StreamReader<R> {
 impl<R: Reads + Drop> Iterator for StreamReader<R> {
     type Item = Result<StreamState, Fault>;
 
-    // It may wait again and again.
+    // It may return `Waiting` without end.
     ghost remaining = { λ _. endless };
 
     ghost next_gives = { λ a r b. NextStep R.gives R.known R.memory a r b };

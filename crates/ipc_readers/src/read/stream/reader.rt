@@ -1,4 +1,4 @@
-//! What a reader of a stream holds and answers.
+//! The state and the results of a stream reader.
 ghost use Rattle.std.specs.Prelude.{IsTrue, length, ◌≤◌};
 ghost use Rattle.ipc_base.specs.Fitting.{all_fit};
 ghost use Rattle.ipc_base.specs.IdTrees.{all_ids_view};
@@ -15,24 +15,35 @@ use ipc_read::read::Dictionaries;
 use lower_arrays::array::AnyArray;
 use std::alloc::Global;
 
-/// Reads the chunks of a stream, one at a call of `next` (Arrow columnar format, "IPC Streaming
-/// Format").
+/// Reads the chunks of a stream, one at each call of `next`.
 ///
-/// `next` reads the dictionary batches at the front, whose values it keeps, each in place of those that their id had, and
-/// answers the chunk that the record batch behind them means; [`StreamState::Waiting`] where the
-/// input ends before the next message, or up to three bytes into its prefix, which are kept, and then
-/// each later call goes on from there; None from the mark that ends the stream on; or a fault, once, and
-/// None from then on. The dictionaries that a column has are those that were read before its record batch; chunks share their values.
-/// Where columns are asked for, the chunks are of these, in this order; another column isn't read, and isn't judged. The arrays of a chunk
-/// hold together no more than the buffers of its columns list, no more than the message's body has bytes, and one offset for each buffer
-/// of offsets that lists nothing. So does the array of each dictionary's values, by its own message. After a fault the
-/// reader keeps the values that it had before the message at fault.
+/// See "IPC Streaming Format" in the Arrow columnar format. `next` reads dictionary batches, and
+/// replaces the values of their ids. Then it returns
 ///
-/// Faults of `next`: those of [`read_frame`], [`open_message`], [`read_dictionary`] and [`read_record_batch`]; `Ended` where
-/// the body is shorter than stated; `OutOfSpec(UnexpectedMessageType)` where the message is neither a
-/// record batch nor a dictionary batch; `TooManyDictionaries` at the 65,537th dictionary batch since the last record batch;
-/// `Io` exactly where a call of the device failed; `Memory`. No other comes. Over bytes in memory there is no `Io`, and a
-/// fault other than `Memory` comes only where what stands ahead means nothing by the columns that are asked for.
+/// - `Some(Ok(StreamState::Some(chunk)))`: the chunk of the next record batch;
+/// - `Some(Ok(StreamState::Waiting))`: the input ended before the next message, or in the first 4
+///   bytes of its prefix. These are kept, and each later call continues there.
+/// - `None`: the stream has ended by its end mark, or an earlier call returned an error;
+/// - `Some(Err(..))`: an error, once. The reader keeps the dictionary values that it had before the
+///   faulty message.
+///
+/// A chunk has the requested columns, in this order; no byte of another column is checked. Its
+/// dictionary values are those that were read before its record batch; chunks share them.
+///
+/// The arrays of a chunk retain at most the encoded length of its columns' buffers, plus one offset
+/// for each empty offset buffer. They retain at most the length of the body, plus these offsets.
+/// The same applies to the array of a dictionary's values, by its own message.
+///
+/// # Errors of `next`
+/// - Those of [`read_frame`], [`open_message`], [`read_dictionary`] and [`read_record_batch`].
+/// - `Ended`: the body is shorter than stated.
+/// - `OutOfSpec(UnexpectedMessageType)`: the message is neither a record batch nor a dictionary
+///   batch.
+/// - `TooManyDictionaries`: at the 65,537th dictionary batch since the last record batch.
+/// - `Io` exactly if a call of the device failed; `Memory`.
+///
+/// When reading from memory, `Io` never comes. Another error except `Memory` comes only if the
+/// stream is invalid for the requested columns.
 ///
 /// [`read_frame`]: crate::read::frame::read_frame
 /// [`open_message`]: crate::read::message::open_message
@@ -42,25 +53,25 @@ use std::alloc::Global;
 pub struct StreamReader<R> {
     pub(crate) reader: R,
     pub(crate) begun: Begun,
-    // the metadata of the last message, and its body where the device doesn't show it
+    // the metadata of the last message, and its body unless the device lent it
     pub(crate) message: Vec<u8>,
     pub(crate) body: Vec<u8>,
     pub(crate) batches: Batches,
     pub(crate) finished: bool,
 }
 
-// What the batches of a stream are read by.
+// The parameters and the state by which batches are read.
 #[derive(Drop)]
 pub(crate) struct Batches {
     pub(crate) alloc: Global,
     pub(crate) metadata: StreamMetadata,
-    // the columns that are asked for, if not all
+    // the requested columns; None means all
     pub(crate) projection: Option<ChosenColumns>,
-    // the values that are known, by their ids
+    // the values that were read, by their ids
     pub(crate) dictionaries: Dictionaries,
     // how many dictionary batches came since the last record batch
     pub(crate) count: usize,
-    // what the calls that read a batch are handed, which they don't use
+    // an argument of the calls that read a batch, which don't use it
     pub(crate) scratch: Vec<u8>,
     ghost few: { count ≤ most_dictionaries },
     ghost there: { IsTrue (is_projection (asked_by projection) (length metadata.schema.fields.items)) },
@@ -68,23 +79,23 @@ pub(crate) struct Batches {
         (all_ids_view metadata.ipc_schema.fields.items)) },
 }
 
-/// What a call of `next` found.
+/// The result of a call of `next` that isn't an error or the end.
 #[derive(Drop)]
 pub enum StreamState {
-    /// The input ended before the next message, or up to three bytes into its prefix. More may come.
+    /// The input ended before the next message or in the first 4 bytes of it. More may come.
     Waiting,
     /// The next chunk.
     Some(Chunk<AnyArray>),
 }
 
-// What a reader found at the front of a stream.
+// The next item of a stream.
 #[derive(Drop)]
 pub(crate) enum Found {
-    // A dictionary batch, whose values are known now.
+    // A dictionary batch, whose values are recorded.
     Dictionary,
     // The chunk of a record batch.
     Chunk(Chunk<AnyArray>),
-    // The mark that ends the stream.
+    // The end mark.
     Mark,
     // The end of the input, before the next message or inside its prefix.
     Waiting,

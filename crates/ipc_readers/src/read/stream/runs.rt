@@ -1,34 +1,40 @@
-//! Laws of streams that are read: the functions do no work.
+//! Theorems on reading streams. The functions do nothing.
 ghost use Rattle.ipc_readers.specs.ChosenStreams.{PrunedLaw, WholeLaw};
 ghost use Rattle.ipc_readers.specs.Runs.{FailsLaw, ReadLaw, WaitsLaw};
 
 use crate::read::stream::reader::StreamReader;
 use ipc_devices::Reads;
 
-/// Over bytes in memory the answers of any calls of `next`, one after the other, are the chunks that the
-/// stream means, by the columns that are asked for, to whoever knows the same dictionaries as the reader, in order, and then None or that it waits, where it doesn't
-/// end in a fault. A call that found no memory answers so, and then nothing comes.
+/// Reading from memory, any calls of `next` return the chunks that the stream defines.
+///
+/// They come in order, with the requested columns, as for any reader with the same dictionaries.
+/// Then the calls return None or `Waiting`, if the stream doesn't end in an error. A call whose
+/// allocation fails returns `Memory`, and later calls None.
 pub fn reading_of_streams<R: Reads + Drop>(reader: &StreamReader<R>)
     ensures { ReadLaw R.gives R.known R.memory reader.now }
 {}
 
-/// Of any device, a call of `next` that waits loses nothing: what was given since is dictionary messages, whose values are known then,
-/// and behind these what is begun, and the next call goes on from there.
+/// A call of `next` that returns `Waiting` loses nothing, on any device.
+///
+/// The bytes read since then are dictionary messages, whose values are recorded, and a partial
+/// prefix, at which the next call continues.
 pub fn waiting_loses_nothing<R: Reads + Drop>(reader: &StreamReader<R>)
     ensures { WaitsLaw R.gives R.known R.memory R.given reader.now }
 {}
 
-/// Of any device, a call of `next` answers `Io` only where a call of the device failed.
+/// On any device, `next` returns `Io` only if a call of the device failed.
 pub fn faults_of_devices<R: Reads + Drop>(reader: &StreamReader<R>)
     ensures { FailsLaw R.gives R.known R.memory R.failures reader.now }
 {}
 
-/// Without a projection, what a stream means by a request is its meaning.
+/// Without a projection, `chosen_meaning` of a stream is its `meaning`.
 pub fn whole_streams()
     ensures { WholeLaw }
 {}
 
-/// A stream that doesn't end in a fault means by a projection the chosen columns of its chunks, in the order in which they are asked for.
+/// With a projection, a stream without an error gives the requested columns of its chunks.
+///
+/// They have the order in which they are requested.
 pub fn pruned_streams()
     ensures { PrunedLaw }
 {}
