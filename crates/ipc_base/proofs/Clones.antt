@@ -24,7 +24,7 @@ module _ {A : Type 0} (rows : A → ℕ) (is_clone : A → A → Type 0) (kept :
       subst_rows : {m n : ℕ} → m ≡ n → All (λ x. rows x ≡ m) (x ∷ xs) → All (λ x. rows x ≡ n) (x ∷ xs)
       subst_rows e all = λ k d inside. all k d inside ∙ e
 
--- a test that takes a clone for its source takes clones one by one for theirs
+-- A test that passes for a clone and its source passes for lists of clones, one by one.
 pub same_clones : {A : Type 0} (is_clone : A → A → Type 0) (test : A → A → Bool) (takes : (x y : A) → is_clone x y → IsTrue (test x y)) (xs ys : List A)
     → AllZip is_clone xs ys → IsTrue (pointwise test xs ys)
 same_clones is_clone test takes [] [] h = refl

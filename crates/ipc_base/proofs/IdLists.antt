@@ -1,4 +1,4 @@
--- Lists of ids beside lists of fields, by their lengths.
+-- Lists of ids next to lists of fields, by their lengths.
 use Rattle.std.proofs.Common.{◌≡◌, ◌≢◌, ◌==◌, ◌&&◌, suc, List, [], ◌∷◌, length, get_or, Bool, true, false, refl, ap, ◌∙◌, arith}
 use Rattle.std.proofs.lemmas.Bool.Decides.{nat_tests}
 use Rattle.lower.specs.TypeTrees.{TypeTree, FieldTree, field}

@@ -1,4 +1,4 @@
--- Each row is computed.
+-- Each case is computed.
 use Rattle.std.proofs.Common.{◌≡◌, refl}
 use Rattle.ipc_model.specs.WriterStates.{State, new_writer, started_writer}
 use Rattle.ipc_calls.specs.CallRows.{BegunRowsLaw, PairRowsLaw}

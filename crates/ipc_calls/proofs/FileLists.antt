@@ -1,4 +1,4 @@
--- What calls of a writer of files do, one after the other.
+-- What the calls of a file writer do, one after the other.
 use Rattle.std.proofs.Common.{◌≡◌, ℕ, Bool, true, false, List, [], ◌∷◌, ◌++◌, Result, Ok, Err, refl, sym, ap, ◌∙◌, subst, append_assoc, append-nil}
 use Rattle.std.specs.Prelude.{Option}
 use Rattle.std.specs.Borrow.{Bor}
@@ -25,7 +25,8 @@ use Rattle.ipc_calls.specs.declared.files.FileCall.TheVariants.{SetCustomMetadat
 
 -- ---- what a call leaves
 
--- A call that moves the writer: it may end so, it leaves the writer as such a call does, and the file has what it adds.
+-- A call that changes the writer's state: it may end so, it leaves the writer as such a call does,
+-- and the file has what it adds.
 pub record Moves {W : Type 0} (known : Bool) (memory : W → Memory) (a : FileSeen W) (call : Call) (o : Outcome) (b : FileSeen W) : Type 0 where
   pub may : MayEnd call o (state_seen a.state)
   pub after : stage_of b ≡ writer_after call o (stage_of a)
@@ -33,7 +34,7 @@ pub record Moves {W : Type 0} (known : Bool) (memory : W → Memory) (a : FileSe
   pub keeps : KeepsFile a b a.pairs
 
 module _ {W : Type 0} where
-  -- what is seen of a writer but for the pairs
+  -- What contracts know of a writer, without its pairs.
   staged : (a b : FileSeen W) (s : State) → state_seen b.state ≡ s → b.order ≡ a.order → stage_of b ≡ record { state = s; order = a.order; pairs = [] }
   staged a b s e f =
       ap (λ (x : State). record { state = x; order = b.order; pairs = [] }) e ∙ ap (λ (o : Endianness). record { state = s; order = o; pairs = [] }) f
@@ -53,12 +54,12 @@ module _ {W : Type 0} where
     has_chosen = λ h. g.has_chosen (f.has_chosen h);
   }
 
-  -- ids that stay
+  -- Ids that stay.
   chosen_stay : (a b : FileSeen W) → b.state ≡ a.state → b.ids ≡ a.ids → b.chosen ≡ a.chosen → HasChosen a → HasChosen b
   chosen_stay a b e f g h =
       subst (λ (js : IdTrees). IdsAre b.state b.ids js) (sym g) (subst (λ (is : IdTrees). IdsAre b.state is a.chosen) (sym f) (subst (λ (s : WriterState). IdsAre s a.ids a.chosen) (sym e) h))
 
-  -- where pairs are set
+  -- The pairs are set.
   keeps_ok : (a b : FileSeen W) (pairs : Pairs) → TakesPairs a b pairs → KeepsFile a b pairs
   keeps_ok a b pairs takes = record {
     order = takes.order;
@@ -84,7 +85,7 @@ module _ {W : Type 0} (known : Bool) (memory : W → Memory) where
 
   -- ---- pairs that are set
 
-  -- no other part of a writer changes where its pairs are set, or refused
+  -- No other part of a writer changes if its pairs are set or refused.
   stage_stays : (a b : FileSeen W) (pairs : Pairs) (r : Result (Unit {0}) Fault) → SetsPairs known memory a pairs r b → stage_of b ≡ stage_of a
   stage_stays a b pairs (Ok x) h = staged a b (state_seen a.state) (ap state_seen h.ok.state) h.ok.order
   stage_stays a b pairs (Err e) h = ap (λ (w : FileSeen W). stage_of w) h.kept

@@ -1,4 +1,4 @@
--- What calls of a writer of streams do, one after the other.
+-- What the calls of a stream writer do, one after the other.
 use Rattle.std.proofs.Common.{◌≡◌, ℕ, Bool, true, false, List, [], ◌∷◌, ◌++◌, Result, Ok, Err, refl, sym, ap, ◌∙◌, subst, append_assoc, append-nil}
 use Rattle.std.specs.Prelude.{Option, None, Some, Vec, option_map}
 use Rattle.std.specs.declared.alloc.Global.{Global}
@@ -24,12 +24,12 @@ use Rattle.ipc_calls.specs.declared.streams.WriterCall.TheVariants.{Start, Write
 
 -- ---- ids
 
--- the ids that are chosen are those that are handed in, or those by default
+-- The ids of a stream are those that are passed, or the default ones.
 chosen_is : (copy : Option (Vec IpcField Global)) (fs : FieldTrees) → chosen_ids copy fs ≡ ids_for (option_map (λ (v : Vec IpcField Global). all_ids_view v.items) copy) fs
 chosen_is None fs = refl
 chosen_is (Some given) fs = refl
 
--- a `start` with a copy of ids is one with them
+-- A `start` with a copy of some ids is one with these ids.
 pub start_as : {W : Type 0} (known grows : Bool) (failures room : W → ℕ) (memory : W → Memory) (a b : WriterSeen W) (fs : FieldTrees) (es : Pairs) (ids : Option IdTrees) (copy : Option (Vec IpcField Global))
     (r : Result (Unit {0}) Fault) → option_map (λ (v : Vec IpcField Global). all_ids_view v.items) copy ≡ ids → DoesStart known grows failures room memory a fs es (chosen_ids copy fs) r b
     → DoesStart known grows failures room memory a fs es (ids_for ids fs) r b
@@ -39,7 +39,8 @@ start_as known grows failures room memory a b fs es ids copy r same h =
 
 -- ---- states
 
--- only a new writer's start reaches the device, and only a started one's chunk or end
+-- Only the `start` of a new writer reaches the device, and only the
+-- `write` or `finish` of a started one.
 was_new : {W : Type 0} (s : WriterState) (a b : WriterSeen W) (x : _) → StateComesFirst (fault_unless_new s) a (Err (Io x)) b → s ≡ New
 was_new New a b x h = refl
 was_new Started a b x h = let other = h.0 in absurd cc
@@ -54,7 +55,7 @@ was_started Failed a b x h = let other = h.0 in absurd cc
 
 -- ---- heads
 
--- a stream of which nothing was written has any head
+-- A stream of which nothing was written agrees with any head.
 other_head : {W : Type 0} (s : WriterState) (w : WriterSeen W) (bytes : List ℕ) (g h : Head) (chunks : List Chunk) → s ≡ New → StreamIs s w bytes g chunks → StreamIs s w bytes h chunks
 other_head New w bytes g h chunks e stream = stream
 other_head Started w bytes g h chunks e stream = absurd cc
@@ -74,7 +75,7 @@ taken_first call false ps = refl
 adds_none : {W : Type 0} (memory : W → Memory) (b : WriterSeen W) (base : List ℕ) (h : Head) (chunks : List Chunk) → Agrees memory b base h chunks → Agrees memory b base h (chunks ++ [])
 adds_none memory b base h chunks at = subst (λ (cs : List Chunk). Agrees memory b base h cs) (sym (append-nil chunks)) at
 
--- one call, and others behind it
+-- One call, and others after it.
 leads_then : {W : Type 0} (known : Bool) (memory : W → Memory) (a m b : WriterSeen W) (first left : Head → Head) (call : Call) (o : Outcome) (rest : List (Call × Outcome))
     → LeadsTo known memory a m first (taken (answered ((call, o) ∷ []))) → LeadsTo known memory m b left (taken (answered rest))
     → LeadsTo known memory a b (λ (h : Head). left (first h)) (taken (answered ((call, o) ∷ rest)))
@@ -95,13 +96,13 @@ module _ {W : Type 0} (known grows : Bool) (failures room : W → ℕ) (memory :
   abbrev AllMade : WriterSeen W → List WriterCall → List (Result (Unit {0}) Fault) → WriterSeen W → Type 0
   AllMade = AreMade known grows failures room memory
 
-  -- no call changes the order of bytes
+  -- No call changes the byte order.
   order_stays : (a b : WriterSeen W) (call : WriterCall) (r : Result (Unit {0}) Fault) → Made a call r b → b.order ≡ a.order
   order_stays a b (Start schema ids) r h = h.step.step.order
   order_stays a b (Write chunk ids) r h = h.step.step.order
   order_stays a b Finish r h = h.step.order
 
-  -- how a call moves the state
+  -- How a call changes the state.
   moves : (a b : WriterSeen W) (call : WriterCall) (r : Result (Unit {0}) Fault) → Made a call r b
       → MayEnd (call_seen call) (outcome r) (state_seen a.state) × (state_seen b.state ≡ state_after (call_seen call) (outcome r) (state_seen a.state))
   moves a b (Start schema ids) (Ok x) h = (ap state_seen h.ok.was, ap state_seen h.ok.is)

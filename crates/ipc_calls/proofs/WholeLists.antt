@@ -40,7 +40,7 @@ whole_stream a b calls answers h f =
     let first : Agrees vector a [] h [] = subst (λ (xs : List ℕ). Agrees vector a xs h []) none (f.fresh.agrees h) in
     stream_ended b (streams.head_left a.order calls answers h) (taken (answered (streams.ended_as calls answers))) f.finished (leads.followed refl [] h [] first)
 
--- where each `start` has one head, the stream has it
+-- If each `start` has one head, the stream has it.
 pub one_head : OneHeadLaw
 one_head order h [] rs all = refl
 one_head order h (call ∷ calls) [] all = refl
@@ -51,7 +51,7 @@ one_head order h (Finish ∷ calls) (r ∷ rs) all = one_head order h calls rs a
 
 -- ---- files
 
--- the same in other words
+-- The same by other definitions.
 file_as : (bytes : List ℕ) (cs : List Chunk) (o p : Endianness) (fs gs : FieldTrees) (es ds : Pairs) (is js : IdTrees) (ps qs : Pairs) → o ≡ p → fs ≡ gs → es ≡ ds → is ≡ js → ps ≡ qs → IsWrittenFile bytes p gs ds js qs cs
     → IsWrittenFile bytes o fs es is ps cs
 file_as bytes cs o p fs gs es ds is js ps qs a b c d e h = rw (a, b, c, d, e) h

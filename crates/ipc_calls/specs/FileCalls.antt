@@ -1,4 +1,5 @@
--- Lists of calls of a writer of files, those that set its pairs among them, each `write` with ids or none.
+-- Lists of calls of a file writer, those that set its metadata pairs
+-- included; each `write` has ids or none.
 -- (Arrow columnar format, "IPC File Format".)
 use Rattle.std.specs.Prelude.{◌≡◌, ℕ, Bool, List, [], ◌∷◌, take, Option, Result, Ok, Err, IfErr, OnErr, OnOk}
 use Rattle.lower.specs.TypeTrees.{Pairs}
@@ -20,7 +21,7 @@ use Rattle.ipc_calls.specs.declared.files.FileCall.TheVariants.{SetCustomMetadat
 
 -- ---- one call
 
--- what `set_custom_metadata` says of itself
+-- The contract of `set_custom_metadata`.
 pub record SetsPairs {W : Type 0} (known : Bool) (memory : W → Memory) (a : FileSeen W) (pairs : Pairs) (r : Result Unit Fault) (b : FileSeen W) : Type 0 where
   pub first : StateComesFirst (fault_if_over a.state) a r b
   pub ok : OnOk r (TakesPairs a b pairs)
@@ -28,7 +29,7 @@ pub record SetsPairs {W : Type 0} (known : Bool) (memory : W → Memory) (a : Fi
   pub kept : OnErr r (b ≡ a)
   pub means : Remains known memory a b
 
--- what `write` with these ids says of itself
+-- The contract of `write` with these ids.
 pub record WritesWith {W : Type 0} (known grows : Bool) (failures room : W → ℕ) (memory : W → Memory) (a : FileSeen W) (columns : List AnyArray) (ids : Option IdTrees) (r : Result Unit Fault) (b : FileSeen W) : Type 0 where
   pub first : StateComesFirst (fault_unless_started a.state) a r b
   pub step : SendsColumns known grows failures room memory a r b columns
@@ -36,16 +37,16 @@ pub record WritesWith {W : Type 0} (known grows : Bool) (failures room : W → �
   pub named : IfErr r (NamesOne a columns)
   pub means : Appends known memory a r b (chunk_written columns)
 
--- A call is made and answers this, with all that it says of itself.
+-- A call returned r and left the writer b, by the call's contract.
 abbrev pub IsMade : {W : Type 0} → (known grows : Bool) (failures room : W → ℕ) (memory : W → Memory) → FileSeen W → FileCall → Result Unit Fault → FileSeen W → Type 0
 IsMade known grows failures room memory a (SetCustomMetadata pairs) r b = SetsPairs known memory a (pairs_of pairs.now.entries) r b
 IsMade known grows failures room memory a Start r b = DoesStart known grows failures room memory a r b
 IsMade known grows failures room memory a (Write chunk ids) r b = WritesWith known grows failures room memory a chunk.now (seen_ids ids) r b
 IsMade known grows failures room memory a Finish r b = DoesFinish known grows failures room memory a r b
 
--- ---- what is seen of calls
+-- ---- what theorems know of calls
 
--- The calls that move the writer, each with how it ended: those that set pairs don't.
+-- The calls that change the writer's state, each with how it ended; those that set pairs don't.
 abbrev pub ended_as : List FileCall → List (Result Unit Fault) → List (Call × Outcome)
 ended_as (SetCustomMetadata pairs ∷ calls) (r ∷ rs) = ended_as calls rs
 ended_as (Start ∷ calls) (r ∷ rs) = (start_call, outcome r) ∷ ended_as calls rs
@@ -53,7 +54,7 @@ ended_as (Write chunk ids ∷ calls) (r ∷ rs) = (write_call (chunk_written chu
 ended_as (Finish ∷ calls) (r ∷ rs) = (finish_call, outcome r) ∷ ended_as calls rs
 ended_as _ _ = []
 
--- the pairs after a call: one that sets them, and is Ok, puts its own in their place
+-- The pairs after a call; one that sets them and returned Ok replaces them.
 abbrev pub pairs_after : FileCall → Result Unit Fault → Pairs → Pairs
 pairs_after (SetCustomMetadata pairs) (Ok x) ps = pairs_of pairs.now.entries
 pairs_after (SetCustomMetadata pairs) (Err e) ps = ps
@@ -61,31 +62,31 @@ pairs_after Start r ps = ps
 pairs_after (Write chunk ids) r ps = ps
 pairs_after Finish r ps = ps
 
--- the pairs after calls that answered this: those last set, or else these
+-- The pairs after some calls: those last set, or else ps.
 abbrev pub last_pairs : List FileCall → List (Result Unit Fault) → Pairs → Pairs
 last_pairs (call ∷ calls) (r ∷ rs) ps = last_pairs calls rs (pairs_after call r ps)
 last_pairs _ _ ps = ps
 
--- how far a writer is, and its order of bytes
+-- The state of a file writer, and its byte order.
 abbrev pub stage_of : {W : Type 0} → FileSeen W → Writer
 stage_of w = writer_in w.order (state_seen w.state)
 
 -- ---- calls one after the other
 
--- Each call is made of the writer that the one before it left, and these are their answers.
+-- Each call is made on the writer that the call before it left, with these results.
 abbrev pub AreMade : {W : Type 0} → (known grows : Bool) (failures room : W → ℕ) (memory : W → Memory) → FileSeen W → List FileCall → List (Result Unit Fault) → FileSeen W → Type 0
 AreMade known grows failures room memory a [] [] b = b ≡ a
 AreMade {W = W} known grows failures room memory a (call ∷ calls) (r ∷ rs) b =
     (m : FileSeen W) × (IsMade known grows failures room memory a call r m × AreMade known grows failures room memory m calls rs b)
 AreMade known grows failures room memory a _ _ b = ⊥
 
--- The first of some calls are made.
+-- The first of some calls are made, and the others aren't.
 pub record FirstAreMade {W : Type 0} (known grows : Bool) (failures room : W → ℕ) (memory : W → Memory) (a : FileSeen W) (calls : List FileCall) (b : FileSeen W) : Type 0 where
   pub count : ℕ
   pub answers : List (Result Unit Fault)
   pub made : AreMade known grows failures room memory a (take count calls) answers b
 
--- A file keeps its schema, its ids, its order of bytes and its size, and is to have these pairs.
+-- A writer keeps its schema, ids, byte order and size, and its footer will have these pairs.
 pub record KeepsFile {W : Type 0} (a b : FileSeen W) (pairs : Pairs) : Type 0 where
   pub order : b.order ≡ a.order
   pub fields : b.fields ≡ a.fields

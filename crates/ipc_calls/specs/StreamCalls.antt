@@ -1,4 +1,5 @@
--- Lists of calls of a writer of streams, each `start` with a schema and ids of its own, each `write` with ids or none.
+-- Lists of calls of a stream writer; each `start` has a schema and ids of its
+-- own, each `write` ids or none.
 -- (Arrow columnar format, "IPC Streaming Format".)
 use Rattle.std.specs.Prelude.{◌≡◌, ℕ, Bool, IsTrue, List, [], ◌∷◌, ◌++◌, take, Option, None, Some, option_map, Result, Ok, Err, Vec}
 use Rattle.std.specs.Borrow.{Bor}
@@ -26,71 +27,72 @@ use Rattle.ipc_calls.specs.declared.streams.WriterCall.TheVariants.{Start, Write
 
 -- ---- ids and heads
 
--- the ids that are handed in with a `start`, where any are
+-- The ids that a `start` is given, if there are any.
 abbrev pub vec_ids : Option (Bor (Vec IpcField Global)) → Option IdTrees
 vec_ids ids = option_map (λ given. all_ids_view given.now.items) ids
 
--- the ids that a stream of these fields gets: those, or else 0, 1, 2 and on, in pre-order
+-- The ids of a stream of these fields: those given, or else 0, 1, 2 and so on, in pre-order.
 abbrev pub ids_for : Option IdTrees → FieldTrees → IdTrees
 ids_for None fs = default_all 0 fs
 ids_for (Some given) fs = given
 
--- the head of the stream that a `start` with this schema and these ids begins
+-- The head of the stream that a `start` with this schema and these ids begins.
 abbrev pub head_begun : Endianness → Bor Schema → Option (Bor (Vec IpcField Global)) → Head
 head_begun order schema ids =
     written_head_as order (fields_view schema.now.fields.items) (pairs_of schema.now.metadata.entries) (ids_for (vec_ids ids) (fields_view schema.now.fields.items))
 
--- the head after a call: a `start` that was Ok sets it, and no other call does
+-- The head after a call: a `start` that returned Ok sets it, and no other call does.
 abbrev pub head_after : Endianness → WriterCall → Result Unit Fault → Head → Head
 head_after order (Start schema ids) (Ok x) h = head_begun order schema ids
 head_after order (Start schema ids) (Err e) h = h
 head_after order (Write chunk ids) r h = h
 head_after order Finish r h = h
 
--- the head after calls that answered this
+-- The head after some calls with these results.
 abbrev pub head_left : Endianness → List WriterCall → List (Result Unit Fault) → Head → Head
 head_left order (call ∷ calls) (r ∷ rs) h = head_left order calls rs (head_after order call r h)
 head_left order _ _ h = h
 
--- ---- what is seen of calls
+-- ---- what theorems know of calls
 
+-- A call without its schema and ids; a `write` has its chunk.
 abbrev pub call_seen : WriterCall → Call
 call_seen (Start schema ids) = start_call
 call_seen (Write chunk ids) = write_call (chunk_written chunk.now)
 call_seen Finish = finish_call
 
--- the calls, each with how it ended
+-- The calls, each with how it ended.
 abbrev pub ended_as : List WriterCall → List (Result Unit Fault) → List (Call × Outcome)
 ended_as (call ∷ calls) (r ∷ rs) = (call_seen call, outcome r) ∷ ended_as calls rs
 ended_as _ _ = []
 
--- how far a writer is, and its order of bytes
+-- The state of a stream writer, and its byte order.
 abbrev pub stage_of : {W : Type 0} → WriterSeen W → Writer
 stage_of w = writer_in w.order (state_seen w.state)
 
 -- ---- calls one after the other
 
--- A call is made and answers this, with all that it says of itself.
+-- A call returned r and left the writer b, by the call's contract.
 abbrev pub IsMade : {W : Type 0} → (known grows : Bool) (failures room : W → ℕ) (memory : W → Memory) → WriterSeen W → WriterCall → Result Unit Fault → WriterSeen W → Type 0
 IsMade known grows failures room memory a (Start schema ids) r b =
     DoesStart known grows failures room memory a (fields_view schema.now.fields.items) (pairs_of schema.now.metadata.entries) (ids_for (vec_ids ids) (fields_view schema.now.fields.items)) r b
 IsMade known grows failures room memory a (Write chunk ids) r b = DoesWrite known grows failures room memory a chunk.now (seen_ids ids) r b
 IsMade known grows failures room memory a Finish r b = DoesFinish known grows failures room memory a r b
 
--- Each call is made of the writer that the one before it left, and these are their answers.
+-- Each call is made on the writer that the call before it left, with these results.
 abbrev pub AreMade : {W : Type 0} → (known grows : Bool) (failures room : W → ℕ) (memory : W → Memory) → WriterSeen W → List WriterCall → List (Result Unit Fault) → WriterSeen W → Type 0
 AreMade known grows failures room memory a [] [] b = b ≡ a
 AreMade {W = W} known grows failures room memory a (call ∷ calls) (r ∷ rs) b =
     (m : WriterSeen W) × (IsMade known grows failures room memory a call r m × AreMade known grows failures room memory m calls rs b)
 AreMade known grows failures room memory a _ _ b = ⊥
 
--- The first of some calls are made.
+-- The first of some calls are made, and the others aren't.
 pub record FirstAreMade {W : Type 0} (known grows : Bool) (failures room : W → ℕ) (memory : W → Memory) (a : WriterSeen W) (calls : List WriterCall) (b : WriterSeen W) : Type 0 where
   pub count : ℕ
   pub answers : List (Result Unit Fault)
   pub made : AreMade known grows failures room memory a (take count calls) answers b
 
--- Calls from a to b: a stream with any head before them has the head that they leave of it, and these chunks more. Of a writer that wrote
--- nothing, each head is one.
+-- From writer a to b, calls append these chunks to the stream, and its head becomes what `left`
+-- makes of it. A writer that has written nothing agrees with every head.
 pub record LeadsTo {W : Type 0} (known : Bool) (memory : W → Memory) (a b : WriterSeen W) (left : Head → Head) (added : List Chunk) : Type 0 where
   pub followed : IsTrue known → (base : List ℕ) (head : Head) (chunks : List Chunk) → Agrees memory a base head chunks → Agrees memory b base (left head) (chunks ++ added)

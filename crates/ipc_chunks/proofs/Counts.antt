@@ -13,7 +13,7 @@ pub numbers_same : (fs : List IpcField) → id_number (all_ids_view fs) ≡ leng
 numbers_same [] = refl
 numbers_same (f ∷ fs) = let e = numbers_same fs in omega (arith, e)
 
--- as many ids as columns: what refuses their schema refuses them
+-- There are as many ids as columns: what refuses their schema refuses them.
 pub columns_refused : (columns : List Layout) (is : IdTrees) (e : Fault) → length columns ≡ id_number is → RefusesSchema e (encoded_fields columns) [] is → RefusesColumns columns is e
 columns_refused columns is (Argument ColumnCount) same h = absurd h
 columns_refused columns is (Argument FieldsShape) same h = (same, h)

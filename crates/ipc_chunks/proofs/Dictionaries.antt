@@ -1,5 +1,5 @@
--- Dictionary places of columns whose schema can be written: their values have one type under an id, their messages' metadata are short, and
--- keys have ids.
+-- The dictionary fields of columns whose schema can be written: their values have one type under an
+-- id, their messages' metadata are short, and keys have ids.
 use Rattle.std.proofs.Common.{◌≡◌, ◌⊎◌, ℕ, ℤ, zero, suc, ◌<◌, Bool, true, false, cond, List, [], ◌∷◌, ◌++◌, length, map, Option, None, Some, IsSome, refl, sym, ap, ◌∙◌, subst, arith, inl, inr}
 use Rattle.std.specs.Prelude.{AllPairs, slice_index_or}
 use Rattle.std.specs.List.{AllByRecursion}
@@ -25,7 +25,7 @@ use Rattle.ipc_tracker.specs.Laws.{HaveOneType}
 use Rattle.ipc_tracker.specs.Places.{HaveIds, Keyed, keyed_below, keyed_inside, keyed_of, own_keyed}
 use Rattle.ipc_chunks.proofs.MessageLengths.{HaveShortMetadata}
 
--- each place of the columns is one of the schema's
+-- Each dictionary field of the columns is one of the schema's.
 placed_in : (fs : FieldTrees) (metadata : Pairs) (is : IdTrees) (ls : List Layout) → AreArrays (layouts ls) → IsWritable fs metadata is → AreLike fs (layouts ls) → ArePlaced (places fs is) (filled_of (layouts ls) is)
 placed_in fs metadata is ls arrays w like = (placed_all (layouts ls) fs is arrays like w.fits w.types).all
 
@@ -94,7 +94,7 @@ placed_behind : (ps : List Place) (qs rs : List Filled) → ArePlaced ps (qs ++ 
 placed_behind ps [] rs h = h
 placed_behind ps (q ∷ qs) rs h = placed_behind ps qs rs h.1
 
--- whether an array is one of keys, and what is known of it then
+-- Whether an array is one of keys, and what is known of it.
 where_is : (p : Parts) (P Q : Type 0) → WhereKeyed p P Q → ((is_keyed p ≡ true) × P) ⊎ ((is_keyed p ≡ false) × Q)
 where_is (keys k ks) P Q h = inl (refl, h)
 where_is _ P Q h = inr (refl, h)
@@ -108,7 +108,7 @@ cond_true b x y e = ap (λ (t : Bool). cond t x y) e
 cond_false : {A : Type 0} (b : Bool) (x y : A) → b ≡ false → cond b x y ≡ y
 cond_false b x y e = ap (λ (t : Bool). cond t x y) e
 
--- keys with an id, over values whose own keys have ids
+-- Keys with an id, whose values have keys with ids.
 keyed_ids : (ps : List Place) (h : Level) (c : Layout) (cs : Layouts) (id : Option ℤ) (is : IdTrees) → is_keyed h.parts ≡ true → KeysHaveId (more_layouts c cs) id → (HasIds c None is → HaveIds (keyed_below c is))
     → ArePlaced ps (own_filled (layout h (more_layouts c cs)) id is) → HaveIds (keyed_below (layout h (more_layouts c cs)) is ++ own_keyed (layout h (more_layouts c cs)) id)
 keyed_ids ps h c cs None is e ids inside own = absurd ids
@@ -120,7 +120,7 @@ keyed_ids ps h c cs (Some id) is e ids inside own =
     (subst HaveIds (sym (cond_true (is_keyed h.parts) (record { id = Some id; values = c } ∷ []) [] e)) (refl, tt))
 
 mutual
-  -- an array whose keys have an id: so have those below it
+  -- An array whose keys have an id, and so have those below it.
   field_ids : (ps : List Place) (c : Layout) (id : Option ℤ) (is : IdTrees) → HasIds c id is → ArePlaced ps (filled_below c is) → ArePlaced ps (own_filled c id is) → HaveIds (keyed_below c is ++ own_keyed c id)
   field_ids ps (layout h no_layouts) id is ids below own = all_both HasId (keyed_below (layout h no_layouts) is) [] (childless (is_keyed h.parts)) tt
     where

@@ -1,4 +1,4 @@
--- The dictionaries of some arrays, one after another, and the places of a chunk.
+-- The dictionaries of some arrays, one after another, and the dictionary fields of a chunk.
 use Rattle.std.proofs.Common.{◌≡◌, ◌⊎◌, ℕ, ℤ, ◌+◌, ◌<◌, ◌≤◌, Bool, true, false, cond, List, [], ◌∷◌, ◌++◌, length, get_or, drop, map, Option, None, Some, IsSome, sym, ap, ◌∙◌, subst, inl, inr, Result, Ok, Err}
 use Rattle.std.proofs.lemmas.List.{drop_more, drop_all}
 use Rattle.std.specs.List.{AllByRecursion}
@@ -34,7 +34,7 @@ any_split [] ks e h = inr h
 any_split (l ∷ ls) ks e (inl h) = inl (inl h)
 any_split (l ∷ ls) ks e (inr h) = elim (any_split ls ks e h) [ inl here ↦ inl (inr here) | inr there ↦ inr there ]
 
--- those in the columns from one place on, and in one column
+-- The dictionaries in the columns from an index on, and in one column.
 abbrev pub left_from : List AnyArray → ℕ → List Layout
 left_from xs i = dictionaries_in (layouts (map layout_of (drop i xs)))
 
@@ -60,7 +60,7 @@ refused_here xs i y e inside is h = subst (λ (ls : List Layout). RefusesAnyLeng
 pub none_left : (xs : List AnyArray) (i : ℕ) → length xs ≤ i → AllByRecursion HasLengths (left_from xs i)
 none_left xs i h = subst (λ (ys : List AnyArray). AllByRecursion HasLengths (dictionaries_in (layouts (map layout_of ys)))) (sym (drop_all i xs h)) tt
 
--- those below a column, and then its own
+-- The dictionaries below a column, and then its own.
 pub lengths_then : (ls ks js : List Layout) (r : Result (Unit {0}) Fault) → ls ≡ ks → AllByRecursion HasLengths ls → AnswersLengths r js → AnswersLengths r (ks ++ js)
 lengths_then ls ks js (Ok x) e f g = all_both HasLengths ks js (subst (λ (is : List Layout). AllByRecursion HasLengths is) e f) g
 lengths_then ls ks js (Err k) e f g = any_behind ks js k g
@@ -68,7 +68,7 @@ lengths_then ls ks js (Err k) e f g = any_behind ks js k g
 pub below_refused : (ls ks js : List Layout) (e : Fault) → ls ≡ ks → RefusesAnyLengths ls e → RefusesAnyLengths (ks ++ js) e
 below_refused ls ks js e same h = any_front ks js e (subst (λ (is : List Layout). RefusesAnyLengths is e) same h)
 
--- ---- places
+-- ---- dictionary fields
 
 own_places : (b : Bool) (c : Layout) (id : ℤ) → AllByRecursion HasLengths (cond b (c ∷ []) []) → HaveLengths (cond b (record { id = id; values = c } ∷ []) [])
 own_places true c id h = (h.0, tt)
@@ -108,7 +108,7 @@ mutual
 
 -- ---- refusals
 
--- a message of some values that couldn't say its lengths isn't encoded
+-- A message of some values whose lengths don't fit isn't encoded.
 values_refused : (p : FilledPlace) (e : Fault) → RefusesLengths p.values e → RefusesValues p e
 values_refused p Memory h = tt
 values_refused p (Argument TooLong) h = λ few short. h short
@@ -172,7 +172,7 @@ mutual
         | inr later ↦ some_behind (values_below c js ++ own_values c id) (values_of cs (other_ids is)) e (all_some cs (other_ids is) e rest later)
       ]
 
--- why a chunk is refused whose dictionaries are listed
+-- Why a chunk is refused whose dictionaries are known.
 pub lengths_refused : (m : Remembered) (fixed : Bool) (columns : List Layout) (is : IdTrees) (list : List FilledPlace) (e : Fault) → ListsAll m fixed columns is list
     → RefusesAnyLengths (dictionaries_in (layouts columns)) e → RefusesPlaces m fixed columns is e
 lengths_refused m fixed columns is list e lists h = inr (all_some (layouts columns) is e lists.have_ids h)

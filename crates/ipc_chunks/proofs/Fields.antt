@@ -10,7 +10,7 @@ use Rattle.lower_arrays.specs.declared.array.AnyArray.{AnyArray}
 use Rattle.ipc_model.specs.Accepted.{fields_of}
 use Rattle.ipc_chunks.specs.Chunks.{encoded_fields}
 
--- that of a column
+-- The field of a column.
 abbrev pub encoded_field : AnyArray → FieldTree
 encoded_field a = field [] (type_of (layout_of a)) true []
 

@@ -1,4 +1,4 @@
--- What is encoded of a chunk is what a writer sends of it.
+-- The messages that are encoded for a chunk are those that a writer sends.
 use Rattle.std.proofs.Common.{ℕ, List, [], ◌∷◌, map, arith, refl, sym, ap, ◌∙◌, subst, inl, inr}
 use Rattle.lower_types.specs.declared.Endianness.{Endianness}
 use Rattle.lower_arrays.specs.Layouts.{Layout, layouts, len_of}

@@ -1,4 +1,4 @@
--- Which lengths the messages of a chunk can say.
+-- Which lengths fit in the messages of a chunk.
 use Rattle.std.proofs.Common.{◌≡◌, ℕ, ◌^◌, ◌≤◌, List, [], ◌∷◌, map, subst, arith, inl, inr, append-nil}
 use Rattle.std.specs.List.{AllByRecursion, flat_map}
 use Rattle.lower_arrays.specs.Layouts.{Layout, Level, layout, len_of}
@@ -31,7 +31,7 @@ lens_said : (hs : List Level) → AreShort hs → AllByRecursion IsSayable (lens
 lens_said [] s = tt
 lens_said (h ∷ hs) s = (s.0, lens_said hs s.1)
 
--- those of the values of one dictionary
+-- The lengths of the values of one dictionary.
 values_short : (l : Layout) → AreShort (levels_of (l ∷ [])) → AreShort (whole_levels l)
 values_short l s = all_front IsShort (whole_levels l) [] s
 
@@ -40,7 +40,7 @@ nodes_said [] columns h s = all_both IsSayable (lens (levels_of columns)) [] (le
 nodes_said (p ∷ ps) columns h s =
     all_both IsSayable (lens (whole_levels p.values)) (flat_map lens (messages columns ps)) (lens_said (whole_levels p.values) (values_short p.values h.0.short)) (nodes_said ps columns h.1 s)
 
--- those of the first message, and of the others
+-- The lengths of the first message, and of the others.
 first_lens : (hs : List Level) (rest : List (List Level)) → AllByRecursion IsSayable (flat_map lens (hs ∷ rest)) → AllByRecursion IsSayable (lens hs)
 first_lens hs rest s = all_front IsSayable (lens hs) (flat_map lens rest) s
 
@@ -78,7 +78,7 @@ bodies_said [] columns h s = (s, tt)
 bodies_said (p ∷ ps) columns h s =
     (subst (λ (hs : List Level). IsSayable (body_length (body_lengths hs))) (one_message p.values) h.0.body, bodies_said ps columns h.1 s)
 
--- the metadata of the values at a place
+-- The metadata of the values at a dictionary field.
 abbrev pub HaveShortMetadata : FilledPlace → Type 0
 HaveShortMetadata p = AreShortMetadata (Dictionary p.id) (levels_of (p.values ∷ []))
 

@@ -1,4 +1,4 @@
--- The messages of a chunk: how long they are, and one after another.
+-- The messages of a chunk: how long they are, one after another.
 use Rattle.std.proofs.Common.{arith, ◌≡◌, ℕ, zero, suc, ◌+◌, ◌-◌, ◌<◌, ◌%◌, ◌^◌, List, [], ◌∷◌, ◌++◌, length, map, replicate, take, get_or, refl, sym, ap, ◌∙◌, subst, inl, inr, append_assoc, length-append}
 use Rattle.std.proofs.lemmas.List.{length-replicate}
 use Rattle.std.specs.Int.{next_multiple_of}
@@ -32,7 +32,7 @@ length_padded xs =
     let n = next_multiple_of (length xs) 64 - length xs in
     omega (arith, length-append xs (replicate n zero_byte), length-replicate n zero_byte)
 
--- the buffers of a body, each padded, end at a multiple of 64
+-- The buffers of a body, each padded, end at a multiple of 64 bytes.
 body_whole : (bs : List (List ℕ)) → length (body bs) % 64 ≡ 0
 body_whole [] = refl
 body_whole (x ∷ bs) =
@@ -49,7 +49,7 @@ planned_whole : (order : Endianness) (ls : List Layout) (p : Plan) (sent : List 
 planned_whole order ls p sent plans e =
     subst (λ (xs : List ℕ). length xs % 64 ≡ 0) (sym (e ∙ ap (λ (o : Endianness). pieces_bytes o p.pieces.items) plans.order_is ∙ plans.body_is)) (body_whole (joined_buffers plans.buffers))
 
--- the metadata and the body of one that was encoded end at their multiples
+-- The metadata and the body of an encoded message end at their multiples.
 pub encoded_whole : (kind : BatchKind) (order : Endianness) (ls : List Layout) (n : ℕ) (metadata sent : List ℕ) → IsEncoded kind order ls n metadata sent → length metadata % 8 ≡ 0
 encoded_whole kind order ls n metadata sent h = metadata_whole kind (length metadata) _ _ h.metadata_are.long
 
@@ -71,7 +71,7 @@ all_sendable order [] (e ∷ es) h i d inside = absurd h
 all_sendable order (p ∷ ps) (e ∷ es) h zero d inside = sendable (Dictionary p.id) order (p.values ∷ []) (len_of p.values) e h.0
 all_sendable order (p ∷ ps) (e ∷ es) h (suc i) d inside = all_sendable order ps es h.1 i d (omega (arith, inside))
 
--- one in pieces
+-- A message in pieces.
 pub seen_encoded : (kind kind' : BatchKind) (order : Endianness) (ls ls' : List Layout) (n n' : ℕ) (e : Encoded) → IsEncoded kind order ls n e.metadata.items (pieces_bytes order e.body.pieces.items) → e.body.order ≡ order
     → kind ≡ kind' → ls ≡ ls' → n ≡ n' → IsEncoded kind' order ls' n' (message_seen e).metadata (message_seen e).body
 seen_encoded kind kind' order ls ls' n n' e h same k l m =
@@ -82,7 +82,7 @@ whole_encoded order e long same = record { end = long ∙ ap (λ (o : Endianness
 
 -- ---- one after another
 
--- one more of those that are encoded
+-- One more encoded message.
 values_more : (order : Endianness) (ps : List FilledPlace) (ms : List Message) (p : FilledPlace) (m : Message) → AreAllValues order ps ms → AreValueMessages order p m → AreAllValues order (ps ++ p ∷ []) (ms ++ m ∷ [])
 values_more order [] [] p m a h = (h, tt)
 values_more order [] (n ∷ ms) p m a h = absurd a
@@ -97,7 +97,7 @@ values_next order list i x d es e inside is a h =
     (subst (λ (ps : List FilledPlace). AreAllValues order ps (map message_seen es ++ message_seen e ∷ [])) (sym (taken_next listed list i x d inside is))
     (values_more order (map listed (take i list)) (map message_seen es) (listed x) (message_seen e) a h))
 
--- one of them isn't encoded
+-- One of the messages isn't encoded.
 pub refused_at : (list : List NewDictionary) (i : ℕ) (x d : NewDictionary) (e : Fault) → i < length list → x ≡ get_or list i d → RefusesValues (listed x) e → RefusesSome (map listed list) e
 refused_at [] i x d e inside at h = absurd (omega (arith, inside))
 refused_at (y ∷ list) zero x d e inside at h = inl (subst (λ (z : NewDictionary). RefusesValues (listed z) e) at h)
@@ -105,7 +105,7 @@ refused_at (y ∷ list) (suc i) x d e inside at h = inr (refused_at list i x d e
 
 -- ---- bodies in one piece
 
--- one more of them
+-- One more message.
 pub joined_next : (es : List EncodedData) (e : EncodedData) (m : Encoded) (xs ys zs : List Encoded) → xs ≡ m ∷ ys → data_seen e ≡ message_seen m → map data_seen es ++ map message_seen xs ≡ map message_seen zs
     → map data_seen (es ++ e ∷ []) ++ map message_seen ys ≡ map message_seen zs
 joined_next es e m xs ys zs is same h =

@@ -1,4 +1,4 @@
--- Which condition a chunk that is refused doesn't meet.
+-- Which condition a refused chunk doesn't meet.
 use Rattle.std.proofs.Common.{◌≡◌, ◌⊎◌, ◌<◌, Bool, List, [], ◌∷◌, sym, subst, arith, inl, inr}
 use Rattle.lower.specs.TypeTrees.{TypeTree}
 use Rattle.lower_arrays.specs.Layouts.{Layout, layouts, len_of}
@@ -25,7 +25,7 @@ use Rattle.ipc_chunks.specs.Chunks.{RefusesChunk, RefusesColumns, encoded_fields
 use Rattle.ipc_chunks.specs.Messages.{RefusesMessages, RefusesSome, RefusesValues}
 use Rattle.ipc_chunks.specs.Laws.{IsTaken, Misses, MissesLaw}
 
--- ---- what is listed is among the places
+-- ---- the values to write are among the dictionary fields
 
 pub some_listed : (m : Remembered) (ps ws : List FilledPlace) (e : Fault) → ListsUnwritten m ps ws → RefusesSome ws e → RefusesSome ps e
 some_listed m [] ws e l h = subst (λ (vs : List FilledPlace). RefusesSome vs e) l h
@@ -36,7 +36,7 @@ some_listed m (p ∷ ps) ws e (inr l) h =
       | inr rest ↦ inr (some_listed (remembering p.id (dictionary_of p.values) m) ps l.1 e l.3 rest)
     ]
 
--- ---- faults
+-- ---- errors
 
 columns_miss : (m : Remembered) (fixed : Bool) (columns : List Layout) (is : IdTrees) (e : Fault) → RefusesColumns columns is e → Misses m fixed columns is e
 columns_miss m fixed columns is Memory h = tt
@@ -110,7 +110,7 @@ chunk_misses m fixed columns is e arrays (inr (w, inl (inr h))) = places_some m 
 chunk_misses m fixed columns is e arrays (inr (w, inr (inl h))) = listed_miss m fixed columns is e h.list arrays w h.lists.lists h.refused
 chunk_misses m fixed columns is e arrays (inr (w, inr (inr h))) = memory_miss m fixed columns is e h
 
--- ---- what isn't taken
+-- ---- what isn't accepted
 
 own_writable : (m : Remembered) (fixed : Bool) (columns : List Layout) (is : IdTrees) → IsTaken m fixed columns is → IsWritable (encoded_fields columns) [] is
 own_writable m fixed columns is t = subst (λ (ts : List TypeTree). IsWritable (fields_of ts) [] is) (types_same columns is) t.accepted.writable

@@ -1,4 +1,4 @@
--- Messages, told by other names, and what is remembered after them.
+-- Messages by other definitions, and what is remembered after them.
 use Rattle.std.proofs.Common.{◌≡◌, ℕ, List, subst, ap, ◌∙◌}
 use Rattle.lower_types.specs.declared.Endianness.{Endianness}
 use Rattle.lower_arrays.specs.Layouts.{Layout}
@@ -15,6 +15,6 @@ same_message order k k' ls ls' n n' xs ys e f g h =
     subst (λ (j : BatchKind). IsEncoded j order ls' n' xs ys) e
     (subst (λ (ms : List Layout). IsEncoded k order ms n' xs ys) f (subst (λ (m : ℕ). IsEncoded k order ls m xs ys) g h))
 
--- room changes nothing of what is remembered
+-- Capacity changes nothing of what is remembered.
 pub remembered_with_room : (ws : List FilledPlace) (m n after : Remembered) → IsSameMemory m n → IsSameMemory (remembering_all ws n) after → IsSameMemory (remembering_all ws m) after
 remembered_with_room ws m n after same h = λ id. h id ∙ ap (λ (k : Remembered). remembering_all ws k id) (memory_is m n same)

@@ -1,4 +1,4 @@
--- A chunk as the messages that a writer sends of it.
+-- A chunk as the messages that a writer sends for it.
 -- (Arrow columnar format, "RecordBatch message" and "Dictionary messages".)
 use Rattle.std.specs.Prelude.{◌≡◌, ◌≢◌, ◌⊎◌, ℕ, ◌+◌, Bool, List, [], length, map}
 use Rattle.lower.specs.TypeTrees.{FieldTrees}
@@ -24,16 +24,17 @@ use Rattle.ipc_chunks.specs.Messages.{AreMessages, RefusesMessages, RefusesPlace
 
 -- ---- columns without a schema
 
--- the fields of some columns that have no schema: their types, without a name and without metadata
+-- The fields of columns that have no schema: their types, without names and metadata.
 abbrev pub encoded_fields : List Layout → FieldTrees
 encoded_fields columns = fields_of (map type_of columns)
 
--- for how many fields some ids are
+-- For how many fields there are ids.
 abbrev pub id_number : IdTrees → ℕ
 id_number no_ids = 0
 id_number (more_ids i is) = 1 + id_number is
 
--- why some columns can't be written with these ids: there are not as many; they are as many, and of another shape; or the fields can't
+-- Why columns can't be written with these ids: there are more or fewer ids than columns; they have
+-- another shape; or the fields can't be written.
 abbrev pub RefusesColumns : List Layout → IdTrees → Fault → Type 0
 RefusesColumns columns is (Argument ColumnCount) = length columns ≢ id_number is
 RefusesColumns columns is (Argument FieldsShape) = (length columns ≡ id_number is) × (AllFit (encoded_fields columns) is → ⊥)
@@ -41,9 +42,9 @@ RefusesColumns columns is e = RefusesSchema e (encoded_fields columns) [] is
 
 -- ---- chunks
 
--- What is encoded of some columns where these dictionaries are remembered: the messages of those that are new or others, inner before
--- outer, and that of the columns; and then those are remembered. The message of each dictionary, also of one that is remembered, and that
--- of the columns can say its lengths.
+-- The messages that some columns are encoded to, given the dictionaries that are remembered: those
+-- of new or changed dictionaries, inner before outer, and that of the columns. Those are remembered
+-- afterwards. All lengths fit, also of dictionaries that are remembered and not sent.
 pub record EncodesChunk (order : Endianness) (m : Remembered) (fixed : Bool) (columns : List Layout) (is : IdTrees) (dictionaries : List EncodedData) (encoded : EncodedData) (after : Remembered) : Type 0 where
   pub writable : IsWritable (encoded_fields columns) [] is
   pub list : List FilledPlace
@@ -53,13 +54,13 @@ pub record EncodesChunk (order : Endianness) (m : Remembered) (fixed : Bool) (co
   pub are : AreMessages order columns list (map data_seen dictionaries) (data_seen encoded)
   pub remembers : IsSameMemory (remembering_all list m) after
 
--- the messages of some columns, whose dictionaries are listed, aren't encoded
+-- The dictionaries to send are found, and one of the messages can't be encoded.
 pub record RefusesListed (m : Remembered) (fixed : Bool) (columns : List Layout) (is : IdTrees) (e : Fault) : Type 0 where
   pub list : List FilledPlace
   pub lists : ListsAll m fixed columns is list
   pub refused : RefusesMessages list columns e
 
--- why a chunk isn't encoded
+-- Why a chunk isn't encoded.
 abbrev pub RefusesChunk : Remembered → Bool → List Layout → IdTrees → Fault → Type 0
 RefusesChunk m fixed columns is e =
     RefusesColumns columns is e

@@ -1,4 +1,4 @@
--- What the messages of a chunk do to a reader.
+-- Theorems: what the messages of a chunk mean to a reader.
 -- (Arrow columnar format, "IPC Streaming Format".)
 use Rattle.std.specs.Prelude.{◌≢◌, Bool, ℕ, IsTrue, List, [], ◌∷◌, ◌++◌, length}
 use Rattle.std.specs.List.{AllByRecursion}
@@ -21,37 +21,38 @@ use Rattle.ipc_model.specs.Writable.{IsWritable}
 use Rattle.ipc_tracker.specs.Trackers.{Remembered}
 use Rattle.ipc_chunks.specs.Chunks.{EncodesChunk, RefusesChunk, encoded_fields, id_number}
 
--- messages as they stand in a stream, one behind the other
+-- Messages as they are in a stream, one after the other.
 abbrev pub encoded_bytes : List EncodedData → List ℕ
 encoded_bytes [] = []
 encoded_bytes (encoded ∷ rest) = message_bytes encoded.ipc_message.items encoded.arrow_data.items ++ encoded_bytes rest
 
--- the messages of the dictionaries, and then that of the columns
+-- The bytes of the dictionary messages, and then of the record.
 abbrev pub chunk_bytes : List EncodedData → EncodedData → List ℕ
 chunk_bytes dictionaries encoded = encoded_bytes dictionaries ++ message_bytes encoded.ipc_message.items encoded.arrow_data.items
 
--- What is encoded of columns means just these columns, in a stream of their types, whatever follows; and a reader that knew what was
--- remembered before knows what is remembered then.
+-- The messages that columns are encoded to mean just these columns, in a stream of
+-- their types, whatever follows. A reader that had the remembered dictionaries has
+-- those that are remembered afterwards.
 abbrev pub MeaningLaw : Type 0
 MeaningLaw = (order : Endianness) (m after : Remembered) (fixed : Bool) (columns : List Layout) (is : IdTrees) (dictionaries : List EncodedData) (encoded : EncodedData)
     → EncodesChunk order m fixed columns is dictionaries encoded after → MeansChunk (head_encoded order is columns) (chunk_bytes dictionaries encoded) m after (chunk_written columns)
 
 -- ---- which columns are encoded
 
--- Columns are taken with these ids: they are accepted, with their types as a schema that can be written; and where nothing may be replaced,
--- what is remembered stays.
+-- Columns can be encoded with these ids: they are accepted, and their types are a schema that can
+-- be written. If no dictionary may be replaced, those that are remembered stay.
 pub record IsTaken (m : Remembered) (fixed : Bool) (columns : List Layout) (is : IdTrees) : Type 0 where
   pub accepted : MayBeEncoded is (offer_of columns is)
   pub kept : IsTrue fixed → AllByRecursion (λ p. AreKept (m p.id) p.values) (offer_of columns is).dictionaries
 
--- What is encoded is taken.
+-- Columns that are encoded satisfy `IsTaken`.
 abbrev pub TakenLaw : Type 0
 TakenLaw = (order : Endianness) (m after : Remembered) (fixed : Bool) (columns : List Layout) (is : IdTrees) (dictionaries : List EncodedData) (encoded : EncodedData)
     → EncodesChunk order m fixed columns is dictionaries encoded after → IsTaken m fixed columns is
 
 -- ---- refusals
 
--- which condition a chunk that is refused doesn't meet
+-- By each error, the condition of encoding that the columns don't meet.
 abbrev pub Misses : Remembered → Bool → List Layout → IdTrees → Fault → Type 0
 Misses m fixed columns is Memory = Unit {0}
 Misses m fixed columns is (Argument ColumnCount) = length columns ≢ id_number is
@@ -64,8 +65,8 @@ Misses m fixed columns is (Argument TooLong) = AllByRecursion IsSayable (offer_o
 Misses m fixed columns is (Argument TooLarge) = AllByRecursion (λ lengths. IsSayable (body_length lengths)) (offer_of columns is).bodies → ⊥
 Misses m fixed columns is _ = ⊥
 
--- Of columns, which are arrays, each refusal but that of memory names a condition of the columns that are encoded, and it isn't met: so they
--- aren't taken.
+-- If a chunk of arrays is refused, each error but that of allocation names a condition that the
+-- columns don't meet; so they don't satisfy `IsTaken`.
 abbrev pub MissesLaw : Type 0
 MissesLaw = (m : Remembered) (fixed : Bool) (columns : List Layout) (is : IdTrees) (e : Fault) → AreArrays (layouts columns) → RefusesChunk m fixed columns is e
     → Misses m fixed columns is e × OwnFault e (IsTaken m fixed columns is → ⊥)

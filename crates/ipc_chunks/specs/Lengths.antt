@@ -1,5 +1,5 @@
--- Dictionaries whose messages can say their lengths.
--- (Arrow columnar format, "Dictionary messages"; the limits are those of signed numbers of 64 bits.)
+-- Dictionaries whose lengths fit in their messages.
+-- (Arrow columnar format, "Dictionary messages"; the limits are those of signed 64-bit integers.)
 use Rattle.std.specs.Prelude.{◌⊎◌, List, [], ◌∷◌, ◌++◌, Result, MatchResult, if◌then◌else◌}
 use Rattle.std.specs.List.{AllByRecursion}
 use Rattle.lower_arrays.specs.Layouts.{Layout, layout, Layouts, no_layouts, more_layouts}
@@ -11,44 +11,47 @@ use Rattle.ipc_plan.specs.Taking.{AreShort, RefusesLength}
 
 -- ---- lengths
 
--- a message of some values can say how many slots each of their levels has, and how long its body is
+-- The lengths of some values fit in a message: the number of slots of each
+-- level, and the length of the body.
 pub record HasLengths (l : Layout) : Type 0 where
   pub short : AreShort (levels_of (l ∷ []))
   pub body : IsSayable (body_length (body_lengths (levels_of (l ∷ []))))
 
--- why it can't
+-- Why the lengths of some values don't fit in a message.
 abbrev pub RefusesLengths : Layout → Fault → Type 0
 RefusesLengths l e = RefusesLength (AreShort (levels_of (l ∷ []))) (body_length (body_lengths (levels_of (l ∷ [])))) e
 
--- those of some dictionaries can
+-- The lengths of the values at each of these dictionary fields fit in a message.
 abbrev pub HaveLengths : List FilledPlace → Type 0
 HaveLengths ps = AllByRecursion (λ p. HasLengths p.values) ps
 
 -- ---- the dictionaries of some arrays
 
--- an array's own, where it is one of keys
+-- The dictionary of an array itself, if the array is keys.
 abbrev pub own_dictionaries : Layout → List Layout
 own_dictionaries (layout h (more_layouts c cs)) = if is_keyed h.parts then c ∷ [] else []
 own_dictionaries _ = []
 
--- the values of the arrays of keys below an array, and of those in some arrays
 abbrev mutual
+  -- The dictionaries below an array, inner before outer.
   pub dictionaries_below : Layout → List Layout
   dictionaries_below (layout h cs) = if is_keyed h.parts then dictionaries_inside cs else dictionaries_in cs
 
+  -- The dictionaries inside the values of a dictionary.
   pub dictionaries_inside : Layouts → List Layout
   dictionaries_inside no_layouts = []
   dictionaries_inside (more_layouts c cs) = dictionaries_below c
 
+  -- The dictionaries in some arrays, inner before outer.
   pub dictionaries_in : Layouts → List Layout
   dictionaries_in no_layouts = []
   dictionaries_in (more_layouts c cs) = (dictionaries_below c ++ own_dictionaries c) ++ dictionaries_in cs
 
--- why the messages of some can't
+-- The lengths of one of these dictionaries don't fit in a message.
 abbrev pub RefusesAnyLengths : List Layout → Fault → Type 0
 RefusesAnyLengths [] e = ⊥
 RefusesAnyLengths (l ∷ ls) e = RefusesLengths l e ⊎ RefusesAnyLengths ls e
 
--- the answer is Ok just where those of all can, or memory was refused
+-- The result is Ok exactly if the lengths of all dictionaries fit, unless an allocation fails.
 abbrev pub AnswersLengths : Result Unit Fault → List Layout → Type 0
 AnswersLengths r ls = MatchResult r (λ _. AllByRecursion HasLengths ls) (RefusesAnyLengths ls)

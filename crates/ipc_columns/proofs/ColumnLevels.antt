@@ -60,7 +60,8 @@ array_type s vs (extension_kind t) u a b limit = array_type s vs t u a b limit
 
 -- ---- lists
 
--- what is known of the column of lists at node a and buffer b: k are read, the last offset, the child's kind
+-- What is known of the column of lists at node a and buffer b: k are read, the
+-- last offset, and the child's kind.
 module _ (s : Entries) (vs : Option ℤ → Layout) (form : OffsetWidth) (t : Kind) (u : TypeTree) (a b : ℕ) (limit : Limit) (os : List ℕ) (v : Validity) (last : ℕ) (f : FieldTree) (ut : TypeTree)
     (at : AreListsAt s form a b (rows s a limit) os v last) (fields : child_fields u ≡ more_fields f no_fields) (typed : field_type f ≡ ut) where
   pub list_child : IsWell s (list_kind form t) a b limit → IsWell s t (a + 1) (b + 2) (Some last)

@@ -1,4 +1,4 @@
--- Columns of lists of a fixed size.
+-- Columns of fixed-size lists.
 use Rattle.std.proofs.Common.{arith, ◌≡◌, ℕ, ℤ, ◌+◌, ◌*◌, ◌/◌, ◌<◌, [], ◌∷◌, Option, sym, ap, subst, ◌∙◌}
 use Rattle.std.proofs.Math.Nat.{mul-div_cancel}
 use Rattle.lower.specs.TypeTrees.{TypeTree, FieldTree, FieldTrees, no_fields, more_fields}

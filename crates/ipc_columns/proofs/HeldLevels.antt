@@ -1,4 +1,4 @@
--- What an array over others holds that is made of what was read, by what its buffers list.
+-- How many bytes an array with children retains, by the encoded lengths of its buffers.
 use Rattle.std.proofs.Common.{arith, ◌≡◌, ℕ, ℤ, ◌+◌, ◌*◌, ◌≤◌, ◌==◌, ◌&&◌, List, [], ◌∷◌, ◌++◌, length, Option, None, Some, ap, ◌∙◌}
 use Rattle.lower.specs.TypeTrees.{TypeTree}
 use Rattle.lower.specs.declared.datatypes.IntegerType.{IntegerType}
@@ -44,7 +44,7 @@ module _ (s : Entries) (extra b : ℕ) (u : TypeTree) (ids : Option (List ℤ)) 
       → HoldAllListed s extra ts (b + extra + 2) (layouts cs) → HoldsListed s extra (union_kind Dense ids ts) b x
   dense_held os made o h = let e = ap held made in omega (arith, e, o, h, types)
 
--- ---- one column behind the other
+-- ---- one column after the other
 
 pub one_more_held : (cs : List Layout) (c : Layout) → all_held (layouts (cs ++ c ∷ [])) ≡ all_held (layouts cs) + held c
 one_more_held [] c = omega arith

@@ -1,4 +1,4 @@
--- Each row is computed.
+-- Each case is computed.
 use Rattle.std.proofs.Common.{◌≤◌, refl, arith}
 use Rattle.ipc_columns.specs.HeldListedRows.{HeldListedRows}
 

@@ -1,4 +1,4 @@
--- A column of lists that was read is the array that its entries say.
+-- A column of lists is read to the array that its entries say.
 use Rattle.std.proofs.Common.{arith, ◌≡◌, ℕ, ◌+◌, List, [], ◌∷◌, length, ap, ◌∙◌}
 use Rattle.lower.specs.TypeTrees.{TypeTree}
 use Rattle.lower.specs.Physical.{physical}

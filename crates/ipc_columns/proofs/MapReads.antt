@@ -107,7 +107,8 @@ pair_kind (extension name t text) id is h = absurd h
 
 -- ---- columns
 
--- what is known of the column of maps at node a and buffer b: k are read, the last offset, the child's kind
+-- What is known of the column of maps at node a and buffer b: k are read, the
+-- last offset, and the child's kind.
 module _ (s : Entries) (vs : Option ℤ → Layout) (t : Kind) (u : TypeTree) (a b : ℕ) (limit : Limit) (os : List ℕ) (v : Validity) (last : ℕ) (f : FieldTree) (ut : TypeTree) (id : Option ℤ) (is : IdTrees)
     (at : AreListsAt s offsets_32 a b (rows s a limit) os v last) (fields : child_fields u ≡ more_fields f no_fields) (typed : field_type f ≡ ut) (kind : t ≡ kind_of ut id is) where
   pub map_child : IsWell s (map_kind t) a b limit → IsWell s t (a + 1) (b + 2) (Some last)

@@ -1,4 +1,4 @@
--- An array of records keeps the rules of its kind.
+-- An array of structs keeps the rules of its kind.
 use Rattle.std.proofs.Common.{◌≡◌, refl, ℕ, ◌+◌, List, sym, ap, subst}
 use Rattle.lower.specs.TypeTrees.{TypeTree, FieldTrees, no_fields, more_fields}
 use Rattle.lower.specs.Physical.{physical}

@@ -1,4 +1,4 @@
--- Columns of records, field by field.
+-- Columns of structs, field by field.
 use Rattle.std.proofs.Common.{arith, ◌≡◌, refl, ℕ, ℤ, ◌+◌, ◌<◌, Option, List, [], ◌∷◌, ◌++◌, length, drop, get_or, sym, ap, subst, ◌∙◌}
 use Rattle.std.proofs.lemmas.List.{at_drop_more}
 use Rattle.lower.specs.TypeTrees.{FieldTree, FieldTrees, no_fields, more_fields}

@@ -1,4 +1,5 @@
--- The ids of a union's children, and the children that they name: by a rule of its array and by the entries.
+-- The type ids of a union's children, and the children that they name: by a rule
+-- of its array and by the entries.
 use Rattle.std.proofs.Common.{arith, ◌≡◌, ◌≢◌, ℕ, zero, suc, ℤ, pos, negsuc, ◌+◌, ◌<◌, true, false, true≢false, cond, List, [], ◌∷◌, length, get_or, Some, None, refl, sym, ap, ◌∙◌, subst, inl, inr}
 use Rattle.std.specs.Prelude.{nat_lt}
 use Rattle.std.specs.List.{position_or_len}
@@ -20,7 +21,7 @@ apart x y h = elim (cases_Bool (int_eq x y)) [ inl e ↦ absurd (h ((Decides-int
 differ : (x y : ℤ) → int_eq x y ≡ false → x ≢ y
 differ x y e = λ same. true≢false (sym ((Decides-int_eq x y).1 same) ∙ e)
 
--- an item is the same whatever stands for what no item is
+-- An item is the same whatever the default is.
 get_any : (xs : List ℤ) (i : ℕ) (d e : ℤ) → i < length xs → get_or xs i d ≡ get_or xs i e
 get_any [] i d e h = absurd (omega (arith, h))
 get_any (x ∷ xs) zero d e h = refl
@@ -50,7 +51,7 @@ ids_were (Some xs) n h = record {
 first_is : (z : ℤ) (xs : List ℤ) → place_among z xs ≡ position_or_len (λ x. int_eq x z) xs
 first_is z xs = is_position_or_len (place_among z) (λ x. int_eq x z) refl (λ x ys. ap (λ k. cond (int_eq x z) 0 k) (let e : place_among z ys + 1 ≡ 1 + place_among z ys = omega arith in e)) xs
 
--- its number, and there is a child of it
+-- The index of a child, which exists.
 pub names_one : (ids : TypeIds) (n : ℕ) (z : ℤ) → IdsFit ids n → child_named ids n z < n → NamesChild ids n z × (child_number ids z ≡ child_named ids n z)
 names_one None n (pos m) fit h = (h, refl)
 names_one None n (negsuc m) fit h = absurd (omega (arith, h))

@@ -40,7 +40,7 @@ use Rattle.ipc_flat_columns.proofs.FlatLevels.{order_is, pieces_are}
 use Rattle.ipc_columns.proofs.StructReads.{arrays_typed, arrays_have}
 use Rattle.ipc_columns.proofs.UnionRules.{columns_count, sparse_fits, sparse_well, sparse_array, dense_fits, dense_well, dense_array}
 
--- integers that were read are those that stand in the buffer
+-- Integers that were read are those in the buffer.
 pub integers_are :
     {R : Type 0} (memory : R → Memory) (b : Body R) (p : PrimitiveType) (value : Endianness → List ℕ → ℤ) (w i n : ℕ) (v : List ℤ)
     → ((order : Endianness) (ys : List ℕ) → value order ys ≡ integer_of (number_in p order ys)) → ((order : Endianness) (ys : List ℕ) → value order (take w ys) ≡ value order ys)
@@ -63,7 +63,7 @@ pub union_kind_is : (d : DataType) (fs : Vec Field Global) (ids : Option (Vec �
     → kind_of (type_view d) id is ≡ union_kind mode (ids_of ids) (kinds_of (fields_view fs.items) is)
 union_kind_is d fs ids mode id is e = ap (λ u. kind_of u id is) (union_view d fs ids mode e)
 
--- what is stored as a union is one
+-- What is stored as a union is a union.
 pub union_stored : (own : TypeTree) (d : DataType) (fs : Vec Field Global) (ids : Option (Vec ℤ Global)) (mode : UnionMode) → d ≡ UnionType fs ids mode → IsStored own (type_view d)
     → (physical own ≡ Union) × (child_fields own ≡ fields_view fs.items) × (union_ids own ≡ ids_of ids) × (union_mode own ≡ mode)
 union_stored own d fs ids mode e h =
@@ -74,7 +74,7 @@ union_stored own d fs ids mode e h =
       h.mode_named ∙ ap union_mode view,
     )
 
--- ---- its types, which stand first whatever its mode
+-- ---- its type ids, which come first whatever its mode
 
 pub union_room : {R : Type 0} (b : Body R) (p : Place) (mode : UnionMode) (ts : Kinds) → HasRoom b p (1 + all_nodes ts) ((union_buffers mode + b.extra) + all_buffers b.extra ts) → HasRoom b p 1 (1 + b.extra)
 union_room b p Sparse ts h = let n = h.nodes_in in let m = h.buffers_in in record { nodes_in = omega (arith, n); buffers_in = omega (arith, m) }
@@ -86,7 +86,7 @@ types_bound s extra Dense ids ts b m n h = omega (arith, h)
 
 pub ruleset union_types_first = (union_room, types_bound)
 
--- ---- what a well formed union has, whose types stand in buffer t
+-- ---- a well formed union, whose type ids are in buffer t
 
 types_of : (s : Entries) (mode : UnionMode) (ids : TypeIds) (ts : Kinds) (a b : ℕ) (limit : Limit) → IsWell s (union_kind mode ids ts) a b limit
     → IsSize (node s a).length × Need s (b + s.extra) (rows s a limit)
@@ -120,12 +120,12 @@ children_typed s vs u fs is a b limit ls fields same =
     subst (λ (ms : Layouts). ChildTypes (child_fields u) ms) (sym same)
     (subst (λ (gs : FieldTrees). ChildTypes gs (arrays_at s vs (kinds_of fs is) fs a b limit)) (sym fields) (arrays_typed s vs fs is a b limit))
 
--- What is known of the column of a union at node a and buffer b, whose types stand in buffer t: the type u of its array, the
--- types zs that were read, and the arrays cs of its columns.
+-- What is known of the column of a union at node a and buffer b, whose type ids are in buffer t.
+-- Its array has the type u, zs are the type ids that were read, and cs the arrays of its columns.
 module _ (s : Entries) (vs : Option ℤ → Layout) (ids : TypeIds) (fs : FieldTrees) (is : IdTrees) (u : TypeTree) (a b t : ℕ) (limit : Limit) (zs : List ℤ) (cs : List Layout)
     (lies : physical u ≡ Union) (named : union_ids u ≡ ids) (fields : child_fields u ≡ fs) (at : t ≡ b + s.extra)
     (head : (IsSize (node s a).length × Need s t (rows s a limit)) × ((zs ≡ integers_of s t Int8 (rows s a limit)) × (length zs ≡ rows s a limit))) where
-  -- the children stand slot by slot
+  -- The children are read slot by slot.
   module _ (mode : union_mode u ≡ Sparse)
       (read : AllHaveRows s (kinds_of fs is) (a + 1) (t + 1) limit (length zs) × (layouts cs ≡ arrays_at s vs (kinds_of fs is) fs (a + 1) (t + 1) limit)) where
     rows_had : AllHaveRows s (kinds_of fs is) (a + 1) (t + 1) limit (rows s a limit)

@@ -1,4 +1,5 @@
--- A column of a union is well formed where its array keeps the rules of unions, and is that array.
+-- A column of a union is well formed if its array keeps the rules of
+-- unions, and is read to that array.
 use Rattle.std.proofs.Common.{arith, ◌≡◌, refl, ℕ, zero, suc, ℤ, pos, ◌+◌, ◌*◌, ◌<◌, List, length, get_or, Option, None, Some, sym, ap, subst, ◌∙◌}
 use Rattle.std.proofs.lemmas.List.FromFn.{get_or-map-range_with_len, length-map-range_with_len}
 use Rattle.lower.specs.TypeTrees.{TypeTree, FieldTrees}
@@ -63,7 +64,7 @@ integer_is s b p k i xs e h = ap (λ ys. get_or ys i (pos 0)) e ∙ get_or-map-r
 
 -- ---- what its types and its offsets say
 
--- what is known of the union of n children whose types stand in buffer t: k are read
+-- What is known of the union of n children whose type ids are in buffer t: k are read.
 module _ (s : Entries) (ids : TypeIds) (n t k : ℕ) (zs : List ℤ) (types : zs ≡ integers_of s t Int8 k) where
   pub types_count : length zs ≡ k
   types_count = ap length types ∙ length-map-range_with_len (λ j. integer s t Int8 j) 0 k
@@ -78,7 +79,7 @@ module _ (s : Entries) (ids : TypeIds) (n t k : ℕ) (zs : List ℤ) (types : zs
   pub names_were : IdsFit ids n → AreNamed ids zs n → (i : ℕ) → i < k → child_at s ids n t i < n
   names_were fit h i l = one_named ids n (type_at s t i) fit (subst (λ (z : ℤ). NamesChild ids n z) (integer_is s t Int8 k i zs types l) (h.each i (omega (arith, l, types_count))))
 
-  -- the length of the child of slot i, where ns are the lengths of all
+  -- The length of the child of slot i; ns are the lengths of all children.
   length_is : (ts : Kinds) (a : ℕ) (ns : List ℕ) → ((j : ℕ) → get_or ns j 0 ≡ child_rows s ts a j) → IdsFit ids n → ((i : ℕ) → i < k → child_at s ids n t i < n) → (i : ℕ) → i < k
       → get_or ns (child_number ids (get_or zs i (pos 0))) 0 ≡ child_rows s ts a (child_at s ids n t i)
   length_is ts a ns lens fit h i l =
@@ -105,8 +106,8 @@ module _ (s : Entries) (ids : TypeIds) (n t k : ℕ) (zs : List ℤ) (types : zs
 
 -- ---- unions
 
--- What is known of the column of a union at node a and buffer b, whose types stand in buffer t: the type of its array, the
--- types that were read, and the columns that were.
+-- What is known of the column of a union at node a and buffer b, whose type ids are in buffer t.
+-- These are the type of its array, the type ids that were read, and the columns that were.
 module _ (s : Entries) (vs : Option ℤ → Layout) (ids : TypeIds) (ts : Kinds) (u : TypeTree) (fs : FieldTrees) (a b t : ℕ) (limit : Limit) (zs : List ℤ) (cs : List Layout)
     (lies : physical u ≡ Union) (named : union_ids u ≡ ids) (fields : child_fields u ≡ fs) (at : t ≡ b + s.extra) (types : zs ≡ integers_of s t Int8 (rows s a limit))
     (typed : ChildTypes (child_fields u) (layouts cs)) (many : child_count (layouts cs) ≡ count ts) where
@@ -133,7 +134,7 @@ module _ (s : Entries) (vs : Option ℤ → Layout) (ids : TypeIds) (ts : Kinds)
   union_kept : (os : Option (List ℤ)) → ChoicesFit u (union_ids u) zs os (layouts cs) → IsUnionKind ids (count ts)
   union_kept os w = record { some = omega (arith, many, w.some); few = omega (arith, many, w.few); distinct = ids_are ids (count ts) (ids_kept os w) }
 
-  -- the children stand slot by slot
+  -- The children are read slot by slot.
   pub sparse_fits : union_mode u ≡ Sparse → AllHave (rows s a limit) (layouts cs) → IsWell s (union_kind Sparse ids ts) a b limit → ChoicesFit u (union_ids u) zs None (layouts cs)
   sparse_fits mode even h =
       let fit = ids_were ids (count ts) h.1.distinct in

@@ -1,4 +1,5 @@
--- Which offsets stand for buffers that list nothing, computed.
+-- Which single offsets stand for empty buffers of offsets, computed.
+-- (Arrow columnar format, "Variable-size Binary Layout".)
 use Rattle.std.specs.Prelude.{◌≡◌, ℕ, ◌≤◌, List, [], ◌∷◌, slice_index, None}
 use Rattle.lower.specs.TypeTrees.{utf8, plain}
 use Rattle.lower.specs.declared.datatypes.UnionMode.TheVariants.{Sparse, Dense}
@@ -9,13 +10,14 @@ use Rattle.ipc_model.specs.Kinds.{offsets_32, offsets_64, Kind, binary_kind, utf
 use Rattle.ipc_flat_columns.specs.HeldListed.{empty_offsets, most_held}
 use Rattle.ipc_flat_columns.specs.Kinds.{listed_in}
 
--- the bytes of such offsets in the column at the beginning, whose buffers list so many bytes
+-- The bytes of such offsets in the first column, whose buffers have these encoded lengths.
 abbrev pub empty_of : ℕ → Kind → List ℕ → ℕ
 empty_of extra t ns = empty_offsets (λ c. slice_index ns c) extra t 0
 
--- A validity, offsets and bytes: the offsets alone count. The offsets of lists, and those of the texts in them. A second field. Texts in
--- a union, behind its types, its offsets, and the buffer in front before version 5. The array of no texts holds as much as it may, which is
--- more than is listed.
+-- A validity, offsets and bytes: only the offsets count. The offsets of lists, and those of
+-- the texts in them. A second field. Texts in a union, after its type ids, its offsets, and
+-- the extra buffer before version 5. The array of no texts retains as much as it may, which is
+-- more than the encoded lengths.
 pub record HeldListedRows : Type 0 where
   pub none_listed : empty_of 0 (utf8_kind offsets_32) (0 ∷ 0 ∷ 0 ∷ []) ≡ 4
   pub one_listed : empty_of 0 (utf8_kind offsets_32) (0 ∷ 4 ∷ 0 ∷ []) ≡ 0

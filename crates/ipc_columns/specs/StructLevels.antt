@@ -1,4 +1,5 @@
--- Arrays of records, by their columns.
+-- Arrays of structs, by their columns.
+-- (Arrow columnar format, "Struct Layout".)
 use Rattle.std.specs.Prelude.{◌≡◌, ℕ, ℤ, ◌+◌, List, [], ◌∷◌, Option}
 use Rattle.lower.specs.TypeTrees.{TypeTree, FieldTrees}
 use Rattle.lower_flat.specs.Validities.{Validity}
@@ -9,25 +10,25 @@ use Rattle.ipc_model.specs.Columns.{AllHaveRows}
 use Rattle.ipc_model.specs.ReadArrays.{arrays_at}
 use Rattle.ipc_flat_columns.specs.declared.read.body.Place.{Place}
 
--- n records of the columns cs
+-- An array of n structs with the columns cs.
 abbrev pub records_layout : TypeTree → ℕ → Validity → List Layout → Layout
 records_layout u n v cs = layout (record { type = u; len = n; validity = v; parts = records }) (layouts cs)
 
--- some arrays before others
+-- Some arrays, followed by others.
 abbrev pub over : List Layout → Layouts → Layouts
 over [] ls = ls
 over (x ∷ xs) ls = more_layouts x (over xs ls)
 
--- of all columns, which begin at one place, the rest begins at another one
+-- The columns of `all` begin at position `start`; the last of them, `rest`, begin at p.
 pub record Left (extra : ℕ) (all rest : Kinds) (start p : Place) : Type 0 where
   pub node : p.node + all_nodes rest ≡ start.node + all_nodes all
   pub buffer : p.buffer + all_buffers extra rest ≡ start.buffer + all_buffers extra all
 
--- the columns of some kinds from a place on are well formed, and k slots of each are read
+-- The columns of these kinds from position p on are well formed, and k slots of each are read.
 abbrev pub HaveRows : Entries → Kinds → Place → Limit → ℕ → Type 0
 HaveRows s ts p limit k = AllHaveRows s ts p.node p.buffer limit k
 
--- xs are the arrays of the columns before the rest, which are well formed
+-- xs are the arrays of the columns before the rest, which are well formed.
 pub record SoFar (s : Entries) (vs : Option ℤ → Layout) (all rest : Kinds) (fs gs : FieldTrees) (start p : Place) (limit : Limit) (k : ℕ) (xs : List Layout) : Type 0 where
   pub on : HaveRows s all start limit k → HaveRows s rest p limit k
   pub back : HaveRows s rest p limit k → HaveRows s all start limit k

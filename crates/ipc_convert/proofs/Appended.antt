@@ -1,4 +1,4 @@
--- What is written of a stream behind the chunks of a file.
+-- What of a stream is appended to a file.
 use Rattle.std.proofs.Common.{◌≡◌, ℕ, List, None, Some, Result, Ok, IfOk, Bool, IsTrue, sym, ap, ◌∙◌, subst}
 use Rattle.ipc_devices.specs.Device.{Memory}
 use Rattle.ipc_devices.specs.Gives.{Gives, GivesInOrder}
@@ -24,7 +24,7 @@ use Rattle.ipc_convert.specs.Steps.{EndsCopy}
 use Rattle.ipc_convert.specs.declared.chunks.Ending.{Ending}
 use Rattle.ipc_convert.proofs.ReadStreams.{was_copied, was_read}
 
--- a file that a writer went on with, took these chunks and ended
+-- A file to which a writer appended these chunks, and which it finished.
 appends_to : {F : Type 0} (known grows : Bool) (failures room : F → ℕ) (memory : F → Memory) (file device end : F) (m : FileMetadata) (schema : Schema) (cs : List Chunk) (v w x : FileWriter F) (result : Result Ending Fault) (ending : Ending)
     → IsTrue known → metadata_of (memory file).whole ≡ Some m → (memory device).whole ≡ (memory file).whole
     → GoesOn known memory m device (seen v) → GoesOnWith known memory m device (seen v) → GoesOnAgain known memory m device (seen v)

@@ -1,4 +1,4 @@
--- What is written of a stream, and of a file, from its first byte to its last.
+-- What is written of a stream, and of a file, from the first byte to the last.
 use Rattle.std.proofs.Common.{◌≡◌, ℕ, List, [], None, Some, Result, Ok, IfOk, Bool, true, IsTrue, refl, ap, subst}
 use Rattle.lower.specs.TypeTrees.{FieldTrees, Pairs}
 use Rattle.lower.specs.TypeViews.{fields_view, pairs_of}
@@ -35,9 +35,9 @@ use Rattle.ipc_convert.specs.Sources.{FileCame, FileStopped, StreamCame, StreamS
 use Rattle.ipc_convert.specs.Steps.{BeginsFile, EndsAsSource, EndsCopy}
 use Rattle.ipc_convert.specs.declared.chunks.Ending.{Ending}
 
--- ---- what is taken
+-- ---- what is read
 
--- a stream was taken whose chunks were copied, whatever took them
+-- A stream whose chunks were copied was read whole, whatever the sink.
 pub stream_taken : {R T : Type 0} (gives : Gives R) (took : Moved T) → GivesInOrder gives → (input device last : R) (m : StreamMetadata) (r c : StreamReader R) (v w : T) (ending : Ending)
     → MetadataGave gives input (Ok m) device → IsUnread device m r → projection_of r ≡ None → Copied (StreamCame gives) (StreamStopped gives) took r v ending c w → last ≡ device_of c
     → TakesStream gives input last
@@ -45,7 +45,7 @@ stream_taken gives took law input device last m r c v w ending front begins whol
     was_taken gives input (device_of c) last m copied.handed.chunks (is_end ending) same
     (was_read gives law input device m r copied.last c copied.handed.chunks ending front begins whole copied.handed.came_all copied.stops)
 
--- the same of one whose chunks went into a file that was ended
+-- The same of a stream whose chunks were written to a file that was finished.
 pub stream_taken_so : {R W : Type 0} (gives : Gives R) (known grows : Bool) (failures room : W → ℕ) (memory : W → Memory) → GivesInOrder gives
     → (input device last : R) (m : StreamMetadata) (r c : StreamReader R) (v w x : FileWriter W) (result : Result Ending Fault) (ending : Ending)
     → MetadataGave gives input (Ok m) device → IsUnread device m r → projection_of r ≡ None → IfOk result (λ e. Copied (StreamCame gives) (StreamStopped gives) (FileTook known memory) r v e c w)
@@ -56,7 +56,7 @@ stream_taken_so gives known grows failures room memory law input device last m r
 
 -- ---- as a stream
 
--- what the writer of a stream has written once it was ended as its source was
+-- What a stream writer has written once it was ended like its source.
 module _ {W : Type 0} (known : Bool) (memory : W → Memory) (order : Endianness) (out : W) (schema : Schema) where
   pub to_stream : {S : Type 0} (came : Moved S) (stopped : S → Ending → S → Type 0) (a c : S) (fields : FieldTrees) (metadata : Pairs) (ids : IdTrees) (u v w x : StreamWriter W) (ending : Ending) (y : Unit {0})
       → IsTrue known → fields ≡ schema.fields → metadata ≡ schema.metadata → ids ≡ schema.ids → (seen u).device ≡ out → (seen u).order ≡ order → streams.IsFresh memory (seen u)
@@ -88,7 +88,7 @@ stream_streamed gives known memory order law input device last out end m shown r
     (was_read gives law input device m r copied.last c cs ending front begins whole copied.handed.came_all copied.stops)
     (λ e so. stream_written memory order out end schema cs (seen x) (is_end ending) e same_end done.0 done.1 so)
 
--- the chunks of a file that came are all of it
+-- The chunks that were read of a file are all of it.
 chunks_of : {F T : Type 0} (known : Bool) (memory : F → Memory) (took : Moved T) (file device : F) (m : FileMetadata) (r c : FileReader F) (v w : T) (ending : Ending)
     → IsTrue known → (memory device).whole ≡ (memory file).whole → blocks.IsUnread device m None None r → (copied : Copied (FileCame known memory) FileStopped took r v ending c w)
     → HasBlockChunks (memory file).whole (file_seen m) copied.handed.chunks

@@ -42,11 +42,11 @@ use Rattle.ipc_convert.specs.Sources.{FileBreaks, FileCame, FileStopped, StreamB
 use Rattle.ipc_convert.specs.Steps.{BeginsFile, EndsAnyway, RefusesWithPairs, both}
 use Rattle.ipc_convert.specs.declared.chunks.Ending.{Ending}
 
--- a refusal of memory claims nothing
+-- An error of allocation claims nothing.
 pub memory_alone : (e : Fault) (Q : Type 0) → e ≡ faults.Memory → OwnFault e Q
 memory_alone e Q is = subst (λ (x : Fault). OwnFault x Q) (sym is) tt
 
--- metadata of a file that are refused
+-- Metadata of a file that are refused.
 pub file_front_refused : (bytes : List ℕ) (e : Fault) (refuses : (List Chunk → Type 0) → Schema → Pairs → Fault → Type 0) → OwnFault e (model.metadata_of bytes ≡ None) → OwnFault e (FileReason 0 bytes e)
     → OwnFault e (CopiesNoFile refuses bytes e)
 file_front_refused bytes e refuses none reason = own e (CopiesNoFile refuses bytes e) (λ it. inl (it (model.metadata_of bytes ≡ None) none, it (FileReason 0 bytes e) reason))
@@ -54,13 +54,13 @@ file_front_refused bytes e refuses none reason = own e (CopiesNoFile refuses byt
 -- ---- as a stream
 
 module _ {W : Type 0} (filled : Bool) (to : W → Memory) where
-  -- what a schema that the writer refuses leaves
+  -- What is left after a schema that the writer refuses.
   started_not : (s : WriterState) (fs given : FieldTrees) (es held : Pairs) (ids are : IdTrees) (e : Fault) → s ≡ New → fs ≡ given → es ≡ held → ids ≡ are → RefusesStart s fs es ids e
       → RefusesStart s given held are e
   started_not s fs given es held ids are e new f m i h =
       subst (λ (js : IdTrees). RefusesStart s given held js e) i (subst (λ (ps : Pairs). RefusesStart s given ps ids e) m (subst (λ (fs : FieldTrees). RefusesStart s fs es ids e) f h))
 
-  -- columns that it refuses
+  -- Columns that the writer refuses.
   columns_missed : (v w : StreamWriter W) (u : StreamWriter W) (fs given : FieldTrees) (es held : Pairs) (ids are : IdTrees) (cs : List Chunk) (columns : List AnyArray) (e : Fault) → ((P : Type 0) → OwnFault e P → P)
       → fs ≡ given → es ≡ held → ids ≡ are → StartsWith (seen u) (seen v) fs es ids → StreamTook filled to v cs w → StreamRefuses w columns e → MissesChunk given are (map layout_of columns) e
   columns_missed v w u fs given es held ids are cs columns e it f m i starts took refused =
@@ -117,14 +117,14 @@ module _ {W : Type 0} (filled : Bool) (to : W → Memory) where
 
 -- ---- as a file
 
--- a schema with its pairs that is refused, and the same by other names
+-- A schema that is refused with its pairs, and the same by other definitions.
 pub same_refused : (fs given : FieldTrees) (es held : Pairs) (ids are : IdTrees) (pairs those : Pairs) (e : Fault) → fs ≡ given → es ≡ held → ids ≡ are → pairs ≡ those
     → RefusesWithPairs fs es ids pairs e → RefusesWithPairs given held are those e
 same_refused fs given es held ids are pairs those e f m i p h =
     subst (λ (ps : Pairs). RefusesWithPairs given held are ps e) p (subst (λ (js : IdTrees). RefusesWithPairs given held js pairs e) i
     (subst (λ (ms : Pairs). RefusesWithPairs given ms ids pairs e) m (subst (λ (fs : FieldTrees). RefusesWithPairs fs es ids pairs e) f h)))
 
--- a file that is begun, and the same by other names
+-- A file that is begun, and the same by other definitions.
 pub same_begun : {W : Type 0} (known : Bool) (memory : W → Memory) (out : W) (order : Endianness) (fs given : FieldTrees) (es held : Pairs) (ids are : IdTrees) (pairs those : Pairs) (w : FileSeen W)
     → fs ≡ given → es ≡ held → ids ≡ are → pairs ≡ those → BeginsFile known memory out order fs es ids pairs w → BeginsFile known memory out order given held are those w
 same_begun known memory out order fs given es held ids are pairs those w f m i p b = record {
@@ -156,7 +156,8 @@ begin_refused w fs es ids pairs faults.Memory new f m i h = tt
 begin_refused w fs es ids pairs (faults.Io x) new f m i h = tt
 begin_refused w fs es ids pairs _ new f m i h = absurd h
 
--- a file that is finished whatever came of the copy: it is refused by the copy, or by its end
+-- A file that is finished whatever the copy returned: the refusal is
+-- that of the copy, or of the end.
 pub ended_by : {W : Type 0} (known : Bool) (memory : W → Memory) (copied : Result Ending Fault) (e : Fault) (a b : FileSeen W) → EndsAnyway known memory copied (Err e) a b
     → (copied ≡ Err e) ⊎ ((ending : Ending) × (copied ≡ Ok ending) × AnswersFinish a (Err e))
 ended_by known memory copied e a b anyway = by copied anyway.finished (sym anyway.is) anyway.answers
@@ -170,9 +171,9 @@ ended_by known memory copied e a b anyway = by copied anyway.finished (sym anywa
     by (Ok ending) (Err x) is answers = inr (ending, refl, subst (λ (y : Fault). AnswersFinish a (Err y)) (ap fault_or is) answers)
     by (Ok ending) (Ok x) is answers = absurd cc
 
--- A writer of a file that was opened so, which takes what comes, and is finished then.
+-- A file writer that was opened so, writes what is read, and is finished then.
 module _ {W : Type 0} (filled : Bool) (to : W → Memory) (opened : FileSeen W → Type 0) (v w x : FileWriter W) (e : Fault) (is : opened (files.seen v)) where
-  -- columns that it refuses
+  -- Columns that the writer refuses.
   not_taken : (cs : List Chunk) (u : FileWriter W) (columns : List AnyArray) → FileTook filled to v cs u → FileRefuses u columns e → CantTake filled to opened e cs columns
   not_taken cs u columns took refused = record { begun = files.seen v; is = is; writer = files.seen u; took = took; refused = refused.0; named = refused.1 }
 

@@ -1,4 +1,4 @@
--- What `Io` says, call by call: which device failed.
+-- What a device's error says, call by call: which device failed.
 use Rattle.std.proofs.Common.{◌≡◌, ◌⊎◌, ℕ, List, length, Bool, Result, Ok, Err, OnOk, inl, inr, refl, sym, subst, ◌∙◌}
 use Rattle.ipc_devices.specs.Device.{Memory, Rises}
 use Rattle.ipc_devices.specs.Faults.{OnIo}
@@ -20,51 +20,51 @@ use Rattle.ipc_convert.specs.Chunks.{NoneFailed}
 use Rattle.ipc_convert.specs.Failures.{CopyFails, FailsAt, OutputFails, SendFails}
 use Rattle.ipc_convert.specs.declared.chunks.Ending.{Ending}
 
--- what an error of a device says, told on
+-- What a propagated error of a device says.
 pub io_through : (e : Fault) (P Q : Type 0) → (P → Q) → OnIo {X = Unit {0}} (Err e) P → OnIo {X = Unit {0}} (Err e) Q
 io_through (faults.Io x) P Q f h = f h
 io_through _ P Q f h = tt
 
--- the same of any answer
+-- The same of any result.
 pub told_on : {X : Type 0} (r : Result X Fault) (P Q : Type 0) → (P → Q) → OnIo r P → OnIo r Q
 told_on (Ok x) P Q f h = tt
 told_on (Err e) P Q f h = io_through e P Q f h
 
--- a refusal of memory is none of a device
+-- An error of allocation is none of a device.
 pub memory_says_none : (e : Fault) (P : Type 0) → e ≡ faults.Memory → OnIo {X = Unit {0}} (Err e) P
 memory_says_none e P is = subst (λ (x : Fault). OnIo {X = Unit {0}} (Err x) P) (sym is) tt
 
--- nor is one that names a condition
+-- Nor is an error that names a condition.
 pub never_io : (e : Fault) (P : Type 0) → OnIo {X = Unit {0}} (Err e) ⊥ → OnIo {X = Unit {0}} (Err e) P
 never_io e P = io_through e ⊥ P (λ no. absurd no)
 
--- nor that of pairs
+-- Nor is an error of pairs.
 pub pairs_say_none : {W : Type 0} (w : FileSeen W) (pairs : Pairs) (e : Fault) (P : Type 0) → TakesNoPairs w pairs e → OnIo {X = Unit {0}} (Err e) P
 pairs_say_none w pairs (faults.Io x) P h = absurd h
 pairs_say_none w pairs _ P h = tt
 
 -- ---- a chunk
 
--- the next one of a stream
+-- The next chunk of a stream.
 pub stream_next_fails : {R : Type 0} (gives : Gives R) (known : Bool) (memory : R → Memory) (failures : R → ℕ) → GivesFails gives failures → (a : StreamReader R) (r : Answer) (b : StreamReader R)
     → NextStep gives known memory a r b → OnIo (next_result r) (Rises (failures (device_of a)) (failures (device_of b)))
 stream_next_fails gives known memory failures law a r b step = (next_fails gives known memory failures law a r b step).0
 
--- one that is written to a stream
+-- A chunk that is written to a stream.
 pub stream_step_fails : {W : Type 0} (known grows : Bool) (failures room : W → ℕ) (memory : W → Memory) (a : WriterSeen W) (r : Result (Unit {0}) Fault) (b : WriterSeen W) (bytes : List ℕ) (count : ℕ)
     → SendStep known grows failures room memory a r b bytes count → OnIo r (SendFails grows failures room a.device b.device)
 stream_step_fails known grows failures room memory a r b bytes count step =
     told_on r ((b.state ≡ Failed) × FailsOrIsFull grows (failures a.device) (failures b.device) (room a.device) count) (SendFails grows failures room a.device b.device)
     (λ h. record { count = count; failed = h.1 }) step.io
 
--- one that is written to a file
+-- A chunk that is written to a file.
 pub file_step_fails : {W : Type 0} (known grows : Bool) (failures room : W → ℕ) (memory : W → Memory) (a : FileSeen W) (r : Result (Unit {0}) Fault) (b : FileSeen W) (bytes : List ℕ)
     → FileStep known grows failures room memory a r b bytes → OnIo r (SendFails grows failures room a.device b.device)
 file_step_fails known grows failures room memory a r b bytes step =
     told_on r ((b.state ≡ Failed) × FailsOrIsFull grows (failures a.device) (failures b.device) (room a.device) (length bytes)) (SendFails grows failures room a.device b.device)
     (λ h. record { count = length bytes; failed = h.1 }) step.io
 
--- what fails behind chunks at which nothing did
+-- A failure after chunks for which nothing failed.
 pub copy_fails_then : {S T : Type 0} (failures : S → ℕ) (others : T → ℕ) (fails : FailsAt T) (a b c : S) (u v w : T) (e : Fault) → NoneFailed failures others a u b v
     → OnIo {X = Unit {0}} (Err e) (CopyFails failures others fails b v c w) → OnIo {X = Unit {0}} (Err e) (CopyFails failures others fails a u c w)
 copy_fails_then failures others fails a b c u v w e none = io_through e (CopyFails failures others fails b v c w) (CopyFails failures others fails a u c w) (λ h. elim h [
@@ -89,12 +89,12 @@ module _ {W : Type 0} (grows : Bool) (failures room : W → ℕ) (out : W) where
   output_is : (from to : W) → failures from ≡ failures out → SendFails grows failures room from to → OutputFails grows failures room out
   output_is from to same h = record { from = from; to = to; before = same; failed = h }
 
-  -- a call that sends, behind others that didn't fail
+  -- A call that sends, after others that didn't fail.
   pub send_fails : (from to : W) (e : Fault) → failures from ≡ failures out → OnIo {X = Unit {0}} (Err e) (SendFails grows failures room from to)
       → OnIo {X = Unit {0}} (Err e) (OutputFails grows failures room out)
   send_fails from to e same = io_through e (SendFails grows failures room from to) (OutputFails grows failures room out) (output_is from to same)
 
-  -- an output that fails, whatever the input does
+  -- An output that fails, whatever the input does.
   pub output_fails : (e : Fault) (P : Type 0) → OnIo {X = Unit {0}} (Err e) (OutputFails grows failures room out) → OnIo {X = Unit {0}} (Err e) (P ⊎ OutputFails grows failures room out)
   output_fails e P = io_through e (OutputFails grows failures room out) (P ⊎ OutputFails grows failures room out) (λ h. inr h)
 
@@ -103,14 +103,14 @@ module _ {W : Type 0} (grows : Bool) (failures room : W → ℕ) (out : W) where
   output_read_fails left e = io_through e (Rises (failures out) (failures left)) (OutputFails grows failures room out)
       (λ h. output_is out left refl (record { count = 0; failed = inl h }))
 
-  -- one behind others that didn't fail
+  -- A call after others that didn't fail.
   pub output_opens_not : (read : W) (e : Fault) → failures read ≡ failures out → OnIo {X = Unit {0}} (Err e) (DeviceFails failures read) → OnIo {X = Unit {0}} (Err e) (OutputFails grows failures room out)
   output_opens_not read e same = io_through e (DeviceFails failures read) (OutputFails grows failures room out)
       (λ h. output_is read h.after same (record { count = 0; failed = inl h.rises }))
 
   -- ---- both
 
-  -- A copy of an input to an output, in whose calls before the first chunk none failed.
+  -- A copy of an input to an output; no call before the first chunk failed.
   module _ {R S T : Type 0} (counts : R → ℕ) (input : R) (source : S → R) (sink : T → W) (a b : S) (v w : T) (unread : counts (source a) ≡ counts input) (unsent : failures (sink v) ≡ failures out) where
     abbrev Sends : T → T → Type 0
     Sends t u = SendFails grows failures room (sink t) (sink u)
@@ -133,11 +133,11 @@ module _ {W : Type 0} (grows : Bool) (failures room : W → ℕ) (out : W) where
     pub copy_fails : (e : Fault) → OnIo {X = Unit {0}} (Err e) Fails → OnIo {X = Unit {0}} (Err e) Why
     copy_fails e = io_through e Fails Why one_failed
 
-    -- the end of a stream, behind all chunks
+    -- The end of a stream, after all chunks.
     pub end_fails : (x : T) (e : Fault) → Done → OnIo {X = Unit {0}} (Err e) (Sends w x) → OnIo {X = Unit {0}} (Err e) Why
     end_fails x e done ends = output_fails e (DeviceFails counts input) (send_fails (sink w) (sink x) e (done.1 ∙ unsent) ends)
 
-    -- a file that was ended, whatever came of the chunks: they failed, or its end did
+    -- A file that was finished, whatever became of the chunks: they failed, or the end did.
     pub file_fails : (x : T) (copied : Result Ending Fault) (e : Fault) (P : Type 0) → (copied ≡ Err e) ⊎ ((ending : Ending) × (copied ≡ Ok ending) × P) → OnIo copied Fails → OnOk copied Done
         → OnIo {X = Unit {0}} (Err e) (OnOk copied (Sends w x)) → OnIo {X = Unit {0}} (Err e) Why
     file_fails x copied e P by failed done ends = elim by [

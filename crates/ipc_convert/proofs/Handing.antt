@@ -1,4 +1,4 @@
--- Chunks that are handed on, one after the other.
+-- Chunks that are copied, one after the other.
 use Rattle.std.proofs.Common.{◌≡◌, ℕ, ◌+◌, ◌-◌, ◌^◌, ◌≤◌, List, [], ◌∷◌, ◌++◌, length, Option, Some, Err, inl, inr, refl, sym, subst, ◌∙◌, append-nil, length-append, arith}
 use Rattle.lower_arrays.specs.declared.array.AnyArray.{AnyArray}
 use Rattle.ipc_devices.proofs.Claims.{claims_through}
@@ -11,7 +11,7 @@ use Rattle.ipc_read.specs.Chunks.{chunk_seen}
 use Rattle.ipc_convert.specs.Chunks.{BreaksAt, Copied, CopiedOne, Handed, HandedOne, MovedInTurn, Moved, NoneFailed, Nothing, RefusesAt, StopsCopy, StopsOne, TookWhatCame}
 use Rattle.ipc_convert.specs.declared.chunks.Ending.{Ending}
 
--- So many chunks came, and were taken.
+-- So many chunks were read, and written.
 pub record HandedMany {S T : Type 0} (came : Moved S) (took : Moved T) (n : ℕ) (a : S) (v : T) (b : S) (w : T) : Type 0 where
   pub handed : Handed came took a v b w
   pub count : length handed.chunks ≡ n
@@ -36,7 +36,7 @@ all_handed came stopped took a b c u v w o ending is one none =
     let stops = subst (λ (x : Option Ending). CopiedOne came stopped took b v x c w) is none in
     record { last = b; handed = subst (λ (x : _). Handed came took a u b x) (sym stops.1) one; stops = stops.0 }
 
--- a step that took nothing leaves what was taken
+-- A step that wrote nothing leaves the chunks that were written.
 pub none_more : {S T : Type 0} (came : Moved S) (took : Moved T) → MovedInTurn took → (a b : S) (u v w : T) → Handed came took a u b v → took v [] w → TookWhatCame came took a u w
 none_more came took law a b u v w one none = record {
   last = b;
@@ -51,7 +51,7 @@ none_more came took law a b u v w one none = record {
 pub none_on : {S T : Type 0} (failures : S → ℕ) (others : T → ℕ) (a b c : S) (u v w : T) → NoneFailed failures others a u b v → NoneFailed failures others b v c w → NoneFailed failures others a u c w
 none_on failures others a b c u v w one more = (more.0 ∙ one.0, more.1 ∙ one.1)
 
--- what a refusal leaves, told on
+-- What a propagated refusal leaves.
 pub refused_then : (X Y : Type 0) {P Q : Type 0} (e : Fault) → (P → Q) → OnRefused {X = X} (Err e) P → OnRefused {X = Y} (Err e) Q
 refused_then X Y (Io x) f p = tt
 refused_then X Y _ f p = f p

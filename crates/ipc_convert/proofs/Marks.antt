@@ -1,4 +1,4 @@
--- Nothing is read behind a message, nor behind the mark.
+-- No byte after a message or after the mark is read.
 use Rattle.std.proofs.Common.{◌≡◌, ℕ, ◌+◌, ◌==◌, ◌^◌, ◌≤◌, nat_lt, if◌then◌else◌, List, [], ◌∷◌, length, take, drop, Option, Some, None, Bool, true, false, refl, sym, ap, ◌∙◌, subst, inl, inr, length-drop, arith}
 use Rattle.std.proofs.lemmas.Bool.{ltb-false, eqb-true}
 use Rattle.ipc_model.specs.Batches.{Chunk}
@@ -16,7 +16,7 @@ no_bytes (x ∷ xs) e = absurd (omega (arith, e))
 
 -- ---- a frame, and what is due of it
 
--- of n bytes those stand behind a message, or the mark, that aren't due
+-- Of n bytes, those after a message or the mark aren't due.
 abbrev Leaves : Frame → (d n : ℕ) → Type 0
 Leaves (message m rest) d n = n ≡ d + length rest
 Leaves (mark rest) d n = n ≡ d + length rest
@@ -34,7 +34,7 @@ sized_leaves : (n : ℕ) (bytes : List ℕ) → Leaves (sized n bytes) (due_size
 unfolding sized
 sized_leaves n bytes = sized_by (nat_lt n (2 ^ 31)) (n == 0) (nat_lt (length bytes) n) n bytes (eqb-true n 0) (ltb-false (length bytes) n)
 
--- the same behind 4 bytes
+-- The same after 4 bytes.
 four_more : (f : Frame) (d k n : ℕ) → n ≡ 4 + k → Leaves f d k → Leaves f (4 + d) n
 four_more (message m rest) d k n e h = omega (arith, e, h)
 four_more (mark rest) d k n e h = omega (arith, e, h)
@@ -101,7 +101,7 @@ body_left : (h : Request) (s : Known) (m : Header) (r : List ℕ) (c : Option Ch
 unfolding chosen_body
 body_left h s m r c t rest e = body_by (nat_lt (length r) m.body) (m.tag == 3) (m.tag == 2) (nat_lt s.count most_dictionaries) _ _ s (drop m.body r) c t rest e
 
--- no more was given than its body
+-- At most the body was read.
 body_short : (bytes m r : List ℕ) (d : Header) → frame bytes ≡ message m r → header_of m ≡ Some d → IsWithinMessage bytes → length r ≤ d.body
 body_short bytes m r d is header within = elim within.within [
   | inl short ↦
@@ -139,6 +139,6 @@ nothing_ahead : (h : Request) (s : Known) → chosen_item h s [] ≡ done (waits
 unfolding chosen_item frame
 nothing_ahead h s = refl
 
--- where nothing stands, the next message is waited for
+-- Without any bytes, the stream waits for the next message.
 pub waits_for_next : (h : Request) (s : Known) → chosen_meaning h s [] ≡ record { chunks = []; end = waits s [] }
 waits_for_next h s = chosen_done h s [] (waits s []) (nothing_ahead h s)

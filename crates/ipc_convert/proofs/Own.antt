@@ -1,9 +1,9 @@
--- What a fault of the input's claims.
+-- What an error claims that is neither of allocation nor of a device.
 use Rattle.ipc_devices.specs.Faults.{OwnFault}
 use Rattle.ipc_devices.specs.declared.fault.Fault.{Fault}
 use Rattle.ipc_devices.specs.declared.fault.Fault.TheVariants.{Argument, Ended, Io, Lower, Memory, NotYetImplemented, OutOfSpec, Schema, State, TooManyDictionaries}
 
--- A claim of a fault holds where it follows from that whatever the fault claims holds.
+-- A claim of an error holds if it follows from each of the error's claims.
 pub own : (e : Fault) (Q : Type 0) → (((P : Type 0) → OwnFault e P → P) → Q) → OwnFault e Q
 own (OutOfSpec k) Q f = f (λ P p. p)
 own Ended Q f = f (λ P p. p)

@@ -41,7 +41,7 @@ next_block m known bytes i d c cs within first read =
     ∙ (λ j. first j ++ at_block m known bytes i d c within read j ∷ [])
     ∙ sym (map-append Some cs (c ∷ []))
 
--- a block, where any will do
+-- A block, if any will do.
 no_block : Block
 no_block = record { offset = pos 0; meta_data_length = pos 0; body_length = pos 0 }
 
@@ -49,7 +49,7 @@ no_chunk : (m : FileMetadata) (known : Dictionaries) (bytes : List ℕ) (o : Opt
 no_chunk m known bytes None c e f = cc
 no_chunk m known bytes (Some b) c e f = cc
 
--- where there is a chunk there is a block
+-- If there is a chunk, there is a block.
 is_inside : (m : FileMetadata) (known : Dictionaries) (bytes : List ℕ) (i : ℕ) (c : Chunk) → file_chunk m known bytes None None i ≡ Some c → i < length m.blocks
 is_inside m known bytes i c read = elim (slice_get_cases m.blocks i).1 [
   | inl there ↦ there.1
@@ -81,7 +81,7 @@ module _ {R : Type 0} (known still : Bool) (memory : R → Memory) (failures giv
   abbrev Step : FileReader R → Answer → FileReader R → Type 0
   Step a r b = NextStep known still memory failures given a r b
 
-  -- what a chunk says that was given whole
+  -- What a whole chunk that was read says.
   chunk_is : (a b : FileReader R) (xs : List AnyArray) (ds es : Dictionaries) → IsTrue known → ReadsWhole memory a → (w : WasNext known memory given a (Ok xs) b) → KnowAlike w.dictionaries es
       → file_chunk (file_of a) es (bytes_of memory a) None None (block_of a) ≡ Some (chunk_seen xs)
   chunk_is a b xs ds es k whole w alike =
@@ -160,7 +160,7 @@ some_first : (m : FileMetadata) (bytes : List ℕ) (cs : List Chunk) (o : Option
 some_first m bytes cs None is some chunks = absurd (cc some)
 some_first m bytes cs (Some ds) is some chunks = record { known = ds; dictionaries = inr is; chunks = chunks ds is }
 
--- what a reader gave from the first block on
+-- What a reader read from the first block on.
 pub first_blocks : {R : Type 0} (memory : R → Memory) (a b : FileReader R) (cs : List Chunk) → block_of a ≡ 0 → GaveBlocks memory a cs b → AreFirstBlocks (bytes_of memory a) (file_of a) cs
 first_blocks memory a b cs front gave =
     let behind : block_of b ≡ length cs = omega (arith, gave.block, front) in
@@ -173,7 +173,7 @@ first_blocks memory a b cs front gave =
 
 -- ---- all of them
 
--- a new reader that all of each chunk is asked of
+-- A new reader that reads all of each chunk.
 pub new_whole : {R : Type 0} (memory : R → Memory) (device : R) (m : files.FileMetadata) (r : FileReader R) → IsUnread device m None None r → ReadsWhole memory r
 new_whole memory device m r begins = record {
   columns = begins.asked_for;
@@ -197,7 +197,7 @@ without m bytes cs none empty = record {
   chunks = ap (λ (bs : List Block). chunks_at m [] (all_of bytes) None None bs) empty ∙ ap (λ (l : List Chunk). map Some l) (sym none);
 }
 
--- what came of a file up to its end are all of its chunks
+-- The chunks that were read up to the end of a file are all of its chunks.
 pub all_blocks : {R : Type 0} (memory : R → Memory) (device : R) (m : files.FileMetadata) (a b : FileReader R) (cs : List Chunk) → IsUnread device m None None a → GaveBlocks memory a cs b → is_over b ≡ true
     → HasBlockChunks (memory device).whole (file_seen m) cs
 all_blocks {R = R} memory device m a b cs begins gave over =

@@ -52,7 +52,7 @@ passed_says h s t xs zs (Ok (Some states.Waiting)) l begun ys e g = (g.0, g.1, e
 passed_says h s t xs zs (Ok None) l begun ys e g = e ∙ g
 passed_says h s t xs zs (Err x) l begun ys e g = claims_through x _ _ (λ p. e ∙ p) g
 
--- What was given before an answer: whatever may follow it, it means what the answer says.
+-- The bytes that were read before a result: whatever follows them, they mean what the result says.
 record GaveNext {S : Type 0} (gives : Gives S) (h : Request) (k : Known) (p : List ℕ) (a : S) (r : Result (Option StreamState) Fault) (l : Known) (q : List ℕ) (b : S) : Type 0 where
   bytes : List ℕ
   stop : Stop
@@ -92,14 +92,14 @@ module _ {S : Type 0} (gives : Gives S) (law : GivesInOrder gives) (h : Request)
         };
       }
 
--- ---- what is behind a message, and behind the mark
+-- ---- after a message, and after the mark
 
--- behind a message nothing is begun
+-- After a message there is no partial prefix.
 none_begun : (h : Request) (s : Known) (p bytes : List ℕ) (c : Option Chunk) (t : Known) (q : List ℕ) → chosen_item h s (p ++ (bytes ++ [])) ≡ more c t (q ++ []) → IsWithinMessage (p ++ bytes) → q ≡ []
 none_begun h s p bytes c t q is within =
     item_whole h s (p ++ bytes) c t q (ap (λ (xs : List ℕ). chosen_item h s (p ++ xs)) (sym (append-nil bytes)) ∙ is ∙ ap (λ (xs : List ℕ). more c t xs) (append-nil q)) within
 
--- who knows as much as a reader
+-- Readers with the same dictionaries.
 itself : (k : Known) → AreAt k k
 itself k = record { alike = record { each = λ id. refl }; count = refl }
 
@@ -116,7 +116,8 @@ items_whole gives h chunk zero k l p q a b g =
     none_begun h k p item.run.bytes (Some (chunk_seen chunk)) read.0 q read.2 item.run.within
 items_whole gives h chunk (suc n) k l p q a b g = items_whole gives h chunk n g.0 l g.1 q g.2 b g.4
 
--- What was given up to the mark. Where nothing was begun before, it is messages without a chunk, and then the mark, with which it ends.
+-- The bytes that were read up to the mark. Without a partial prefix before, they are messages
+-- without a chunk, and then the mark, with which they end.
 record GaveMark {S : Type 0} (gives : Gives S) (h : Request) (k : Known) (p : List ℕ) (a b : S) : Type 0 where
   front : List ℕ
   last : List ℕ
@@ -256,7 +257,7 @@ none_over gives known memory law a b step = record {
   gave = λ unfinished. over_now gives known memory law a b step unfinished;
 }
 
--- ---- a fault
+-- ---- an error
 
 pub one_fault : {R : Type 0} (gives : Gives R) (known : Bool) (memory : R → Memory) → GivesInOrder gives → (a b : StreamReader R) (e : Fault)
     → NextStep gives known memory a (Some (Err e)) b → OwnFault e (StreamBreaks gives a e)
@@ -276,7 +277,7 @@ one_fault gives known memory law a b e step = own e (StreamBreaks gives a e) (λ
 
 -- ---- all chunks
 
--- what was given means just the chunks that came, and ends so
+-- The bytes that were read mean exactly the chunks that were read, and this end.
 all_given : {R : Type 0} (gives : Gives R) (a b c : StreamReader R) (cs : List Chunk) (over : Bool) → (one : GaveChunks gives a cs b) → (none : GaveNoMore gives b over c)
     → (s : Known) → Knows a s → ((meant_by a s (one.bytes ++ none.bytes)).chunks ≡ cs) × EndsAs over (meant_by a s (one.bytes ++ none.bytes)).end
 all_given gives a b c cs over one none s at =
@@ -286,11 +287,11 @@ all_given gives a b c cs over one none s at =
       subst (λ (x : End). EndsAs over x) (sym (ap (λ (x : Meant). x.end) p.2)) now.1,
     )
 
--- all is asked of a new reader
+-- A new reader reads all columns.
 pub new_request : {R : Type 0} (device : R) (m : StreamMetadata) (r : StreamReader R) → IsUnread device m r → projection_of r ≡ None → request_of r ≡ record { head = head_of m; projection = None }
 new_request device m r begins all = λ i. record { head = head_of (begins.described i); projection = all i }
 
--- so it means what its device has ahead
+-- So the stream is what the device has ahead.
 pub new_meant : {R : Type 0} (device : R) (m : StreamMetadata) (r : StreamReader R) (bytes : List ℕ) → IsUnread device m r → projection_of r ≡ None
     → meant_by r nothing_known bytes ≡ meaning (head_of m) nothing_known bytes
 new_meant device m r bytes begins all =
@@ -299,7 +300,8 @@ new_meant device m r bytes begins all =
     ∙ ap (λ (xs : List ℕ). chosen_meaning (record { head = head_of m; projection = None }) nothing_known (xs ++ bytes)) begins.begun
     ∙ whole_law (head_of m) nothing_known bytes
 
--- A device gave a stream of the schema of these metadata and of these chunks, which ends so, and nothing behind its mark.
+-- A stream of the schema of these metadata and of these chunks was read from a device. It ends so,
+-- and no byte after its mark was read.
 pub record WasRead {R : Type 0} (gives : Gives R) (a b : R) (m : StreamMetadata) (cs : List Chunk) (over : Bool) : Type 0 where
   pub bytes : List ℕ
   pub gave : gives a bytes (last_stop over) b
@@ -309,7 +311,7 @@ pub record WasRead {R : Type 0} (gives : Gives R) (a b : R) (m : StreamMetadata)
   pub ends : EndsAs over meant.end
   pub no_more : over ≡ true → EndsWithMark (λ front. WasStarted front (head_of m) meant.chunks) bytes
 
--- in front of the mark the stream waits, with the chunks that came
+-- Before the mark the stream waits, with the chunks that were read.
 waits_before : {R : Type 0} (gives : Gives R) (input device : R) (m : StreamMetadata) (r b : StreamReader R) (cs : List Chunk) (front : MetadataGave gives input (Ok m) device) → IsUnread device m r → projection_of r ≡ None
     → (one : GaveChunks gives r cs b) (before : List ℕ) → WaitsForNext b before → WasStarted (front.run.bytes ++ (one.bytes ++ before)) (head_of m) cs
 waits_before gives input device m r b cs front begins whole one before waiting =
@@ -383,7 +385,7 @@ taken_so false (waits known begun) stream bytes h no_more = refl
 taken_so false marked stream bytes h no_more = absurd h
 taken_so false faulty stream bytes h no_more = absurd h
 
--- so it was taken, by whoever has its device then
+-- So the stream was read, whatever has its device afterwards.
 pub was_taken : {R : Type 0} (gives : Gives R) (a b c : R) (m : StreamMetadata) (cs : List Chunk) (over : Bool) → c ≡ b → WasRead gives a b m cs over → TakesStream gives a c
 was_taken {R = R} gives a b c m cs over same read = record {
   bytes = read.bytes;
@@ -394,7 +396,7 @@ was_taken {R = R} gives a b c m cs over same read = record {
   whole = taken_so over read.meant.end (record { head = head_of m; meant = read.meant }) read.bytes read.ends read.no_more;
 }
 
--- what was written of it was written of what the device gave
+-- What was written of the stream was written of what the device gave.
 pub was_copied : {R : Type 0} (gives : Gives R) (a b c : R) (m : StreamMetadata) (cs : List Chunk) (over : Bool) (Writes : _ → List Chunk → End → Type 0) → c ≡ b → WasRead gives a b m cs over
     → ((e : End) → EndsAs over e → Writes (head_of m).schema cs e) → CopiesStream gives a c Writes
 unfolding was_taken

@@ -1,4 +1,4 @@
--- Why what was read isn't written again.
+-- Why what was read isn't copied.
 use Rattle.std.proofs.Common.{◌≡◌, ◌⊎◌, ℕ, List, [], ◌∷◌, ◌++◌, length, drop, map, Option, None, Some, Ok, Err, Bool, IsTrue, inl, inr, refl, sym, ap, subst, ◌∙◌, append-nil, append_assoc}
 use Rattle.std.proofs.lemmas.List.{take-append-drop}
 use Rattle.lower.specs.TypeTrees.{FieldTrees, Pairs}
@@ -103,7 +103,7 @@ module _ {R : Type 0} (gives : Gives R) (known : Bool) (memory : R → Memory) (
   abbrev Why : Type 0
   Why = HoldsOfGiven gives known memory input (λ bytes. CopiesNoStream refuses bytes e)
 
-  -- what was given behind it
+  -- The bytes that were read after the schema message.
   behind_front : (bytes : List ℕ) (stop : Stop) (left : R) → gives (device_of r) bytes stop left
       → ((all ys : List ℕ) → Follows stop ys → stream_of all ≡ Some (record { head = head_of m; meant = meant_by r nothing_known (bytes ++ ys) }) → CopiesNoStream refuses all e) → Why
   behind_front bytes stop left gave says =
@@ -117,7 +117,7 @@ module _ {R : Type 0} (gives : Gives R) (known : Bool) (memory : R → Memory) (
       whole_stream (from ++ behind) (from ++ behind) behind m refl said ∙ ap (λ (x : Meant). Some (record { head = head_of m; meant = x })) (sym (new_meant device m r behind begins whole)) in
       subst (λ (all : List ℕ). CopiesNoStream refuses all e) (sym (append_assoc from bytes ys)) (says (from ++ behind) ys f is))
 
-  -- these chunks came, and of chunks of which they are the first it is refused
+  -- These chunks were read, and the stream is refused for any chunks that begin with these.
   pub first_refused : (cs : List Chunk) (c : StreamReader R) → StreamCame gives r cs c → ((first : List Chunk → Type 0) → first cs → refuses first (head_of m).schema e) → Why
   first_refused cs c came refused =
       let one = came.gave begins.unfinished in
@@ -130,7 +130,7 @@ module _ {R : Type 0} (gives : Gives R) (known : Bool) (memory : R → Memory) (
         refused = refused (λ ds. AreFirst ds meant.chunks) ((meant_by c p.0 ys).chunks, ap (λ (x : Meant). x.chunks) p.2);
       }))
 
-  -- behind these chunks came a fault
+  -- After these chunks an error came.
   fault_came : (cs : List Chunk) (b : StreamReader R) → StreamCame gives r cs b → StreamBreaks gives b e → Why
   fault_came cs b came breaks =
       let one = came.gave begins.unfinished in
@@ -195,7 +195,7 @@ module _ {F : Type 0} (known : Bool) (memory : F → Memory) (k : IsTrue known) 
       held_back (inr (refused (AreFirstBlocks (memory file).whole (file_seen m))
       (of_file (λ bytes f. AreFirstBlocks bytes f cs) (first_blocks memory r c cs begins.block (came k (new_whole memory device m r begins))))))
 
-  -- behind these chunks a part has no meaning
+  -- After these chunks a part of the file has no meaning.
   part_lacks : (cs : List Chunk) (b : FileReader F) → FileCame known memory r cs b → FileBreaks known memory b e → WhyFile
   part_lacks cs b came breaks =
       let gave = came k (new_whole memory device m r begins) in
@@ -238,7 +238,7 @@ misses w fs columns faults.Memory started h why = tt
 misses w fs columns (faults.Io x) started h why = tt
 misses w fs columns _ started h why = absurd h
 
--- columns that a writer refuses which was started with a schema, and took some chunks then
+-- Columns that are refused by a writer that was started with a schema and wrote some chunks.
 pub stream_misses : {W : Type 0} (known : Bool) (memory : W → Memory) (v w : WriterSeen W) (fields : FieldTrees) (metadata : Pairs) (ids : IdTrees) (cs : List Chunk) (columns : List AnyArray) (e : Fault)
     → ((P : Type 0) → OwnFault e P → P) → v.state ≡ Started → v.types ≡ normal_types fields → v.ids ≡ ids → IsWritable fields metadata ids → TookChunks known memory v cs w
     → WritesExactly w columns None (Err e) × RefusesWrite w columns None e → MissesChunk fields ids (map layout_of columns) e
@@ -258,7 +258,7 @@ start_refused s fs es ids faults.Memory new h = tt
 start_refused s fs es ids (faults.Io x) new h = tt
 start_refused s fs es ids _ new h = absurd h
 
--- the mark is refused by no fault of its own
+-- The mark is refused only by an error of allocation or of the device.
 pub mark_refused : (s : WriterState) (e : Fault) (Q : Type 0) → s ≡ Started → RefusesFinish s e → OwnFault e Q
 mark_refused s (faults.State x) Q started h = (let none : None ≡ Some x = subst (λ (y : WriterState). fault_unless_started y ≡ Some x) started h in absurd cc)
 mark_refused s (faults.Io x) Q started h = tt

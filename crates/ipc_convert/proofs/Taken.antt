@@ -1,4 +1,4 @@
--- What a writer takes is written in the normal form.
+-- What a writer writes has types in the normal form.
 use Rattle.std.proofs.Common.{◌≡◌, ℕ, List, [], ◌∷◌, ◌++◌, length, None, Option, Result, Ok, Err, IfErr, OnOk, OnErr, Bool, true, false, not, IsTrue, if◌then◌else◌, refl, sym, ap, subst, ◌∙◌, append-nil}
 use Rattle.lower.specs.TypeTrees.{FieldTrees, Pairs}
 use Rattle.lower_types.specs.declared.Endianness.{Endianness}
@@ -41,7 +41,7 @@ use Rattle.ipc_convert.proofs.Handing.{refused_then}
 
 -- ---- one chunk
 
--- columns are written as they are seen, with their types in the normal form
+-- Columns are written as they are, with their types in the normal form.
 written_seen : (xs : List AnyArray) → chunk_written xs ≡ normal_chunk (chunk_seen xs)
 written_seen [] = refl
 written_seen (x ∷ xs) = ap (λ (cs : Chunk). column_written (layout_of x) ∷ cs) (written_seen xs)
@@ -75,7 +75,7 @@ if_refused : {P Q : Type 0} (r : Result (Unit {0}) Fault) → ((e : Fault) → r
 if_refused (Ok x) f p = tt
 if_refused (Err e) f p = refused_then (Unit {0}) (Unit {0}) e (f e refl) p
 
--- nothing was taken where all that it had stands
+-- Nothing was written if all that the writer had stays.
 none_took : {W : Type 0} (known : Bool) (memory : W → Memory) (v w : WriterSeen W) → w.state ≡ v.state → w.types ≡ v.types → w.ids ≡ v.ids
     → (IsTrue known → (base : List ℕ) (head : Head) (so_far : List Chunk) → Agrees memory v base head so_far → Agrees memory w base head so_far) → TookChunks known memory v [] w
 none_took known memory v w state types ids stays = record {
@@ -104,7 +104,7 @@ file_kept known grows failures room memory v w columns r wrote sends =
       takes = took_none known failures memory v w columns e (subst (λ (x : Result (Unit {0}) Fault). WritesNext known failures memory v columns x w) is wrote);
     }) sends.step.refused
 
--- why it is, as the call says it
+-- Why a chunk is refused, by the call's contract.
 pub stream_refuses : {W : Type 0} (v : WriterSeen W) (columns : List AnyArray) (r : Result (Unit {0}) Fault) → WritesExactly v columns None r → IfErr r (RefusesWrite v columns None)
     → IfErr r (λ e. OwnFault e (WritesExactly v columns None (Err e) × RefusesWrite v columns None e))
 stream_refuses v columns (Ok x) exact only = tt
@@ -117,7 +117,7 @@ file_refuses v columns (Err e) exact named = claimed e (writes.WritesExactly v c
 
 -- ---- a stream
 
--- what was written of a stream that was begun and took these chunks
+-- What was written of a stream that was begun and to which these chunks were written.
 abbrev pub Holds : {W : Type 0} → (W → Memory) → Endianness → W → Schema → List Chunk → WriterSeen W → Type 0
 Holds memory order out schema cs w = Agrees memory w (before (memory out)) (normal_head order schema) (normal_chunks cs)
 
@@ -131,7 +131,7 @@ begun_stream {W = W} known memory order out schema ids u v w cs x k same at fres
     let started : Agrees memory v (before (memory out)) (head_with ids) [] = begun.begun k (before (memory out)) [] new in
     took.stream k (before (memory out)) (normal_head order schema) [] (subst (λ (is : IdTrees). Agrees memory v (before (memory out)) (head_with is) []) same started)
 
--- how a started writer is left where what was read ends so
+-- How a started writer is left if its source ends so.
 abbrev pub LeftAt : Bool → WriterState → Type 0
 LeftAt true s = s ≡ Finished
 LeftAt false s = s ≡ Started
@@ -146,7 +146,7 @@ ends_so false (waits known begun) w bytes head cs is left h =
 ends_so false marked w bytes head cs is left h = absurd is
 ends_so false faulty w bytes head cs is left h = absurd is
 
--- a stream that took its chunks and was ended as its source was
+-- A stream to which its chunks were written and that was ended like its source.
 pub ended_stream : {W : Type 0} (known : Bool) (memory : W → Memory) (order : Endianness) (out : W) (schema : Schema) (cs : List Chunk) (ending : Ending) (v w x : WriterSeen W) → IsTrue known → v.state ≡ Started
     → w.state ≡ v.state → EndsAsSource known memory ending w x → Holds memory order out schema cs w → LeftAt (is_end ending) x.state × Holds memory order out schema cs x
 ended_stream {W = W} known memory order out schema cs Waits v w x k started same is holds =
@@ -164,7 +164,7 @@ stream_written {W = W} memory order out last schema cs w over e at left holds is
 
 -- ---- a file
 
--- the order that is chosen is that of a file
+-- The byte order that is chosen is that of a file.
 pub same_order : (big : Bool) → byte_order (not big) ≡ (if big then Big else Little)
 same_order true = refl
 same_order false = refl
@@ -183,7 +183,7 @@ whole_file w order fs es ids pairs bytes cs o f m i p whole =
       stream = subst (λ (x : Head). EndsStreamBehind bytes x cs) begun (whole.stream refl);
     }
 
--- a writer that was made, took its pairs and was started
+-- A writer that was made, whose pairs were set, and that was started.
 pub file_begun : {W : Type 0} (known grows : Bool) (failures room : W → ℕ) (memory : W → Memory) (out : W) (big : Bool) (fields : FieldTrees) (metadata : Pairs) (ids : IdTrees) (pairs : Pairs) (u t v : FileSeen W) (x : Unit {0})
     → u.device ≡ out → files.HasNothing memory u → files.IsFileOf u fields metadata ids (byte_order (not big)) [] → files.TakesPairs u t pairs → files.Remains known memory u t
     → files.SendsBeginning known grows failures room memory t (Ok x) v → files.StartsWith t v → files.Remains known memory t v

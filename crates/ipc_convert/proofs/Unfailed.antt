@@ -1,4 +1,4 @@
--- Where chunks came, or a stream was taken whole, no call of the device failed.
+-- If chunks were read, or a whole stream was, no call of the device failed.
 use Rattle.std.proofs.Common.{◌≡◌, ℕ, Bool, true, false, List, [], ◌∷◌, Result, Ok, OnOk, refl, ap, subst, ◌∙◌}
 use Rattle.ipc_devices.specs.Gives.{Fails, Gives, GivesFails, Stop, going}
 use Rattle.ipc_devices.specs.declared.fault.Fault.{Fault}
@@ -57,7 +57,7 @@ takes_unfailed gives failures law a b h =
 
 -- ---- from call to call
 
--- five states of a device that is handed on and given back
+-- Five states of a device that is lent and given back.
 pub handed_unfailed : {W : Type 0} (failures : W → ℕ) (first u v w x last : W) → u ≡ first → failures v ≡ failures u → failures w ≡ failures v → failures x ≡ failures w → last ≡ x
     → failures last ≡ failures first
 handed_unfailed failures first u v w x last begins one two three ends = ap failures ends ∙ three ∙ two ∙ one ∙ ap failures begins

@@ -1,4 +1,4 @@
--- Streams and files that are written again.
+-- Streams and files that are copied.
 -- (Arrow columnar format, "IPC Streaming Format" and "IPC File Format".)
 use Rattle.std.specs.Prelude.{◌≡◌, ◌⊎◌, ℕ, IsTrue, Bool, List, [], ◌++◌, map, None, Some}
 use Rattle.lower.specs.Normal.{norm_schema}
@@ -22,13 +22,13 @@ use Rattle.ipc_sessions.specs.Sessions.{GainsChunks, KeepsOld}
 
 -- ---- what is read
 
--- The chunks at the blocks of a file are these. Where it has no block, its dictionaries are not asked for.
+-- The chunks at the blocks of a file are these. Without blocks its dictionaries aren't read.
 pub record HasBlockChunks (bytes : List ℕ) (m : FileMetadata) (cs : List Chunk) : Type 0 where
   pub known : Dictionaries
   pub dictionaries : (m.blocks ≡ []) ⊎ (file_dictionaries m bytes ≡ Some known)
   pub chunks : chunks_at m known (all_of bytes) None None m.blocks ≡ map Some cs
 
--- Bytes end with the mark, and P is what stands in front of it: nothing stands behind.
+-- The bytes end with the end-of-stream mark, and P holds of the bytes before it.
 pub record EndsWithMark (P : List ℕ → Type 0) (bytes : List ℕ) : Type 0 where
   pub front : List ℕ
   pub last : List ℕ
@@ -36,8 +36,9 @@ pub record EndsWithMark (P : List ℕ → Type 0) (bytes : List ℕ) : Type 0 wh
   pub is_front : P front
   pub is_mark : frame last ≡ mark []
 
--- These bytes of a stream without a fault that ends so were taken of a device: the stream as it waits for the next message, and the mark, and
--- no byte behind it; or all that there were, where it waits.
+-- These bytes of a valid stream with this end were read from a device. If it ends
+-- with the mark, they are the stream up to the mark, and no byte after it; if it
+-- waits, they are all that there were.
 abbrev pub TakenToEnd : End → Stream → List ℕ → Stop → Type 0
 TakenToEnd marked stream bytes stop = EndsWithMark (λ front. WasStarted front stream.head stream.meant.chunks) bytes × (stop ≡ going)
 TakenToEnd (waits known begun) stream bytes stop = stop ≡ ended
@@ -45,37 +46,41 @@ TakenToEnd faulty stream bytes stop = ⊥
 
 -- ---- what is written
 
--- a schema in the normal form, with the same metadata and ids, in this order of the bytes of numbers
+-- A schema in its normal form, with the same metadata and ids, in this byte order.
 abbrev pub normal_head : Endianness → Schema → Head
 normal_head order s = written_head_as order s.fields s.metadata s.ids
 
+-- Some chunks, with their types in the normal form.
 abbrev pub normal_chunks : List Chunk → List Chunk
 normal_chunks cs = map normal_chunk cs
 
--- The bytes are a stream of this head and these chunks, and end so: by the mark, or they wait for the next message.
+-- The bytes are a stream of this head and these chunks, with this end: it has the mark,
+-- or waits for the next message.
 abbrev pub EndsSo : End → List ℕ → Head → List Chunk → Type 0
 EndsSo marked bytes head cs = IsFinished bytes head cs
 EndsSo (waits known begun) bytes head cs = WasStarted bytes head cs
 EndsSo faulty bytes head cs = ⊥
 
--- Behind what stood in a memory a stream was written: of this schema in the normal form with its ids, and of exactly these chunks, and it ends
--- so, or waits.
+-- A stream was written after the bytes of a memory: of this schema in the normal form with its ids,
+-- and of exactly these chunks. It has this end.
 pub record WritesStream (order : Endianness) (old new : Memory) (schema : Schema) (cs : List Chunk) (end : End) : Type 0 where
   pub bytes : List ℕ
   pub written : before new ≡ before old ++ bytes
   pub same : EndsSo end bytes (normal_head order schema) (normal_chunks cs)
 
--- Behind what stood in a memory a file was written: of this schema in the normal form with its ids, of these pairs, and of exactly these chunks.
+-- A file was written after the bytes of a memory: of this schema in the normal form with its ids,
+-- these pairs, and exactly these chunks.
 pub record WritesFile (order : Endianness) (old new : Memory) (schema : Schema) (pairs : Pairs) (cs : List Chunk) : Type 0 where
   pub bytes : List ℕ
   pub written : before new ≡ before old ++ bytes
   pub same : IsWrittenFile bytes order schema.fields schema.metadata schema.ids pairs (normal_chunks cs)
 
--- Two schemas with their ids are the same, both in the normal form.
+-- Two schemas with their ids are the same in the normal form.
 abbrev pub AreSame : FieldTrees × Pairs → IdTrees → FieldTrees × Pairs → IdTrees → Type 0
 AreSame s is t js = (norm_schema s ≡ norm_schema t) × (is ≡ js)
 
--- Behind the chunks of a file came these, in the normal form, and its schema is the same. The metadata that it had still give its old chunks.
+-- These chunks, in the normal form, were appended to a file with the same schema. The old
+-- metadata still give the old chunks.
 pub record AppendsTo (old new : List ℕ) (schema : Schema) (cs : List Chunk) : Type 0 where
   pub metadata : FileMetadata
   pub read : metadata_of old ≡ Some metadata
@@ -83,9 +88,9 @@ pub record AppendsTo (old new : List ℕ) (schema : Schema) (cs : List Chunk) : 
   pub adds : GainsChunks old new (normal_chunks cs)
   pub keeps : KeepsOld metadata old new
 
--- ---- one from the other
+-- ---- copies
 
--- What a device gave is a stream without a fault, and no byte more.
+-- The bytes read from a device are a valid stream, and no byte more.
 pub record TakesStream {R : Type 0} (gives : Gives R) (a b : R) : Type 0 where
   pub bytes : List ℕ
   pub stop : Stop
@@ -94,12 +99,13 @@ pub record TakesStream {R : Type 0} (gives : Gives R) (a b : R) : Type 0 where
   pub read : stream_of bytes ≡ Some stream
   pub whole : TakenToEnd stream.meant.end stream bytes stop
 
--- Of the schema and the chunks of the stream that a device gave, and how it ends, this was written.
+-- `Writes` holds of the schema, the chunks and the end of the stream that was read.
 pub record CopiesStream {R : Type 0} (gives : Gives R) (a b : R) (Writes : Schema → List Chunk → End → Type 0) : Type 0 where
   pub takes : TakesStream gives a b
   pub written : Writes takes.stream.head.schema takes.stream.meant.chunks takes.stream.meant.end
 
--- These bytes are a file, and of its schema, its pairs and the chunks at its blocks, in their order, this was written.
+-- The bytes are a file, and `Writes` holds of its schema, its pairs and the
+-- chunks at its blocks, in order.
 pub record CopiesFile (bytes : List ℕ) (Writes : Schema → Pairs → List Chunk → Type 0) : Type 0 where
   pub metadata : FileMetadata
   pub read : metadata_of bytes ≡ Some metadata
@@ -107,6 +113,7 @@ pub record CopiesFile (bytes : List ℕ) (Writes : Schema → Pairs → List Chu
   pub has : HasBlockChunks bytes metadata chunks
   pub written : Writes metadata.schema metadata.pairs chunks
 
--- the same of a device, where it is memory and the file stands at its beginning
+-- The file at offset 0 of a device that is memory was read, and `Writes` holds of its
+-- schema, its pairs and its chunks.
 abbrev pub CopiesFileOf : {F : Type 0} → Bool → (F → Memory) → F → (Schema → Pairs → List Chunk → Type 0) → Type 0
 CopiesFileOf known memory file Writes = IsTrue known → (memory file).place ≡ 0 → CopiesFile (memory file).whole Writes

@@ -1,4 +1,5 @@
--- Why a stream or a file isn't written again. A fault names what is at fault: what is read, or what can't be written of it.
+-- Why a stream or a file isn't copied. An error names its cause: what is invalid in the input,
+-- or what can't be written of it.
 -- (Arrow columnar format, "IPC Streaming Format" and "IPC File Format".)
 use Rattle.std.specs.Prelude.{◌≡◌, ◌⊎◌, ℕ, ℤ, Bool, IsTrue, List, [], ◌∷◌, ◌++◌, length, map, None, Some, Err}
 use Rattle.std.specs.List.{AllByRecursion}
@@ -35,14 +36,14 @@ use Rattle.ipc_convert.specs.Sinks.{TookBlocks}
 use Rattle.ipc_convert.specs.Sources.{FirstAre, LacksPart}
 use Rattle.ipc_convert.specs.Steps.{BeginsFile, RefusesWithPairs}
 
--- ---- which chunk isn't taken
+-- ---- which chunk is refused
 
--- the places of an id have no values in common
+-- The dictionary fields of an id don't all have the same values.
 abbrev pub HaveNoneInCommon : ℤ → List FilledPlace → Type 0
 HaveNoneInCommon id ps = (d : Dictionary) → ¬ AllHave id d ps
 
--- Which condition columns don't meet that an accepted chunk of these fields with these ids meets. Where an id is named, its places are those
--- that share no values.
+-- By each error, the condition of an accepted chunk that the columns don't meet, for these fields
+-- and ids. If an id is named, its fields don't have the same values.
 abbrev pub MissesChunk : FieldTrees → IdTrees → List Layout → Fault → Type 0
 MissesChunk fs is columns (Argument ColumnCount) = ¬ (length (offer_of columns is).columns ≡ length (types_of fs))
 MissesChunk fs is columns (Argument ColumnType) = ¬ (map (λ c. norm c.type) (offer_of columns is).columns ≡ map norm (types_of fs))
@@ -51,30 +52,31 @@ MissesChunk fs is columns (Argument TooLong) = ¬ AllByRecursion IsSayable (offe
 MissesChunk fs is columns (Argument TooLarge) = ¬ AllByRecursion (λ lengths. IsSayable (body_length lengths)) (offer_of columns is).bodies
 MissesChunk fs is columns _ = ⊥
 
--- Of chunks of which `first` tells the first ones, one isn't taken behind those before it, as it misses what they ask for.
+-- Of the chunks that `first` allows, one is refused after those before it, by what `misses` says.
 pub record RefusesOne (first : List Chunk → Type 0) (misses : List Chunk → List AnyArray → Type 0) : Type 0 where
   pub before : List Chunk
   pub columns : List AnyArray
   pub is_next : first (before ++ chunk_seen columns ∷ [])
   pub missed : misses before columns
 
--- There are more of them than a copy takes.
+-- There are more chunks than a copy can count.
 pub record TooManyCame (first : List Chunk → Type 0) (e : Fault) : Type 0 where
   pub chunks : List Chunk
   pub are_first : first chunks
   pub many : AreTooMany chunks e
 
--- why not all of them are taken
+-- Why not all chunks are written.
 abbrev pub TakesNotAll : (List Chunk → Type 0) → (List Chunk → List AnyArray → Type 0) → Fault → Type 0
 TakesNotAll first misses e = RefusesOne first misses ⊎ TooManyCame first e
 
 -- ---- what can't be written
 
--- as a stream of this schema and these chunks: the schema can't be written, or a chunk isn't accepted
+-- Why a stream of this schema and these chunks isn't written: the schema can't be
+-- written, or a chunk isn't accepted.
 abbrev pub RefusesAsStream : (List Chunk → Type 0) → Schema → Fault → Type 0
 RefusesAsStream first s e = RefusesSchema e s.fields s.metadata s.ids ⊎ TakesNotAll first (λ before columns. MissesChunk s.fields s.ids (map layout_of columns) e) e
 
--- A writer of a file that was opened so and took these chunks doesn't take columns, as it says itself.
+-- A file writer that was opened so and wrote these chunks refuses columns, by its own contract.
 pub record CantTake {W : Type 0} (known : Bool) (memory : W → Memory) (opened : FileSeen W → Type 0) (e : Fault) (before : List Chunk) (columns : List AnyArray) : Type 0 where
   pub begun : FileSeen W
   pub is : opened begun
@@ -83,7 +85,7 @@ pub record CantTake {W : Type 0} (known : Bool) (memory : W → Memory) (opened 
   pub refused : WritesExactly writer columns None (Err e)
   pub named : NamesOne writer columns e
 
--- One that took the first chunks can't end its file, as it says itself.
+-- A file writer that wrote the first chunks can't finish its file, by its own contract.
 pub record CantEnd {W : Type 0} (known : Bool) (memory : W → Memory) (opened : FileSeen W → Type 0) (first : List Chunk → Type 0) (e : Fault) : Type 0 where
   pub chunks : List Chunk
   pub are_first : first chunks
@@ -93,32 +95,34 @@ pub record CantEnd {W : Type 0} (known : Bool) (memory : W → Memory) (opened :
   pub took : TookBlocks known memory begun chunks writer
   pub refused : AnswersFinish writer (Err e)
 
--- as what such a writer writes: one of the chunks, or the end
+-- Why the chunks aren't all written to a file: one is refused, or the file can't be finished.
 abbrev pub RefusesInBlocks : {W : Type 0} → Bool → (W → Memory) → (FileSeen W → Type 0) → (List Chunk → Type 0) → Fault → Type 0
 RefusesInBlocks known memory opened first e = TakesNotAll first (CantTake known memory opened e) e ⊎ CantEnd known memory opened first e
 
--- as a file of this schema, these pairs and these chunks
+-- Why a file of this schema, these pairs and these chunks isn't written.
 abbrev pub RefusesAsFile : {W : Type 0} → Bool → (W → Memory) → W → Endianness → Pairs → (List Chunk → Type 0) → Schema → Fault → Type 0
 RefusesAsFile known memory out order pairs first s e =
     RefusesWithPairs s.fields s.metadata s.ids pairs e ⊎ RefusesInBlocks known memory (BeginsFile known memory out order s.fields s.metadata s.ids pairs) first e
 
 -- ---- what is read
 
--- these chunks are the first of those
+-- The chunks of `first` are the first of `all`.
 abbrev pub AreFirst : (first all : List Chunk) → Type 0
 AreFirst first all = (rest : List Chunk) × (all ≡ first ++ rest)
 
--- Bytes are a stream, whose schema or whose chunks can't be written.
+-- The bytes are a stream, whose schema or whose chunks can't be written.
 pub record IsHeldBack (refuses : (List Chunk → Type 0) → Schema → Fault → Type 0) (bytes : List ℕ) (e : Fault) : Type 0 where
   pub stream : Stream
   pub is : stream_of bytes ≡ Some stream
   pub refused : refuses (λ cs. AreFirst cs stream.meant.chunks) stream.head.schema e
 
--- Why bytes aren't copied as a stream: they can't be read, by a fault of theirs, or what they mean can't be written.
+-- Why bytes aren't copied as a stream: they can't be read, by an error in them, or
+-- what they mean can't be written.
 abbrev pub CopiesNoStream : ((List Chunk → Type 0) → Schema → Fault → Type 0) → List ℕ → Fault → Type 0
 CopiesNoStream refuses bytes e = ((¬ IsReadable bytes) × BlamesStream bytes (stream_of bytes) None e) ⊎ IsHeldBack refuses bytes e
 
--- P holds of what a device gave, whatever may follow it; where it is memory, of all that is ahead in it.
+-- P holds of the bytes that a device gave, with any that may follow; if it
+-- is memory, of all bytes ahead.
 pub record HoldsOfGiven {R : Type 0} (gives : Gives R) (known : Bool) (memory : R → Memory) (a : R) (P : List ℕ → Type 0) : Type 0 where
   pub bytes : List ℕ
   pub stop : Stop
@@ -133,31 +137,35 @@ pub record AreFirstBlocks (bytes : List ℕ) (m : FileMetadata) (cs : List Chunk
   pub dictionaries : (cs ≡ []) ⊎ (file_dictionaries m bytes ≡ Some known)
   pub chunks : FirstAre m known bytes (length cs) cs
 
--- Bytes are a file, of which a part has no meaning, or whose schema or whose chunks can't be written.
+-- The bytes are a file, of which a part has no meaning, or whose schema or
+-- whose chunks can't be written.
 pub record IsFileHeldBack (refuses : (List Chunk → Type 0) → Schema → Pairs → Fault → Type 0) (bytes : List ℕ) (e : Fault) : Type 0 where
   pub metadata : FileMetadata
   pub is : metadata_of bytes ≡ Some metadata
   pub refused : LacksPart metadata bytes e ⊎ refuses (AreFirstBlocks bytes metadata) metadata.schema metadata.pairs e
 
--- Why bytes aren't copied as a file: they have no metadata, by a fault of theirs, or what they mean can't be written.
+-- Why bytes aren't copied as a file: they have no metadata, by an error in them, or
+-- what they mean can't be written.
 abbrev pub CopiesNoFile : ((List Chunk → Type 0) → Schema → Pairs → Fault → Type 0) → List ℕ → Fault → Type 0
 CopiesNoFile refuses bytes e = ((metadata_of bytes ≡ None) × FileReason 0 bytes e) ⊎ IsFileHeldBack refuses bytes e
 
--- ---- a stream behind the chunks of a file
+-- ---- a stream that is appended to a file
 
--- the schema of a stream with its ids isn't that of a file
+-- The schema of a stream with its ids isn't that of a file.
 abbrev pub DiffersFrom : Schema → Schema → Fault → Type 0
 DiffersFrom s t e = (e ≡ Argument FieldsDiffer) × ¬ AreSame (s.fields, s.metadata) s.ids (t.fields, t.metadata) t.ids
 
--- Why a stream isn't written behind the chunks of a file of these metadata: its schema is another one, or what is written of it is refused.
+-- Why a stream isn't appended to a file with this metadata: its schema is another one, or
+-- what is written of it is refused.
 abbrev pub RefusesBehind : {W : Type 0} → Bool → (W → Memory) → FileMetadata → W → (List Chunk → Type 0) → Schema → Fault → Type 0
 RefusesBehind known memory m file first s e = DiffersFrom s m.schema e ⊎ RefusesInBlocks known memory (GoesOn known memory m file) first e
 
--- Why a file isn't appended to: it has no metadata, by a fault of its bytes, or they are refused.
+-- Why a file can't be appended to: it has no metadata, by an error in its bytes,
+-- or its metadata don't allow it.
 abbrev pub GoesOnWithNone : Bool → List ℕ → Fault → Type 0
 GoesOnWithNone known bytes e = ((metadata_of bytes ≡ None) × FileReason 0 bytes e) ⊎ CantGoOn known bytes e
 
--- A file was appended to, and the stream behind it was refused.
+-- A file was appended to, and the stream that was to be appended was refused.
 pub record RefusesAppended {F R : Type 0} (known : Bool) (memory : F → Memory) (file : F) (gives : Gives R) (fills : Bool) (source : R → Memory) (input : R) (e : Fault) : Type 0 where
   pub metadata : FileMetadata
   pub is : metadata_of (memory file).whole ≡ Some metadata

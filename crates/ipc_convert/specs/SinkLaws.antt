@@ -1,4 +1,4 @@
--- What is taken twice stands one behind the other.
+-- Theorems: what a sink took in two steps, it took in order.
 use Rattle.std.proofs.Common.{◌≡◌, Bool, List, ◌++◌, refl, sym, ap, subst, ◌∙◌, append-nil, append_assoc}
 use Rattle.std.proofs.lemmas.List.{map-append}
 use Rattle.ipc_devices.specs.Device.{Memory}

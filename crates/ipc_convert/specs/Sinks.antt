@@ -1,4 +1,4 @@
--- Chunks that are taken by the writer of a stream, and by that of a file.
+-- Chunks that a stream writer or a file writer writes.
 -- (Arrow columnar format, "IPC Streaming Format" and "IPC File Format".)
 use Rattle.std.specs.Prelude.{◌≡◌, ℕ, Bool, IsTrue, List, ◌++◌, None, Err}
 use Rattle.ipc_devices.specs.Device.{Memory}
@@ -14,7 +14,8 @@ use Rattle.ipc_sessions.specs.Steps.{TakesChunks}
 use Rattle.ipc_convert.specs.Chunks.{Moved, RefusesAt}
 use Rattle.ipc_convert.specs.Copies.{normal_chunks}
 
--- From v to w a writer took these chunks: its stream has them in the normal form. It takes the same columns as before.
+-- From state v to w a writer wrote these chunks: its stream has them in the normal form. It
+-- accepts the same columns as before.
 pub record TookChunks {W : Type 0} (known : Bool) (memory : W → Memory) (v : WriterSeen W) (cs : List Chunk) (w : WriterSeen W) : Type 0 where
   pub state : w.state ≡ v.state
   pub types : w.types ≡ v.types
@@ -22,21 +23,26 @@ pub record TookChunks {W : Type 0} (known : Bool) (memory : W → Memory) (v : W
   pub stream : IsTrue known → (base : List ℕ) (head : Head) (so_far : List Chunk) → Agrees memory v base head so_far
       → Agrees memory w base head (so_far ++ normal_chunks cs)
 
+-- A stream writer wrote these chunks.
 abbrev pub StreamTook : {W : Type 0} → Bool → (W → Memory) → Moved (StreamWriter W)
 StreamTook known memory v cs w = TookChunks known memory (seen v) cs (seen w)
 
--- a chunk of these columns isn't one that it takes, and a dictionary that the fault names is one that is refused
+-- A stream writer refuses a chunk of these columns, and a dictionary that the
+-- error names is one that is refused.
 abbrev pub StreamRefuses : {W : Type 0} → RefusesAt (StreamWriter W)
 StreamRefuses v columns e = WritesExactly (seen v) columns None (Err e) × RefusesWrite (seen v) columns None e
 
--- The writer of a file took them so: the file has just these more, in the normal form, and nothing before the place of its writer changed.
+-- A file writer wrote these chunks: the file has exactly these more, in the normal form, and no
+-- byte before the writer's offset changed.
 pub record TookBlocks {W : Type 0} (known : Bool) (memory : W → Memory) (v : files.FileSeen W) (cs : List Chunk) (w : files.FileSeen W) : Type 0 where
   pub state : w.state ≡ v.state
   pub takes : TakesChunks known memory v w (normal_chunks cs)
 
+-- A file writer wrote exactly these chunks.
 abbrev pub FileTook : {W : Type 0} → Bool → (W → Memory) → Moved (FileWriter W)
 FileTook known memory v cs w = TookBlocks known memory (files.seen v) cs (files.seen w)
 
--- nor is it one that this one takes, and so it is with a dictionary that is named
+-- A file writer refuses a chunk of these columns, and a dictionary that the
+-- error names is one that is refused.
 abbrev pub FileRefuses : {W : Type 0} → RefusesAt (FileWriter W)
 FileRefuses v columns e = writes.WritesExactly (files.seen v) columns None (Err e) × writes.NamesOne (files.seen v) columns e

@@ -1,4 +1,4 @@
--- What comes twice stands one behind the other.
+-- Theorems: what a source gave in two steps, it gave in order.
 use Rattle.std.proofs.Common.{◌≡◌, ◌⊎◌, ℕ, Bool, List, [], ◌++◌, Some, inl, inr, refl, sym, ap, subst, ◌∙◌, append-nil, append_assoc, length-append, arith}
 use Rattle.std.specs.Prelude.{IsSome}
 use Rattle.ipc_devices.specs.Device.{Memory}
@@ -68,7 +68,7 @@ file_came_nothing known memory a = λ k whole. record {
   chunks = λ ds so_far found first. subst (λ (cs : List Chunk). FirstAre (files.file_of a) ds (bytes_of memory a) (files.block_of a) cs) (sym (append-nil so_far)) first;
 }
 
--- what is said of a file is said of the same
+-- What holds of a file holds of an equal one.
 of_same : (m n : FileMetadata) (xs ys : List ℕ) (i j : ℕ) (cs : List Chunk) → n ≡ m → ys ≡ xs
     → ((known : Dictionaries) (so_far : List Chunk) → file_dictionaries n ys ≡ Some known → FirstAre n known ys i so_far → FirstAre n known ys j (so_far ++ cs))
     → (known : Dictionaries) (so_far : List Chunk) → file_dictionaries m xs ≡ Some known → FirstAre m known xs i so_far → FirstAre m known xs j (so_far ++ cs)

@@ -1,4 +1,4 @@
--- Chunks that come from a stream, and from a file.
+-- Chunks that are read from a stream or from a file.
 -- (Arrow columnar format, "IPC Streaming Format" and "IPC File Format".)
 use Rattle.std.specs.Prelude.{◌≡◌, ◌⊎◌, ℕ, ◌+◌, Bool, true, false, IsSome, IsTrue, List, [], ◌++◌, length, map, slice_get, take, Option, None, Some}
 use Rattle.ipc_devices.specs.Device.{Memory}
@@ -26,12 +26,13 @@ use Rattle.ipc_convert.specs.declared.chunks.Ending.TheVariants.{Over, Waits}
 
 -- ---- a stream
 
--- what a reader means that has these bytes ahead, behind those of a prefix that it began, to who knows s
+-- What these bytes mean to a stream reader that knows s, after its partial prefix.
 abbrev pub meant_by : {R : Type 0} → StreamReader R → Known → List ℕ → Meant
 meant_by r s bytes = chosen_meaning (request_of r) s (begun_of r ++ bytes)
 
--- From a to b a device gave these chunks to a reader: whatever follows, it means these chunks, and then what it means to the reader. The
--- messages were taken whole: where nothing was begun, nothing is.
+-- From state a to b a stream reader read these chunks from its device. Whatever bytes follow, they
+-- are the first that the stream means. The messages were read whole: if there was no partial
+-- prefix, there is none afterwards.
 pub record GaveChunks {R : Type 0} (gives : Gives R) (a : StreamReader R) (cs : List Chunk) (b : StreamReader R) : Type 0 where
   pub unfinished : is_over b ≡ false
   pub asked : request_of b ≡ request_of a
@@ -40,23 +41,27 @@ pub record GaveChunks {R : Type 0} (gives : Gives R) (a : StreamReader R) (cs : 
   pub gave : gives (device_of a) bytes going (device_of b)
   pub rest : (s : Known) (ys : List ℕ) → Knows a s → (t : Known) × Knows b t × (meant_by a s (bytes ++ ys) ≡ with_chunks cs (meant_by b t ys))
 
--- To a reader these bytes mean no chunk, and that the stream waits for the next message, of which nothing is begun.
+-- These bytes mean no chunk to a stream reader, and that the stream waits for the next
+-- message, without a partial prefix.
 pub record WaitsForNext {R : Type 0} (a : StreamReader R) (bytes : List ℕ) : Type 0 where
   pub each : (s : Known) → Knows a s → (t : Known) × (meant_by a s bytes ≡ record { chunks = []; end = waits t [] })
 
--- how a device stopped behind a stream that is over, or that waits: no byte was left then
+-- How the device stopped after a stream that has ended (`over`) or
+-- waits: no byte was left if it waits.
 abbrev pub last_stop : Bool → Stop
 last_stop true = going
 last_stop false = ended
 
--- From a to b a device gave no chunk more: the stream is over, and nothing was taken behind its mark, or it waits, and all was taken.
+-- From state a to b a stream reader read no chunk. The stream has ended, and no byte after its mark
+-- was read; or it waits, and all bytes were read.
 pub record GaveNoMore {R : Type 0} (gives : Gives R) (a : StreamReader R) (over : Bool) (b : StreamReader R) : Type 0 where
   pub bytes : List ℕ
   pub gave : gives (device_of a) bytes (last_stop over) (device_of b)
   pub ends : (s : Known) → Knows a s → EndsNow over (meant_by a s bytes)
   pub no_more : over ≡ true → begun_of a ≡ [] → EndsWithMark (WaitsForNext a) bytes
 
--- From a on a device gave bytes that mean a fault to a reader, whatever follows them, and no chunk; the fault is one of a stream's.
+-- From state a on the device gave bytes that mean no chunk and a fault, whatever follows them, and
+-- the error is one of a stream's.
 pub record GaveFault {R : Type 0} (gives : Gives R) (a : StreamReader R) (e : Fault) : Type 0 where
   pub bytes : List ℕ
   pub stop : Stop
@@ -65,52 +70,55 @@ pub record GaveFault {R : Type 0} (gives : Gives R) (a : StreamReader R) (e : Fa
   pub kind : IsStreamFault (request_of a) e
   pub means : (s : Known) (ys : List ℕ) → Knows a s → Follows stop ys → meant_by a s (bytes ++ ys) ≡ record { chunks = []; end = faulty }
 
+-- The stream has ended, and doesn't wait.
 abbrev pub is_end : Ending → Bool
 is_end Waits = false
 is_end Over = true
 
--- These chunks came. From a stream that was over none did, and it is over still.
+-- These chunks were read. From a stream that had ended there were none.
 pub record CameOn {R : Type 0} (gives : Gives R) (a : StreamReader R) (cs : List Chunk) (b : StreamReader R) : Type 0 where
   pub over : is_over a ≡ true → (cs ≡ []) × (is_over b ≡ true)
   pub gave : is_over a ≡ false → GaveChunks gives a cs b
 
--- No chunk came, and so it ended. Of a stream that was over that is said again, and its device isn't asked.
+-- No chunk was read, and the stream ended so. If it had ended before, the device isn't read.
 pub record EndedSo {R : Type 0} (gives : Gives R) (a : StreamReader R) (ending : Ending) (b : StreamReader R) : Type 0 where
   pub over : is_over a ≡ true → (ending ≡ Over) × (device_of b ≡ device_of a)
   pub gave : is_over a ≡ false → GaveNoMore gives a (is_end ending) b
 
+-- A stream reader read these chunks.
 abbrev pub StreamCame : {R : Type 0} → Gives R → Moved (StreamReader R)
 StreamCame gives a cs b = CameOn gives a cs b
 
+-- A stream reader read no chunk, and the stream ended so.
 abbrev pub StreamStopped : {R : Type 0} → Gives R → StreamReader R → Ending → StreamReader R → Type 0
 StreamStopped gives a ending b = EndedSo gives a ending b
 
--- a fault comes of a stream that isn't over
+-- An error comes from a stream that hasn't ended.
 abbrev pub StreamBreaks : {R : Type 0} → Gives R → BreaksAt (StreamReader R)
 StreamBreaks gives a e = (is_over a ≡ false) × GaveFault gives a e
 
 -- ---- a file
 
--- the bytes of it
+-- The bytes of a file that is read.
 abbrev pub bytes_of : {R : Type 0} → (R → Memory) → FileReader R → List ℕ
 bytes_of memory r = (memory (files.device_of r)).whole
 
--- no dictionaries were read, or those of the file
+-- No dictionaries were read, or those of the file.
 abbrev pub AreOfFile : Option Dictionaries → Option Dictionaries → Type 0
 AreOfFile None file = Unit {0}
 AreOfFile (Some known) file = AreAlike file (Some known)
 
--- It reads all of each chunk.
+-- A file reader reads all columns and rows of each chunk.
 pub record ReadsWhole {R : Type 0} (memory : R → Memory) (r : FileReader R) : Type 0 where
   pub columns : files.asked_of r ≡ None
   pub rows : files.remaining_of r ≡ None
   pub known : AreOfFile (files.known_of r) (file_dictionaries (files.file_of r) (bytes_of memory r))
 
--- the chunks at the first i blocks are these
+-- The chunks at the first i blocks are these.
 abbrev pub FirstAre : FileMetadata → Dictionaries → List ℕ → ℕ → List Chunk → Type 0
 FirstAre m known bytes i cs = chunks_at m known (all_of bytes) None None (take i m.blocks) ≡ map Some cs
 
--- From a to b a reader gave these chunks: they stand at the next blocks.
+-- From state a to b a file reader read these chunks: they are those at the next blocks.
 pub record GaveBlocks {R : Type 0} (memory : R → Memory) (a : FileReader R) (cs : List Chunk) (b : FileReader R) : Type 0 where
   pub file : files.file_of b ≡ files.file_of a
   pub bytes : bytes_of memory b ≡ bytes_of memory a
@@ -121,19 +129,21 @@ pub record GaveBlocks {R : Type 0} (memory : R → Memory) (a : FileReader R) (c
       → FirstAre (files.file_of a) known (bytes_of memory a) (files.block_of a) so_far
       → FirstAre (files.file_of a) known (bytes_of memory a) (files.block_of b) (so_far ++ cs)
 
+-- A file reader that reads all of each chunk read these chunks.
 abbrev pub FileCame : {R : Type 0} → Bool → (R → Memory) → Moved (FileReader R)
 FileCame known memory a cs b = IsTrue known → ReadsWhole memory a → GaveBlocks memory a cs b
 
--- behind the last block nothing comes
+-- A file reader is after its last block, and no chunk comes.
 abbrev pub FileStopped : {R : Type 0} → FileReader R → Ending → FileReader R → Type 0
 FileStopped a ending b = (ending ≡ Over) × (files.is_over a ≡ true)
 
--- The dictionaries of a file have no meaning, and the fault is that of the first of their blocks that has none.
+-- The dictionaries of a file have no meaning, and the error is that of the
+-- first faulty dictionary block.
 pub record LacksDictionaries (m : FileMetadata) (bytes : List ℕ) (e : Fault) : Type 0 where
   pub none : file_dictionaries m bytes ≡ None
   pub reason : DictionariesReason m bytes [] m.dictionaries e
 
--- A block of a file has no chunk, and the fault is that of its message.
+-- A block of a file has no chunk, and the error is that of its message.
 pub record LacksChunk (m : FileMetadata) (bytes : List ℕ) (e : Fault) : Type 0 where
   pub block : ℕ
   pub known : Dictionaries
@@ -141,9 +151,11 @@ pub record LacksChunk (m : FileMetadata) (bytes : List ℕ) (e : Fault) : Type 0
   pub none : file_chunk m known bytes None None block ≡ None
   pub reason : RecordReason m (chosen None (count (kinds m.schema))) bytes (slice_get m.blocks block) e
 
--- its dictionaries or one of its blocks
+-- The dictionaries of a file, or one of its blocks, have no meaning, and the error says why.
 abbrev pub LacksPart : FileMetadata → List ℕ → Fault → Type 0
 LacksPart m bytes e = LacksDictionaries m bytes e ⊎ LacksChunk m bytes e
 
+-- An error of a file reader that reads all of each chunk: the
+-- dictionaries or a block have no meaning.
 abbrev pub FileBreaks : {R : Type 0} → Bool → (R → Memory) → BreaksAt (FileReader R)
 FileBreaks known memory a e = IsTrue known → ReadsWhole memory a → LacksPart (files.file_of a) (bytes_of memory a) e

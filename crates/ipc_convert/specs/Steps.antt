@@ -1,4 +1,4 @@
--- How a stream is ended, and how a file is begun and ended, that is written again.
+-- How a copied stream is ended, and how a copied file is begun and ended.
 -- (Arrow columnar format, "IPC Streaming Format" and "IPC File Format".)
 use Rattle.std.specs.Prelude.{◌≡◌, ◌⊎◌, ℕ, ◌≤◌, Bool, IsTrue, [], OnOk, Result, Ok, Err}
 use Rattle.lower.specs.TypeTrees.{FieldTrees, Pairs}
@@ -17,12 +17,13 @@ use Rattle.ipc_file_write.specs.FileWriters.{Agrees, AnswersFinish, EndsWith, Fi
 use Rattle.ipc_convert.specs.declared.chunks.Ending.{Ending}
 use Rattle.ipc_convert.specs.declared.chunks.Ending.TheVariants.{Over, Waits}
 
--- the mark ends a stream where its source is over, and nothing is written where that waits
+-- The copy ends with the mark if its source has ended; if the source waits, nothing is written.
 abbrev pub EndsAsSource : {W : Type 0} → Bool → (W → Memory) → Ending → (a b : WriterSeen W) → Type 0
 EndsAsSource known memory Waits a b = b ≡ a
 EndsAsSource known memory Over a b = (b.state ≡ Finished) × streams.Remains known memory a b
 
--- A writer has begun a file of this schema with its ids, in this order of bytes, with these pairs, and wrote no chunk.
+-- A file writer has begun a file of this schema with its ids, this byte order and these
+-- pairs, and has written no chunk.
 pub record BeginsFile {W : Type 0} (known : Bool) (memory : W → Memory) (out : W) (order : Endianness) (fields : FieldTrees) (metadata : Pairs) (ids : IdTrees) (pairs : Pairs) (w : FileSeen W) : Type 0 where
   pub state : w.state ≡ Started
   pub order_is : w.order ≡ order
@@ -32,11 +33,11 @@ pub record BeginsFile {W : Type 0} (known : Bool) (memory : W → Memory) (out :
   pub pairs_are : w.pairs ≡ pairs
   pub agrees : IsTrue known → Agrees memory w (before (memory out)) []
 
--- why one isn't begun: the schema can't be written with its ids, or it and the pairs weigh too much together
+-- Why a file isn't begun: the schema can't be written with its ids, or is too heavy with the pairs.
 abbrev pub RefusesWithPairs : FieldTrees → Pairs → IdTrees → Pairs → Fault → Type 0
 RefusesWithPairs fs es is pairs e = RefusesSchema e fs es is ⊎ ((e ≡ Argument TooLarge) × ¬ (file_weight fs es pairs ≤ max_weight))
 
--- All chunks were taken, and the file that has them was ended.
+-- All chunks were written, and the file that has them was finished.
 pub record EndsCopy {W : Type 0} (known grows : Bool) (failures room : W → ℕ) (memory : W → Memory) (copied : Result Ending Fault) (ending : Ending) (a b : FileSeen W) : Type 0 where
   pub all : copied ≡ Ok ending
   pub sends : SendsEnding known grows failures room memory a (Ok tt) b
@@ -44,13 +45,13 @@ pub record EndsCopy {W : Type 0} (known grows : Bool) (failures room : W → ℕ
   pub reaches : ReachesEnd known memory a b
   pub remains : Remains known memory a b
 
--- of two answers the fault of the first, or else that of the second
+-- The error of the first result, or else that of the second.
 abbrev pub both : Result Ending Fault → Result Unit Fault → Result Ending Fault
 both (Err e) finished = Err e
 both (Ok ending) (Err e) = Err e
 both (Ok ending) (Ok x) = Ok ending
 
--- Whatever came of the copy, the file was ended where it may be, and has the chunks that it had.
+-- Whatever the copy returned, the file was finished if it may be, and has the chunks that it had.
 pub record EndsAnyway {W : Type 0} (known : Bool) (memory : W → Memory) (copied result : Result Ending Fault) (a b : FileSeen W) : Type 0 where
   pub finished : Result Unit Fault
   pub answers : AnswersFinish a finished

@@ -19,7 +19,7 @@ use Rattle.ipc_costs.specs.Sizes.{field_size, fields_size, pairs_size, schema_si
 use Rattle.ipc_costs.proofs.PairWeights.{pairs-cost, pairs-texts, present-made}
 use Rattle.ipc_costs.proofs.TypeSizes.{group-cost, plain-cost}
 
--- what is read of a field's table is no larger than the table costs, and one
+-- What is read of a field's table is no larger than the table costs, plus one.
 ReadsSmall : (Spot → Option Read) → (Spot → ℕ) → Type 0
 ReadsSmall read cost = (t : Spot) (x : Read) → read t ≡ Some x → field_size x.0 ≤ 1 + cost t
 

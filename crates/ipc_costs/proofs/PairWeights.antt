@@ -25,7 +25,7 @@ present-made (Err d) o e = cc
 keys-same : (k j : List ℕ) → is_eq (slice_cmp nat_cmp k j) ≡ true → k ≡ j
 keys-same k j e = (bytes_eq-Decides k j).0 (sym (is_eq-slice_cmp k j) ∙ e)
 
--- ---- a pair weighs its texts, and its value once more where its key is one of extensions
+-- ---- a pair weighs its texts, and its value once more if its key is one of extensions
 
 again : (key value : List ℕ) → ℕ
 again key value = cond (is_extension_key key) (length value) 0

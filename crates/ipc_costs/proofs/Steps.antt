@@ -6,7 +6,7 @@ use Rattle.ipc_views.specs.Tables.{table_in}
 use Rattle.ipc_model.specs.Schemas.{present}
 use Rattle.ipc_costs.specs.Costs.{field_cost, own_cost, table_cost, tables_cost, typed_cost}
 
--- n tables from k on, and the one behind them
+-- n tables from index k on, and the one after them.
 one_more : (cost : Spot → ℕ) (v : Vector) (k n : ℕ) → tables_cost cost v k (suc n) ≡ tables_cost cost v k n + table_cost cost (table_in v (k + n))
 one_more cost v k zero =
     let same : k + 0 ≡ k = omega arith in
@@ -32,7 +32,7 @@ cost_until cost v i n h = omega (arith, cost_next cost v i, fewer cost v 0 (i + 
 
 pub ruleset costs = (cost_next, cost_until)
 
--- what is left before a table isn't enough for it, so the amount isn't enough for all
+-- The amount before a table doesn't suffice for it, so it doesn't suffice for all.
 pub all_refused : (cost : Spot → ℕ) (v : Vector) (i n left amount : ℕ) → i < n → left + tables_cost cost v 0 i ≡ amount → left < table_cost cost (table_in v i) → amount < tables_cost cost v 0 n
 all_refused cost v i n left amount h before few = omega (arith, before, few, cost_until cost v i n h)
 

@@ -1,9 +1,9 @@
--- Runs of reads one after another, and over memory.
+-- Runs of reads, one after another, and of memory.
 use Rattle.std.proofs.Common.{◌≡◌, ℕ, ◌+◌, List, [], ◌++◌, refl, sym, ◌∙◌, subst, IsTrue, Bool, append_assoc, append-nil}
 use Rattle.ipc_devices.specs.Device.{Memory, after}
 use Rattle.ipc_devices.specs.Gives.{Stop, going, ended, failed, Gives, GivesInOrder, GivesAhead, GivesNothing, Follows, Gave, GaveTo}
 
--- one run behind another: what is left of the first is ahead of the second
+-- One run after another: what is left of the first is ahead of the second.
 pub gave_then : {S : Type 0} (gives : Gives S) → GivesInOrder gives → (V W X : List ℕ → Type 0) (P Q T : List ℕ → List ℕ → Type 0) (a b : S) (e : Stop) (c : S)
     → ((xs ys : List ℕ) → V xs → W ys → ((zs : List ℕ) → P (xs ++ zs) zs) → X (xs ++ ys))
     → ((all mid rest : List ℕ) → P all mid → Q mid rest → T all rest)
@@ -16,7 +16,7 @@ gave_then gives law V W X P Q T a b e c bound joined p q = record {
       (joined (p.bytes ++ (q.bytes ++ ys)) (q.bytes ++ ys) ys (p.holds (q.bytes ++ ys) tt) (q.holds ys f));
 }
 
--- of memory: what was ahead, and what is left of it then
+-- Of memory: the bytes that were ahead, and those that are left.
 pub gave_ahead : {S : Type 0} (gives : Gives S) (known : Bool) (memory : S → Memory) → GivesAhead known gives memory → IsTrue known
     → (W : List ℕ → Type 0) (P : List ℕ → List ℕ → Type 0) (a b : S) → Gave gives W P a going b → P (after (memory a)) (after (memory b))
 gave_ahead gives known memory law k W P a b g =
@@ -27,7 +27,7 @@ pub gave_to_end : {S : Type 0} (gives : Gives S) (known : Bool) (memory : S → 
 gave_to_end gives known memory law k W P a b g =
     subst (λ (l : List ℕ). P l []) (append-nil g.bytes ∙ sym (law a g.bytes ended b k g.gave)) (g.holds [] refl)
 
--- the same bytes, for what follows of what is said of them
+-- The same bytes, for what follows from what is known of them.
 pub gave_as : {S : Type 0} (gives : Gives S) (V X : List ℕ → Type 0) (P T : List ℕ → List ℕ → Type 0) (a : S) (e : Stop) (b : S)
     → ((xs : List ℕ) → V xs → ((zs : List ℕ) → Follows e zs → P (xs ++ zs) zs) → X xs)
     → ((all rest : List ℕ) → P all rest → T all rest)
@@ -44,7 +44,8 @@ pub gave_nothing : {S : Type 0} (gives : Gives S) → GivesNothing gives → (W 
     → W [] → ((ys : List ℕ) → P ys ys) → Gave gives W P a going a
 gave_nothing gives law W P a w p = record { bytes = []; gave = law a; within = w; holds = λ ys _. p ys }
 
--- of memory, however the device stopped: what is left isn't asked of at an end, and nothing is after a failure
+-- Of memory, however the device stopped: nothing is claimed of what is left
+-- at an end, or after a failure.
 module _ {S : Type 0} (gives : Gives S) (known : Bool) (memory : S → Memory) (law : GivesAhead known gives memory) (k : IsTrue known)
     (W : List ℕ → Type 0) (P : List ℕ → List ℕ → Type 0) where
   by_stop : (Q : Stop → Type 0) (a b : S) → ((xs ys : List ℕ) → Q ended → P xs [] → P xs ys) → ((xs ys : List ℕ) → Q failed → P xs ys)

@@ -1,9 +1,9 @@
--- What stands before and behind a place, after reads and writes.
+-- The bytes before and after an offset, after reads and writes.
 use Rattle.std.proofs.Common.{◌≡◌, ℕ, ◌+◌, ◌-◌, ◌≤◌, List, [], ◌∷◌, ◌++◌, length, take, drop, min, replicate, zero, suc, refl, sym, ap, append-nil, length-drop, length-take, length-append, take-append-drop, arith}
 use Rattle.std.proofs.lemmas.List.{nil_from_length, drop_all, take_at, drop-drop, length-take-le, length-replicate, take_all, take-replicate, drop-replicate}
 use Rattle.ipc_devices.specs.Device.{before, ReadsFront}
 
--- what a read took
+-- What a read took from a memory.
 taken_is : (bytes buf old : List ℕ) (place n : ℕ) → n ≡ min (length (drop place bytes)) (length old) → buf ≡ take n (drop place bytes) ++ drop n old → take n buf ≡ take n (drop place bytes)
 taken_is bytes buf old place n count copied = rw copied (take_at (take n (drop place bytes)) (drop n old) n (length-take-le n (drop place bytes) (omega arith)))
 

@@ -1,4 +1,4 @@
--- Where a fault leaves the device.
+-- How an error leaves the device.
 use Rattle.std.proofs.Common.{◌≡◌, ℕ, ◌≤◌, Result, Ok, Err, refl, subst, arith}
 use Rattle.ipc_devices.specs.Device.{Rises}
 use Rattle.ipc_devices.specs.Faults.{OnIo, OwnFault}
@@ -35,7 +35,7 @@ pub answer_going : (X : Type 0) (r : Result X Fault) → OnIo r ⊥ → AnswerSt
 answer_going X (Ok x) h = refl
 answer_going X (Err e) h = fault_going X e h
 
--- a device that failed leaves no claim of ours
+-- After a device's error nothing is claimed.
 pub nothing_claimed : (e : Fault) (P : Type 0) → FaultStop e failed → OwnFault e P
 nothing_claimed (Faults.OutOfSpec k) P s = absurd s
 nothing_claimed Faults.Ended P s = absurd s

@@ -1,4 +1,5 @@
--- When two faults are the same: of one case, and with the same part; an error of a device by its kind alone.
+-- Equality of faults: they have the same variant and the same payload; of a
+-- device's error only the kind counts.
 use Rattle.std.specs.Prelude.{ℕ, Bool, nat_eq, Option, Some, None}
 use Rattle.std.specs.Option.{option_eq}
 use Rattle.std.specs.Ordering.{on, eq_of_both}
@@ -29,7 +30,7 @@ use Rattle.lower.specs.declared.error.Error.{Error}
 use Rattle.lower.specs.contracts.error.ErrorPartialEq.TheImpl as LowerTest
 use Rattle.lower.specs.contracts.error.ErrorEq.TheImpl as LowerLaws
 
--- which case it is
+-- The number of a fault's variant.
 abbrev pub case_of : Fault → ℕ
 case_of (Faults.OutOfSpec _) = 0
 case_of Faults.Ended = 1
@@ -42,34 +43,42 @@ case_of (Faults.Io _) = 7
 case_of Faults.Memory = 8
 case_of (Faults.Lower _) = 9
 
+-- The kind of an `OutOfSpec` fault.
 abbrev pub kind_of : Fault → Option OutOfSpecKind
 kind_of (Faults.OutOfSpec x) = Some x
 kind_of _ = None
 
+-- The payload of a `NotYetImplemented` fault.
 abbrev pub form_of : Fault → Option Nyi
 form_of (Faults.NotYetImplemented x) = Some x
 form_of _ = None
 
+-- The payload of a `Schema` fault.
 abbrev pub schema_of : Fault → Option SchemaFault
 schema_of (Faults.Schema x) = Some x
 schema_of _ = None
 
+-- The payload of an `Argument` fault.
 abbrev pub argument_of : Fault → Option ArgFault
 argument_of (Faults.Argument x) = Some x
 argument_of _ = None
 
+-- The payload of a `State` fault.
 abbrev pub state_of : Fault → Option StateFault
 state_of (Faults.State x) = Some x
 state_of _ = None
 
+-- The payload of a `Lower` fault.
 abbrev pub array_of : Fault → Option Error
 array_of (Faults.Lower x) = Some x
 array_of _ = None
 
+-- The kind of a device's error.
 abbrev pub device_of : Fault → Option ErrorKind
 device_of (Faults.Io e) = Some (error_kind e)
 device_of _ = None
 
+-- Two faults are equal.
 abbrev pub same_fault : Fault → Fault → Bool
 same_fault =
     eq_of_both (on case_of nat_eq) (eq_of_both (on device_of (option_eq DeviceTest.ghosts.eq))
@@ -80,6 +89,7 @@ same_fault =
     (eq_of_both (on state_of (option_eq StateTest.ghosts.eq))
     (on array_of (option_eq LowerTest.ghosts.eq))))))))
 
+-- Equality of faults is an equivalence.
 pub same_fault_equiv : IsEquivalence same_fault
 same_fault_equiv =
     and_equiv (on_equiv case_of nat_eq_equiv) (and_equiv (on_equiv device_of (options_equiv DeviceLaws.Laws.laws-law))
@@ -90,5 +100,6 @@ same_fault_equiv =
     (and_equiv (on_equiv state_of (options_equiv StateLaws.Laws.laws-law))
     (on_equiv array_of (options_equiv LowerLaws.Laws.laws-law))))))))
 
+-- Equality of faults is symmetric and transitive.
 pub same_fault_per : IsPartialEquivalence same_fault
 same_fault_per = partial_equiv_from_equiv same_fault_equiv

@@ -19,7 +19,7 @@ use Rattle.ipc_plan.proofs.Arrays.{array_law}
 use Rattle.ipc_encode.specs.Appending.{JoinsParts, BatchParts, MeansArray, PlansFrom, SameMeaningLaw}
 use Rattle.ipc_encode.proofs.Placed.{end_long, nodes_placed, parts_placed}
 
--- the levels of an array, wherever their nodes, their buffers and these bytes stand
+-- The levels of an array, wherever their nodes, their buffers and these bytes are.
 means_array : (order : Endianness) (l : Layout) (offset : ℕ) (bss : List (List (List ℕ))) → IsArray l → HaveBuffers order (whole_levels l) bss
     → MeansArray order l offset (map node_of (whole_levels l)) (entries_from offset (joined_buffers bss)) (body (joined_buffers bss))
 unfolding entries_of
@@ -59,7 +59,7 @@ pub planned_length : (order : Endianness) (start : ℕ) (hs : List Level) (p : P
 planned_length order start hs p plans =
     planned_end order start hs p plans ∙ ap (λ (xs : List ℕ). start + length xs) (sym (planned_bytes order start hs p plans))
 
--- what the plan of an array lists, and its bytes, behind what stood there
+-- The nodes and buffers of an array's plan, and its bytes, after those that were there.
 pub appended : (order : Endianness) (l : Layout) (p : Plan) (old new : BatchParts) → IsArray l → PlansFrom order (size old.offset) (whole_levels l) p
     → new.nodes ≡ old.nodes ++ p.nodes.items → new.buffers ≡ old.buffers ++ p.buffers.items → new.bytes ≡ old.bytes ++ pieces_bytes p.order p.pieces.items → new.offset ≡ pos p.end
     → JoinsParts order l old new

@@ -1,4 +1,4 @@
--- Clones of arrays lie in memory as these do.
+-- Clones of arrays have the same layout.
 use Rattle.std.proofs.Common.{◌≡◌, List, [], ◌∷◌, map, refl}
 use Rattle.std.specs.List.{AllZip}
 use Rattle.lower_arrays.specs.AnyLayouts.{layout_of}

@@ -61,7 +61,7 @@ encoded kind order ls rows p q m given metadata arrays plans short room small is
       long = sym long ∙ room;
     }
 
--- a batch that lists what a plan does
+-- A batch with the nodes and buffers of a plan.
 pub plan_message : (kind : BatchKind) (p : Plan) (given end : ℤ) (nodes : Vec FieldNode Global) (buffers : Vec Buffer Global) (h : MessageHeader)
     → h ≡ header_in kind (record { length = given; nodes = nodes; buffers = buffers; compression = None }) → nodes.items ≡ p.nodes.items → buffers.items ≡ p.buffers.items → end ≡ pos p.end
     → IsMessageOfPlan (record { version = V5; header = h; body_length = end; custom_metadata = None }) kind given p
@@ -76,7 +76,7 @@ plan_message kind p given end nodes buffers h value ns bs es = record {
   end_is = es;
 }
 
--- how many bytes its metadata have
+-- How many bytes the metadata of the batch have.
 pub message_length : (kind : BatchKind) (order : Endianness) (ls : List Layout) (p : Plan) (m : Message) (given : ℤ) → PlansColumns order ls p → IsMessageOfPlan m kind given p
     → message_size (message_slots m) ≡ metadata_length kind (length (levels_of ls)) (length (body_lengths (levels_of ls)))
 message_length kind order ls p m given plans is =

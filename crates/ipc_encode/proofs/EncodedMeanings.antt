@@ -1,4 +1,4 @@
--- What the messages of batches mean that were encoded.
+-- What encoded messages of batches mean.
 use Rattle.std.proofs.Common.{arith, ◌≡◌, ℕ, ℤ, List, [], ◌∷◌, length, Bool, false, Option, None, Some, Result, Ok, refl, ap, ◌∙◌, subst}
 use Rattle.std.specs.Option.{option_and_then}
 use Rattle.std.specs.Prelude.{option_map}
@@ -55,7 +55,7 @@ knows_in_batch schema p ls known knows =
 
 -- ---- batches
 
--- a table that lists what a plan does, with its body, means the columns
+-- A table with the nodes and buffers of a plan, and its body, means the columns.
 table_means : (schema : Schema) (extra : ℕ) (known : Dictionaries) (t : Spot) (p : Plan) (ls : List Layout) (rows k : ℕ) (sent : List ℕ) → extra ≡ 0 → SaysBatch t rows (lists_of_plan p) → PlansColumns schema.order ls p
     → AreArrays (layouts ls) → sent ≡ body_of_plan p → AreLike schema.fields (layouts ls) → HaveRows k ls → KnowsAll (knowing known schema.order) (layouts ls) schema.ids
     → record_meaning schema extra known (whole sent) t None None ≡ Some (chunk_named schema.fields ls)
@@ -80,7 +80,7 @@ encoded_record_law head s ls rows metadata sent e none like have knows =
           table_means head.schema (extra_of head.version) s.dictionaries m.header.table e.plan ls rows rows sent none m.says.1 e.plans e.arrays e.body_is like have knows;
     }
 
--- the values are put in front
+-- The values come before those known earlier.
 values_mean : (schema : Schema) (known : Dictionaries) (id : ℤ) (p : Place) (l : Layout) (sent : List ℕ) (values : Spot)
     → record_meaning (values_schema p schema.order) 0 known (whole sent) values None None ≡ Some (record { type = p.type; slots = slots l } ∷ [])
     → place_of (places schema.fields schema.ids) id ≡ Some p

@@ -1,4 +1,4 @@
--- What a plan lists can be said by numbers of 64 bits, signed.
+-- The numbers in a plan's nodes and buffers fit in signed 64-bit integers.
 use Rattle.std.proofs.Common.{arith, ℕ, pos, ◌+◌, ◌^◌, ◌<◌, ◌≤◌, List, [], ◌∷◌, ◌++◌, map, length, drop, not, Option, Some, None, All, SFits, sym, subst, length-append}
 use Rattle.std.proofs.lemmas.List.{length-take}
 use Rattle.std.proofs.lemmas.List.Concat.{flat_map-cons}

@@ -1,4 +1,4 @@
--- Nodes and buffers that stand among others in the lists of a batch.
+-- Nodes and buffers among others in the lists of a batch.
 use Rattle.std.proofs.Common.{arith, ◌≡◌, ℕ, pos, ◌+◌, ◌-◌, List, [], ◌∷◌, ◌++◌, map, length, take, drop, replicate, get_or, refl, sym, ap, ◌∙◌, subst, length-append, append_assoc, rules}
 use Rattle.std.specs.Int.{next_multiple_of}
 use Rattle.std.proofs.lemmas.List.{take_at, drop_at, length-replicate}
@@ -35,7 +35,7 @@ length_padded xs =
     let n = next_multiple_of (length xs) 64 - length xs in
     omega (arith, length-append xs (replicate n zero_byte), length-replicate n zero_byte)
 
--- the buffer at place o of a body, whose bytes stand behind `front` in the source
+-- The buffer at offset o of a body, whose bytes are after `front` in the source.
 part_placed : (source front : List ℕ) (base o : ℕ) (x rest : List ℕ) → source ≡ front ++ (padded x ++ rest) → length front ≡ base + o → IsBufferOf (part_at source base (entry (pos o) (length x))) x
 part_placed source front base o x rest e h = record {
   offset_is = search rules;
@@ -46,7 +46,7 @@ part_placed source front base o x rest e h = record {
       ∙ take_at x _ (length x) refl;
 }
 
--- buffers that are listed one behind the other, whose padded bytes stand so in the source
+-- Buffers one after the other, whose padded bytes are so in the source.
 pub parts_placed : (s : Entries) (source done : List ℕ) (base o : ℕ) (front behind : List Part) (bs : List (List ℕ)) (rest : List ℕ) → s.parts ≡ front ++ (map (part_at source base) (entries_from o bs) ++ behind)
     → source ≡ done ++ (body bs ++ rest) → length done ≡ base + o → PartsStand s (length front) bs
 parts_placed s source done base o front behind [] rest e f h = tt

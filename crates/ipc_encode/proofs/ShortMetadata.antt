@@ -1,4 +1,4 @@
--- The weight of a schema bounds how many nodes and buffers its batches list.
+-- The weight of a schema bounds how many nodes and buffers its batches have.
 use Rattle.std.proofs.Common.{arith, ◌≡◌, ℕ, ℤ, ◌+◌, ◌*◌, ◌^◌, ◌≤◌, true, List, [], ◌∷◌, ◌++◌, length, Option, refl, sym, ap, ◌∙◌, length-append}
 use Rattle.std.proofs.lemmas.Grind.{flat_map-append}
 use Rattle.std.proofs.lemmas.List.Concat.{flat_map-cons}
@@ -97,7 +97,7 @@ entries_of (l ∷ ls) (more_fields f fs) arrays like =
       buffer_count = omega (arith, bs, here.buffer_count, rest.buffer_count, own_buffers);
     }
 
--- ---- dictionary places are inside the fields
+-- ---- dictionary fields are inside the fields
 
 abbrev IsLight : ℕ → Place → Type 0
 IsLight w p = type_weight (norm p.type) ≤ w

@@ -5,7 +5,7 @@ use Rattle.std.specs.declared.alloc.Global.{Global}
 use Rattle.std.proofs.lemmas.List.{take_all}
 use Rattle.ipc_devices.specs.Device.{Memory, WritesOver, before}
 
--- bytes in memory, and the place behind the last of them
+-- The bytes of a vector, as memory that is written to at its end.
 abbrev pub vector : Vec ℕ Global → Memory
 vector v = record { whole = v.items; place = vec_len v }
 
@@ -15,6 +15,6 @@ whole_before xs n h = let none : n - length xs ≡ 0 = omega arith in rw (none, 
 vector_before : (v : Vec ℕ Global) → before (vector v) ≡ v.items
 vector_before v = whole_before v.items v.len (omega (arith, v.ok))
 
--- what is written stands at the end
+-- What is written is at the end.
 pub written_at_end : (v w : Vec ℕ Global) (xs : List ℕ) → WritesOver (vector v) (vector w) xs → w.items ≡ v.items ++ xs
 written_at_end v w xs h = sym (vector_before w) ∙ h.added ∙ ap (λ ys. ys ++ xs) (vector_before v)

@@ -22,21 +22,22 @@ use Rattle.ipc_plan.specs.Plans.{Adds, body, entries_from}
 use Rattle.ipc_plan.specs.Taking.{AreShort, RefusesLength}
 use Rattle.ipc_plan.specs.declared.plan.Plan.{Plan}
 
--- the parts of a batch: its nodes, its buffers, the bytes of its body, and where the next buffer begins, counted from the body's first byte
+-- The parts of a batch: its nodes, its buffers, the bytes of its body, and the offset of the next
+-- buffer, counted from the body's first byte.
 pub record BatchParts : Type 0 where
   pub nodes : List FieldNode
   pub buffers : List Buffer
   pub bytes : List ℕ
   pub offset : ℤ
 
--- the byte order of numbers
+-- The byte order that a flag means.
 abbrev pub order_of : Bool → Endianness
 order_of true = Little
 order_of false = Big
 
 -- ---- a plan
 
--- nothing is planned yet, and the first buffer begins at place `start`
+-- The plan has nothing yet, and its first buffer begins at offset `start`.
 pub record IsBegun (order : Endianness) (start : ℕ) (p : Plan) : Type 0 where
   pub order_is : p.order ≡ order
   pub no_nodes : p.nodes.items ≡ []
@@ -44,33 +45,35 @@ pub record IsBegun (order : Endianness) (start : ℕ) (p : Plan) : Type 0 where
   pub no_pieces : p.pieces.items ≡ []
   pub end_is : p.end ≡ start
 
--- a plan of levels, whose first buffer begins at place `start`
+-- A plan of levels, whose first buffer begins at offset `start`.
 pub record PlansFrom (order : Endianness) (start : ℕ) (hs : List Level) (p : Plan) : Type 0 where
   pub begun : Plan
   pub is_begun : IsBegun order start begun
   pub adds : Adds begun p hs
 
--- Levels are taken just where each length, and the place behind them, can be said, or memory was refused.
+-- Levels are appended exactly if each length, and the offset after them, fits in a signed 64-bit
+-- integer, unless an allocation fails.
 abbrev pub TakesSayable : {X : Type 0} → Result X Fault → List Level → ℕ → Type 0
 TakesSayable r hs start =
     MatchResult r (λ _. AreShort hs × IsSayable (start + body_length (body_lengths hs))) (RefusesLength (AreShort hs) (start + body_length (body_lengths hs)))
 
 -- ---- what is appended, and what it means
 
--- a list has another one from place k on
+-- The list `all` has the elements of `part` from index k on.
 pub record Has {A : Type 0} (all : List A) (k : ℕ) (part : List A) : Type 0 where
   pub before : List A
   pub behind : List A
   pub all_is : all ≡ before ++ (part ++ behind)
   pub place_is : length before ≡ k
 
--- the column at node a and buffer b is well formed, without a limit, and has just these slots
+-- The column at node a and buffer b is well formed, without a limit, and has exactly these slots.
 pub record MeansSlots (s : Entries) (t : Kind) (a b : ℕ) (xs : List Slot) : Type 0 where
   pub well : IsWell s t a b None
   pub slots_are : column s t a b None ≡ xs
 
--- Nodes, buffers and bytes mean an array: in each batch that lists the nodes from a place on and the buffers from a place on, and whose body has the bytes at
--- place `offset`, they are a column of the array's type with its slots, where the values of its dictionaries are known under the ids of their places.
+-- Nodes, buffers and bytes mean an array, in any batch that has these nodes and buffers from some
+-- position on, and whose body has the bytes at `offset`. There they are a column of the array's
+-- type with its slots, if the values of its dictionaries are known under the ids of their fields.
 abbrev pub MeansArray : Endianness → Layout → ℕ → List FieldNode → List Buffer → List ℕ → Type 0
 MeansArray order l offset nodes buffers bytes =
     (lists : Lists) (body : Body) (a b : ℕ) (known : Dictionaries) (id : Option ℤ) (is : IdTrees)
@@ -78,8 +81,9 @@ MeansArray order l offset nodes buffers bytes =
     → Knows (entries_of lists body order 0 known) l id is
     → MeansSlots (entries_of lists body order 0 known) (kind_of (type_of l) id is) a b (slots l)
 
--- To the parts of a batch are appended the nodes of an array's levels and their buffers, one behind the other from the offset on, each padded with zeros to a
--- multiple of 64 bytes; the offset is then behind them. They mean the array.
+-- To the parts of a batch are appended the nodes of an array's levels and their buffers. They begin
+-- at the old offset, one after the other, each padded with zeros to a multiple of 64 bytes; the new
+-- offset is after them. They mean the array.
 pub record JoinsParts (order : Endianness) (l : Layout) (old new : BatchParts) : Type 0 where
   pub buffers : List (List (List ℕ))
   pub have : HaveBuffers order (whole_levels l) buffers
@@ -91,7 +95,8 @@ pub record JoinsParts (order : Endianness) (l : Layout) (old new : BatchParts) :
 
 -- ---- equal arrays
 
--- Two arrays of one type with the same slots, however they lie in memory, mean the same column: of the same kind under the same ids, and with the same slots.
+-- Theorem: two arrays of one type with the same slots mean the same column, however they are laid
+-- out. It is of the same kind under the same ids, and has the same slots.
 abbrev pub SameMeaningLaw : Type 0
 SameMeaningLaw = (s s' : Entries) (a b a' b' : ℕ) (l l' : Layout) (id : Option ℤ) (is : IdTrees) → type_of l ≡ type_of l' → slots l ≡ slots l'
     → MeansSlots s (kind_of (type_of l) id is) a b (slots l) → MeansSlots s' (kind_of (type_of l') id is) a' b' (slots l')

@@ -1,5 +1,6 @@
 -- The message of a batch: its metadata, and its body.
--- (Arrow columnar format, "Encapsulated message format", "RecordBatch message" and "Dictionary messages".)
+-- (Arrow columnar format, "Encapsulated message format", "RecordBatch
+-- message" and "Dictionary messages".)
 use Rattle.std.specs.Prelude.{◌≡◌, ℕ, ℤ, pos, ◌+◌, ◌*◌, ◌^◌, ◌<◌, ◌≤◌, ◌⊎◌, false, List, length, None, Some, Ok, Result, MatchResult}
 use Rattle.std.specs.List.{flat_map}
 use Rattle.lower_types.specs.declared.Endianness.{Endianness}
@@ -29,14 +30,14 @@ use Rattle.ipc_plan.specs.declared.plan.Plan.{Plan}
 use Rattle.ipc_encode.specs.declared.batches.BatchKind.{BatchKind}
 use Rattle.ipc_encode.specs.declared.batches.BatchKind.TheVariants.{Record, Dictionary}
 
--- ---- what the metadata say to a reader
+-- ---- what the metadata mean to a reader
 
--- the table of a record batch: so many rows, and these lists, nothing compressed
+-- The table of a record batch has so many rows and these lists, and is uncompressed.
 pub record SaysBatch (t : Spot) (rows : ℕ) (listed : Lists) : Type 0 where
   pub rows_are : record_batch_length t ≡ Ok (pos rows)
   pub lists_are : lists_of t ≡ Some listed
 
--- the table of a dictionary batch: the values of this id, no delta
+-- The table of a dictionary batch has the values of this id, and is no delta.
 pub record SaysValues (t : Spot) (id : ℤ) (rows : ℕ) (listed : Lists) : Type 0 where
   pub id_is : dictionary_batch_id t ≡ Ok id
   pub no_delta : dictionary_batch_is_delta t ≡ Ok false
@@ -44,17 +45,19 @@ pub record SaysValues (t : Spot) (id : ℤ) (rows : ℕ) (listed : Lists) : Type
   pub values_are : dictionary_batch_data t ≡ Ok (Some values)
   pub says : SaysBatch values rows listed
 
--- the header of a message: tag 3 and a record batch, or tag 2 and a dictionary batch
+-- The header of a message: tag 3 and a record batch, or tag 2 and a dictionary batch.
 abbrev pub SaysKind : BatchKind → Header → ℕ → Lists → Type 0
 SaysKind Record h rows listed = (h.tag ≡ 3) × SaysBatch h.table rows listed
 SaysKind (Dictionary id) h rows listed = (h.tag ≡ 2) × SaysValues h.table id rows listed
 
--- How many bytes the metadata of a batch have that list so many nodes and buffers: each of these takes 16, and the tables the rest.
+-- How many bytes the metadata of a batch with so many nodes and buffers have: 16 for
+-- each, and those of the tables.
 abbrev pub metadata_length : BatchKind → ℕ → ℕ → ℕ
 metadata_length Record nodes buffers = 144 + 16 * (nodes + buffers)
 metadata_length (Dictionary id) nodes buffers = 192 + 16 * (nodes + buffers)
 
--- The metadata of a batch of so many rows that lists these, and whose body has so many bytes: of version V5, without pairs of its own, and laid out strictly.
+-- The metadata of a batch of so many rows with these lists, whose body has `size` bytes: of version
+-- V5, without pairs, and laid out strictly.
 pub record IsBatchMetadata (kind : BatchKind) (rows : ℕ) (listed : Lists) (size : ℕ) (metadata : List ℕ) : Type 0 where
   pub root : Spot
   pub opened : root_at metadata ≡ Ok root
@@ -70,12 +73,13 @@ pub record IsBatchMetadata (kind : BatchKind) (rows : ℕ) (listed : Lists) (siz
 
 -- ---- the message
 
--- the levels of columns, one column behind the other
+-- The levels of columns, one column after the other.
 abbrev pub levels_of : List Layout → List Level
 levels_of columns = flat_map whole_levels columns
 
--- A message is that of some columns, which are arrays: there is a plan of the columns such that the metadata list its nodes and its buffers, and the body are
--- its pieces. So the body are the buffers of the columns' levels, one behind the other, each padded, and is as long as these.
+-- The message is that of some columns, which are arrays. There is a plan of the columns: the
+-- metadata have its nodes and its buffers, and the body is its pieces. So the body is the buffers
+-- of the columns' levels, one after the other, each padded, and as long as these.
 pub record IsEncoded (kind : BatchKind) (order : Endianness) (columns : List Layout) (rows : ℕ) (metadata sent : List ℕ) : Type 0 where
   pub plan : Plan
   pub arrays : AreArrays (layouts columns)
@@ -84,14 +88,15 @@ pub record IsEncoded (kind : BatchKind) (order : Endianness) (columns : List Lay
   pub body_is : sent ≡ body_of_plan plan
   pub long : length sent ≡ body_length (body_lengths (levels_of columns))
 
--- what numbers of 64 and 32 bits, signed, have to say of a batch of these levels
+-- The lengths of a batch of these levels fit in the signed numbers of
+-- 64 and 32 bits that encode them.
 pub record IsEncodable (kind : BatchKind) (rows : ℕ) (hs : List Level) : Type 0 where
   pub few_rows : IsSayable rows
   pub short : AreShort hs
   pub body : IsSayable (body_length (body_lengths hs))
   pub metadata : metadata_length kind (length hs) (length (body_lengths hs)) < 2 ^ 31
 
--- why a batch isn't encoded
+-- Why a batch isn't encoded.
 abbrev pub RefusesBatch : BatchKind → ℕ → List Level → Fault → Type 0
 RefusesBatch kind rows hs (Argument TooLong) = IsSayable rows → AreShort hs → ⊥
 RefusesBatch kind rows hs (Argument TooLarge) =
@@ -99,23 +104,23 @@ RefusesBatch kind rows hs (Argument TooLarge) =
 RefusesBatch kind rows hs Memory = Unit {0}
 RefusesBatch kind rows hs _ = ⊥
 
--- It is just where all these numbers can be said, or memory was refused.
+-- The result is Ok exactly if all these lengths fit, unless an allocation fails.
 abbrev pub AnswersBatch : {X : Type 0} → Result X Fault → BatchKind → ℕ → List Level → Type 0
 AnswersBatch r kind rows hs = MatchResult r (λ _. IsEncodable kind rows hs) (RefusesBatch kind rows hs)
 
 -- ---- the tables
 
--- a record batch as the header of a message: by itself, or as the values of a dictionary
+-- A record batch as the header of a message: alone, or as the values of a dictionary.
 abbrev pub header_in : BatchKind → RecordBatch → MessageHeader
 header_in Record b = a_record_batch b
 header_in (Dictionary id) b = a_dictionary_batch (record { id = id; data_ = Some b; is_delta = false })
 
--- the id of a dictionary is as 64 bits keep it
+-- The id of a dictionary fits in 64 bits.
 abbrev pub IdFits : BatchKind → Type 0
 IdFits Record = Unit {0}
 IdFits (Dictionary id) = kept64 id ≡ id
 
--- the message of a batch of so many rows that lists what a plan does
+-- The message of a batch of so many rows with the nodes and buffers of a plan.
 pub record IsMessageOfPlan (m : Message) (kind : BatchKind) (rows : ℤ) (p : Plan) : Type 0 where
   pub batch : RecordBatch
   pub end : ℤ

@@ -1,4 +1,4 @@
--- Each row is computed.
+-- Each case is computed.
 use Rattle.std.proofs.Common.{refl, inl, inr, [], ◌∷◌}
 use Rattle.ipc_file_laws.specs.Appending.{HaveNegative}
 use Rattle.ipc_file_laws.specs.AppendRows.{NegativeRows, PlaceRows, block}

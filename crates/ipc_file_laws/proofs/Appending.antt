@@ -1,4 +1,4 @@
--- What stands before the place where writing goes on.
+-- The bytes before the append position.
 use Rattle.std.proofs.Common.{◌≡◌, ℕ, ◌≤◌, max, List, [], ◌∷◌, ◌++◌, length, take, drop, map, Option, None, refl, sym, ap, ap₂, ◌∙◌, arith, inl, inr, take-append-drop, append-nil}
 use Rattle.std.proofs.lemmas.Bool.{cases_lt}
 use Rattle.std.proofs.lemmas.List.{take_all, take-take}
@@ -14,7 +14,7 @@ use Rattle.ipc_file_laws.specs.Appending.{GoOnLaw, InsideLaw, StayLaw, end_of, g
 
 -- ---- what some blocks see
 
--- the same is seen from each of some blocks
+-- The same bytes are read for each of some blocks.
 AllSee : (seen then : Block → List ℕ) → List Block → Type 0
 AllSee seen then [] = Unit {0}
 AllSee seen then (b ∷ bs) = (then b ≡ seen b) × AllSee seen then bs
@@ -42,9 +42,9 @@ blocks-seen m seen then known cs h means =
     let both = see-both seen then m.dictionaries m.blocks h in
     record { dictionaries = dictionaries-seen m seen then [] m.dictionaries both.0 ∙ means.dictionaries; chunks = chunks-seen m seen then known m.blocks both.1 ∙ means.chunks }
 
--- ---- the place
+-- ---- the append position
 
--- what blocks see up to their end, of the first p bytes alone
+-- The bytes up to the ends of blocks, of the first p bytes alone.
 abbrev before_place : ℕ → List ℕ → Block → List ℕ
 before_place p bytes b = take (end_of b) (take p bytes)
 

@@ -35,7 +35,7 @@ chunk_ends ds bs place ws own h =
     let own_end = end-of-sent at own in
     omega (arith, h, ends, own_end, ends-both ds bs, ends-both (ds ++ blocks_at place ws) (bs ++ last ∷ []), ends-both ds (blocks_at place ws), ends-both bs (last ∷ []), length-append (all_bytes ws) (sent_bytes own))
 
--- and reach as far
+-- The blocks of a chunk reach as far as its bytes.
 pub chunk_reaches : (ds bs : List Block) (place : ℕ) (ws : List Sent) (own : Sent)
     → place + length (chunk_bytes ws own) ≤ greatest_end ((ds ++ blocks_at place ws) ++ (bs ++ block_at (place + length (all_bytes ws)) own ∷ []))
 chunk_reaches ds bs place ws own =
@@ -77,7 +77,7 @@ last-natural : (place : ℕ) (w : Sent) → HaveNegative (block_at place w ∷ [
 last-natural place w (inl h) = block-natural place w h
 last-natural place w (inr h) = h
 
--- the blocks of a chunk have none
+-- The blocks of a chunk have no negative number.
 pub chunk_natural : (ds bs : List Block) (place : ℕ) (ws : List Sent) (own : Sent) → (HaveNegative (ds ++ bs) → ⊥)
     → HaveNegative ((ds ++ blocks_at place ws) ++ (bs ++ block_at (place + length (all_bytes ws)) own ∷ [])) → ⊥
 chunk_natural ds bs place ws own none =

@@ -52,7 +52,7 @@ length-sent w = omega (arith, length-append w.metadata w.body)
 head-length : (xs : List ℕ) → 8 + length xs ≡ length (prefix (length xs) ++ xs)
 head-length xs = omega arith
 
--- a message that was sent stands at its block
+-- A message that was sent is at its block.
 stands-at : (m : FileMetadata) (front behind : List ℕ) (w : Sent) (metadata body : List ℕ) → metadata ≡ w.metadata → body ≡ w.body → length w.body ≤ m.size
     → StandsAt m (front ++ (sent_bytes w ++ behind)) (block_at (length front) w) metadata body
 stands-at m front behind w metadata body e f room = record {

@@ -1,4 +1,4 @@
--- What a file means whose schema is brought into the normal form.
+-- What a file means if its schema is brought into the normal form.
 use Rattle.std.proofs.Common.{◌≡◌, ℕ, zero, suc, nat_eq, ℤ, cond, Bool, true, false, List, [], ◌∷◌, map, Option, None, Some, Result, Ok, Err, refl, ap, ap₂, ◌∙◌}
 use Rattle.std.specs.Option.{option_map, option_and_then}
 use Rattle.lower.proofs.Laws.{norm-norm}

@@ -109,7 +109,7 @@ mutual
   fields-levels no_fields = refl
   fields-levels (more_fields f fs) = ap₂ max (field-levels f) (fields-levels fs)
 
--- ---- places
+-- ---- dictionary fields
 
 at-map : (ps : List Place) (i : ℕ) (p : Place) → i < length ps → get_or (map normal_place ps) i p ≡ normal_place (get_or ps i p)
 at-map [] i p h = absurd (omega (arith, h))

@@ -1,4 +1,4 @@
--- Files that are gone on with: where. Beside each stands one where it is another place.
+-- The append positions of files. Beside each is a file that has another one.
 -- (Arrow columnar format, "IPC File Format"; File.fbs, Block.)
 use Rattle.std.specs.Prelude.{◌≡◌, ℕ, pos, negsuc, ◌-◌, ◌^◌, List, [], ◌∷◌}
 use Rattle.lower.specs.TypeTrees.{no_fields}
@@ -11,7 +11,7 @@ use Rattle.ipc_file_laws.specs.Appending.{HasNegative, HaveNegative, goes_on}
 abbrev pub block : ℕ → ℕ → ℕ → Block
 block offset metadata body = record { offset = pos offset; meta_data_length = pos metadata; body_length = pos body }
 
--- the metadata of a file of so many bytes with these blocks, of dictionaries and of records
+-- The metadata of a file of so many bytes with these blocks of dictionaries and of records.
 abbrev pub file : ℕ → List Block → List Block → FileMetadata
 file size ds bs = record {
   schema = record { fields = no_fields; metadata = []; ids = no_ids; order = Little };
@@ -21,8 +21,9 @@ file size ds bs = record {
   size = size;
 }
 
--- Writing goes on behind the greatest end, which may be that of a block that isn't listed last, or of a dictionary; at the end of the file where a block
--- says an end behind that, also one that 64 bits can't say; and behind the first eight bytes.
+-- The append position is the greatest end of a block, which may be one that isn't listed last, or
+-- of a dictionary. If a block's end is after the end of the file, also one that doesn't fit in 64
+-- bits, it is the end of the file. It is never in the first eight bytes.
 pub record PlaceRows : Type 0 where
   pub a_block : goes_on (file 4000 [] (block 200 192 128 ∷ [])) ≡ 520
   pub last_listed : goes_on (file 4000 [] (block 200 192 128 ∷ block 520 192 64 ∷ [])) ≡ 776
@@ -36,7 +37,8 @@ pub record PlaceRows : Type 0 where
   pub in_the_head : goes_on (file 4000 [] (block 0 7 0 ∷ [])) ≡ 8
   pub behind_the_head : goes_on (file 4000 [] (block 0 9 0 ∷ [])) ≡ 9
 
--- Each of the three numbers of a block counts, of a block of either kind. One that is 0 isn't below 0.
+-- Each of the three numbers of a block counts, of both kinds of
+-- blocks. The number 0 isn't negative.
 pub record NegativeRows : Type 0 where
   pub offset : HasNegative (record { offset = negsuc 0; meta_data_length = pos 192; body_length = pos 128 })
   pub metadata : HasNegative (record { offset = pos 200; meta_data_length = negsuc 0; body_length = pos 128 })

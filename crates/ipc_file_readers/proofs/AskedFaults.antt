@@ -1,4 +1,5 @@
--- The faults of some columns, what their buffers list and what they hold don't tell their order.
+-- The errors of some columns, the encoded length of their buffers, and what they
+-- retain don't depend on their order.
 use Rattle.std.proofs.Common.{◌≡◌, ℕ, ◌+◌, List, length, Option, None, Some, Result, Ok, Err, refl, ap, ◌∙◌, inl, inr}
 use Rattle.std.specs.Prelude.{nat_eq, if◌then◌else◌}
 use Rattle.std.specs.List.Sorted.{IsPermutation}
@@ -24,12 +25,12 @@ record_fault ts e xs ys same (inr (inr (inl f))) = inr (inr (inl f))
 record_fault ts e xs ys same (inr (inr (inr (inl f)))) = inr (inr (inr (inl f)))
 record_fault ts e xs ys same (inr (inr (inr (inr f)))) = inr (inr (inr (inr (batch_fault ts e ys xs (IsPermutation-sym xs ys same) f))))
 
--- a fault of columns in rising order is one of those that are asked for
+-- An error of columns in ascending order is one of the requested columns.
 pub fault_asked : (q : Option ChosenColumns) (n : ℕ) (ts : Kinds) (e : Fault) → AreShuffled q → IsRecordFault ts (chosen (rising_by q) n) e → IsRecordFault ts (chosen (asked_by q) n) e
 fault_asked None n ts e same f = f
 fault_asked (Some q) n ts e same f = record_fault ts e q.columns.columns q.columns.rising same.0 f
 
--- and so is the reason
+-- And so is its cause.
 reason_through : (r : Result BlockHeader Fault) (P Q : BlockHeader → Fault → Type 0) (e : Fault) → ((h : BlockHeader) → P h e → Q h e) → MessageReason r P e → MessageReason r Q e
 reason_through (Ok h) P Q e f why = f h why
 reason_through (Err g) P Q e f why = why

@@ -1,4 +1,4 @@
--- What was read of a block, as a reader gives it.
+-- What was read of a block, as a reader returns it.
 use Rattle.std.proofs.Common.{◌≡◌, ℕ, ℤ, ◌+◌, ◌≤◌, List, map, length, Bool, true, IsTrue, Option, None, Some, Result, Ok, Err, IfOk, IfErr, OnOk, refl, sym, ap, ◌∙◌, subst}
 use Rattle.std.specs.Prelude.{slice_get, option_map, is_some}
 use Rattle.std.specs.HashMap.{HashMap}
@@ -29,13 +29,13 @@ use Rattle.ipc_file_readers.proofs.Chunks.{chunk_alike, given_in_order, refused_
 use Rattle.ipc_file_readers.specs.Readers.{AreKnown, HoldValues, values_in}
 use Rattle.ipc_file_readers.specs.Steps.{WasChunk}
 
--- ---- an answer that memory alone can refuse
+-- ---- a result that only an allocation can refuse
 
 pub no_io : {X : Type 0} (r : Result X Fault) (P : Type 0) → IfErr r (λ e. e ≡ faults.Memory) → OnIo r P
 no_io (Ok x) P h = tt
 no_io (Err e) P h = subst (λ (f : Fault). OnIo {X = Unit {0}} (Err f) P) (sym h) tt
 
--- what holds whatever the answer is
+-- What holds whatever the result is.
 pub unless_io : {X : Type 0} (r : Result X Fault) (P : Type 0) → P → UnlessIo r P
 unless_io (Ok x) P p = p
 unless_io (Err (faults.Io e)) P p = tt

@@ -1,4 +1,4 @@
--- The chunk of a block, by the columns that are asked for, and by dictionaries that are known alike.
+-- The chunk of a block, by the requested columns, and by dictionaries that agree.
 use Rattle.std.proofs.Common.{◌≡◌, ℕ, List, length, Bool, true, false, cond, nat_eq, Option, None, Some, Ok, refl, sym, ap, ◌∙◌}
 use Rattle.std.specs.Option.{option_and_then}
 use Rattle.std.specs.Prelude.{slice_get}
@@ -48,7 +48,7 @@ module _ (m : FileMetadata) (ds es : Dictionaries) (alike : KnowAlike ds es) (as
   pub chunk_alike : (source : List ℕ) (i : ℕ) → file_chunk m ds source asked limit i ≡ file_chunk m es source asked limit i
   chunk_alike source i = then_same (slice_get m.blocks i) _ _ (λ b. block_alike source b)
 
--- ---- columns that are asked for
+-- ---- requested columns
 
 given_asked : {X : Type 0} (a : Asked) (o : Option X) (f g : X → Option Chunk) → ((x : X) → AreInAskedOrder a (f x) (g x)) → AreInAskedOrder a (given o f) (given o g)
 given_asked a None f g h = tt
@@ -73,7 +73,7 @@ none_asked a None None h e = refl
 none_asked a None (Some d) h e = absurd h
 none_asked a (Some x) p h e = absurd cc
 
--- what was read in rising order, and is given as it was asked for
+-- What was read in ascending order, and is returned in the requested order.
 pub given_in_order : (q : Option ChosenColumns) (m : FileMetadata) (ds : Dictionaries) (source : List ℕ) (limit : Limit) (i : ℕ) (read given : List AnyArray) → AreShuffled q → AreAsMany q (length read)
     → AreOrdered q read given → GivesPart chunk_seen (Ok read) (file_chunk m ds source (rising_by q) limit i) → GivesPart chunk_seen (Ok given) (file_chunk m ds source (asked_by q) limit i)
 given_in_order None m ds source limit i read given same long order e = e ∙ ap (λ (xs : List AnyArray). Some (chunk_seen xs)) (sym order)

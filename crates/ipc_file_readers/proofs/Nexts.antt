@@ -1,4 +1,4 @@
--- What a call of `next` gave, by its steps.
+-- What a call of `next` returned, by its steps.
 use Rattle.std.proofs.Common.{◌≡◌, ℕ, ℤ, ◌+◌, ◌-◌, ◌≤◌, List, Bool, true, false, IsTrue, Option, None, Some, Result, Ok, Err, IfErr, OnOk, refl, sym, ap, ◌∙◌, subst, arith, inr}
 use Rattle.lower_arrays.specs.Layouts.{Layout}
 use Rattle.lower_arrays.specs.declared.array.AnyArray.{AnyArray}
@@ -20,7 +20,7 @@ use Rattle.ipc_file_readers.specs.Readers.{HasNext, HoldValues, NextStep, WasNex
 use Rattle.ipc_file_readers.specs.Steps.{DictionariesGave, NextGave, WasChunk}
 use Rattle.ipc_file_readers.specs.declared.read.reader.state.FileReader.{FileReader}
 
--- the rooms for data and for messages
+-- The scratch memory for data and for messages.
 abbrev Rooms : Type 0
 Rooms = Vec ℕ Global × Vec ℕ Global
 
@@ -32,19 +32,19 @@ pub less_nothing : (l : Limit) → l ≡ less l 0
 less_nothing None = refl
 less_nothing (Some n) = ap Some (let e : n ≡ n - 0 = omega arith in e)
 
--- a fault of a device's, behind steps that don't lower the count
+-- An error of a device, after steps that don't lower the count of failures.
 failed_behind : (r : Result (List AnyArray) Fault) (a b c : ℕ) → a ≤ b → OnIo r (Rises b c) → OnIo (next_result (Some r)) (Rises a c)
 failed_behind (Ok xs) a b c h f = tt
 failed_behind (Err (faults.Io e)) a b c h f = rises_from a b c h f
 failed_behind (Err _) a b c h f = tt
 
--- a device that has failed in no call, and in none before it
+-- A device that failed neither in this call nor in one before it.
 told_behind : (r : Result (List AnyArray) Fault) (a b c : ℕ) → b ≡ a → UnlessIo r (c ≡ b) → UnlessIo (next_result (Some r)) (c ≡ a)
 told_behind (Ok xs) a b c h t = t ∙ h
 told_behind (Err (faults.Io e)) a b c h t = tt
 told_behind (Err _) a b c h t = t ∙ h
 
--- what was given at first, before a chunk
+-- What was read first, before a chunk.
 first_given : (r : Result (List AnyArray) Fault) (Q : ℕ → Type 0) (n b needed : ℕ) → Q n → OnOk r (b ≤ n + needed) → OnOk r ((n : ℕ) × Q n × (b ≤ n + needed))
 first_given (Ok xs) Q n b needed q most = (n, q, most)
 first_given (Err e) Q n b needed q most = tt

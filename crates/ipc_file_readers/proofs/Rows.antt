@@ -1,4 +1,4 @@
--- The rows of a file, as a reader gives them.
+-- The rows of a file, as a reader returns them.
 use Rattle.std.proofs.Common.{◌≡◌, ℕ, zero, suc, ◌+◌, ◌-◌, ◌<◌, nat_eq, cond, List, [], ◌∷◌, ◌++◌, map, length, take, Bool, true, false, IsTrue, Option, None, Some, Ok, Err, refl, sym, ap, ◌∙◌, subst, arith, inl, inr}
 use Rattle.std.specs.Option.{option_and_then}
 use Rattle.std.specs.Prelude.{slice_get}
@@ -154,7 +154,7 @@ cut_slots : (limit : Limit) (c : Column) → (cut limit c).slots ≡ first_of li
 cut_slots None c = refl
 cut_slots (Some n) c = refl
 
--- column p of what is pruned
+-- Column p of the chosen columns.
 column_of : {X : Type 0} (f : X → Column) (js : List X) (p : ℕ) (j : X) → slice_get js p ≡ Some j → column_at (map f js) p ≡ f j
 column_of f [] p j e = absurd cc
 column_of f (i ∷ js) zero j e = ap f (let same : i ≡ j = cc in same)
@@ -215,7 +215,7 @@ module _ (m : Meaning) (ds : Dictionaries) (source : List ℕ) (asked : Option (
 
 -- ---- a reader
 
--- what was told once is no chunk
+-- An error that is returned once is no chunk.
 told_chunks : (rs : List Answer) (gs : List Chunk) → IsToldOnce ⊥ rs → AreChunks rs gs → gs ≡ []
 told_chunks [] [] h are = refl
 told_chunks [] (g ∷ gs) h are = absurd are

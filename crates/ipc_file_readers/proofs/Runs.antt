@@ -18,7 +18,7 @@ rests : (m : Meaning) (ds : Dictionaries) (source : List ℕ) (asked : Option (L
 rests m ds source asked limit i [] h = tt
 rests m ds source asked limit i (r ∷ rs) h = (h.0, rests m ds source asked limit i rs h.1)
 
--- the same by the same file and the same place in it
+-- The same by the same file, at the same block.
 same_items : (m n : Meaning) (ds : Dictionaries) (xs ys : List ℕ) (p q : Option (List ℕ)) (l k : Limit) (i j : ℕ) (c : ℕ) (rs : List Answer) → n ≡ m → ys ≡ xs → q ≡ p → k ≡ l → j ≡ i
     → AreItems n ds ys q k j c rs → AreItems m ds xs p l i c rs
 same_items m n ds xs ys p q l k i j c rs e f g h d are =
@@ -70,7 +70,7 @@ module _ {R : Type 0} (known still : Bool) (memory : R → Memory) (failures giv
       let s = h.1.over e in
       (s.0, ends rs h.0 (subst (λ (x : FileReader R). is_over x ≡ true) (sym s.1) e) h.2)
 
-  -- what one call gave, and then the others
+  -- What one call returned, and then the others.
   one_more : (a b : FileReader R) (x : Result (List AnyArray) Fault) (rs : List Answer) (ds : Dictionaries) (n : ℕ) → IsTrue known → Step a (Some x) b
       → (w : WasNext known memory given a x b) → KnowAlike w.dictionaries ds → Items b ds n rs → Items a ds (suc n) (Some x ∷ rs)
   one_more a b x rs ds n k step w alike others = (
@@ -100,7 +100,7 @@ module _ {R : Type 0} (known still : Bool) (memory : R → Memory) (failures giv
 
   -- ---- the first call
 
-  -- the dictionaries were read in it
+  -- The dictionaries were read in this call.
   after_read : (a b : FileReader R) (x : Result (List AnyArray) Fault) (rs : List Answer) (ds : Dictionaries) → IsTrue known → is_over a ≡ false → known_of a ≡ None
       → file_dictionaries (file_of a) (whole_of a) ≡ Some ds → Step a (Some x) b → WasNext known memory given a x b → Run b rs → Items a ds (blocks_left a) (Some x ∷ rs)
   after_read a b x rs ds k more unread file step w others =

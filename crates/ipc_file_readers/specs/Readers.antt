@@ -1,4 +1,4 @@
--- What a reader of a file holds and answers.
+-- The state of a file reader, and what `next` returns.
 -- (Arrow columnar format, "IPC File Format".)
 use Rattle.std.specs.Prelude.{◌≡◌, ◌≢◌, ◌⊎◌, ℕ, ℤ, ◌+◌, ◌-◌, ◌≤◌, nat_le, Bool, true, false, IsTrue, IfOk, IfErr, OnOk, List, [], map, length, Option, None, Some, option_map, slice_get, Result, Ok, Err, vec_len, Vec}
 use Rattle.std.specs.HashMap.{HashMap}
@@ -27,67 +27,70 @@ use Rattle.ipc_files.specs.Footers.{GivesPart, file_seen}
 use Rattle.ipc_files.specs.declared.read.file.metadata.FileMetadata.{FileMetadata}
 use Rattle.ipc_file_readers.specs.declared.read.reader.state.FileReader.{FileReader}
 
--- ---- what a reader holds
+-- ---- the state of a reader
 
+-- The device of a reader.
 abbrev pub device_of : {R : Type 0} → FileReader R → R
 device_of x = x.reader
 
+-- What the footer of the file says.
 abbrev pub metadata_of : {R : Type 0} → FileReader R → FileMetadata
 metadata_of x = x.metadata
 
--- the columns that are asked for, in this order: none where all are given
+-- The columns that are requested, in this order; none if all are.
 abbrev pub asked_of : {R : Type 0} → FileReader R → Option (List ℕ)
 asked_of x = asked_by x.projection
 
--- the schema of the chunks
+-- The schema of the chunks that `next` returns.
 abbrev pub schema_of : {R : Type 0} → FileReader R → Schema
 schema_of x = shown_by x.metadata.schema x.projection
 
--- the dictionaries, once they were read
+-- The dictionaries, once they were read.
 abbrev pub known_of : {R : Type 0} → FileReader R → Option Dictionaries
 known_of x = option_map known_dictionaries x.dictionaries
 
--- the arrays of their values
+-- The arrays of dictionary values by id, once they were read.
 abbrev pub values_in : {Z S : Type 0} → Option (HashMap ℤ (Rc AnyArray Z) S) → Option ℤ → Layout
 values_in None id = no_values id
 values_in (Some m) id = array_under m id
 
+-- The arrays of dictionary values that a reader retains, by id.
 abbrev pub values_of : {R : Type 0} → FileReader R → Option ℤ → Layout
 values_of x id = values_in x.dictionaries id
 
--- the number of the next block
+-- The index of the next block.
 abbrev pub block_of : {R : Type 0} → FileReader R → ℕ
 block_of x = x.current_block
 
--- how many rows are left of the limit
+-- How many rows are left of the row limit.
 abbrev pub remaining_of : {R : Type 0} → FileReader R → Limit
 remaining_of x = x.remaining
 
--- whether nothing comes from now on
+-- Whether the reader is after the last block: `next` returns None from now on.
 abbrev pub is_over : {R : Type 0} → FileReader R → Bool
 is_over x = nat_le (vec_len x.metadata.blocks) x.current_block
 
--- how many blocks are left
+-- How many blocks are left.
 abbrev pub blocks_left : {R : Type 0} → FileReader R → ℕ
 blocks_left x = vec_len x.metadata.blocks - x.current_block
 
--- the room for data and for messages
+-- The scratch memory for data and for messages.
 abbrev pub scratches_of : {R : Type 0} → FileReader R → Vec ℕ Global × Vec ℕ Global
 scratches_of x = (x.data_scratch, x.message_scratch)
 
--- the metadata of the message that was read last
+-- The metadata of the message that was read last.
 abbrev pub message_of : {R : Type 0} → FileReader R → List ℕ
 message_of x = x.message_scratch.items
 
--- the file, as its metadata say it
+-- The metadata of the file, as its meaning has them.
 abbrev pub file_of : {R : Type 0} → FileReader R → Meaning
 file_of x = file_seen (metadata_of x)
 
--- the numbers of the columns that are asked for: all where there is no projection
+-- The indices of the requested columns: all without a projection.
 abbrev pub columns_asked : FileMetadata → Option (List ℕ) → List ℕ
 columns_asked m asked = chosen asked (length m.schema.fields.items)
 
--- A reader begins at the first block, and no dictionary was read. Its rooms are empty.
+-- The reader is at the first block, and has read no dictionary. Its scratch memory is empty.
 pub record IsUnread {R : Type 0} (reader : R) (metadata : FileMetadata) (asked : Option (List ℕ)) (limit : Limit) (x : FileReader R) : Type 0 where
   pub device : device_of x ≡ reader
   pub described : metadata_of x ≡ metadata
@@ -98,13 +101,13 @@ pub record IsUnread {R : Type 0} (reader : R) (metadata : FileMetadata) (asked :
   pub remaining : remaining_of x ≡ limit
   pub rooms : ((scratches_of x).0.items ≡ []) × ((scratches_of x).1.items ≡ [])
 
--- the file and what is asked of it are the same
+-- Two states of a reader have the same file, projection and schema.
 pub record IsOfSameFile {R : Type 0} (a b : FileReader R) : Type 0 where
   pub described : metadata_of b ≡ metadata_of a
   pub asked : asked_of b ≡ asked_of a
   pub shown : schema_of b ≡ schema_of a
 
--- nothing but the scratches is another
+-- Two states of a reader differ in their scratch memory alone.
 pub record DiffersInScratches {R : Type 0} (a b : FileReader R) : Type 0 where
   pub file : IsOfSameFile a b
   pub device : device_of b ≡ device_of a
@@ -112,45 +115,46 @@ pub record DiffersInScratches {R : Type 0} (a b : FileReader R) : Type 0 where
   pub block : block_of b ≡ block_of a
   pub remaining : remaining_of b ≡ remaining_of a
 
--- ---- what a call of `next` answers
+-- ---- what `next` returns
 
--- an answer of `next`
+-- What a call of `next` returns.
 abbrev pub Answer : Type 0
 Answer = Option (Result (List AnyArray) Fault)
 
--- the same as a `Result`
+-- The result of `next` as a `Result`.
 abbrev pub next_result : Answer → Result (Option (List AnyArray)) Fault
 next_result None = Ok None
 next_result (Some (Ok x)) = Ok (Some x)
 next_result (Some (Err e)) = Err e
 
--- how many rows were given
+-- How many rows a call returned.
 abbrev pub rows_given : Result (List AnyArray) Fault → ℕ
 rows_given (Ok xs) = row_count (λ x. len_of (layout_of x)) xs
 rows_given (Err e) = 0
 
--- a limit, less some rows
+-- A limit, less some rows.
 abbrev pub less : Limit → ℕ → Limit
 less None n = None
 less (Some l) n = Some (l - n)
 
--- The dictionaries of a file are known: those that were, or those that were read now.
+-- The dictionaries of a file are known: those from before, or those that were read now.
 abbrev pub AreKnown : Bool → Option Dictionaries → Option Dictionaries → Dictionaries → Type 0
 AreKnown known (Some before) file ds = before ≡ ds
 AreKnown known None file ds = IsTrue known → AreAlike file (Some ds)
 
--- The arrays of values that were known stay. Those that were read now hold no more than the buffers of their blocks list, and one offset for
--- each buffer of offsets that lists nothing.
+-- The arrays of values that were known stay. Those that were read now retain at most the encoded
+-- length of their blocks' buffers, plus one offset for each empty buffer of offsets.
 abbrev pub HoldValues : Bool → Meaning → List ℕ → Option Dictionaries → (before after : Option ℤ → Layout) → Type 0
 HoldValues known m source (Some ds) before after = after ≡ before
 HoldValues known m source None before after = HoldListed known m source after
 
--- At the dictionary places of the columns that are asked for, those inside the values of others aside, stand the values that are known.
+-- At the dictionary fields of the requested columns that aren't inside other values, the arrays
+-- have the values that are known.
 abbrev pub HaveKnownValues : FileMetadata → Option (List ℕ) → Dictionaries → List AnyArray → Type 0
 HaveKnownValues m asked ds xs = HaveMeaning ds (all_ids_view m.ipc_schema.fields.items) (columns_asked m asked) (chunk_seen xs) (map layout_of xs)
 
--- The dictionaries, of which there are some, were refused: it is told once, by the fault of the first block that is refused, and nothing
--- comes after it.
+-- The dictionaries were refused, and there are some. The error is returned once, by the first block
+-- that is refused, and nothing comes after it.
 pub record WereRefused {R : Type 0} (known : Bool) (memory : R → Memory) (a : FileReader R) (e : Fault) (b : FileReader R) : Type 0 where
   pub some : (file_of a).dictionaries ≢ []
   pub unread : known_of a ≡ None
@@ -160,10 +164,11 @@ pub record WereRefused {R : Type 0} (known : Bool) (memory : R → Memory) (a : 
   pub reason : IsTrue known → OwnFault e (DictionariesReason (file_of a) (memory (device_of a)).whole [] (file_of a).dictionaries e)
   pub over : is_over b ≡ true
 
--- The chunk of the next block was given, or its fault, which says why, and leaves the limit as it was. The block behind it is the next then. The
--- metadata of the block's message are kept. No more was given than this message, its prefix and what the buffers of the columns that are
--- asked for list, and at first what the dictionaries need; and the arrays hold no more than these buffers list, and one offset for each
--- buffer of offsets that lists nothing.
+-- The chunk of the next block was returned, or its error, which says why and leaves the row limit
+-- as it was. The reader is then at the block after it, and keeps the metadata of the block's
+-- message. At most so many bytes were read: this message, its prefix, the encoded length of the
+-- requested columns' buffers, and in the first call what the dictionaries need. The arrays retain
+-- at most the encoded length of these buffers, plus one offset for each empty buffer of offsets.
 pub record WasNext {R : Type 0} (known : Bool) (memory : R → Memory) (given : R → ℕ) (a : FileReader R) (r : Result (List AnyArray) Fault) (b : FileReader R) : Type 0 where
   pub dictionaries : Dictionaries
   pub held : known_of b ≡ Some dictionaries
@@ -187,21 +192,24 @@ pub record WasNext {R : Type 0} (known : Bool) (memory : R → Memory) (given : 
       → GivesPart chunk_seen r (file_chunk (file_of a) ds (memory (device_of a)).whole (asked_of a) (remaining_of a) (block_of a))
   pub values : IsTrue known → IfOk r (HaveKnownValues (metadata_of a) (asked_of a) dictionaries)
 
+-- `next` returned a chunk or an error of the next block, or the error of the dictionaries.
 abbrev pub HasNext : {R : Type 0} → Bool → (R → Memory) → (R → ℕ) → FileReader R → Answer → FileReader R → Type 0
 HasNext known memory given a None b = ⊥
 HasNext known memory given a (Some (Ok xs)) b = WasNext known memory given a (Ok xs) b
 HasNext known memory given a (Some (Err e)) b = WereRefused known memory a e b ⊎ WasNext known memory given a (Err e) b
 
--- No block was asked for: both rooms and the rest of the limit are as they were, and no more was given
--- than the dictionaries need that stand before the one that was refused, and than was given of that.
+-- No block was read: the scratch memory and the row limit are as they were. The bytes read are
+-- those that the dictionaries need before the refused one, and those read of that.
 pub record AskedNoBlock {R : Type 0} (known : Bool) (memory : R → Memory) (given : R → ℕ) (a b : FileReader R) : Type 0 where
   pub rooms : scratches_of b ≡ scratches_of a
   pub remaining : remaining_of b ≡ remaining_of a
   pub bytes : RefusedValues known (file_of a).schema (memory (device_of a)).whole (file_of a).dictionaries (given (device_of a)) (given (device_of b))
 
--- What a call of `next` takes and answers, and what stands then. A call of the device failed just where its fault is answered, and the room
--- for data stays. Where nothing comes any more, nothing is changed. As long as the dictionaries aren't known no block is asked for: so a
--- fault of a block's, one of memory or of the device too, leaves them known, and the next block behind it (`WasNext`).
+-- What a call of `next` reads and returns, and the reader after it. A call of the device
+-- failed exactly if its error is returned, and the scratch memory for data stays. If no block
+-- is left, nothing changes. Until the dictionaries are known, no block is read. So after an
+-- error of a block, also of an allocation or of the device, they are known, and the reader is
+-- at the block after it (`WasNext`).
 pub record NextStep {R : Type 0} (known still : Bool) (memory : R → Memory) (failures given : R → ℕ) (a : FileReader R) (r : Answer) (b : FileReader R) : Type 0 where
   pub file : IsOfSameFile a b
   pub monotone : failures (device_of a) ≤ failures (device_of b)

@@ -1,4 +1,4 @@
--- The rows of a file, as a reader gives them.
+-- The rows of a file, as a reader returns them.
 -- (Arrow columnar format, "IPC File Format".)
 use Rattle.std.specs.Prelude.{◌≡◌, ◌++◌, ℕ, ◌+◌, Bool, IsTrue, List, [], ◌∷◌, length, take, None, Some, slice_get, Ok}
 use Rattle.lower_arrays.specs.Slots.{Slot}
@@ -12,28 +12,28 @@ use Rattle.ipc_file_readers.specs.Readers.{Answer, asked_of, block_of, columns_a
 use Rattle.ipc_file_readers.specs.Runs.{Calls, HoldsDictionaries}
 use Rattle.ipc_file_readers.specs.declared.read.reader.state.FileReader.{FileReader}
 
--- the slots of a column of some chunks, one behind the other
+-- The slots of column j of some chunks, one chunk after the other.
 abbrev pub joined : List Chunk → ℕ → List Slot
 joined [] j = []
 joined (c ∷ cs) j = (column_at c j).slots ++ joined cs j
 
--- the first of a limit
+-- The first slots, up to a limit.
 abbrev pub first_of : Limit → List Slot → List Slot
 first_of None xs = xs
 first_of (Some n) xs = take n xs
 
--- the answers are these chunks, one by one
+-- The answers are these chunks, one by one.
 abbrev pub AreChunks : List Answer → List Chunk → Type 0
 AreChunks [] [] = Unit {0}
 AreChunks (Some (Ok xs) ∷ rs) (c ∷ cs) = (chunk_seen xs ≡ c) × AreChunks rs cs
 AreChunks _ _ = ⊥
 
--- The blocks from block i on mean these chunks, whole.
+-- The blocks from block i on mean these chunks, as a whole.
 pub record Mean (m : Meaning) (ds : Dictionaries) (source : List ℕ) (i : ℕ) (cs : List Chunk) : Type 0 where
   pub each : (k : ℕ) (c : Chunk) → slice_get cs k ≡ Some c → file_chunk m ds source None None (i + k) ≡ Some c
 
--- Where calls gave a chunk for each of some blocks that have a meaning, the rows of these chunks, joined, are the first rows of the columns
--- that are asked for, as many as are left of the limit.
+-- Theorem: if calls returned a chunk for each of some valid blocks, the joined rows of these chunks
+-- are the first rows of the requested columns, up to the limit.
 abbrev pub RowsLaw : {R : Type 0} → Bool → Bool → (R → Memory) → (R → ℕ) → (R → ℕ) → FileReader R → Type 0
 RowsLaw known still memory failures given a = (rs : List Answer) (ds : Dictionaries) (cs gs : List Chunk) → IsTrue known
     → HoldsDictionaries (known_of a) (file_dictionaries (file_of a) (memory (device_of a)).whole) ds → Calls known still memory failures given a rs

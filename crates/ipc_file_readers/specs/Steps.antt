@@ -17,14 +17,15 @@ use Rattle.ipc_files.specs.declared.read.file.metadata.FileMetadata.{FileMetadat
 use Rattle.ipc_file_readers.specs.Readers.{AreKnown, HaveKnownValues, HoldValues, IsOfSameFile, asked_of, block_of, columns_asked, device_of, file_of, known_of, less, message_of, metadata_of, remaining_of, rows_given, scratches_of, values_of}
 use Rattle.ipc_file_readers.specs.declared.read.reader.state.FileReader.{FileReader}
 
--- the device was asked
+-- The device was read: its failures rise exactly if its error is returned, and its bytes stay.
 pub record WasAsked {R X : Type 0} (still : Bool) (memory : R → Memory) (failures : R → ℕ) (a : FileReader R) (r : Result X Fault) (b : FileReader R) : Type 0 where
   pub monotone : failures (device_of a) ≤ failures (device_of b)
   pub failed : OnIo r (Rises (failures (device_of a)) (failures (device_of b)))
   pub told : UnlessIo r (failures (device_of b) ≡ failures (device_of a))
   pub whole : IsTrue still → (memory (device_of b)).whole ≡ (memory (device_of a)).whole
 
--- The dictionaries are known, or they were refused, by memory or by the device too: then the reader is as it was, but for its device.
+-- The dictionaries are known; or they were refused, also by an allocation or the device, and the
+-- reader differs in its device alone.
 pub record DictionariesGave {R : Type 0} (known still : Bool) (memory : R → Memory) (failures given : R → ℕ) (a : FileReader R) (r : Result Unit Fault) (b : FileReader R) : Type 0 where
   pub file : IsOfSameFile a b
   pub block : block_of b ≡ block_of a
@@ -43,7 +44,8 @@ pub record DictionariesGave {R : Type 0} (known still : Bool) (memory : R → Me
   pub refused : IsTrue known → IfErr r (λ e. OwnFault e (file_dictionaries (file_of a) (memory (device_of a)).whole ≡ None))
   pub reason : IsTrue known → IfErr r (λ e. OwnFault e (DictionariesReason (file_of a) (memory (device_of a)).whole [] (file_of a).dictionaries e))
 
--- The chunk of block i was given, by the dictionaries that are known, or its fault. The message that was read has these metadata.
+-- The chunk of block i was returned, by the dictionaries that are known, or its error. The message
+-- that was read has this metadata.
 pub record WasChunk (known : Bool) (m : FileMetadata) (asked : Option (List ℕ)) (limit : Limit) (i : ℕ) (ds : Dictionaries) (source : List ℕ) (old new : ℕ) (metadata : List ℕ)
     (r : Result (List AnyArray) Fault) : Type 0 where
   pub many : IfOk r (λ xs. length xs ≡ length (columns_asked m asked))
@@ -55,7 +57,7 @@ pub record WasChunk (known : Bool) (m : FileMetadata) (asked : Option (List ℕ)
   pub meaning : IsTrue known → (es : Dictionaries) → KnowAlike ds es → GivesPart chunk_seen r (file_chunk (file_seen m) es source asked limit i)
   pub values : IsTrue known → IfOk r (HaveKnownValues m asked ds)
 
--- The chunk of block i was given, or its fault.
+-- The chunk of block i was returned, or its error.
 pub record BlockGave {R : Type 0} (known still : Bool) (memory : R → Memory) (failures given : R → ℕ) (i : ℕ) (a : FileReader R) (r : Result (List AnyArray) Fault) (b : FileReader R) : Type 0 where
   pub file : IsOfSameFile a b
   pub block : block_of b ≡ block_of a
@@ -67,8 +69,9 @@ pub record BlockGave {R : Type 0} (known still : Bool) (memory : R → Memory) (
   pub chunk : (ds : Dictionaries) → known_of a ≡ Some ds
       → WasChunk known (metadata_of a) (asked_of a) (remaining_of a) i ds (memory (device_of a)).whole (given (device_of a)) (given (device_of b)) (message_of b) r
 
--- That of the next block was, or its fault, and the reader stands behind it. After a fault, one of memory or of the device too, the
--- dictionaries are known as before, and the limit is as it was.
+-- The chunk of the next block was returned, or its error, and the reader is at the block after
+-- it. After an error, also of an allocation or of the device, the dictionaries are known as
+-- before, and the limit is as it was.
 pub record NextGave {R : Type 0} (known still : Bool) (memory : R → Memory) (failures given : R → ℕ) (a : FileReader R) (r : Result (List AnyArray) Fault) (b : FileReader R) : Type 0 where
   pub file : IsOfSameFile a b
   pub block : block_of b ≡ block_of a + 1

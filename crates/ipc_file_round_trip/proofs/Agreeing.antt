@@ -15,7 +15,7 @@ use Rattle.ipc_file_readers.specs.Readers.{less}
 use Rattle.ipc_file_round_trip.specs.Laws.{AgreeingAnswersLaw, AgreeingChunksLaw, AgreeingFilesLaw}
 use Rattle.ipc_file_round_trip.specs.Reading.{chunks_by, dictionaries_for, rows_of}
 
--- what follows of an optional value is the same where it is the same at each value
+-- What follows from an optional value is the same if it is the same for each value.
 given_each : {X Y : Type 0} (o : Option X) (f g : X → Option Y) → ((x : X) → f x ≡ g x) → given o f ≡ given o g
 given_each None f g h = refl
 given_each (Some x) f g h = h x

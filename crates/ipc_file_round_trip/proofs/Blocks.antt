@@ -26,7 +26,7 @@ use Rattle.ipc_file_round_trip.specs.Steps.{answers_of}
 
 -- ---- lists
 
--- what stands at the front of what is left of a list
+-- The first element of what is left of a list.
 pub at_front : {X : Type 0} (xs : List X) (i : ℕ) (x : X) (rest : List X) → drop i xs ≡ x ∷ rest → (slice_get xs i ≡ Some x) × (drop (suc i) xs ≡ rest)
 at_front [] zero x rest e = absurd cc
 at_front [] (suc i) x rest e = absurd cc
@@ -36,18 +36,18 @@ at_front (y ∷ ys) (suc i) x rest e = at_front ys i x rest e
 pub then_next : {X : Type 0} (xs : List X) (i : ℕ) (rest : List X) → drop (suc i) xs ≡ rest → drop (i + 1) xs ≡ rest
 then_next xs i rest e = rw add-one e
 
--- as many rows as were given are seen
+-- A chunk has as many rows as the call returned.
 pub rows_seen : (xs : List AnyArray) → rows_given (Ok xs) ≡ rows_of (chunk_seen xs)
 rows_seen [] = refl
 rows_seen (x ∷ xs) = sym (length-slots_from _ 0 (len_of (layout_of x)))
 
--- ---- what is answered for each block
+-- ---- what is returned for each block
 
 module _ (m : Meaning) (ds : Dictionaries) (source : List ℕ) (p : Option (List ℕ)) where
   abbrev By : Limit → List Block → Option (List Chunk)
   By limit bs = chunks_by m ds source p limit bs
 
-  -- a block, and those behind it
+  -- A block, and those after it.
   abbrev Behind : Limit → List Block → Chunk → Option (List Chunk)
   Behind limit bs c = option_map (λ cs. c ∷ cs) (By (less limit (rows_of c)) bs)
 
@@ -66,7 +66,7 @@ module _ (m : Meaning) (ds : Dictionaries) (source : List ℕ) (p : Option (List
   left_then : (bs : List Block) (limit : Limit) (xs : List AnyArray) (o : Option (List Chunk)) → By (less limit (rows_given (Ok xs))) bs ≡ o → By (less limit (rows_of (chunk_seen xs))) bs ≡ o
   left_then bs limit xs o e = ap (λ (n : ℕ). By (less limit n) bs) (sym (rows_seen xs)) ∙ e
 
-  -- a chunk came for each block, and then nothing
+  -- A chunk was returned for each block, and then None.
   pub all_items : (bs : List Block) (n i : ℕ) (limit : Limit) (xs : List (List AnyArray)) → drop i m.blocks ≡ bs → length bs ≡ n
       → AreItems m ds source p limit i n (answers_of xs ++ None ∷ []) → By limit bs ≡ Some (chunks_seen xs)
   all_items [] zero i limit [] at long items = refl
@@ -79,7 +79,7 @@ module _ (m : Meaning) (ds : Dictionaries) (source : List ℕ) (p : Option (List
       let rest = all_items bs n (i + 1) (less limit (rows_given (Ok x))) xs (then_next m.blocks i bs front.1) (omega (arith, long)) items.1 in
       first_then b bs limit (chunk_seen x) (Some (chunks_seen xs)) (found_at i b limit (Some (chunk_seen x)) front.0 items.0) (left_then bs limit x (Some (chunks_seen xs)) rest)
 
-  -- a chunk came for some blocks, and then a fault
+  -- A chunk was returned for some blocks, and then an error.
   pub some_items : (bs : List Block) (n i : ℕ) (limit : Limit) (xs : List (List AnyArray)) (e : Fault) → drop i m.blocks ≡ bs → length bs ≡ n
       → AreItems m ds source p limit i n (answers_of xs ++ Some (Err e) ∷ []) → OwnFault e (By limit bs ≡ None)
   some_items [] zero i limit [] e at long items = let no = items.0 in absurd cc
@@ -98,7 +98,7 @@ module _ (m : Meaning) (ds : Dictionaries) (source : List ℕ) (p : Option (List
 -- ---- blocks that have a meaning
 
 module _ (m : Meaning) (ds : Dictionaries) (source : List ℕ) where
-  -- whole
+  -- The chunks as a whole.
   pub whole_blocks : (bs : List Block) (cs : List Chunk) → map (λ b. chunk_at m ds source b None None) bs ≡ map Some cs → chunks_by m ds source None None bs ≡ Some cs
   whole_blocks [] [] e = refl
   whole_blocks [] (c ∷ cs) e = absurd cc

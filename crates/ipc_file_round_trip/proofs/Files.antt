@@ -25,7 +25,7 @@ use Rattle.ipc_file_round_trip.specs.declared.read.WholeFile.{WholeFile}
 
 -- ---- what is read
 
--- the chunks of a file whose metadata are there
+-- The chunks of a file that has metadata.
 pub meant_with : (p : Option (List ℕ)) (limit : Limit) (bytes : List ℕ) (m : Meaning) (o : Option (List Chunk)) → metadata_of bytes ≡ Some m → file_chunks m bytes p limit ≡ o
     → file_by p limit bytes ≡ option_map (λ cs. record { metadata = m; chunks = cs }) o
 unfolding file_by
@@ -56,7 +56,7 @@ file_same a b s d blocks ds size pairs = λ i. record {
 
 -- ---- by columns
 
--- columns are those of a schema where there are as many fields
+-- Columns are those of a schema if there are as many fields.
 columns_are : (p : Option (List ℕ)) (m : FileMetadata) → IsProjection p (length m.schema.fields.items) → IsProjection p (count (kinds (file_seen m).schema))
 columns_are p m is = subst (λ (n : ℕ). IsProjection p n) (sym (field_count m.schema.fields.items (all_ids_view m.ipc_schema.fields.items))) is
 
@@ -74,7 +74,7 @@ columns_given p limit bytes m f is there same e = record {
   means = file_given p limit bytes m (Ok f) there same e;
 }
 
--- the metadata of a file are one
+-- A file has at most one footer.
 one_metadata : (bytes : List ℕ) (m n : Meaning) → metadata_of bytes ≡ Some m → metadata_of bytes ≡ Some n → m ≡ n
 one_metadata bytes m n e f = let same : Some m ≡ Some n = sym e ∙ f in cc
 
@@ -107,7 +107,7 @@ module _ (bytes : List ℕ) (input : MemFile (Bor (List ℕ))) (r : Result FileM
   pub reason_at : Told input.position input.inner.now → Told 0 bytes
   reason_at why = subst (λ (n : ℕ). Told n bytes) place (subst (Told input.position) whole why)
 
--- memory fails in no call
+-- No call of memory fails.
 pub no_device : (r : Result FileMetadata Fault) → OnIo r (Rises 0 0) → OnIo r ⊥
 no_device (Ok m) h = tt
 no_device (Err e) h = no_failure FileMetadata FileMetadata e h

@@ -53,7 +53,7 @@ written_law bytes order fields metadata ids pairs cs f w read =
       chunks = ap (λ (y : FileMeant). y.chunks) (sym same);
     }
 
--- whoever knows the dictionaries of a file
+-- Readers with the dictionaries of a file.
 alike_known : (o : Option Dictionaries) (ds es : Dictionaries) → o ≡ Some ds → AreAlike o (Some es) → KnowAlike ds es
 alike_known None ds es e h = absurd h
 alike_known (Some d) ds es e h = let same : d ≡ ds = cc in subst (λ (x : Dictionaries). KnowAlike x es) same h

@@ -1,4 +1,4 @@
--- What a reader of a file gave, from the first block on, is what the file means.
+-- What a file reader returned, from the first block on, is what the file means.
 use Rattle.std.proofs.Common.{◌≡◌, ℕ, ◌+◌, ◌<◌, ◌≤◌, List, [], ◌∷◌, ◌++◌, map, length, drop, Bool, true, false, IsTrue, nat_le, Option, None, Some, Err, refl, sym, ap, ◌∙◌, subst, arith, inl, inr}
 use Rattle.std.specs.Option.{option_map}
 use Rattle.std.specs.Prelude.{slice_get, vec_len}
@@ -28,7 +28,7 @@ use Rattle.ipc_file_round_trip.proofs.Pushes.{calls_front}
 use Rattle.ipc_file_round_trip.specs.Reading.{HasFirstRows, chunks_by, chunks_seen, dictionaries_for, file_chunks, rows_of}
 use Rattle.ipc_file_round_trip.specs.Steps.{GivesThenFails, GivesAll, RefusesBlocks, answers_of}
 
--- ---- where nothing comes
+-- ---- no block is left
 
 none_given : (xs : List (List AnyArray)) → AreNone (answers_of xs ++ None ∷ []) → xs ≡ []
 none_given [] h = refl
@@ -38,7 +38,7 @@ pub none_broken : (xs : List (List AnyArray)) (e : Fault) → AreNone (answers_o
 none_broken [] e h = let no = h.0 in absurd cc
 none_broken (x ∷ xs) e h = let no = h.0 in absurd cc
 
--- ---- where a fault is told once
+-- ---- an error is returned once
 
 told_given : (P : Type 0) (xs : List (List AnyArray)) → IsToldOnce P (answers_of xs ++ None ∷ []) → ⊥
 told_given P [] h = h
@@ -50,7 +50,7 @@ told_broken P (x ∷ xs) e h = absurd h
 
 -- ---- a reader that has read nothing
 
--- whether blocks are left, of so many, behind the first
+-- Whether blocks are left after the first.
 over_none : (n i : ℕ) → n ≡ 0 → nat_le n i ≡ true
 over_none n i e = let l : n ≤ i = omega (arith, e) in search arith
 
@@ -61,7 +61,7 @@ are_chunks : (xs : List (List AnyArray)) → AreChunks (answers_of xs) (chunks_s
 are_chunks [] = tt
 are_chunks (x ∷ xs) = (refl, are_chunks xs)
 
--- what is read of some blocks are as many chunks
+-- There are as many chunks as blocks.
 module _ (m : Meaning) (ds : Dictionaries) (source : List ℕ) (p : Option (List ℕ)) (bs : List Block) where
   long_behind : (c : Chunk) (o : Option (List Chunk)) (gs : List Chunk) → ((hs : List Chunk) → o ≡ Some hs → length hs ≡ length bs) → option_map (λ cs. c ∷ cs) o ≡ Some gs → length gs ≡ 1 + length bs
   long_behind c None gs rest e = absurd cc
@@ -95,7 +95,7 @@ module _ {R : Type 0} (known still : Bool) (memory : R → Memory) (failures giv
   abbrev Run : List Answer → Type 0
   Run rs = Calls known still memory failures given a rs
 
-  -- the answers where all came, and where a fault came
+  -- The answers if all chunks were returned, and if an error was.
   abbrev Whole : List (List AnyArray) → List Answer
   Whole xs = answers_of xs ++ None ∷ []
 
@@ -120,7 +120,7 @@ module _ {R : Type 0} (known still : Bool) (memory : R → Memory) (failures giv
   left_is : (bs : List Block) → (file_of a).blocks ≡ bs → length bs ≡ blocks_left a
   left_is bs e = let long = ap length e in omega (arith, long, first, (metadata_of a).blocks.ok)
 
-  -- all came
+  -- All chunks were returned.
   given_by : (b : Block) (bs : List Block) (o : Option Dictionaries) (xs : List (List AnyArray)) → (file_of a).blocks ≡ b ∷ bs → file_dictionaries (file_of a) source_of ≡ o
       → Run (Whole xs) → given_then o (In (b ∷ bs)) ≡ Some (chunks_seen xs)
   given_by b bs None xs e file h = absurd (told_given (Unit {0}) xs (told_once_law known still memory failures given stays a (Whole xs) k (more b bs e) unread file h))
@@ -137,7 +137,7 @@ module _ {R : Type 0} (known still : Bool) (memory : R → Memory) (failures giv
   pub all_chunks : (xs : List (List AnyArray)) → GivesAll known still memory failures given a xs → file_chunks (file_of a) source_of (asked_of a) (remaining_of a) ≡ Some (chunks_seen xs)
   all_chunks xs h = given_in (file_of a).blocks xs refl h.calls
 
-  -- a fault came
+  -- An error was returned.
   broken_by : (b : Block) (bs : List Block) (o : Option Dictionaries) (xs : List (List AnyArray)) (e : Fault) → (file_of a).blocks ≡ b ∷ bs → file_dictionaries (file_of a) source_of ≡ o
       → Run (Broken xs e) → OwnFault e (given_then o (In (b ∷ bs)) ≡ None)
   broken_by b bs None xs e at file h =
@@ -160,7 +160,7 @@ module _ {R : Type 0} (known still : Bool) (memory : R → Memory) (failures giv
   from_i : (i : ℕ) → block_of a + i ≡ i
   from_i i = omega (arith, first)
 
-  -- a chunk was given for each that the file has
+  -- A chunk was returned for each that the file has.
   as_long : (ds : Dictionaries) (cs : List Chunk) (xs : List (List AnyArray)) → file_dictionaries (file_of a) source_of ≡ Some ds
       → chunks_at (file_of a) ds (all_of source_of) None None (file_of a).blocks ≡ map Some cs → GivesAll known still memory failures given a xs → length (chunks_seen xs) ≡ length cs
   as_long ds cs xs file means h = long_in (file_of a) ds source_of (asked_of a) (remaining_of a) (file_of a).blocks cs (chunks_seen xs) file means (all_chunks xs h)
@@ -178,7 +178,7 @@ module _ {R : Type 0} (known still : Bool) (memory : R → Memory) (failures giv
         (are_chunks xs) (as_long ds cs xs file means h) q j column;
   }
 
--- ---- by what was asked of it
+-- ---- by what was requested
 
 pub moved : (P : Meaning → List ℕ → Option (List ℕ) → Limit → Type 0) (m n : Meaning) (xs ys : List ℕ) (p q : Option (List ℕ)) (l k : Limit) → m ≡ n → xs ≡ ys → p ≡ q → l ≡ k → P m xs p l → P n ys q k
 moved P m n xs ys p q l k e f g h x =

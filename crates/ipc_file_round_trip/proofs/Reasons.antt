@@ -1,4 +1,4 @@
--- Why a reader of a file gave no more, behind the chunks that it gave.
+-- Why a file reader returned no more, after the chunks that it returned.
 use Rattle.std.proofs.Common.{◌≡◌, ℕ, suc, ◌+◌, ◌-◌, ◌<◌, ◌≤◌, List, [], ◌∷◌, ◌++◌, length, drop, Bool, true, false, IsTrue, nat_le, Option, None, Some, MatchOption, Ok, Err, refl, sym, ap, ◌∙◌, subst, arith, inl, inr, length-drop}
 use Rattle.std.specs.Prelude.{slice_get, vec_len}
 use Rattle.lower_arrays.specs.declared.array.AnyArray.{AnyArray}
@@ -85,7 +85,7 @@ module _ {R : Type 0} (known still : Bool) (memory : R → Memory) (failures giv
       subst (λ (n : ℕ). RecordReason (file_of a) (chosen (asked_of a) n) (whole_of a) (Some b) e) (sym (field_count m.schema.fields.items (all_ids_view m.ipc_schema.fields.items)))
       (subst (λ (o : Option Block). RecordReason (file_of a) (columns_asked m (asked_of a)) (whole_of a) o e) at why)
 
-  -- it was refused
+  -- The block was refused.
   refused_here : (a next : FileReader R) (b : Block) (bs : List Block) (ds : Dictionaries) → slice_get (file_of a).blocks (block_of a) ≡ Some b → (w : WasNext known memory given a (Err e) next)
       → KnowAlike w.dictionaries ds → Because a ds (b ∷ bs)
   refused_here a next b bs ds at w alike =
@@ -97,7 +97,7 @@ module _ {R : Type 0} (known still : Bool) (memory : R → Memory) (failures giv
       (w.reason k))
       (w.meaning k ds alike)
 
-  -- its chunk was given, and another one behind it was refused
+  -- The block's chunk was returned, and a later block was refused.
   refused_behind : (a next : FileReader R) (x : List AnyArray) (b : Block) (bs : List Block) (ds : Dictionaries) → slice_get (file_of a).blocks (block_of a) ≡ Some b
       → (w : WasNext known memory given a (Ok x) next) → KnowAlike w.dictionaries ds → NextStep known still memory failures given a (Some (Ok x)) next → Because next ds bs → Because a ds (b ∷ bs)
   refused_behind a next x b bs ds at w alike step rest =
@@ -108,7 +108,7 @@ module _ {R : Type 0} (known still : Bool) (memory : R → Memory) (failures giv
       (ap file_seen step.file.described) (step.whole (stays k)) step.file.asked left rest in
       claims_through e _ _ (one_here (file_of a) ds (whole_of a) (asked_of a) (remaining_of a) b bs e (chunk_seen x) here) then
 
-  -- the blocks behind it are the next ones
+  -- The blocks after it are the next ones.
   next_at : (a next : FileReader R) (x : List AnyArray) (b : Block) (bs : List Block) → drop (block_of a) (file_of a).blocks ≡ b ∷ bs → WasNext known memory given a (Ok x) next
       → NextStep known still memory failures given a (Some (Ok x)) next → drop (block_of next) (file_of next).blocks ≡ bs
   next_at a next x b bs at w step =
@@ -166,7 +166,7 @@ module _ {R : Type 0} (known still : Bool) (memory : R → Memory) (failures giv
       → OwnFault e (ChunksReason (file_of a) (whole_of a) (asked_of a) (remaining_of a) e)
   broken_reason a unread first off = reason_in (file_of a).blocks off.chunks a unread (ap (λ (i : ℕ). drop i (file_of a).blocks) first) off.calls
 
--- ---- by what was asked of it
+-- ---- by what was requested
 
 module _ {R : Type 0} (known still : Bool) (memory : R → Memory) (failures given : R → ℕ) (stays : IsTrue known → IsTrue still) (k : IsTrue known) (a : FileReader R) (device : R)
     (m : FileMetadata) (p : Option (List ℕ)) (limit : Limit) (source : List ℕ) (begins : IsUnread device m p limit a) (whole : (memory device).whole ≡ source) where

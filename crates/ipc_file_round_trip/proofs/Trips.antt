@@ -1,4 +1,4 @@
--- What was written of a file is refused by no reader.
+-- A file that was written is refused by no reader.
 use Rattle.std.proofs.Common.{◌≡◌, ℕ, List, None, Err, sym, ◌∙◌}
 use Rattle.lower.specs.TypeTrees.{FieldTrees, Pairs}
 use Rattle.lower_types.specs.declared.Endianness.{Endianness}
@@ -21,7 +21,7 @@ module _ (order : Endianness) (fs : FieldTrees) (es : Pairs) (is : IdTrees) (ps 
   memory_alone (faults.Io x) device h = absurd device
   memory_alone _ device h = absurd h
 
-  -- what was written is refused for want of memory, and for nothing else
+  -- A file that was written is refused only if an allocation fails.
   pub never_refused : (bytes : List ℕ) (cs : List Chunk) (e : Fault) → IsWrittenFile bytes order fs es is ps cs → OnIo {X = WholeFile} (Err e) ⊥
       → OwnFault e (file_by None None bytes ≡ None) → RefusesWholeFile order fs es is ps calls e
   never_refused bytes cs e w device h =

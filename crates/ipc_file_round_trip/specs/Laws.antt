@@ -1,4 +1,4 @@
--- Laws of files that are read.
+-- Theorems on files that are read.
 -- (Arrow columnar format, "IPC File Format".)
 use Rattle.std.specs.Prelude.{◌≡◌, ℕ, true, List, drop, Option, None, Some, slice_get, Result}
 use Rattle.lower.specs.TypeTrees.{FieldTrees, Pairs}
@@ -28,57 +28,59 @@ use Rattle.ipc_file_round_trip.specs.declared.read.WholeFile.{WholeFile}
 
 -- ---- files that are read back
 
--- a whole file is read as what it means
+-- A whole file is read as its metadata and its chunks.
 abbrev pub WholeFileLaw : Type 0
 WholeFileLaw = (bytes : List ℕ) (m : Meaning) (cs : List Chunk) → IsFile bytes m cs → file_by None None bytes ≡ Some (record { metadata = m; chunks = cs })
 
--- by any columns, each once, and any limit as the first rows of these columns
+-- With a projection and a row limit, a whole file is read as the first rows of the chosen columns.
 abbrev pub ChosenLaw : Type 0
 ChosenLaw = (p : Option (List ℕ)) (limit : Limit) (bytes : List ℕ) (m : Meaning) (cs : List Chunk) → IsProjection p (count (kinds m.schema)) → IsFile bytes m cs
     → file_by p limit bytes ≡ Some (record { metadata = m; chunks = all_pruned p limit cs })
 
--- a file that was written reads back
+-- A file that was written is read as the schema, pairs and chunks that were written.
 abbrev pub WrittenLaw : Type 0
 WrittenLaw = (bytes : List ℕ) (order : Endianness) (fields : FieldTrees) (metadata : Pairs) (ids : IdTrees) (pairs : Pairs) (cs : List Chunk) (f : WholeFile)
     → IsWrittenFile bytes order fields metadata ids pairs cs → file_by None None bytes ≡ Some (file_read f) → ComesBack f order fields metadata ids pairs cs
 
--- The batch at block i is this chunk, and by any columns, each once, and any limit its first rows of these columns.
+-- The batch at block i is this chunk; by a projection and a row limit it is the
+-- first rows of the chosen columns.
 pub record HasBatch (m : Meaning) (known : Dictionaries) (bytes : List ℕ) (i : ℕ) (c : Chunk) : Type 0 where
   pub whole : file_chunk m known bytes None None i ≡ Some c
   pub chosen : (p : Option (List ℕ)) (limit : Limit) → IsProjection p (count (kinds m.schema)) → file_chunk m known bytes p limit i ≡ Some (pruned p limit c)
 
--- the batch at each block is its chunk, to whoever knows the dictionaries of the file
+-- With the dictionaries of the file, the batch at each block is its chunk.
 abbrev pub BatchesLaw : Type 0
 BatchesLaw = (bytes : List ℕ) (m : Meaning) (cs : List Chunk) (known : Dictionaries) (i : ℕ) (c : Chunk)
     → IsFile bytes m cs → AreAlike (file_dictionaries m bytes) (Some known) → slice_get cs i ≡ Some c → HasBatch m known bytes i c
 
--- without the first eight bytes a file that was written reads back as a stream of the same, which has ended
+-- Without its first eight bytes, a file that was written is read as a stream of
+-- the same chunks, which has ended.
 abbrev pub StreamLaw : Type 0
 StreamLaw = (bytes : List ℕ) (order : Endianness) (fields : FieldTrees) (metadata : Pairs) (ids : IdTrees) (pairs : Pairs) (cs : List Chunk) (s : WholeStream)
     → IsWrittenFile bytes order fields metadata ids pairs cs → IsWhole (drop 8 bytes) s → Reads s (written_head_as order fields metadata ids) cs true
 
--- and can be read as one
+-- Without its first eight bytes, a file that was written can be read as a stream.
 abbrev pub ReadableStreamLaw : Type 0
 ReadableStreamLaw = (bytes : List ℕ) (order : Endianness) (fields : FieldTrees) (metadata : Pairs) (ids : IdTrees) (pairs : Pairs) (cs : List Chunk)
     → IsWrittenFile bytes order fields metadata ids pairs cs → IsReadable (drop 8 bytes)
 
 -- ---- files that agree
 
--- two files agree at block i for the columns that are asked for
+-- Two files agree at block i for the requested columns.
 pub record AgreeAtBlock (m : Meaning) (p : Option (List ℕ)) (xs ys : List ℕ) (i : ℕ) : Type 0 where
   pub agree : (b : Block) → slice_get m.blocks i ≡ Some b → FilesAgree m b p xs ys
 
--- they have one chunk there, or both none
+-- Two files that agree at a block have the same chunk there, or both have none.
 abbrev pub AgreeingChunksLaw : Type 0
 AgreeingChunksLaw = (m : Meaning) (known : Dictionaries) (p : Option (List ℕ)) (limit : Limit) (xs ys : List ℕ) (i : ℕ) → AgreeAtBlock m p xs ys i
     → file_chunk m known xs p limit i ≡ file_chunk m known ys p limit i
 
--- what is answered of one is right of the other
+-- What a reader returns for a block of one file is right for the other, if the two agree there.
 abbrev pub AgreeingAnswersLaw : Type 0
 AgreeingAnswersLaw = (m : Meaning) (known : Dictionaries) (p : Option (List ℕ)) (limit : Limit) (xs ys : List ℕ) (i : ℕ) (r : Result (List AnyArray) Fault) → AgreeAtBlock m p xs ys i
     → GivesPart chunk_seen r (file_chunk m known xs p limit i) → GivesPart chunk_seen r (file_chunk m known ys p limit i)
 
--- where they agree at all blocks, and have the same dictionaries, all chunks are the same
+-- Two files that agree at all blocks, and have the same dictionaries, have the same chunks.
 abbrev pub AgreeingFilesLaw : Type 0
 AgreeingFilesLaw = (m : Meaning) (p : Option (List ℕ)) (limit : Limit) (xs ys : List ℕ) → file_dictionaries m xs ≡ file_dictionaries m ys
     → ((i : ℕ) → AgreeAtBlock m p xs ys i) → file_chunks m xs p limit ≡ file_chunks m ys p limit

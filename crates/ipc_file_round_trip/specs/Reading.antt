@@ -22,99 +22,106 @@ use Rattle.ipc_file_readers.specs.Readers.{less}
 use Rattle.ipc_file_readers.specs.Rows.{first_of, joined}
 use Rattle.ipc_file_round_trip.specs.declared.read.WholeFile.{WholeFile}
 
--- ---- what a file means, from its first record to its last
+-- ---- what a file means, from its first record block to its last
 
--- how many rows a chunk has
+-- How many rows a chunk has.
 abbrev pub rows_of : Chunk → ℕ
 rows_of c = row_count (λ x. length x.slots) c
 
--- the chunks of some blocks, by the columns that are asked for and one limit: each has at most the rows that those before it leave
+-- The chunks of some blocks, by the requested columns and one row limit: each has at most the
+-- rows that those before it leave.
 abbrev pub chunks_by : Meaning → Dictionaries → List ℕ → Option (List ℕ) → Limit → List Block → Option (List Chunk)
 chunks_by m ds source p limit [] = Some []
 chunks_by m ds source p limit (b ∷ bs) =
     given (chunk_at m ds source b p limit) (λ c. option_map (λ cs. c ∷ cs) (chunks_by m ds source p (less limit (rows_of c)) bs))
 
--- the dictionaries of a file with these records: without a record nothing asks for them
+-- The dictionaries of a file with these record blocks; without a record block they aren't read.
 abbrev pub dictionaries_for : List Block → Meaning → List ℕ → Option Dictionaries
 dictionaries_for [] m source = Some []
 dictionaries_for (b ∷ bs) m source = file_dictionaries m source
 
--- the chunks of a file
+-- The chunks of a file, by the requested columns and one row limit.
 abbrev pub file_chunks : Meaning → List ℕ → Option (List ℕ) → Limit → Option (List Chunk)
 file_chunks m source p limit = given (dictionaries_for m.blocks m source) (λ ds. chunks_by m ds source p limit m.blocks)
 
--- all of a file: its metadata, and its chunks
+-- All of a file: its metadata, and its chunks.
 pub record FileMeant : Type 0 where
   pub metadata : Meaning
   pub chunks : List Chunk
 
--- by the columns that are asked for and one limit
+-- What a file means by a projection and one row limit: its metadata, and its chunks.
 unfoldable pub file_by : Option (List ℕ) → Limit → List ℕ → Option FileMeant
 file_by p limit bytes =
     given (metadata_of bytes) (λ m. option_map (λ cs. record { metadata = m; chunks = cs }) (file_chunks m bytes p limit))
 
--- the chosen columns of some chunks, and of each at most the rows that those before it leave of one limit
+-- The chosen columns of some chunks. One row limit holds for all chunks together: each has at most
+-- the rows that those before it leave.
 abbrev pub all_pruned : Option (List ℕ) → Limit → List Chunk → List Chunk
 all_pruned p limit [] = []
 all_pruned p limit (c ∷ cs) = pruned p limit c ∷ all_pruned p (less limit (rows_of (pruned p limit c))) cs
 
 -- ---- why it isn't read
 
--- Why the chunks of some blocks aren't read: the first block that has none, by what those before it leave of the limit.
+-- Why the chunks of some blocks aren't read: the first block that has none, by what
+-- those before it leave of the limit.
 abbrev pub BlocksReason : Meaning → Dictionaries → List ℕ → Option (List ℕ) → Limit → List Block → Fault → Type 0
 BlocksReason m ds source p limit [] e = ⊥
 BlocksReason m ds source p limit (b ∷ bs) e =
     MatchOption (chunk_at m ds source b p limit) (RecordReason m (chosen p (count (kinds m.schema))) source (Some b) e)
     (λ c. BlocksReason m ds source p (less limit (rows_of c)) bs e)
 
--- Why those of a file aren't: its dictionaries have no meaning, or one of its blocks has none.
+-- Why the chunks of a file aren't read: its dictionaries or one of its blocks have no meaning.
 abbrev pub ChunksReason : Meaning → List ℕ → Option (List ℕ) → Limit → Fault → Type 0
 ChunksReason m source p limit e =
     MatchOption (dictionaries_for m.blocks m source) (DictionariesReason m source [] m.dictionaries e) (λ ds. BlocksReason m ds source p limit m.blocks e)
 
--- Why a file isn't: its metadata have no meaning, or its chunks have none.
+-- Why a file isn't read: its metadata or its chunks have no meaning.
 abbrev pub ReadingReason : Option (List ℕ) → Limit → List ℕ → Fault → Type 0
 ReadingReason p limit bytes e = MatchOption (metadata_of bytes) (FileReason 0 bytes e) (λ m. ChunksReason m bytes p limit e)
 
 -- ---- what was read
 
--- the chunks that are seen, in order
+-- The chunks that some lists of arrays are, in order.
 abbrev pub chunks_seen : List (List AnyArray) → List Chunk
 chunks_seen xs = map chunk_seen xs
 
+-- The chunks of a file that was read.
 abbrev pub chunks_of : WholeFile → List Chunk
 chunks_of f = chunks_seen f.chunks.items
 
+-- A file that was read: its metadata, and its chunks.
 abbrev pub file_read : WholeFile → FileMeant
 file_read f = record { metadata = file_seen f.metadata; chunks = chunks_of f }
 
--- Where a file has a meaning, the rows of these chunks, joined, are the first rows of the columns that are asked for.
+-- If the file has a meaning, the joined rows of these chunks are the first
+-- rows of the requested columns.
 pub record HasFirstRows (m : Meaning) (source : List ℕ) (p : Option (List ℕ)) (limit : Limit) (gs : List Chunk) : Type 0 where
   pub rows : (ds : Dictionaries) (cs : List Chunk) → file_dictionaries m source ≡ Some ds → chunks_at m ds (all_of source) None None m.blocks ≡ map Some cs
       → (q j : ℕ) → slice_get (chosen p (count (kinds m.schema))) q ≡ Some j → joined gs q ≡ first_of limit (joined cs j)
 
--- so do those of what was read, where something was
+-- `HasFirstRows` holds of what was read, if anything was.
 abbrev pub HaveFirstRows : Option (List ℕ) → Limit → List ℕ → Option WholeFile → Type 0
 HaveFirstRows p limit bytes None = Unit {0}
 HaveFirstRows p limit bytes (Some f) = HasFirstRows (file_seen f.metadata) bytes p limit (chunks_of f)
 
--- All of a file was read by columns that it has, each asked for once.
+-- All of a file was read, by columns that it has, each requested once.
 pub record IsReadBy (p : Option (List ℕ)) (limit : Limit) (bytes : List ℕ) (f : WholeFile) : Type 0 where
   pub asked : IsProjection p (count (kinds (file_seen f.metadata).schema))
   pub means : file_by p limit bytes ≡ Some (file_read f)
 
--- a file has a schema that doesn't have these columns, or one of them is named twice
+-- A file's schema doesn't have these columns, or one of them is named twice.
 pub record NamesOthers (p : Option (List ℕ)) (bytes : List ℕ) : Type 0 where
   pub metadata : Meaning
   pub there : metadata_of bytes ≡ Some metadata
   pub others : ¬ IsProjection p (count (kinds metadata.schema))
 
--- A file can't be read, by columns that it has.
+-- A file can't be read, and the requested columns are ones that it has.
 pub record IsUnreadable (p : Option (List ℕ)) (limit : Limit) (bytes : List ℕ) : Type 0 where
   pub asked : (m : Meaning) → metadata_of bytes ≡ Some m → IsProjection p (count (kinds m.schema))
   pub none : file_by p limit bytes ≡ None
 
--- All of a file was read, of these columns and up to the limit; or they aren't those of its schema; or, memory aside, it can't be read.
+-- All of a file was read, of these columns and up to the limit, or its schema doesn't have the
+-- columns. An error says that it can't be read, or that an allocation or the device failed.
 abbrev pub ReadsColumns : Option (List ℕ) → Limit → List ℕ → Result (Option WholeFile) Fault → Type 0
 ReadsColumns p limit bytes (Ok None) = NamesOthers p bytes
 ReadsColumns p limit bytes (Ok (Some f)) = IsReadBy p limit bytes f

@@ -1,4 +1,4 @@
--- What calls of `next` gave, one after the other, until nothing came or one was refused.
+-- What calls of `next` returned, one after the other, until None or an error came.
 -- (Arrow columnar format, "IPC File Format".)
 use Rattle.std.specs.Prelude.{◌≡◌, ◌⊎◌, ℕ, ◌≤◌, Bool, true, false, List, [], ◌∷◌, ◌++◌, map, None, Some, Result, Ok, Err}
 use Rattle.lower_arrays.specs.declared.array.AnyArray.{AnyArray}
@@ -11,31 +11,32 @@ use Rattle.ipc_file_readers.specs.Readers.{Answer, NextStep, device_of}
 use Rattle.ipc_file_readers.specs.Runs.{Calls}
 use Rattle.ipc_file_readers.specs.declared.read.reader.state.FileReader.{FileReader}
 
--- the answers that are these chunks
+-- The answers that are these chunks.
 abbrev pub answers_of : List (List AnyArray) → List Answer
 answers_of xs = map (λ x. Some (Ok x)) xs
 
--- A call gave one chunk more, or nothing, or a fault, or memory was refused for what it gave.
+-- A call returned one more chunk, or None, or an error; or an allocation for the chunk failed.
 abbrev pub GivesPush : {R : Type 0} → (known still : Bool) (memory : R → devices.Memory) (failures given : R → ℕ) → FileReader R → List (List AnyArray) → Result Bool Fault → FileReader R → List (List AnyArray) → Type 0
 GivesPush known still memory failures given a xs (Ok true) b ys = (x : List AnyArray) × (ys ≡ xs ++ x ∷ []) × NextStep known still memory failures given a (Some (Ok x)) b
 GivesPush known still memory failures given a xs (Ok false) b ys = (ys ≡ xs) × NextStep known still memory failures given a None b
 GivesPush known still memory failures given a xs (Err e) b ys = (e ≡ Memory) ⊎ NextStep known still memory failures given a (Some (Err e)) b
 
--- the same, and what is told of the device
+-- A call of `next` returned one more chunk, None, or an error. The device's failures rise if its
+-- error is returned, and never fall.
 pub record PushesNext {R : Type 0} (known still : Bool) (memory : R → devices.Memory) (failures given : R → ℕ) (a : FileReader R) (xs : List (List AnyArray)) (r : Result Bool Fault) (b : FileReader R) (ys : List (List AnyArray)) : Type 0 where
   pub push : GivesPush known still memory failures given a xs r b ys
   pub failed : OnIo r (Rises (failures (device_of a)) (failures (device_of b)))
   pub monotone : failures (device_of a) ≤ failures (device_of b)
 
--- Calls gave these chunks, and then nothing.
+-- Calls returned these chunks, and then None.
 pub record GivesAll {R : Type 0} (known still : Bool) (memory : R → devices.Memory) (failures given : R → ℕ) (a : FileReader R) (xs : List (List AnyArray)) : Type 0 where
   pub calls : Calls known still memory failures given a (answers_of xs ++ None ∷ [])
 
--- They gave some chunks, and then a fault.
+-- Calls returned some chunks, and then an error.
 pub record GivesThenFails {R : Type 0} (known still : Bool) (memory : R → devices.Memory) (failures given : R → ℕ) (a : FileReader R) (e : Fault) : Type 0 where
   pub chunks : List (List AnyArray)
   pub calls : Calls known still memory failures given a (answers_of chunks ++ Some (Err e) ∷ [])
 
--- why not all chunks were read: a fault that a call gave, or memory
+-- Why not all chunks were read: a call returned this error, or an allocation failed.
 abbrev pub RefusesBlocks : {R : Type 0} → (known still : Bool) (memory : R → devices.Memory) (failures given : R → ℕ) → FileReader R → Fault → Type 0
 RefusesBlocks known still memory failures given a e = (e ≡ Memory) ⊎ GivesThenFails known still memory failures given a e

@@ -90,9 +90,9 @@ dictionaries_refused known m bytes NoMemory h none reason = tt
 dictionaries_refused known m bytes (Io x) h none reason = tt
 dictionaries_refused known m bytes _ h none reason = inr (record { kind = h; none = none; reason = reason })
 
--- ---- where its device fails
+-- ---- its device fails
 
--- a file that can't be appended to is refused by no device
+-- A file that can't be appended to isn't refused by a device.
 pub own_not_io : (m : FileMetadata) (e : Fault) (P : Type 0) → RefusesToGoOn m e → OnIo {X = Unit {0}} (Err e) P
 own_not_io m (Io x) P h = absurd h
 own_not_io m _ P h = tt

@@ -1,4 +1,4 @@
--- What is known of a writer that goes on with a file.
+-- What is known of a writer that appends to a file.
 use Rattle.std.proofs.Common.{◌≡◌, ℕ, ℤ, Bool, IsTrue, Option, Some, None, refl, sym, ◌∙◌}
 use Rattle.std.specs.HashMap.{HashMap, get}
 use Rattle.std.specs.Option.{option_map}
@@ -22,7 +22,7 @@ found-same : {Z : Type 0} (o : Option (Rc AnyArray Z)) → option_map (λ (value
 found-same None = refl
 found-same (Some x) = refl
 
--- what a writer is made of that goes on with a file
+-- The parts of a writer that appends to a file.
 pub record IsMadeOf {W : Type 0} (m : FileMetadata) (w : FileSeen W) : Type 0 where
   pub state : w.state ≡ Started
   pub order : w.order ≡ m.schema.order

@@ -1,4 +1,4 @@
--- What a writer that goes on with a file holds.
+-- The state of a writer that appends to a file.
 use Rattle.std.proofs.Common.{◌≡◌, ◌⊎◌, inl, inr, None, ℕ, ℤ, ◌+◌, ◌-◌, ◌^◌, ◌<◌, ◌≤◌, max, Bool, IsTrue, false, List, [], ◌∷◌, ◌++◌, length, map, take, Some, Option, refl, sym, ap, ap₂, ◌∙◌, subst, append-nil, arith, length-append, length-take-le}
 use Rattle.std.proofs.lemmas.List.{take-take, take_at}
 use Rattle.std.proofs.Math.Seq.{take-append-add}
@@ -34,14 +34,14 @@ use Rattle.ipc_file_write.specs.FileWriters.{FileSeen, HoldsBytes, IsOpenFile, I
 use Rattle.ipc_file_write.proofs.FileHeads.{IsHeaded, is_headed}
 use Rattle.ipc_file_write.proofs.FileStates.{at_state, remembers_same, stream_same}
 
--- what stands before a place that is inside
+-- The bytes before an offset that is inside.
 before_inside : (m m' : Memory) (p : ℕ) → GoesTo m m' p → p ≤ length m.whole → before m' ≡ take p m.whole
 before_inside m m' p at inside =
     let zero_byte : ℕ = 0 in
     let none : p - length m.whole ≡ 0 = omega (arith, inside) in
     rw (at.whole, at.place, none) (append-nil (take p m.whole))
 
--- what is remembered is what the file's dictionaries mean
+-- The remembered dictionaries are those of the file.
 knows : (m : FileMetadata) (bytes : List ℕ) (r : Remembered) (known : Dictionaries) → RemembersFile m bytes r → file_dictionaries m bytes ≡ Some known → KnowsRemembered r known
 knows m bytes r known h is =
     let alike : AreAlike (Some known) (Some h.found) = subst (λ (o : Option Dictionaries). AreAlike o (Some h.found)) is h.alike in
@@ -58,7 +58,7 @@ schema_same m w order fields metadata ids = rw (order, fields, metadata, ids) re
 pub same_failures : {W : Type 0} (failures : W → ℕ) (w : FileSeen W) (device : W) (p : Prepared) → w ≡ resumed device p → failures w.device ≡ failures device
 same_failures {W = W} failures w device p e = ap (λ (x : FileSeen W). failures x.device) e
 
--- behind a file of some chunks, with the schema in the normal form
+-- After a file of some chunks, with the schema in the normal form.
 pub goes_on_with : {W : Type 0} (known : Bool) (memory : W → Memory) (m : FileMetadata) (device : W) (w : FileSeen W) → GoesOn known memory m device w → GoesOnWith known memory m device w
 goes_on_with known memory m device w g k is dictionaries cs means =
     let bytes = (memory device).whole in
@@ -90,13 +90,13 @@ goes_on_with known memory m device w g k is dictionaries cs means =
       file = at_state false Started w.state w front (map normal_chunk cs) (sym g.state) open_file;
     }
 
--- ---- behind a file that another writer finished
+-- ---- after a file that another writer finished
 
 pub some-block : (bs : List Block) → (bs ≡ [] → ⊥) → 0 < length bs
 some-block [] h = absurd (h refl)
 some-block (b ∷ bs) h = omega arith
 
--- its head is the same, in the normal form
+-- The head is the same, in the normal form.
 head_again : {V W : Type 0} (a : FileSeen V) (w : FileSeen W) → w.order ≡ a.order → w.fields ≡ norm_fields a.fields → w.metadata ≡ a.metadata → w.ids ≡ a.ids → head_of_file a ≡ head_of_file w
 head_again a w order fields metadata ids = rw (order, fields, metadata, ids, norm_fields-norm_fields a.fields) refl
 
@@ -106,7 +106,7 @@ dictionaries-at schema pairs ds bs n size xs bytes known e f h =
     subst (λ (ys : List ℕ). dictionaries_after (file_so_far schema pairs ds bs size) (all_of ys) [] ds ≡ Some known) e
     (subst (λ (k : ℕ). dictionaries_after (file_so_far schema pairs ds bs k) (all_of xs) [] ds ≡ Some known) f h)
 
--- the bytes before a place behind the front
+-- The bytes before an offset that is after the front.
 taken : (p : ℕ) (bytes front behind : List ℕ) → bytes ≡ front ++ behind → length front ≤ p → take p bytes ≡ front ++ take (p - length front) behind
 taken p bytes front behind parts far =
     let at : p ≡ length front + (p - length front) = omega (arith, far) in
@@ -209,9 +209,9 @@ module _ {W : Type 0} (known : Bool) (memory : W → Memory) (m : FileMetadata) 
 pub goes_on_any : {W : Type 0} (known : Bool) (memory : W → Memory) (m : FileMetadata) (device : W) (w : FileSeen W) → GoesOn known memory m device w → GoesOnAgain known memory m device w
 goes_on_any known memory m device w g k is is_stream a cs h = goes_on_again known memory m device w a is_stream cs g k is h
 
--- ---- files that can be gone on with
+-- ---- files that can be appended to
 
--- one that was finished, has a block and isn't too long
+-- A file that was finished, has a block and isn't too long.
 pub may_go_on : {W : Type 0} (m : FileMetadata) (a : FileSeen W) (is_stream : Bool) (bytes : List ℕ) (cs : List Chunk) → metadata_of bytes ≡ Some m → IsWholeFile is_stream a bytes cs → (m.blocks ≡ [] → ⊥) → m.size < 2 ^ 63 → MayGoOn m
 may_go_on m a is_stream bytes cs is h some short =
     let same : file_written a.order a.fields a.metadata a.ids a.pairs a.dictionaries a.blocks (length bytes) ≡ m = some-same _ m (sym h.file.means.metadata ∙ is) in
@@ -225,7 +225,7 @@ may_go_on m a is_stream bytes cs is h some short =
       light = subst (λ (x : FileMetadata). file_weight x.schema.fields x.schema.metadata x.pairs ≤ max_weight) same light;
     }
 
--- such a file is refused for nothing of its own
+-- Such a file is refused only by errors of allocation and of the device.
 refuses_not : (m : FileMetadata) (e : Fault) → OwnFault e (MayGoOn m → RefusesToGoOn m e → ⊥)
 refuses_not m (Argument NoRecordBlocks) = λ may h. may.some_blocks h
 refuses_not m (OutOfSpec UnexpectedNegativeInteger) = λ may h. may.natural h

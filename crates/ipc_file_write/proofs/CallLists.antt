@@ -1,4 +1,4 @@
--- What calls of a file's writer do, one after the other.
+-- What the calls of a file writer do, one after the other.
 use Rattle.std.proofs.Common.{◌≡◌, ℕ, Bool, true, false, List, [], ◌∷◌, ◌++◌, Result, Ok, Err, OnOk, refl, sym, ap, ◌∙◌, subst, append_assoc, append-nil, ◌-◌, length, take, replicate, arith}
 use Rattle.std.proofs.lemmas.List.{take_all}
 use Rattle.std.specs.Prelude.{Vec, vec_capacity, vec_len}
@@ -25,7 +25,7 @@ use Rattle.ipc_file_write.specs.Calls.{AreMade, EndsFile, GrowsBy, HasChosen, Id
 use Rattle.ipc_file_write.specs.FileWriters.{Agrees, EndsWith, FileIs, FileSeen, HasNothing, IsFileOf, IsSameFile, IsWholeFile, Remains, SendsBeginning, SendsEnding, StartsWith, StateComesFirst, TakesPairs}
 use Rattle.ipc_file_write.specs.Writes.{Appends, SendsColumns}
 
--- all calls are made, each of the writer that the one before it left
+-- All calls are made, each on the writer that the one before it left.
 abbrev pub AllMove : {W : Type 0} → Bool → (W → Memory) → FileSeen W → List StreamCall → List (Result (Unit {0}) Fault) → FileSeen W → Type 0
 AllMove known memory a [] [] b = b ≡ a
 AllMove {W = W} known memory a (call ∷ calls) (r ∷ rs) b = (m : FileSeen W) × (MakesCall known memory a call r m × AllMove known memory m calls rs b)
@@ -77,7 +77,8 @@ module _ {W : Type 0} (known : Bool) (memory : W → Memory) where
 
 -- ---- one call
 
--- only a new writer's start reaches the device, and only a started one's chunk or end
+-- Only the `start` of a new writer reaches the device, and only the
+-- `write` or `finish` of a started one.
 was_new : {W : Type 0} (s : WriterState) (a b : FileSeen W) (x : _) → StateComesFirst (fault_unless_new s) a (Err (Io x)) b → s ≡ New
 was_new New a b x h = refl
 was_new Started a b x h = let other = h.0 in absurd cc
@@ -223,11 +224,11 @@ pub vector_before : (v : Vec ℕ Global) → before (vector v) ≡ v.items
 vector_before v = whole_before v.items v.len (omega (arith, v.ok))
 
 module _ (bytes xs : List ℕ) (cs : List Chunk) where
-  -- the same in other words
+  -- The same by other definitions.
   written_as : (o p : Endianness) (fs gs : FieldTrees) (es ds : Pairs) (is js : IdTrees) (ps qs : Pairs) → xs ≡ bytes → o ≡ p → fs ≡ gs → es ≡ ds → is ≡ js → ps ≡ qs → IsWrittenFile bytes p gs ds js qs cs → IsWrittenFile xs o fs es is ps cs
   written_as o p fs gs es ds is js ps qs a b c d e f h = rw (a, b, c, d, e, f) h
 
--- a writer that was ended over an empty memory
+-- A writer to empty memory that was finished.
 pub file_ended : (a b : FileSeen (Vec ℕ Global)) (v : Vec ℕ Global) → Remains true vector a b → (HasChosen a → HasChosen b) → IsSameFile a b → b.state ≡ Finished → v ≡ b.device → EndsFile a v.items
 file_ended a b v remains chosen same is over = record {
   file = λ cs had agrees.

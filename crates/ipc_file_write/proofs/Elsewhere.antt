@@ -1,9 +1,9 @@
--- What is said of the writer of a file, its device aside, is said of the same writer over any device.
+-- What holds of a file writer without its device holds of the same writer with any device.
 use Rattle.std.proofs.Common.{Bool, ℕ, List}
 use Rattle.ipc_model.specs.Batches.{Chunk}
 use Rattle.ipc_file_write.specs.FileWriters.{FileSeen, IsOpenFile, IsWholeFile}
 
--- the same writer over this device
+-- The same writer with this device.
 abbrev pub over : {V W : Type 0} → W → FileSeen V → FileSeen W
 over device w = record {
   device = device;

@@ -1,4 +1,4 @@
--- Messages that were encoded, as they are sent.
+-- Encoded messages, as they are sent.
 use Rattle.std.proofs.Common.{◌≡◌, ℕ, List, [], ◌∷◌, ◌++◌, map, true, refl, sym, ap, ap₂, subst, ◌∙◌}
 use Rattle.lower.specs.TypeTrees.{FieldTrees}
 use Rattle.lower_types.specs.declared.Endianness.{Endianness}
@@ -56,7 +56,8 @@ columns_sent order columns list ds own all =
       version = record { root = said.root; root_is = said.opened; version = V5; version_is = said.version; extra_is = refl };
     }
 
--- what is sent of an accepted chunk whose dictionaries were listed, where those that are remembered have to stay
+-- What is sent for an accepted chunk with these dictionaries to write,
+-- if those remembered must stay.
 pub sends_chunk : (order : Endianness) (fs : FieldTrees) (is : IdTrees) (m after : Remembered) (columns : List Layout) (list : List FilledPlace) (ds : List Message) (own : Message)
     → IsAcceptedChunk fs is columns → ListsAll m true columns is list → IsSameMemory (remembering_all list m) after → AreMessages order columns list ds own
     → SendsChunk order fs is m after columns (map sent ds) (sent own)

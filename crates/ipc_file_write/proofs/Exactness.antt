@@ -1,4 +1,4 @@
--- Chunks are taken just where their file accepts them.
+-- Chunks are written exactly if their file accepts them.
 use Rattle.std.proofs.Common.{rules, ◌≡◌, ◌⊎◌, ℕ, ℤ, pos, ◌+◌, ◌^◌, ◌<◌, Bool, true, false, cond, List, [], ◌∷◌, ◌++◌, length, map, Option, None, Some, refl, sym, ap, ap₂, subst, ◌∙◌, inl, inr, arith, length-append}
 use Rattle.std.specs.Prelude.{is_some, option_map}
 use Rattle.std.specs.Map.{lookup}
@@ -31,7 +31,7 @@ use Rattle.ipc_file_laws.specs.FileBytes.{Sent, all_bytes, block_at, blocks_at, 
 use Rattle.ipc_file_write.specs.Blocks.{sent}
 use Rattle.ipc_file_write.proofs.PlacedMessages.{length-sent}
 
--- ---- which dictionaries are listed
+-- ---- which dictionaries are written
 
 -- there is one list
 pub lists_one : (m : Remembered) (ps ws vs : List FilledPlace) → ListsUnwritten m ps ws → ListsUnwritten m ps vs → ws ≡ vs
@@ -67,7 +67,7 @@ values_long order (p ∷ ps) (d ∷ ds) (e ∷ es) a b =
     let rest = values_long order ps ds es a.1 b.1 in
     omega (arith, here, there, rest, length-append (sent_bytes (sent d)) (all_bytes (map sent ds)), length-append (sent_bytes (sent e)) (all_bytes (map sent es)))
 
--- those of a chunk are as long however they are encoded
+-- The messages of a chunk are equally long however they are encoded.
 pub chunks_long : (order : Endianness) (columns : List Layout) (list : List FilledPlace) (ds es : List Message) (own other : Message) → AreMessages order columns list ds own → AreMessages order columns list es other
     → length (chunk_bytes (map sent ds) (sent own)) ≡ length (chunk_bytes (map sent es) (sent other))
 chunks_long order columns list ds es own other a b =
@@ -129,7 +129,7 @@ int_eq_turned a b =
       ]
     ]
 
--- one more is known
+-- One more id is known.
 agree_more : (m : Remembered) (known : Dictionaries) (p : FilledPlace) → SomeAgree m known → SomeAgree (remembering p.id (dictionary_of p.values) m) ((p.id, (brought p).values) ∷ known)
 agree_more m known p agree id =
     elim (cases_Bool (int_eq p.id id)) [
@@ -201,7 +201,7 @@ places_are order columns rows own is last m known (p ∷ ps) list (d ∷ ds) pla
 abbrev values_with : TypeTree → List Slot → Values
 values_with t xs = record { type = t; slots = xs }
 
--- a place that is kept is new, or has what is remembered
+-- A dictionary field that is kept is new, or has what is remembered.
 kept_open : (o : Option Values) (p : FilledPlace) → AreKept o (brought p).values → (o ≡ None) ⊎ (o ≡ Some (dictionary_of p.values))
 kept_open None p h = inl refl
 kept_open (Some d) p h = inr (ap Some (ap₂ values_with h.1 h.0))

@@ -12,7 +12,7 @@ use Rattle.ipc_model.specs.Schemas.{given, made, pairs_at, present, schema_at}
 isnt-below : (n m : ℕ) → nat_lt n m ≡ false → m ≤ n
 isnt-below n m h = search arith
 
--- a footer says the size that it is handed
+-- A footer gives the size that it is passed.
 size-said : (size : ℕ) (t : Spot) (m : FileMetadata) → footer_at size t ≡ Some m → m.size ≡ size
 unfolding footer_at
 size-said size t m e =

@@ -1,4 +1,4 @@
--- What a file's writer answers of a chunk, exactly.
+-- The exact result of `write` of a file writer.
 use Rattle.std.proofs.Common.{◌≡◌, ◌⊎◌, ℕ, ◌+◌, ◌^◌, ◌<◌, ◌≤◌, true, List, [], ◌∷◌, ◌++◌, length, map, Option, IfSome, Result, Ok, Err, refl, sym, ap, subst, inl, inr, arith, length-append}
 use Rattle.std.specs.List.{AllByRecursion}
 use Rattle.lower_arrays.specs.AnyLayouts.{layout_of}
@@ -37,9 +37,9 @@ use Rattle.ipc_file_write.proofs.Exactness.{blocks_count, blocks_end, chunk_plac
 use Rattle.ipc_file_write.proofs.PlacedMessages.{bytes_more}
 use Rattle.ipc_file_write.proofs.StartsAndEnds.{state_fault}
 
--- ---- messages without a place
+-- ---- messages without a block
 
--- a signed number of 32 bits says how long it is up to its body
+-- The offset of its body fits in 32 signed bits.
 abbrev IsShortHead : Sent → Type 0
 IsShortHead w = 8 + length w.metadata < 2 ^ 31
 
@@ -53,7 +53,7 @@ short_heads order columns [] (d ∷ ds) own h s = absurd h
 short_heads order columns (p ∷ ps) [] own h s = absurd h
 short_heads order columns (p ∷ ps) (d ∷ ds) own h s = (short_head (Dictionary p.id) order (p.values ∷ []) (len_of p.values) d h.0, short_heads order columns ps ds own h.1 s)
 
--- they would end too far
+-- The messages would end too far.
 abbrev PassesEnd : ℕ → List Sent → Fault → Type 0
 PassesEnd place ws e = (e ≡ Memory) ⊎ ((e ≡ Argument TooLarge) × (2 ^ 63 ≤ place + length (all_bytes ws)))
 
@@ -89,7 +89,7 @@ module _ {W : Type 0} (w : FileSeen W) (known : Dictionaries) (columns : List An
   chunk_missed e (inl h) = missed (as_stream w) columns ids w.fields w.metadata writable refl e h
   chunk_missed _ (inr h) = absurd h
 
-  -- no room for the blocks of the dictionaries that are listed, and for that of the record
+  -- There is no room for the blocks of the dictionaries to write, and for that of the record.
   pub room_missed : (list : List FilledPlace) (e : Fault) → MayList w columns ids list → RefusesRoom (block_count w) (length list) e → MissesWrite w known columns ids e
   room_missed list (Argument TooLarge) may h = λ x.
       let m = x.1.messages in
@@ -102,7 +102,7 @@ module _ {W : Type 0} (w : FileSeen W) (known : Dictionaries) (columns : List An
   room_missed list Memory may h = tt
   room_missed list _ may h = absurd h
 
-  -- they are made, and one of them has no place
+  -- The messages are made, and one of them has no block.
   place_missed : (list : List FilledPlace) (e : Fault) → MayList w columns ids list → HasNoPlace w.order (map layout_of columns) list w.place e → MissesWrite w known columns ids e
   place_missed list e may h =
       let own_short = short_head Record w.order (map layout_of columns) (row_count len_of (map layout_of columns)) h.own h.are.record_is in
@@ -131,7 +131,7 @@ module _ {W : Type 0} (w : FileSeen W) (known : Dictionaries) (columns : List An
   sending_missed list e may (inl h) = chunk_missed e (inl (messages_refuse list e may h))
   sending_missed list e may (inr h) = place_missed list e may h
 
-  -- so it isn't taken
+  -- So the chunk isn't accepted.
   pub not_taken : (e : Fault) → MissesWrite w known columns ids e → OwnFault e (¬ MayBeWritten w known columns ids)
   not_taken (State x) h = λ t. h t.started
   not_taken (Argument FieldsDiffer) h = λ t. h t.same_ids
@@ -185,7 +185,7 @@ answers_sent w known columns ids list ds own p agrees may are said placed few =
 
 -- ---- by each list of what is remembered
 
--- what follows where a schema can be written follows where it can't be that it can't
+-- What follows if a schema can be written, follows if it isn't true that it can't be.
 not_denied : {W : Type 0} (w : FileSeen W) (known : Dictionaries) (columns : List AnyArray) (ids : Option IdTrees) (e : Fault) → ¬ (¬ IsWritable w.fields w.metadata w.ids)
     → (IsWritable w.fields w.metadata w.ids → AnswersWrite w known columns ids (Err e)) → AnswersWrite w known columns ids (Err e)
 not_denied w known columns ids (State x) nn f = (λ h. nn (λ k. (f k).0 h), λ t. nn (λ k. (f k).1 t))

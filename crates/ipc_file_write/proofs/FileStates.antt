@@ -1,4 +1,4 @@
--- What the bytes of a file's writer are after each call.
+-- The bytes of a file writer after each call.
 use Rattle.std.proofs.Common.{◌≡◌, ℕ, ◌+◌, ◌%◌, ◌≤◌, Bool, IsTrue, List, [], ◌∷◌, ◌++◌, length, take, replicate, Some, refl, sym, ap, ◌∙◌, subst, append_assoc, append-nil, length-append, arith, Ok, Err}
 use Rattle.ipc_devices.specs.Device.{Memory, WritesOver, before}
 use Rattle.ipc_devices.specs.Faults.{OnIo, OnRefused}
@@ -62,7 +62,7 @@ refused_step known grows failures room memory a e not_io =
     kept_step known grows failures room memory a a e [] (record { device = refl; state = refl; ids = refl; pairs = refl; remembers = λ id. refl; dictionaries = refl; blocks = refl; place = refl })
     (record { order = refl; fields = refl; metadata = refl; chosen = refl; pairs = refl; size = refl }) not_io
 
--- so that nothing was sent of a file's beginning, and nothing of its end
+-- So nothing was sent of a file's beginning, and nothing of its end.
 none_sent : (e : Fault) (P : Type 0) → ((Q : Type 0) → OnIo {X = Unit {0}} (Err e) Q) → OnSent (Err e) P
 none_sent (Io x) P not_io = not_io _
 none_sent _ P not_io = tt
@@ -83,13 +83,13 @@ pub finish_not_io : {W : Type 0} (w : FileSeen W) (e : Fault) → RefusesFinish 
 finish_not_io w (Io x) h P = absurd h
 finish_not_io w _ h P = tt
 
--- ids that can't be had refuse the start
+-- Ids that don't fit the schema refuse the start.
 pub ids_refused : {W : Type 0} (w : FileSeen W) (e : Fault) → RefusesSchema e w.fields w.metadata w.chosen → RefusesStart w e
 ids_refused w NoMemory h = tt
 ids_refused w (Argument _) h = h
 ids_refused w _ h = absurd h
 
--- what is made for the start
+-- The parts that are made for the start.
 pub may_start : {W : Type 0} (w : FileSeen W) (s : Starting) (message : List ℕ) (is : IdTrees) → w.state ≡ New → is ≡ w.chosen → all_ids_view s.ipc_fields.items ≡ is → file_weight w.fields w.metadata w.pairs ≤ max_weight
     → IsWritable w.fields w.metadata is → length message ≤ weight w.fields w.metadata → head_of message ≡ Some (written_head_as w.order w.fields w.metadata is) → length message % 8 ≡ 0 → IsWritten message
     → s.bytes.items ≡ file_head ++ (prefix (length message) ++ message) → MayStart w s
@@ -111,7 +111,7 @@ may_start w s message is was chosen ids light writable long headed aligned writt
 
 -- ---- what stays
 
--- all of a writer but its device, its state and its place
+-- A writer without its device, its state and its offset.
 pub record SameBlocks {W : Type 0} (a b : FileSeen W) : Type 0 where
   pub order : b.order ≡ a.order
   pub fields : b.fields ≡ a.fields
@@ -131,7 +131,7 @@ remembers_same schema size bytes ds bs r r' cs same held = record {
       record { known = h.known; agrees = record { each = λ i. h.agrees.each i ∙ sym (same i) }; blocks = h.blocks };
 }
 
--- nothing was written, and so each file has that
+-- Nothing was written, so any file is unchanged.
 fresh_file : (schema : Schema) (size : ℕ) (bytes : List ℕ) (ds bs : List Block) (r : Remembered) (cs : List Chunk) → ds ≡ [] → bs ≡ [] → cs ≡ [] → ((id : _) → r id ≡ nothing_remembered id)
     → HoldsFile schema size bytes ds bs r cs
 fresh_file schema size bytes ds bs r cs e f g same =
@@ -151,7 +151,7 @@ stream_same bytes bytes' h h' r r' cs cs' e f same g held =
 pub at_state : {W : Type 0} (is_stream : Bool) (s s' : WriterState) (w : FileSeen W) (bytes : List ℕ) (cs : List Chunk) → s ≡ s' → FileIs is_stream s w bytes cs → FileIs is_stream s' w bytes cs
 at_state is_stream s s' w bytes cs e h = subst (λ (x : WriterState). FileIs is_stream x w bytes cs) e h
 
--- behind what a device held stand more bytes
+-- There are more bytes after those of a device.
 held_more : (m m' : Memory) (base bytes more : List ℕ) → before m ≡ base ++ bytes → WritesOver m m' more → before m' ≡ base ++ (bytes ++ more)
 held_more m m' base bytes more held over = over.added ∙ ap (λ (xs : List ℕ). xs ++ more) held ∙ append_assoc base bytes more
 
@@ -242,7 +242,7 @@ pub ending-reaches : {W : Type 0} (w : FileSeen W) (bytes : List ℕ) → IsEndi
 ending-reaches w bytes ends = omega (arith, ends.zeros_are, ap length ends.bytes_are, ending-length ends.zeros (ends.footer ++ tail_of ends.footer))
 
 module _ {W : Type 0} (known grows : Bool) (failures room : W → ℕ) (memory : W → Memory) (a b : FileSeen W) where
-  -- a device failed behind a file that was started
+  -- A device failed after a file that was started.
   pub finish_broken : (e : Fault) (bytes : List ℕ) → a.state ≡ Started → b.state ≡ Failed → SameBlocks a b
       → Delivers {X = Unit {0}} known grows (seen_by failures room memory a.device) (seen_by failures room memory b.device) (Err e) bytes → Remains known memory a b
   finish_broken e bytes was is same sent = record {
@@ -292,7 +292,7 @@ module _ {W : Type 0} (known grows : Bool) (failures room : W → ℕ) (memory :
         };
   }
 
-  -- it ends no earlier than what it goes on with
+  -- The file ends no earlier than the one that is appended to.
   pub reaches_end : (e : Ending) → MayFinish a e → Delivers {X = Unit {0}} known grows (seen_by failures room memory a.device) (seen_by failures room memory b.device) (Ok tt) (ending_bytes e)
       → ReachesEnd known memory a b
   reaches_end e may sent = record { reaches = λ k at. let moved = (sent.memory k).place in omega (arith, at, moved, ending-reaches a (ending_bytes e) may.ends) }

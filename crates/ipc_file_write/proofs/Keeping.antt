@@ -31,7 +31,7 @@ started_schema s fs es is pairs h e = λ n. started_keeps s fs es is pairs h e (
 pub failed_keeps : (s : WriterState) (fs : FieldTrees) (es : Pairs) (is : IdTrees) (pairs : Pairs) → s ≡ Failed → ∥ StaysWritable s fs es is pairs ∥₁
 failed_keeps s fs es is pairs e = subst (λ (x : WriterState). ∥ StaysWritable x fs es is pairs ∥₁) (sym e) (merely tt)
 
--- where its state stays
+-- The state stays.
 pub same_keeps : (s t : WriterState) (fs : FieldTrees) (es : Pairs) (is : IdTrees) (pairs : Pairs) → ∥ StaysWritable s fs es is pairs ∥₁ → t ≡ s → ∥ StaysWritable t fs es is pairs ∥₁
 same_keeps s t fs es is pairs h e = subst (λ (x : WriterState). ∥ StaysWritable x fs es is pairs ∥₁) (sym e) h
 
@@ -43,6 +43,6 @@ pub new_light : (s : WriterState) (fs : FieldTrees) (es : Pairs) (is js : IdTree
 new_light s fs es is js pairs h e w =
     not_more (file_weight fs es pairs) max_weight (λ n. not_there h (λ k. n ((subst (λ (x : WriterState). StaysWritable x fs es is pairs) e k) w.light)))
 
--- one that was made without pairs
+-- A writer that was made without pairs.
 pub new_keeps : (fs : FieldTrees) (es : Pairs) (is : IdTrees) (pairs : Pairs) → pairs ≡ [] → ∥ StaysWritable New fs es is pairs ∥₁
 new_keeps fs es is pairs none = merely (λ alone. let same = ap (λ (ps : Pairs). file_weight fs es ps) none in omega (arith, alone, same))

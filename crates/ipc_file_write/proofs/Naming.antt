@@ -16,7 +16,7 @@ use Rattle.ipc_file_write.specs.FileWriters.{FileSeen}
 use Rattle.ipc_file_write.specs.Writes.{NamesOne, RefusesChunk, RefusesRoom, RefusesSending}
 
 module _ {W : Type 0} (w : FileSeen W) (columns : List AnyArray) where
-  -- before its messages are made
+  -- A refusal before its messages are made.
   pub chunk_names : (ids : Option IdTrees) (e : Fault) → RefusesChunk w columns ids e → NamesOne w columns e
   chunk_names ids (Argument (SharedDictionary j)) (inl h) = h.1
   chunk_names ids (Argument (SharedDictionary j)) (inr h) = absurd h

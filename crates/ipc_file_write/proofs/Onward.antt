@@ -6,7 +6,7 @@ use Rattle.ipc_file_laws.proofs.Appending.{stay_law}
 use Rattle.ipc_file_laws.specs.Appending.{goes_on}
 use Rattle.ipc_file_write.specs.AppendLaws.{NoMore, Onward, OnwardBothLaw, OnwardLaw, StillGivesLaw}
 
--- what stands before a place that is inside
+-- The bytes before an offset that is inside.
 front-is : (m : Memory) → m.place ≤ length m.whole → before m ≡ take m.place m.whole
 front-is m h =
     let none : m.place - length m.whole ≡ 0 = omega (arith, h) in
@@ -48,7 +48,7 @@ still_gives m old begun then known cs means at onward =
       blocks = stay_law m old.whole then.whole known cs same means;
     }
 
--- ---- what stands behind
+-- ---- the bytes after it
 
 pub no_more : (m m' : Memory) (bytes : List ℕ) (size : ℕ) → WritesOver m m' bytes → NoMore m size → NoMore m' size
 no_more m m' bytes size over h = omega (arith, h, over.place, ap length over.rest, length-drop (length bytes) (after m))

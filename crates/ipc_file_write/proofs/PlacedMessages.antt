@@ -27,7 +27,7 @@ length-sent w = omega (arith, length-append w.metadata w.body)
 
 pub ruleset placed = (length-sent)
 
--- one that has no block
+-- A message that has no block.
 pub refused-front : (place : ℕ) (ws vs : List Sent) (e : Fault) → RefusesBlockRoom place ws e → RefusesBlockRoom place (ws ++ vs) e
 refused-front place ws vs Memory h = tt
 refused-front place [] vs e h = absurd h

@@ -1,4 +1,4 @@
--- A file's writer starts, and ends its file, just where it may.
+-- A file writer starts, and finishes its file, exactly if it may.
 use Rattle.std.proofs.Common.{◌≡◌, ◌⊎◌, ℕ, Bool, Result, Ok, Err, Option, None, Some, IfSome, refl, sym, ap, subst, inl, inr}
 use Rattle.std.proofs.lemmas.Grind.{merely}
 use Rattle.ipc_base.specs.IdTrees.{IdTrees, all_ids_view}
@@ -31,7 +31,7 @@ first_passed a b r was = rw was tt
 pub first_new : {W : Type 0} (a b : FileSeen W) (r : Result (Unit {0}) Fault) → a.state ≡ New → StateComesFirst (fault_unless_new a.state) a r b
 first_new a b r was = rw was tt
 
--- which state a fault that comes first tells of
+-- The state that an error reports which is checked first.
 pub state_fault : {X : Type 0} (s : WriterState) (e : Fault) (r : Result X Fault) → r ≡ Err e → IfSome (fault_unless_started s) (λ f. r ≡ Err (State f)) → (s ≡ Started) ⊎ ((s ≡ Started → ⊥) × (f : StateFault) × (e ≡ State f))
 state_fault New e r was h = inr ((λ same. absurd cc), faults.NotStarted, cc)
 state_fault Started e r was h = inl refl
@@ -54,7 +54,7 @@ pub start_failed : {W : Type 0} (w : FileSeen W) (e : Fault) → IsIo e → Answ
 start_failed w (Io x) h = (tt, tt)
 start_failed w _ h = absurd h
 
--- the device that failed there is that of the writer that is left
+-- The device that failed there is that of the writer that is left.
 pub begin_fails : {W : Type 0} (known grows : Bool) (failures room : W → ℕ) (memory : W → DeviceMemory) (a b : FileSeen W) (e : Fault) → SendsBeginning known grows failures room memory a (Err e) b
     → OnIo {X = Unit {0}} (Err e) (BeginningFails grows failures room a)
 begin_fails known grows failures room memory a b (Io x) s = record { bytes = s.bytes; begins = s.is; after = b.device; fails = s.step.io.1 }

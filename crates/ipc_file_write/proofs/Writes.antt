@@ -1,4 +1,4 @@
--- What `write` does to its device, to what its writer keeps, and to what the bytes mean.
+-- What `write` does to its device, to what its writer remembers, and to what the bytes mean.
 use Rattle.std.proofs.Common.{◌≡◌, ℕ, ◌+◌, Bool, true, List, [], ◌∷◌, ◌++◌, length, map, Option, Result, Ok, Err, inl, inr, refl, sym, ap, subst, ◌∙◌}
 use Rattle.lower.specs.TypeTrees.{FieldTree, FieldTrees, Pairs, TypeTree, more_fields}
 use Rattle.lower.specs.TypeViews.{fields_view, type_view}
@@ -64,7 +64,7 @@ none_sent : (e : Fault) (P : Type 0) → ((Q : Type 0) → OnIo {X = Unit {0}} (
 none_sent (Io x) P not_io = not_io P
 none_sent _ P not_io = tt
 
--- ---- faults of its parts
+-- ---- errors of its parts
 
 of_message : (e : Fault) → IsOfMessage e → (P : Type 0) → OnIo {X = Unit {0}} (Err e) P
 of_message (Io x) h P = absurd h
@@ -138,9 +138,9 @@ module _ {W : Type 0} (known grows : Bool) (failures room : W → ℕ) (memory :
     kept = λ k is_stream base cs h. stays known grows failures room memory a b was (state ∙ was) same place device is_stream base cs h;
   }
 
-  -- ---- handed to a device
+  -- ---- sent to a device
 
-  -- it failed, or nothing was sent
+  -- The device failed, or nothing was sent.
   pub columns_unsent : (e : Fault) (columns : List AnyArray) (list : List FilledPlace) → ListsAll a.remembers true (map layout_of columns) a.ids list
       → HandsChunk known grows failures room memory a.order (map layout_of columns) list a.place a.device a.state (Err e) b.device b.state → SameBlocks a b → b.chosen ≡ a.chosen → b.place ≡ a.place
       → SendsColumns known grows failures room memory a (Err e) b columns
@@ -173,7 +173,7 @@ module _ {W : Type 0} (known grows : Bool) (failures room : W → ℕ) (memory :
   }
   columns_kept _ columns list chunk was h same place = room_kept _ chunk was same h.unsent.0 h.unsent.1 place
 
-  -- it took all
+  -- All bytes were sent.
   takes_columns : (p : Placed) (columns : List AnyArray) (list : List FilledPlace) → a.state ≡ Started
       → (h : HandsChunk known grows failures room memory a.order (map layout_of columns) list a.place a.device a.state (Ok p) b.device b.state)
       → b.ids ≡ a.ids → b.pairs ≡ a.pairs → IsSameMemory (remembering_all list a.remembers) b.remembers → b.dictionaries ≡ a.dictionaries ++ p.dictionaries.items → b.blocks ≡ a.blocks ++ p.record_batch ∷ [] → b.place ≡ p.end
@@ -220,10 +220,10 @@ module _ {W : Type 0} (known grows : Bool) (failures room : W → ℕ) (memory :
     kept = λ k is_stream base cs g. tt;
   }
 
--- ---- what is handed to a device
+-- ---- what is sent to a device
 
 module _ {W : Type 0} (known grows : Bool) (failures room : W → ℕ) (memory : W → Memory) (order : Endianness) (columns : List Layout) (list : List FilledPlace) (place : ℕ) (w w' : W) (s s' : WriterState) where
-  -- messages that aren't made, or have no place
+  -- Messages that aren't made, or have no block.
   pub hands_refused : (e : Fault) → RefusesSending order columns list place e → ((P : Type 0) → OnIo {X = Unit {0}} (Err e) P) → HandsChunk known grows failures room memory order columns list place w s (Err e) w s
   hands_refused (Io x) h not_io = absurd (not_io ⊥)
   hands_refused _ h not_io = record { dictionaries = []; own = record { metadata = []; body = [] }; are = tt; said = tt; placed = tt; refuses = inr h; unsent = (refl, refl); stays = tt; failed = tt; sends = tt }
@@ -275,7 +275,7 @@ module _ {W : Type 0} (known grows : Bool) (failures room : W → ℕ) (memory :
       let values = values_count order list h.dictionaries h.are.values in
       blocks ∙ count ∙ values
 
-  -- its writer can still be ended, or has failed
+  -- The writer can still be finished, or has failed.
   pub hands_keep : (r : Result Placed Fault) (fs : FieldTrees) (es : Pairs) (is : IdTrees) (pairs : Pairs) → HandsChunk known grows failures room memory order columns list place w s r w' s' → ∥ StaysWritable s fs es is pairs ∥₁
       → ∥ StaysWritable s' fs es is pairs ∥₁
   hands_keep (Ok p) fs es is pairs h keeps = same_keeps s s' fs es is pairs keeps h.stays

@@ -1,4 +1,4 @@
--- What the calls of a new writer of a file in memory left, and why it isn't ended.
+-- What the calls of a new file writer in memory left, and why the file isn't finished.
 use Rattle.std.proofs.Common.{◌≡◌, ℕ, ◌-◌, true, List, [], None, Some, Result, Err, refl, sym, ap, ◌∙◌, subst, inl, inr}
 use Rattle.std.specs.Prelude.{◌⊎◌, Vec, vec_capacity, vec_len}
 use Rattle.std.specs.declared.alloc.Global.{Global}
@@ -28,14 +28,14 @@ use Rattle.ipc_file_write.specs.WrittenFiles.{Leave, RefusesEnd, RefusesWholeFil
 
 -- ---- the end
 
--- which state a writer is in that refuses to end for its state
+-- The state of a writer that refuses to finish for its state.
 state_refuses : (s : WriterState) (x : StateFault) → (s ≡ Finished → ⊥) → fault_unless_started s ≡ Some x → ((s ≡ New) × (x ≡ states.NotStarted)) ⊎ ((s ≡ Failed) × (x ≡ states.Failed))
 state_refuses New x going e = inl (refl, let same : x ≡ states.NotStarted = cc in same)
 state_refuses Started x going e = absurd cc
 state_refuses Finished x going e = absurd (going refl)
 state_refuses Failed x going e = inr (refl, let same : x ≡ states.Failed = cc in same)
 
--- a fault of another kind comes of a started writer alone
+-- Any other error comes only from a started writer.
 started_alone : (s : WriterState) (a b : FileSeen (Vec ℕ Global)) (x : ArgFault) → StateComesFirst (fault_unless_started s) a (Err (faults.Argument x)) b → s ≡ Started
 started_alone New a b x h = let other = h.0 in absurd cc
 started_alone Started a b x h = refl
@@ -56,14 +56,14 @@ module _ (a b : FileSeen (Vec ℕ Global)) (going : a.state ≡ Finished → ⊥
   refuses_end (faults.Argument args.TooLarge) first only misses full = record { started = started_alone a.state a b args.TooLarge first; many = misses }
   refuses_end _ first only misses full = absurd misses
 
--- where it answers an error of its memory
+-- The writer returns an error of its memory.
 pub ending_full : (a b : FileSeen (Vec ℕ Global)) (e : Fault) → SendsEnding true true (λ v. 0) vector_room vector a (Err e) b → IsIo e → HasNoRoom a.device (IsEnding a)
 ending_full a b (faults.Io x) s io = record { bytes = s.bytes; are = s.is; full = is_full _ _ s.step.io.1 }
 ending_full a b _ s io = absurd io
 
 -- ---- the calls
 
--- a new writer whose pairs were set: its memory is empty
+-- A new writer whose pairs were set: its memory is empty.
 module _ (a b : FileSeen (Vec ℕ Global)) (fs : FieldTrees) (es : Pairs) (is : IdTrees) (order : Endianness) (pairs : Pairs) (of : IsFileOf a fs es is order []) (takes : TakesPairs a b pairs) where
   file_of_pairs : IsFileOf b fs es is order pairs
   file_of_pairs = record {

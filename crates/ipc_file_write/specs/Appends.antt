@@ -1,4 +1,4 @@
--- Files that are appended to: which ones can be, and the writer of one.
+-- Files that can be appended to, and the writer that appends.
 -- (Arrow columnar format, "IPC File Format"; the limits are this project's own.)
 use Rattle.std.specs.Prelude.{◌≡◌, ◌⊎◌, ℕ, ℤ, ◌^◌, ◌<◌, ◌≤◌, Bool, IsTrue, List, [], ◌++◌, map, Some, None}
 use Rattle.lower.specs.TypeViews.{fields_view, pairs_of}
@@ -28,8 +28,8 @@ use Rattle.ipc_file_write.specs.declared.prepared.Prepared.{Prepared}
 
 -- ---- which files
 
--- A file with these metadata can be appended to: it has a record block, no number of its blocks is below 0, it is no longer than a signed
--- number of 64 bits can say, and its schema and its pairs can be written.
+-- A file with this metadata can be appended to. It has a record block, no negative number in its
+-- blocks, and less than 2 ^ 63 bytes, and its schema and its pairs can be written.
 pub record MayGoOn (m : FileMetadata) : Type 0 where
   pub some_blocks : m.blocks ≡ [] → ⊥
   pub natural : HaveNegative (m.dictionaries ++ m.blocks) → ⊥
@@ -37,13 +37,13 @@ pub record MayGoOn (m : FileMetadata) : Type 0 where
   pub writable : IsWritable m.schema.fields m.schema.metadata m.schema.ids
   pub light : file_weight m.schema.fields m.schema.metadata m.pairs ≤ max_weight
 
--- the part of this that isn't of blocks
+-- The part of `MayGoOn` that isn't about blocks: the length of the file, its schema and its pairs.
 pub record CanBeWritten (m : FileMetadata) : Type 0 where
   pub short : m.size < 2 ^ 63
   pub writable : IsWritable m.schema.fields m.schema.metadata m.schema.ids
   pub light : file_weight m.schema.fields m.schema.metadata m.pairs ≤ max_weight
 
--- why one can't
+-- Why a file with this metadata can't be appended to.
 abbrev pub RefusesToGoOn : FileMetadata → Fault → Type 0
 RefusesToGoOn m (Argument NoRecordBlocks) = m.blocks ≡ []
 RefusesToGoOn m (OutOfSpec UnexpectedNegativeInteger) = HaveNegative (m.dictionaries ++ m.blocks)
@@ -53,26 +53,30 @@ RefusesToGoOn m (Argument NotWritable) = IsWritable m.schema.fields m.schema.met
 RefusesToGoOn m NoMemory = Unit {0}
 RefusesToGoOn m _ = ⊥
 
--- its dictionaries can't be read: the fault is that of the first block that is refused
+-- The dictionaries of a file can't be read: the error is that of the
+-- first dictionary block that fails.
 pub record HasNoDictionaries (known : Bool) (m : FileMetadata) (bytes : List ℕ) (e : Fault) : Type 0 where
   pub kind : IsDictionaryBlockFault e
   pub none : IsTrue known → file_dictionaries m bytes ≡ None
   pub reason : IsTrue known → DictionariesReason m bytes [] m.dictionaries e
 
--- The file can't be appended to, or its dictionaries can't be read. Memory and the devices tell nothing.
+-- Why a file can't be appended to: its metadata doesn't allow it, or its dictionaries can't be
+-- read. Nothing is claimed of errors of allocation and of the device.
 abbrev pub RefusesFile : Bool → FileMetadata → List ℕ → Fault → Type 0
 RefusesFile known m bytes e = OwnFault e (RefusesToGoOn m e ⊎ HasNoDictionaries known m bytes e)
 
--- ---- its device
+-- ---- the device
 
--- A call on this device failed: in some state after it the device has counted one failure more. Memory never does.
+-- A call on this device failed: in some state after it the device has counted one
+-- failure more. Memory never fails.
 pub record DeviceFails {W : Type 0} (failures : W → ℕ) (device : W) : Type 0 where
   pub after : W
   pub rises : Rises (failures device) (failures after)
 
 -- ---- the writer
 
--- the writer of this device that a prepared file gives: it is started, and has written nothing yet
+-- The writer that a prepared file gives for this device: it is
+-- started, and has written nothing yet.
 abbrev pub resumed : {W : Type 0} → W → Prepared → FileSeen W
 resumed device p = record {
   device = device;
@@ -90,19 +94,19 @@ resumed device p = record {
   size = p.metadata.size;
 }
 
--- scratch memory without a byte in it
+-- Scratch memory without any byte in it.
 pub record AreEmptyScratches (scratches : EncodedData) : Type 0 where
   pub no_message : scratches.ipc_message.items ≡ []
   pub no_data : scratches.arrow_data.items ≡ []
 
--- what is remembered are the dictionaries of the file
+-- The remembered dictionaries are those of the file.
 pub record RemembersFile (m : FileMetadata) (bytes : List ℕ) (r : Remembered) : Type 0 where
   pub found : Dictionaries
   pub alike : AreAlike (file_dictionaries m bytes) (Some found)
   pub each : (id : ℤ) → r id ≡ dictionary_at found id
 
--- A writer goes on with a file: in its order of bytes, with its schema, its ids, its pairs, its blocks and its dictionaries, at the place
--- where writing goes on. No byte of the file was changed.
+-- A writer appends to a file: it has the file's byte order, schema, ids, pairs, blocks and
+-- dictionaries, and is at the append position. No byte of the file has changed.
 pub record GoesOn {W : Type 0} (known : Bool) (memory : W → Memory) (m : FileMetadata) (device : W) (w : FileSeen W) : Type 0 where
   pub may : MayGoOn m
   pub state : w.state ≡ Started
@@ -118,24 +122,27 @@ pub record GoesOn {W : Type 0} (known : Bool) (memory : W → Memory) (m : FileM
   pub stands : IsTrue known → GoesTo (memory device) (memory w.device) (goes_on m)
   pub remembers : IsTrue known → RemembersFile m (memory device).whole w.remembers
 
--- It goes on so, and no call of its device failed.
+-- A writer appends to a file, and no call of its device failed.
 pub record OpensFile {W : Type 0} (known : Bool) (failures : W → ℕ) (memory : W → Memory) (m : FileMetadata) (device : W) (w : FileSeen W) : Type 0 where
   pub goes_on : GoesOn known memory m device w
   pub done : failures w.device ≡ failures device
 
--- What it writes behind a file that had these chunks, whose blocks need no byte behind that place, goes on with them, in the normal form of the schema.
+-- If the file had these chunks, and its blocks need no byte after the append position, the writer's
+-- chunks come after them. The earlier chunks are seen in the normal form of the schema.
 abbrev pub GoesOnWith : {W : Type 0} → Bool → (W → Memory) → FileMetadata → W → FileSeen W → Type 0
 GoesOnWith known memory m device w =
     IsTrue known → metadata_of (memory device).whole ≡ Some m → (dictionaries : Dictionaries) (cs : List Chunk) → MeansBefore m (memory device).whole dictionaries cs
     → AgreesAlone memory w [] (map normal_chunk cs)
 
--- And it goes on with a whole file that a writer finished: with a stream, where that was one.
+-- If the file was finished by a writer, the new writer's chunks come after its chunks; the file
+-- is also a stream if it was one.
 abbrev pub GoesOnAgain : {W : Type 0} → Bool → (W → Memory) → FileMetadata → W → FileSeen W → Type 0
 GoesOnAgain known memory m device w =
     IsTrue known → metadata_of (memory device).whole ≡ Some m → (is_stream : Bool) (before : FileSeen (Unit {0})) (cs : List Chunk) → IsWholeFile is_stream before (memory device).whole cs
     → HoldsBytes is_stream (memory w.device) w [] cs
 
--- Memory and devices aside, no whole file is refused that a writer finished, that has a record block, and that isn't too long.
+-- Unless an allocation or the device fails, no file is refused that a writer finished and that has
+-- a record block and fewer than 2 ^ 63 bytes.
 abbrev pub RefusesNoWhole : {W : Type 0} → Bool → (W → Memory) → FileMetadata → W → Fault → Type 0
 RefusesNoWhole known memory m device e =
     OwnFault e (IsTrue known → metadata_of (memory device).whole ≡ Some m → (is_stream : Bool) (before : FileSeen (Unit {0})) (cs : List Chunk) → IsWholeFile is_stream before (memory device).whole cs

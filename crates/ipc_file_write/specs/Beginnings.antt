@@ -1,4 +1,4 @@
--- What making a writer of a file that is started answers.
+-- The result of making a started file writer.
 -- (Arrow columnar format, "IPC File Format".)
 use Rattle.std.specs.Prelude.{◌≡◌, ℕ, Bool, List, [], length, Result, Ok, IfErr, IfOk, OnOk}
 use Rattle.lower.specs.TypeTrees.{FieldTrees, Pairs}
@@ -12,15 +12,17 @@ use Rattle.ipc_write.specs.declared.stream.WriterState.TheVariants.{New}
 use Rattle.ipc_file_write.specs.FileWriters.{FileSeen, HasNothing, IsBeginning, IsFileOf, MayBeStarted, MissesStart, OrFails, RefusesStart, SendsBeginning, StartsWith, seen}
 use Rattle.ipc_file_write.specs.declared.file.FileWriter.{FileWriter}
 
--- Some of what a file begins with was sent, and then the device failed, or was memory without room for all of it.
+-- A part of the beginning of a file was sent, and then the device failed, or was
+-- memory without room for all of it.
 pub record BeginningFails {W : Type 0} (grows : Bool) (failures room : W → ℕ) (new : FileSeen W) : Type 0 where
   pub bytes : List ℕ
   pub begins : IsBeginning new bytes
   pub after : W
   pub fails : FailsOrIsFull grows (failures new.device) (failures after) (room new.device) (length bytes)
 
--- It is `start` of a new writer of this file: that one is Ok just where a file of this schema with these ids may be started, memory and
--- devices aside, and has sent then what a file begins with; a refusal names a condition that isn't met.
+-- The result is that of `start` of a new writer of this file. It is Ok exactly if a file of this
+-- schema with these ids may be started, unless an allocation or the device fails. Then the
+-- beginning of the file was sent; an error names a condition that isn't met.
 pub record StartsNew {W : Type 0} (known grows : Bool) (failures room : W → ℕ) (memory : W → Memory) (device : W) (fields : FieldTrees) (metadata : Pairs) (ids : IdTrees) (order : Endianness)
     (r : Result (FileWriter W) Fault) : Type 0 where
   pub new : FileSeen W

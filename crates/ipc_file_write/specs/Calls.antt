@@ -1,4 +1,4 @@
--- What the calls of a writer of files do, one and many, in the words of `ipc_model`.
+-- What the calls of a file writer do, one and many, by the definitions of `ipc_model`.
 -- (Arrow columnar format, "IPC File Format".)
 use Rattle.std.specs.Prelude.{◌≡◌, ℕ, Bool, IsTrue, List, [], ◌∷◌, ◌++◌, length, take, None, Result, IfErr, OnOk, Vec, vec_len}
 use Rattle.std.specs.declared.alloc.Global.{Global}
@@ -27,7 +27,7 @@ use Rattle.ipc_file_write.specs.Writes.{Appends, NamesOne, SendsColumns, WritesE
 
 -- ---- one call
 
--- what `start` says of itself
+-- The contract of `start`.
 pub record DoesStart {W : Type 0} (known grows : Bool) (failures room : W → ℕ) (memory : W → Memory) (a : FileSeen W) (r : Result Unit Fault) (b : FileSeen W) : Type 0 where
   pub first : StateComesFirst (fault_unless_new a.state) a r b
   pub step : SendsBeginning known grows failures room memory a r b
@@ -36,7 +36,7 @@ pub record DoesStart {W : Type 0} (known grows : Bool) (failures room : W → �
   pub exact : AnswersStart a r
   pub means : Remains known memory a b
 
--- what `write` says of itself
+-- The contract of `write`.
 pub record DoesWrite {W : Type 0} (known grows : Bool) (failures room : W → ℕ) (memory : W → Memory) (a : FileSeen W) (columns : List AnyArray) (r : Result Unit Fault) (b : FileSeen W) : Type 0 where
   pub first : StateComesFirst (fault_unless_started a.state) a r b
   pub step : SendsColumns known grows failures room memory a r b columns
@@ -44,7 +44,7 @@ pub record DoesWrite {W : Type 0} (known grows : Bool) (failures room : W → �
   pub named : IfErr r (NamesOne a columns)
   pub means : Appends known memory a r b (chunk_written columns)
 
--- what `finish` says of itself
+-- The contract of `finish`.
 pub record DoesFinish {W : Type 0} (known grows : Bool) (failures room : W → ℕ) (memory : W → Memory) (a : FileSeen W) (r : Result Unit Fault) (b : FileSeen W) : Type 0 where
   pub first : StateComesFirst (fault_unless_started a.state) a r b
   pub step : SendsEnding known grows failures room memory a r b
@@ -54,7 +54,7 @@ pub record DoesFinish {W : Type 0} (known grows : Bool) (failures room : W → �
   pub exact : AnswersFinish a r
   pub means : Remains known memory a b
 
--- a call of a writer is made, and answers this
+-- A call returned r and left the writer b, by the call's contract.
 abbrev pub IsMade : {W : Type 0} → (known grows : Bool) (failures room : W → ℕ) (memory : W → Memory) → FileSeen W → StreamCall → Result Unit Fault → FileSeen W → Type 0
 IsMade known grows failures room memory a Start r b = DoesStart known grows failures room memory a r b
 IsMade known grows failures room memory a (Write chunk) r b = DoesWrite known grows failures room memory a chunk.now r b
@@ -62,7 +62,7 @@ IsMade known grows failures room memory a Finish r b = DoesFinish known grows fa
 
 -- ---- calls one after the other
 
--- Each call is made of the writer that the one before it left, and these are their answers.
+-- Each call is made on the writer that the call before it left, with these results.
 abbrev pub AreMade : {W : Type 0} → (known grows : Bool) (failures room : W → ℕ) (memory : W → Memory) → FileSeen W → List StreamCall → List (Result Unit Fault) → FileSeen W → Type 0
 AreMade known grows failures room memory a [] [] b = b ≡ a
 AreMade {W = W} known grows failures room memory a (call ∷ calls) (r ∷ rs) b =
@@ -77,24 +77,26 @@ pub record FirstAreMade {W : Type 0} (known grows : Bool) (failures room : W →
 
 -- ---- what they leave
 
--- a writer of a file, as far as calls can tell
+-- The state, the byte order and the pairs of a file writer.
 abbrev pub writer_seen : {W : Type 0} → FileSeen W → Writer
 writer_seen w = record { state = state_seen w.state; order = w.order; pairs = w.pairs }
 
--- calls from a to b: the file has these chunks more
+-- From writer a to b, calls append these chunks to the file.
 pub record GrowsBy {W : Type 0} (known : Bool) (memory : W → Memory) (a b : FileSeen W) (added : List Chunk) : Type 0 where
   pub followed : IsTrue known → (base : List ℕ) (cs : List Chunk) → Agrees memory a base cs → Agrees memory b base (cs ++ added)
 
--- a writer whose file was started has the ids that were chosen
+-- A writer whose file was started has the ids that were chosen for it.
 abbrev pub IdsAre : WriterState → IdTrees → IdTrees → Type 0
 IdsAre Started is chosen = is ≡ chosen
 IdsAre Finished is chosen = is ≡ chosen
 IdsAre _ is chosen = Unit {0}
 
+-- The ids of a started writer are those that were chosen for it.
 abbrev pub HasChosen : {W : Type 0} → FileSeen W → Type 0
 HasChosen w = IdsAre w.state w.ids w.chosen
 
--- A call that was made and answered this: it may end so, it leaves the writer as such a call does, and the file has its chunk more where it was Ok.
+-- A call was made and returned r: the call may end so in the writer's state, and changes the state
+-- accordingly. If it returned Ok, the file has the call's chunk more.
 pub record MakesCall {W : Type 0} (known : Bool) (memory : W → Memory) (a : FileSeen W) (call : StreamCall) (r : Result Unit Fault) (b : FileSeen W) : Type 0 where
   pub may : MayEnd (call_seen call) (outcome r) (writer_seen a).state
   pub after : writer_seen b ≡ writer_after (call_seen call) (outcome r) (writer_seen a)
@@ -104,18 +106,18 @@ pub record MakesCall {W : Type 0} (known : Bool) (memory : W → Memory) (a : Fi
 
 -- ---- whole files
 
--- Bytes are a whole file of the normal form of a schema with its ids, in this order of bytes, with these pairs and these chunks; without the
--- first eight bytes they are a stream of the same.
+-- The bytes are a whole file of a schema in its normal form, with these ids, byte order, pairs and
+-- chunks. Without the first eight bytes they are a stream of the same.
 pub record IsWrittenFile (bytes : List ℕ) (order : Endianness) (fields : FieldTrees) (metadata : Pairs) (ids : IdTrees) (pairs : Pairs) (cs : List Chunk) : Type 0 where
   pub dictionaries : List Block
   pub blocks : List Block
   pub file : IsFile bytes (file_written order fields metadata ids pairs dictionaries blocks (length bytes)) cs
   pub stream : EndsStreamBehind bytes (written_head_as order fields metadata ids) cs
 
--- bytes in memory, and the place behind the last of them
+-- The bytes of a vector, as memory that is written to at its end.
 abbrev pub vector : Vec ℕ Global → Memory
 vector v = record { whole = v.items; place = vec_len v }
 
--- the bytes are what a writer over an empty memory has ended
+-- The bytes are a whole file that a writer finished, which began with empty memory.
 pub record EndsFile (w : FileSeen (Vec ℕ Global)) (bytes : List ℕ) : Type 0 where
   pub file : (cs : List Chunk) → HasChosen w → Agrees vector w [] cs → IsWrittenFile bytes w.order w.fields w.metadata w.chosen w.pairs cs

@@ -1,4 +1,4 @@
--- What the calls of a file's writer do, and what its bytes mean.
+-- What the calls of a file writer do, and what its bytes mean.
 -- (Arrow columnar format, "IPC File Format".)
 use Rattle.std.specs.Prelude.{◌≡◌, ℕ, ◌+◌, ◌-◌, ◌%◌, ◌<◌, ◌≤◌, ◌^◌, max, Bool, true, false, IsTrue, List, [], ◌++◌, length, take, replicate, Option, Some, None, IfSome, Result, Ok, Err, OnOk}
 use Rattle.lower.specs.TypeTrees.{Pairs, FieldTrees}
@@ -38,11 +38,12 @@ use Rattle.ipc_file_write.specs.declared.file.FileWriter.{FileWriter}
 use Rattle.ipc_file_write.specs.declared.sending.Ending.{Ending}
 use Rattle.ipc_file_write.specs.declared.writer.Starting.{Starting}
 
--- ---- what is seen of a writer
+-- ---- what contracts know of a writer
 
--- What a writer writes to, how far it is, the order of the bytes of its numbers, its schema, the ids that it starts with, those that it
--- was started with, the pairs of its footer, the dictionaries that it remembers, the blocks of its file, where the next message stands, and
--- how many bytes the file has at least, once it is finished: those of a file that is appended to.
+-- What contracts know of a file writer: its device, its state, its byte order, its schema, the ids
+-- that were chosen and those that it was started with. Then the pairs of its footer, the
+-- dictionaries that it remembers, the blocks of its file, and the offset of the next message.
+-- `size` is the length of a file that is appended to: the finished file has at least as many bytes.
 pub record FileSeen (W : Type 0) : Type 0 where
   pub device : W
   pub state : WriterState
@@ -58,6 +59,7 @@ pub record FileSeen (W : Type 0) : Type 0 where
   pub place : ℕ
   pub size : ℕ
 
+-- What contracts know of a file writer.
 abbrev pub seen : {W : Type 0} → FileWriter W → FileSeen W
 seen w = record {
   device = w.writer;
@@ -75,11 +77,11 @@ seen w = record {
   size = w.size;
 }
 
--- the memory that callers may hand from one writer to another
+-- The scratch memory that callers may pass from one writer to another.
 abbrev pub scratches_of : {W : Type 0} → FileWriter W → EncodedData
 scratches_of w = w.encoded_message
 
--- a writer of a file of this schema, with these ids, in this order of bytes, with these pairs
+-- A writer of a file of this schema, with these ids, byte order and pairs.
 pub record IsFileOf {W : Type 0} (w : FileSeen W) (fields : FieldTrees) (metadata : Pairs) (ids : IdTrees) (order : Endianness) (pairs : Pairs) : Type 0 where
   pub fields_are : w.fields ≡ fields
   pub metadata_are : w.metadata ≡ metadata
@@ -87,17 +89,17 @@ pub record IsFileOf {W : Type 0} (w : FileSeen W) (fields : FieldTrees) (metadat
   pub order_is : w.order ≡ order
   pub pairs_are : w.pairs ≡ pairs
 
--- what its stream begins with
+-- The schema and the version of the stream that a file contains.
 abbrev pub head_of_file : {W : Type 0} → FileSeen W → Head
 head_of_file w = written_head_as w.order w.fields w.metadata w.ids
 
--- both remember the same
+-- Both writers remember the same dictionaries.
 abbrev pub RemembersSame : {V W : Type 0} → FileSeen V → FileSeen W → Type 0
 RemembersSame a b = (id : _) → b.remembers id ≡ a.remembers id
 
--- ---- what its bytes are
+-- ---- the bytes of a writer
 
--- nothing was written
+-- Nothing was written yet.
 pub record IsFresh {W : Type 0} (w : FileSeen W) (bytes : List ℕ) (cs : List Chunk) : Type 0 where
   pub none : bytes ≡ []
   pub no_chunks : cs ≡ []
@@ -105,8 +107,9 @@ pub record IsFresh {W : Type 0} (w : FileSeen W) (bytes : List ℕ) (cs : List C
   pub no_dictionaries : w.dictionaries ≡ []
   pub no_blocks : w.blocks ≡ []
 
--- A file that has no footer yet, with these chunks. Where it is a stream too, it is one of the same without its first eight bytes, and nothing
--- stands behind its last block. The next message stands behind all blocks that there are.
+-- A file that has no footer yet, with these chunks. If `is_stream`, it is a stream of the
+-- same without its first eight bytes, and nothing is after its last block. The next
+-- message comes after all blocks.
 pub record IsOpenFile {W : Type 0} (is_stream : Bool) (w : FileSeen W) (bytes : List ℕ) (cs : List Chunk) : Type 0 where
   pub writable : IsWritable w.fields w.metadata w.ids
   pub light : file_weight w.fields w.metadata w.pairs ≤ max_weight
@@ -119,8 +122,9 @@ pub record IsOpenFile {W : Type 0} (is_stream : Bool) (w : FileSeen W) (bytes : 
   pub reached : 0 < length w.blocks → w.place ≤ max 8 (greatest_end (w.dictionaries ++ w.blocks))
   pub last : IsTrue is_stream → greatest_end (w.dictionaries ++ w.blocks) ≤ w.place
 
--- A whole file of the normal form of the schema with its ids, in this order of bytes, with these pairs and these chunks. Where it is a
--- stream too, it is one of the same without its first eight bytes. What it has before its mark can be appended to.
+-- A whole file of a schema in its normal form, with these ids, byte order, pairs and chunks. If
+-- `is_stream`, it is a stream of the same without its first eight bytes. The bytes before its
+-- end-of-stream mark can be appended to.
 pub record IsWholeFile {W : Type 0} (is_stream : Bool) (w : FileSeen W) (bytes : List ℕ) (cs : List Chunk) : Type 0 where
   pub file : IsFile bytes (file_written w.order w.fields w.metadata w.ids w.pairs w.dictionaries w.blocks (length bytes)) cs
   pub stream : IsTrue is_stream → EndsStreamBehind bytes (head_of_file w) cs
@@ -130,44 +134,49 @@ pub record IsWholeFile {W : Type 0} (is_stream : Bool) (w : FileSeen W) (bytes :
   pub open_front : IsOpenFile is_stream w front cs
   pub long : w.size ≤ length bytes
 
--- What the bytes of a writer in this state are. Where a device failed, the chunks that were taken still stand at their blocks.
+-- What the bytes of a writer are in each state. If a device failed, the chunks that were
+-- written are still at their blocks.
 abbrev pub FileIs : {W : Type 0} → Bool → WriterState → FileSeen W → List ℕ → List Chunk → Type 0
 FileIs is_stream New w bytes cs = IsFresh w bytes cs
 FileIs is_stream Started w bytes cs = IsOpenFile is_stream w bytes cs
 FileIs is_stream Finished w bytes cs = IsWholeFile is_stream w bytes cs
 FileIs is_stream Failed w bytes cs = HoldsFile (head_of_file w).schema w.size bytes w.dictionaries w.blocks w.remembers cs
 
--- what stands in a memory before its place: the bytes that were there before, and those of the file
+-- The bytes before the offset of a memory: those that were there before the
+-- writer, and those of its file.
 pub record HoldsBytes {W : Type 0} (is_stream : Bool) (m : Memory) (w : FileSeen W) (base : List ℕ) (cs : List Chunk) : Type 0 where
   pub bytes : List ℕ
   pub held : before m ≡ base ++ bytes
   pub file : FileIs is_stream w.state w bytes cs
 
--- the device of a writer holds `base`, and then a file of these chunks, which is a stream too
+-- The device of a writer has the bytes `base`, and then a file of these
+-- chunks, which is a stream too.
 abbrev pub Agrees : {W : Type 0} → (W → Memory) → FileSeen W → List ℕ → List Chunk → Type 0
 Agrees memory w base cs = HoldsBytes true (memory w.device) w base cs
 
--- the same of a file that may be no stream, since others wrote its beginning
+-- The device of a writer has the bytes `base`, and then a file of these chunks, which may be no
+-- stream, since another program wrote its beginning.
 abbrev pub AgreesAlone : {W : Type 0} → (W → Memory) → FileSeen W → List ℕ → List Chunk → Type 0
 AgreesAlone memory w base cs = HoldsBytes false (memory w.device) w base cs
 
--- the file has the chunks that it had, and is a stream where it was one
+-- The file has the chunks that it had, and is a stream if it was one.
 pub record Remains {W : Type 0} (known : Bool) (memory : W → Memory) (a b : FileSeen W) : Type 0 where
   pub kept : IsTrue known → (is_stream : Bool) (base : List ℕ) (cs : List Chunk) → HoldsBytes is_stream (memory a.device) a base cs
       → HoldsBytes is_stream (memory b.device) b base cs
 
--- a writer that wrote nothing, whatever stands before it, and goes on with no file
+-- A new writer that has written nothing, whatever bytes precede it, and doesn't append to a file.
 pub record HasNothing {W : Type 0} (memory : W → Memory) (w : FileSeen W) : Type 0 where
   pub agrees : Agrees memory w (before (memory w.device)) []
   pub new_file : w.size ≡ 0
 
 -- ---- calls
 
--- The state comes first: where it has a fault, a call answers that one, whatever it is called with, and does nothing.
+-- The state is checked first: if it has an error, a call returns this error, whatever
+-- its arguments, and does nothing.
 abbrev pub StateComesFirst : {W : Type 0} → Option StateFault → FileSeen W → Result Unit Fault → FileSeen W → Type 0
 StateComesFirst own a r b = IfSome own (λ e. (r ≡ Err (State e)) × (b ≡ a))
 
--- nothing was sent, and the writer is as it was
+-- Nothing was sent, and the writer is unchanged.
 pub record Kept {W : Type 0} (a b : FileSeen W) : Type 0 where
   pub device : b.device ≡ a.device
   pub state : b.state ≡ a.state
@@ -178,7 +187,7 @@ pub record Kept {W : Type 0} (a b : FileSeen W) : Type 0 where
   pub blocks : b.blocks ≡ a.blocks
   pub place : b.place ≡ a.place
 
--- the order of bytes, the schema, the ids that were chosen, the pairs and the size stay whatever is sent
+-- Byte order, schema, chosen ids, pairs and size stay, whatever is sent.
 pub record IsSameFile {W : Type 0} (a b : FileSeen W) : Type 0 where
   pub order : b.order ≡ a.order
   pub fields : b.fields ≡ a.fields
@@ -187,7 +196,7 @@ pub record IsSameFile {W : Type 0} (a b : FileSeen W) : Type 0 where
   pub pairs : b.pairs ≡ a.pairs
   pub size : b.size ≡ a.size
 
--- What a call that sends these bytes does to its device, and what a refused one leaves. If it
+-- What a call that sends these bytes does to its device, and what a refused call leaves. If it
 -- returns Ok, no call of the device failed.
 pub record FileStep {W : Type 0} (known grows : Bool) (failures room : W → ℕ) (memory : W → Memory) (a : FileSeen W) (r : Result Unit Fault) (b : FileSeen W) (bytes : List ℕ) : Type 0 where
   pub same : IsSameFile a b
@@ -198,8 +207,9 @@ pub record FileStep {W : Type 0} (known grows : Bool) (failures room : W → ℕ
   pub all_sent : IsTrue known → OnOk r (WritesOver (memory a.device) (memory b.device) bytes)
   pub some_sent : IsTrue known → WritesSome (memory a.device) (memory b.device) bytes
 
--- What a file begins with: its head, which makes eight bytes, and behind it the message of the schema, which has no body, begins a stream with
--- what this writer writes, and is laid out as messages are written.
+-- The beginning of a file: the magic bytes, padded to eight, and the schema message,
+-- which has no body. The message begins a stream of what this writer writes, and is
+-- laid out as messages are written.
 pub record IsBeginning {W : Type 0} (w : FileSeen W) (bytes : List ℕ) : Type 0 where
   pub message : List ℕ
   pub some : 0 < length message
@@ -209,8 +219,9 @@ pub record IsBeginning {W : Type 0} (w : FileSeen W) (bytes : List ℕ) : Type 0
   pub written : IsWritten message
   pub bytes_are : bytes ≡ file_head ++ message_bytes message []
 
--- What a file ends with: the mark that ends the stream, as many bytes 0 as it takes to end no earlier than a file that is appended to ended, the
--- footer, and what stands behind that.
+-- The end of a file: the end-of-stream mark, zeros, the footer, and the footer's length
+-- with the magic bytes. There are as many zeros as it takes to end no earlier than a
+-- file that is appended to ended.
 pub record IsEnding {W : Type 0} (w : FileSeen W) (bytes : List ℕ) : Type 0 where
   pub footer : List ℕ
   pub short : length footer < 2 ^ 31
@@ -219,32 +230,33 @@ pub record IsEnding {W : Type 0} (w : FileSeen W) (bytes : List ℕ) : Type 0 wh
   pub zeros_are : zeros ≡ w.size - w.place - (8 + length (footer ++ tail_of footer))
   pub bytes_are : bytes ≡ prefix 0 ++ (replicate zeros 0 ++ (footer ++ tail_of footer))
 
--- A call that sends what a file begins with, where anything was sent. The next message stands behind it.
+-- A call that sends the beginning of a file, if it sends anything. The next message comes after it.
 pub record SendsBeginning {W : Type 0} (known grows : Bool) (failures room : W → ℕ) (memory : W → Memory) (a : FileSeen W) (r : Result Unit Fault) (b : FileSeen W) : Type 0 where
   pub bytes : List ℕ
   pub is : OnSent r (IsBeginning a bytes)
   pub place : OnOk r (b.place ≡ length bytes)
   pub step : FileStep known grows failures room memory a r b bytes
 
--- a call that sends what a file ends with, where anything was sent
+-- A call that sends the end of a file, if it sends anything.
 pub record SendsEnding {W : Type 0} (known grows : Bool) (failures room : W → ℕ) (memory : W → Memory) (a : FileSeen W) (r : Result Unit Fault) (b : FileSeen W) : Type 0 where
   pub bytes : List ℕ
   pub is : OnSent r (IsEnding a bytes)
   pub step : FileStep known grows failures room memory a r b bytes
 
--- why a writer refuses to start
+-- Why a writer refuses to start.
 abbrev pub RefusesStart : {W : Type 0} → FileSeen W → Fault → Type 0
 RefusesStart w (State e) = fault_unless_new w.state ≡ Some e
 RefusesStart w (Argument e) = RefusesSchema (Argument e) w.fields w.metadata w.chosen
 RefusesStart w NoMemory = Unit {0}
 RefusesStart w _ = ⊥
 
--- A writer may start its file: it is new, and its schema with the ids that were chosen can be written, the pairs beside it.
+-- A writer may start its file: it is new, and its schema can be written
+-- with the chosen ids and its pairs.
 pub record MayBeStarted {W : Type 0} (w : FileSeen W) : Type 0 where
   pub new : w.state ≡ New
   pub writable : IsWritableFile w.fields w.metadata w.chosen w.pairs
 
--- which of these conditions isn't met
+-- By each error of `start`, the condition that isn't met.
 abbrev pub MissesStart : {W : Type 0} → FileSeen W → Fault → Type 0
 MissesStart w (State e) = ¬ (w.state ≡ New)
 MissesStart w (Argument FieldsShape) = ¬ AllFit w.fields w.chosen
@@ -253,17 +265,18 @@ MissesStart w NoMemory = Unit {0}
 MissesStart w (Io e) = Unit {0}
 MissesStart w _ = ⊥
 
--- It starts just where it may, memory and devices aside; a refusal names a condition, and it isn't met.
+-- `start` returns Ok exactly if the file may be started, unless an allocation or the device fails.
+-- An error names a condition that isn't met.
 abbrev pub AnswersStart : {W : Type 0} → FileSeen W → Result Unit Fault → Type 0
 AnswersStart w (Ok x) = MayBeStarted w
 AnswersStart w (Err e) = MissesStart w e × OwnFault e (¬ MayBeStarted w)
 
--- the same, or its device fails
+-- P holds of the error, or it is the device's.
 abbrev pub OrFails : (Fault → Type 0) → Fault → Type 0
 OrFails P (Io e) = Unit {0}
 OrFails P e = P e
 
--- A writer may start with these ids: what it sends then is what a file begins with.
+-- A writer may start with these ids; what it sends then is the beginning of a file.
 pub record MayStart {W : Type 0} (w : FileSeen W) (s : Starting) : Type 0 where
   pub was : w.state ≡ New
   pub ids : all_ids_view s.ipc_fields.items ≡ w.chosen
@@ -271,7 +284,7 @@ pub record MayStart {W : Type 0} (w : FileSeen W) (s : Starting) : Type 0 where
   pub light : file_weight w.fields w.metadata w.pairs ≤ max_weight
   pub begins : IsBeginning w s.bytes.items
 
--- a writer was started, with the blocks and the dictionaries that it had: none where it is new
+-- A writer was started, with the blocks and the dictionaries that it had: none if it was new.
 pub record StartsWith {W : Type 0} (a b : FileSeen W) : Type 0 where
   pub was : a.state ≡ New
   pub is : b.state ≡ Started
@@ -283,7 +296,7 @@ pub record StartsWith {W : Type 0} (a b : FileSeen W) : Type 0 where
   pub dictionaries : b.dictionaries ≡ a.dictionaries
   pub blocks : b.blocks ≡ a.blocks
 
--- a file was ended, with the blocks and the pairs that its writer had
+-- A file was finished, with the blocks and the pairs that its writer had.
 pub record EndsWith {W : Type 0} (a b : FileSeen W) : Type 0 where
   pub was : a.state ≡ Started
   pub is : b.state ≡ Finished
@@ -292,19 +305,19 @@ pub record EndsWith {W : Type 0} (a b : FileSeen W) : Type 0 where
   pub dictionaries : b.dictionaries ≡ a.dictionaries
   pub blocks : b.blocks ≡ a.blocks
 
--- why a writer refuses to end the file
+-- Why a writer refuses to finish the file.
 abbrev pub RefusesFinish : {W : Type 0} → FileSeen W → Fault → Type 0
 RefusesFinish w (State e) = fault_unless_started w.state ≡ Some e
 RefusesFinish w (Argument e) = RefusesFooter (Argument e) w.fields w.metadata w.ids w.pairs w.dictionaries w.blocks
 RefusesFinish w NoMemory = Unit {0}
 RefusesFinish w _ = ⊥
 
--- A writer may end its file: it is started, and a footer can name all blocks.
+-- A writer may finish its file: it is started, and its blocks fit in a footer.
 pub record MayBeFinished {W : Type 0} (w : FileSeen W) : Type 0 where
   pub started : w.state ≡ Started
   pub few : AreFew w.dictionaries w.blocks
 
--- which of these conditions isn't met
+-- By each error of `finish`, the condition that isn't met.
 abbrev pub MissesFinish : {W : Type 0} → FileSeen W → Fault → Type 0
 MissesFinish w (State e) = ¬ (w.state ≡ Started)
 MissesFinish w (Argument TooLarge) = ¬ AreFew w.dictionaries w.blocks
@@ -312,38 +325,40 @@ MissesFinish w NoMemory = Unit {0}
 MissesFinish w (Io e) = Unit {0}
 MissesFinish w _ = ⊥
 
--- It ends just where it may, memory and devices aside; a refusal names a condition, and it isn't met.
+-- `finish` returns Ok exactly if the file may be finished, unless an allocation or the device
+-- fails. An error names a condition that isn't met.
 abbrev pub AnswersFinish : {W : Type 0} → FileSeen W → Result Unit Fault → Type 0
 AnswersFinish w (Ok x) = MayBeFinished w
 AnswersFinish w (Err e) = MissesFinish w e × OwnFault e (¬ MayBeFinished w)
 
--- all bytes of an ending
+-- All bytes of the end of a file.
 abbrev pub ending_bytes : Ending → List ℕ
 ending_bytes e = prefix 0 ++ (replicate e.zeros 0 ++ e.bytes.items)
 
--- A writer may end its file: what it sends then is what a file ends with.
+-- A writer may finish its file; what it sends then is the end of a file.
 pub record MayFinish {W : Type 0} (w : FileSeen W) (e : Ending) : Type 0 where
   pub was : w.state ≡ Started
   pub ends : IsEnding w (ending_bytes e)
 
--- The file ends no earlier than one that is appended to ended: nothing of that stands behind its footer.
+-- The file ends no earlier than one that is appended to ended, so no
+-- byte of that is after its footer.
 pub record ReachesEnd {W : Type 0} (known : Bool) (memory : W → Memory) (a b : FileSeen W) : Type 0 where
   pub reaches : IsTrue known → a.place ≤ (memory a.device).place → a.size ≤ (memory b.device).place
 
--- the fault of a state in which a writer takes no pairs
+-- The error of a state in which a writer accepts no pairs.
 abbrev pub fault_if_over : WriterState → Option StateFault
 fault_if_over New = None
 fault_if_over Started = None
 fault_if_over Finished = Some faults.Finished
 fault_if_over Failed = Some faults.Failed
 
--- why a writer refuses pairs
+-- Why a writer refuses pairs.
 abbrev pub TakesNoPairs : {W : Type 0} → FileSeen W → Pairs → Fault → Type 0
 TakesNoPairs w pairs (State e) = fault_if_over w.state ≡ Some e
 TakesNoPairs w pairs (Argument TooLarge) = file_weight w.fields w.metadata pairs ≤ max_weight → ⊥
 TakesNoPairs w pairs _ = ⊥
 
--- the pairs took the place of those that were there, and nothing else changed
+-- The pairs replaced those that were there, and nothing else changed.
 pub record TakesPairs {W : Type 0} (a b : FileSeen W) (pairs : Pairs) : Type 0 where
   pub open_state : fault_if_over a.state ≡ None
   pub light : file_weight a.fields a.metadata pairs ≤ max_weight

@@ -1,4 +1,4 @@
--- What `write` does, and what it answers.
+-- What `write` does and returns.
 -- (Arrow columnar format, "IPC File Format"; File.fbs.)
 use Rattle.std.specs.Prelude.{◌≡◌, ◌⊎◌, ℕ, ◌+◌, ◌<◌, ◌≤◌, Bool, true, IsTrue, List, [], ◌∷◌, ◌++◌, length, map, Option, IfSome, Result, Ok, Err, IfOk, IfErr, OnOk, OnErr}
 use Rattle.std.specs.List.{AllByRecursion}
@@ -42,13 +42,14 @@ use Rattle.ipc_file_write.specs.declared.blocks.Placed.{Placed}
 
 -- ---- calls
 
--- what was sent, whole or in part: P holds of it
+-- P holds if bytes were sent, all or some of them.
 abbrev pub WhereSent : {X : Type 0} → Result X Fault → Type 0 → Type 0
 WhereSent (Ok x) P = P
 WhereSent (Err (Io e)) P = P
 WhereSent (Err _) P = Unit {0}
 
--- A chunk was taken: what was written of it is remembered, and where its messages stand is kept.
+-- A chunk was written: its dictionaries are remembered, and the blocks of its messages are
+-- recorded.
 pub record TakesChunk {W : Type 0} (a b : FileSeen W) (list : List FilledPlace) (ws : List Sent) (own : Sent) : Type 0 where
   pub was : a.state ≡ Started
   pub is : b.state ≡ Started
@@ -59,8 +60,8 @@ pub record TakesChunk {W : Type 0} (a b : FileSeen W) (list : List FilledPlace) 
   pub blocks : b.blocks ≡ a.blocks ++ block_at (a.place + length (all_bytes ws)) own ∷ []
   pub place : b.place ≡ a.place + length (chunk_bytes ws own)
 
--- A call that sends the messages of these columns where anything was sent: those of the dictionaries that the writer doesn't remember, each
--- behind those inside its values, and that of the columns.
+-- If a call sends anything, it sends the messages of these columns. They are those of the
+-- dictionaries that the writer doesn't remember, inner before outer, and that of the columns.
 pub record SendsColumns {W : Type 0} (known grows : Bool) (failures room : W → ℕ) (memory : W → Memory) (a : FileSeen W) (r : Result Unit Fault) (b : FileSeen W) (columns : List AnyArray) : Type 0 where
   pub list : List FilledPlace
   pub dictionaries : List Message
@@ -70,24 +71,26 @@ pub record SendsColumns {W : Type 0} (known grows : Bool) (failures room : W →
   pub takes : OnOk r (TakesChunk a b list (map sent dictionaries) (sent own))
   pub step : FileStep known grows failures room memory a r b (chunk_bytes (map sent dictionaries) (sent own))
 
--- `write`: where it is Ok, the file has one chunk more. Else it is as it was.
+-- The effect of `write` on the file: if it returns Ok, the file has one
+-- chunk more, else it is as it was.
 pub record Appends {W : Type 0} (known : Bool) (memory : W → Memory) (a : FileSeen W) (r : Result Unit Fault) (b : FileSeen W) (chunk : Chunk) : Type 0 where
   pub appended : IsTrue known → (is_stream : Bool) (base : List ℕ) (cs : List Chunk) → HoldsBytes is_stream (memory a.device) a base cs
       → OnOk r (HoldsBytes is_stream (memory b.device) b base (cs ++ chunk ∷ []))
   pub kept : IsTrue known → (is_stream : Bool) (base : List ℕ) (cs : List Chunk) → HoldsBytes is_stream (memory a.device) a base cs
       → OnErr r (HoldsBytes is_stream (memory b.device) b base cs)
 
--- ---- which chunks are taken
+-- ---- which chunks are accepted
 
--- the writer of the stream that stands in the file
+-- The writer of the stream that the file contains.
 abbrev pub as_stream : {W : Type 0} → FileSeen W → WriterSeen W
 as_stream w = record { device = w.device; state = w.state; order = w.order; types = normal_types w.fields; ids = w.ids; dictionaries = w.remembers }
 
--- the blocks that a file has
+-- How many blocks the file has.
 abbrev pub block_count : {W : Type 0} → FileSeen W → ℕ
 block_count w = length w.dictionaries + length w.blocks
 
--- The messages that are written of some columns: those of the dictionaries that aren't remembered, and that of the columns.
+-- The messages that are written for some columns: those of the dictionaries that aren't
+-- remembered, and that of the columns.
 pub record Written {W : Type 0} (w : FileSeen W) (columns : List AnyArray) : Type 0 where
   pub list : List FilledPlace
   pub dictionaries : List Message
@@ -95,25 +98,26 @@ pub record Written {W : Type 0} (w : FileSeen W) (columns : List AnyArray) : Typ
   pub lists : ListsUnwritten w.remembers (values_of (layouts (map layout_of columns)) w.ids) list
   pub are : AreMessages w.order (map layout_of columns) list dictionaries own
 
--- their blocks
+-- The blocks of these messages.
 abbrev pub added_by : {W : Type 0} (w : FileSeen W) (columns : List AnyArray) → Written w columns → List Block
 added_by w columns m = blocks_at w.place (map sent m.dictionaries ++ sent m.own ∷ [])
 
--- A started writer takes the columns with these ids: no ids are handed in, or those of the start, and the columns are a chunk that its file
--- accepts, with the blocks of their messages, where these dictionaries are known.
+-- A started writer accepts the columns with these ids: there are none, or those of the
+-- start. The columns are a chunk that the file accepts, with the blocks of their messages,
+-- given these known dictionaries.
 pub record MayBeWritten {W : Type 0} (w : FileSeen W) (known : Dictionaries) (columns : List AnyArray) (ids : Option IdTrees) : Type 0 where
   pub started : w.state ≡ Started
   pub same_ids : IfSome ids (λ given. given ≡ w.ids)
   pub messages : Written w columns
   pub accepted : IsAcceptedByFile w.fields known (block_count w) w.place (added_by w columns messages) (offer_of (map layout_of columns) w.ids)
 
--- the messages have blocks, which have room in the file and in its footer
+-- The messages of the columns have blocks, which fit in the file and in its footer.
 pub record HaveBlocks {W : Type 0} (w : FileSeen W) (known : Dictionaries) (columns : List AnyArray) : Type 0 where
   pub messages : Written w columns
   pub few : block_count w + length (added_by w columns messages) ≤ most_blocks
   pub places : AreBlocks w.place (added_by w columns messages) (written_bodies known (offer_of (map layout_of columns) w.ids).dictionaries (offer_of (map layout_of columns) w.ids).bodies)
 
--- which of these conditions isn't met
+-- By each error of `write`, the condition that isn't met.
 abbrev pub MissesWrite : {W : Type 0} → FileSeen W → Dictionaries → List AnyArray → Option IdTrees → Fault → Type 0
 MissesWrite w known columns ids (Argument (DictionaryReplaced j)) =
     ¬ AllByRecursion (λ p. AreKept (dictionary_at known p.id) p.values) (offer_of (map layout_of columns) w.ids).dictionaries
@@ -121,33 +125,35 @@ MissesWrite w known columns ids (Argument TooLarge) =
     ¬ (AllByRecursion (λ lengths. IsSayable (body_length lengths)) (offer_of (map layout_of columns) w.ids).bodies × HaveBlocks w known columns)
 MissesWrite w known columns ids e = StreamMisses (as_stream w) w.fields columns ids e
 
--- Columns are written just where the writer takes them, memory and devices aside; a refusal names a condition, and it isn't met.
+-- `write` returns Ok exactly if the writer accepts the columns, unless an allocation or the device
+-- fails. An error names a condition that isn't met.
 abbrev pub AnswersWrite : {W : Type 0} → FileSeen W → Dictionaries → List AnyArray → Option IdTrees → Result Unit Fault → Type 0
 AnswersWrite w known columns ids (Ok x) = MayBeWritten w known columns ids
 AnswersWrite w known columns ids (Err e) = MissesWrite w known columns ids e × OwnFault e (¬ MayBeWritten w known columns ids)
 
--- this by each list of the dictionaries that the writer remembers, of which there is one
+-- `AnswersWrite` holds for each list of the dictionaries that the
+-- writer remembers, and there is one.
 pub record WritesExactly {W : Type 0} (w : FileSeen W) (columns : List AnyArray) (ids : Option IdTrees) (r : Result Unit Fault) : Type 0 where
   pub known : Dictionaries
   pub agrees : KnowsRemembered w.remembers known
   pub exact : (ds : Dictionaries) → KnowsRemembered w.remembers ds → AnswersWrite w ds columns ids r
 
--- A refusal that names a dictionary names one that is refused: places of its id have no values in common, or what the writer remembers of it
--- are others than those of some place.
+-- If an error names a dictionary, that one is refused: fields of its id have different values, or
+-- the values of one differ from those that the writer remembers.
 abbrev pub NamesOne : {W : Type 0} → FileSeen W → List AnyArray → Fault → Type 0
 NamesOne w columns (Argument (SharedDictionary j)) = RefusesAll w.remembers true (map layout_of columns) w.ids (Argument (SharedDictionary j))
 NamesOne w columns (Argument (DictionaryReplaced j)) = RefusesAll w.remembers true (map layout_of columns) w.ids (Argument (DictionaryReplaced j))
 NamesOne w columns _ = Unit {0}
 
--- ---- its parts
+-- ---- parts of `write`
 
--- the type of a field in its normal form
+-- The type of a field in its normal form.
 abbrev pub field_normal : Field → TypeTree
 field_normal f = norm (type_view f.data_type)
 
--- A started writer may write columns but for the lengths of these and the places of their messages: no ids are handed in, or those of the
--- start, the types are those of its fields, and these are the dictionaries that are to be written; a message of each of all dictionaries can
--- say its lengths.
+-- A started writer may write the columns, apart from their lengths and the offsets of their
+-- messages. No ids are passed, or those of the start; the types are those of its fields, and `list`
+-- has the dictionaries to write. The lengths of all dictionaries fit in their messages.
 pub record MayList {W : Type 0} (w : FileSeen W) (columns : List AnyArray) (ids : Option IdTrees) (list : List FilledPlace) : Type 0 where
   pub was : w.state ≡ Started
   pub ids_same : IfSome ids (λ given. given ≡ w.ids)
@@ -155,34 +161,35 @@ pub record MayList {W : Type 0} (w : FileSeen W) (columns : List AnyArray) (ids 
   pub lists : ListsAll w.remembers true (map layout_of columns) w.ids list
   pub lengths : HaveLengths (values_of (layouts (map layout_of columns)) w.ids)
 
--- the columns have other values under an id than the writer remembers
+-- The columns have other values under an id than the writer remembers.
 abbrev pub ReplacesSome : {W : Type 0} → FileSeen W → List AnyArray → Fault → Type 0
 ReplacesSome w columns (Argument (DictionaryReplaced j)) =
     FitTypes (as_stream w) columns × RefusesAll w.remembers true (map layout_of columns) w.ids (Argument (DictionaryReplaced j))
 ReplacesSome w columns _ = ⊥
 
--- why a chunk with these ids is refused before its messages are made
+-- Why a chunk with these ids is refused before its messages are made.
 abbrev pub RefusesChunk : {W : Type 0} → FileSeen W → List AnyArray → Option IdTrees → Fault → Type 0
 RefusesChunk w columns ids e = StreamRefuses (as_stream w) columns ids e ⊎ ReplacesSome w columns e
 
--- why there is no room for a record's block and so many more, where a file has some
+-- Why there is no room for the blocks of a record and of `added` dictionaries after `count` blocks.
 abbrev pub RefusesRoom : ℕ → ℕ → Fault → Type 0
 RefusesRoom count added (Argument TooLarge) = most_blocks < count + added + 1
 RefusesRoom count added NoMemory = Unit {0}
 RefusesRoom count added _ = ⊥
 
--- the messages of some columns are made, and one of them has no block
+-- The messages of some columns are made, and one of them has no block.
 pub record HasNoPlace (order : Endianness) (columns : List Layout) (list : List FilledPlace) (place : ℕ) (e : Fault) : Type 0 where
   pub dictionaries : List Message
   pub own : Message
   pub are : AreMessages order columns list dictionaries own
   pub refused : RefusesBlockRoom place (map sent dictionaries ++ sent own ∷ []) e
 
--- why the messages of some columns, of which the dictionaries on this list are to be written, aren't sent from a place on
+-- Why the messages of some columns and of the dictionaries on this list
+-- aren't sent from an offset on.
 abbrev pub RefusesSending : Endianness → List Layout → List FilledPlace → ℕ → Fault → Type 0
 RefusesSending order columns list place e = RefusesMessages list columns e ⊎ HasNoPlace order columns list place e
 
--- A call that sends them, or refuses before anything is sent.
+-- A call that sends the messages of a chunk, or refuses before anything is sent.
 pub record HandsChunk {W : Type 0} (known grows : Bool) (failures room : W → ℕ) (memory : W → Memory) (order : Endianness) (columns : List Layout) (list : List FilledPlace) (place : ℕ) (w : W) (s : WriterState) (r : Result Placed Fault) (w' : W) (s' : WriterState) : Type 0 where
   pub dictionaries : List Message
   pub own : Message

@@ -1,4 +1,4 @@
--- What the calls of a new writer of a file in memory leave, and why the file isn't ended.
+-- What the calls of a new file writer in memory leave, and why the file isn't finished.
 -- (Arrow columnar format, "IPC File Format"; the limits are this project's own.)
 use Rattle.std.specs.Prelude.{◌≡◌, ◌⊎◌, ℕ, ◌-◌, ◌≤◌, true, List, [], Result, Vec, vec_capacity, vec_len}
 use Rattle.std.specs.declared.alloc.Global.{Global}
@@ -23,12 +23,13 @@ use Rattle.ipc_file_write.specs.FileWriters.{Agrees, FileSeen, IsEnding, IsFileO
 
 -- ---- the calls
 
--- a writer of a file in this state: it writes in this order of bytes, and its footer is to have these pairs
+-- A file writer in this state, with this byte order and the pairs that its footer will have.
 abbrev pub writer_in : Endianness → Pairs → Stage → Writer
 writer_in order pairs s = record { state = s; order = order; pairs = pairs }
 
--- Calls of a new writer over an empty memory, each of the writer that the one before it left, have these answers and leave this writer: its
--- file has exactly the chunks of the writes that were Ok.
+-- Calls of a new writer to empty memory, each made on the writer that the call before
+-- it left, have these results and leave the writer `last`. Its file has exactly the
+-- chunks whose `write` returned Ok.
 pub record Leave (order : Endianness) (fields : FieldTrees) (metadata : Pairs) (ids : IdTrees) (pairs : Pairs) (calls : List StreamCall) (answers : List (Result Unit Fault)) (last : FileSeen (Vec ℕ Global)) : Type 0 where
   pub first : FileSeen (Vec ℕ Global)
   pub new : first.state ≡ New
@@ -38,27 +39,27 @@ pub record Leave (order : Endianness) (fields : FieldTrees) (metadata : Pairs) (
   pub run : IsRun (writer_in order pairs new_writer) (ended_as calls answers) (writer_seen last)
   pub holds : Agrees vector last [] (taken (answered (ended_as calls answers)))
 
--- they leave a file that is ended, or can be
+-- The calls of a new file writer leave a file that is finished, or can be.
 pub record RunsToFile (order : Endianness) (fields : FieldTrees) (metadata : Pairs) (ids : IdTrees) (pairs : Pairs) (calls : List StreamCall) (answers : List (Result Unit Fault)) : Type 0 where
   pub last : FileSeen (Vec ℕ Global)
   pub leave : Leave order fields metadata ids pairs calls answers last
   pub state : (last.state ≡ Started) ⊎ (last.state ≡ Finished)
 
--- with some answers they leave a writer of which this holds
+-- With some results the calls of a new file writer leave a writer of which P holds.
 pub record MayLeave (order : Endianness) (fields : FieldTrees) (metadata : Pairs) (ids : IdTrees) (pairs : Pairs) (calls : List StreamCall) (P : FileSeen (Vec ℕ Global) → Type 0) : Type 0 where
   pub answers : List (Result Unit Fault)
   pub last : FileSeen (Vec ℕ Global)
   pub leave : Leave order fields metadata ids pairs calls answers last
   pub holds : P last
 
--- ---- why a file isn't ended
+-- ---- why a file isn't finished
 
--- a started writer whose file has more blocks than a footer may have
+-- A started writer whose file has more blocks than a footer may have.
 pub record HasTooMany (w : FileSeen (Vec ℕ Global)) : Type 0 where
   pub started : w.state ≡ Started
   pub many : ¬ AreFew w.dictionaries w.blocks
 
--- why a writer doesn't end its file, where no earlier call did
+-- Why a writer doesn't finish its file, if no earlier call did.
 abbrev pub RefusesEnd : FileSeen (Vec ℕ Global) → Fault → Type 0
 RefusesEnd w (State faults.NotStarted) = w.state ≡ New
 RefusesEnd w (State faults.Failed) = w.state ≡ Failed
@@ -67,8 +68,9 @@ RefusesEnd w (Io e) = HasNoRoom w.device (IsEnding w)
 RefusesEnd w Memory = Unit {0}
 RefusesEnd w _ = ⊥
 
--- Why a file isn't written: memory, of which a device that is memory tells by its own fault, where it has no room for the end; a schema and
--- pairs that are too heavy; or a writer that the calls left not started, failed, or with too many blocks.
+-- Why a file isn't written: an allocation failed, or the memory had no room for the end. Or the
+-- schema and the pairs are too heavy, or the calls left a writer that isn't started, has
+-- failed, or has too many blocks.
 abbrev pub RefusesWholeFile : Endianness → FieldTrees → Pairs → IdTrees → Pairs → List StreamCall → Fault → Type 0
 RefusesWholeFile order fs es is ps calls Memory = Unit {0}
 RefusesWholeFile order fs es is ps calls (Io e) = MayLeave order fs es is ps calls (λ w. HasNoRoom w.device (IsEnding w))

@@ -28,7 +28,7 @@ if_err : {X : Type 0} (r : Result X Fault) {P Q : Fault → Type 0} → ((e : Fa
 if_err (Ok x) f h = tt
 if_err (Err e) f h = f e h
 
--- the metadata of a schema say nothing of a dictionary
+-- The metadata of a schema say nothing of a dictionary.
 same-dictionary : (s : Schema) (extra : ℕ) (known : Dictionaries) (b : Body) (t : Spot)
     → dictionary_meaning (record { fields = s.fields; metadata = []; ids = s.ids; order = s.order }) extra known b t ≡ dictionary_meaning s extra known b t
 unfolding dictionary_meaning
@@ -43,7 +43,7 @@ dictionary-given {X} m extra known after b t fs r same h =
     (ap (λ (f : List Field). dictionary_meaning (batch_schema f m.ipc_schema) extra known b t) same ∙ same-dictionary (file_seen m).schema extra known b t)
     (gives-known r _ after h)
 
--- nor of what is at fault in it
+-- Nor do they say anything of its errors.
 same-head : (s : Schema) (t : Spot) (o : Option (ℤ × Spot)) (e : Fault) → BlamesHead (record { fields = s.fields; metadata = []; ids = s.ids; order = s.order }) t o e → BlamesHead s t o e
 same-head s t None e f = f
 same-head s t (Some h) e f = f

@@ -65,7 +65,7 @@ record-kind x r is = record-tag x.header (extra_of x.version) ∙ ap (answered_a
 pub dictionary-kind : (x : BlockMessage) (r : Result Spot Fault) → r ≡ needed_dictionary x.header → needed_kind 2 (message_seen x) ≡ answered_as (λ (t : Spot). message_seen x) r
 dictionary-kind x r is = dictionary-tag x.header (extra_of x.version) ∙ ap (answered_as (λ (t : Spot). message_seen x)) (sym is)
 
--- the table of the header that it has to be
+-- The table of the header that it must be.
 record-table : (u : MessageHeaderRef) (t : Spot) → Ok t ≡ needed_record u → t ≡ (header_parts u).1
 record-table (headers.Schema s) t is = absurd cc
 record-table (headers.DictionaryBatch s) t is = absurd cc
@@ -89,7 +89,7 @@ module _ (tag : ℕ) (numbers negative : OutOfSpecKind) (source : List ℕ) {o :
   abbrev Reason : Option Block → Fault → Type 0
   Reason y e = IsSomeAnd y (λ (x : Block). MessageReason (block_message tag numbers negative source x) P e)
 
-  -- the fault in it
+  -- The error in it.
   in-message : (e : Fault) → header-at ≡ Err e → Reason o e
   in-message e is = subst (λ (y : Option Block). Reason y e) (sym listed) (subst (λ (m : Result BlockHeader Fault). MessageReason m P e) (sym is) refl)
 
@@ -132,7 +132,7 @@ module _ (tag : ℕ) (numbers negative : OutOfSpecKind) (source : List ℕ) {o :
 
 -- ---- the batch at a block
 
--- a fault of it, and what it tells
+-- An error of the message, and what it says.
 and-tells : {X : Type 0} (r : Result X Fault) (P Q : Fault → Type 0) → IfErr r (λ e. OwnFault e (P e)) → IfErr r Q → IfErr r (λ e. OwnFault e (P e × Q e))
 and-tells (Ok x) P Q why told = tt
 and-tells (Err e) P Q why told = claims_through e (P e) (P e × Q e) (λ is. (is, told)) why

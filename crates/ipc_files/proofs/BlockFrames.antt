@@ -1,4 +1,4 @@
--- What a prefix states, and the metadata behind it.
+-- What a prefix states, and the metadata after it.
 use Rattle.std.proofs.Common.{◌≡◌, ◌≢◌, ℕ, ◌<◌, ◌≤◌, ◌^◌, ◌==◌, nat_lt, true, false, Bool, cond, List, length, take, drop, None, Some, Result, Ok, Err, OnOk, refl, sym, ap, ◌∙◌, arith, inl, inr, eq-eqb}
 use Rattle.std.proofs.lemmas.Bool.{cases_lt, eqb-true, ne_eqb, le-ltb, lt-ltb}
 use Rattle.ipc_devices.proofs.Claims.{claims_through}
@@ -75,7 +75,7 @@ second-number xs ys (Ok n) behind long is read = newer-number xs n long is (rw (
 second-number xs ys (Err e) behind long is read =
     claims_through e _ _ (λ short. no-newer-number xs long is (is-not 4 (length (drop 4 xs)) (λ far. short (rw behind far)))) read
 
--- the bytes at a place
+-- The bytes at an offset.
 pub gone-to : (m m' : Memory) (n : ℕ) → GoesTo m m' n → after m' ≡ drop n m.whole
 gone-to m m' n goes = ap (λ k. drop k m'.whole) goes.place ∙ ap (λ xs. drop n xs) goes.whole
 

@@ -52,7 +52,7 @@ pub no-header : block_header [] ≡ None
 unfolding block_header number_at
 no-header = refl
 
--- a message that lacks its header is refused
+-- A message without a header is refused.
 lacks : (e : Fault) → LacksHeader e → IsHeaderFault e
 lacks (OutOfSpec MissingMessageHeader) h = tt
 lacks (OutOfSpec (InvalidFlatbufferHeader x)) h = tt

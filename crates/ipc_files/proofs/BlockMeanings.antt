@@ -1,4 +1,4 @@
--- What the message at a block means, by its place, its metadata and its header.
+-- What the message at a block means, by its offset, its metadata and its header.
 use Rattle.std.proofs.Common.{◌≡◌, ℕ, List, drop, Option, None, Some, Result, Ok, Err, IsSome, refl, sym, ap, ◌∙◌}
 use Rattle.ipc_devices.proofs.Claims.{claims_through}
 use Rattle.ipc_devices.specs.Faults.{OwnFault, Answers}
@@ -19,7 +19,7 @@ module _ {X : Type 0} where
   abbrev pub at-block : (Placed → BlockHeader → Option X) → List ℕ → Block → Option X
   at-block k source b = given (placed b) (at-place k source)
 
-  -- a mark in place of a message has no header
+  -- A mark instead of a message has no header.
   stated-given : (f : Frame) (k : BlockHeader → Option X)
       → given (front_metadata f) (λ metadata. given (block_header metadata) k) ≡ given (stated_metadata f) (λ metadata. given (block_header metadata) k)
   stated-given (message m rest) k = refl
@@ -49,7 +49,7 @@ module _ {X : Type 0} where
         pub opened-is : (h : BlockHeader) → block_header metadata ≡ Some h → at-block k source b ≡ k p h
         opened-is h e = framed-is ∙ ap (λ (o : Option BlockHeader). given o (k p)) e
 
--- ---- answers
+-- ---- results
 
 none-there : {X : Type 0} (o : Option X) → (IsSome o → ⊥) → o ≡ None
 none-there None h = refl

@@ -35,7 +35,7 @@ module _ (m : FileMetadata) (source : List ℕ) (e : Fault) where
       subst (λ (xs : List Block). DictionariesReason m source [] xs e) (drop-none bs) (subst (λ (ks : Dictionaries). DictionariesReason m source ks (drop 0 bs) e) none h)
 
   module _ (bs : List Block) (i : ℕ) (d : Block) (ds : Dictionaries) (within : i < length bs) (bytes : List ℕ) (same : bytes ≡ source) where
-    -- where the block at i has a meaning, it is one behind it
+    -- If the block at i has a meaning, the first faulty block is after it.
     pub behind : (es : Dictionaries) → AreAlike (dictionaries_at m ds bytes (get_or bs i d)) (Some es) → DictionariesReason m source es (drop (i + 1) bs) e
         → DictionariesReason m source ds (drop i bs) e
     behind es read h =

@@ -1,4 +1,4 @@
--- What the arrays of a file's dictionaries hold.
+-- How many bytes the arrays of a file's dictionaries retain.
 use Rattle.std.proofs.Common.{◌≡◌, ◌⊎◌, ℕ, ℤ, ◌+◌, ◌<◌, ◌≤◌, Bool, IsTrue, List, [], ◌∷◌, ◌++◌, length, take, get_or, Option, None, Some, sym, ap, subst, inl, inr}
 use Rattle.std.proofs.lemmas.Bool.{cases_Bool}
 use Rattle.std.proofs.lemmas.Bool.Decides.{Decides-int_eq}
@@ -18,7 +18,7 @@ use Rattle.ipc_files.proofs.NeededValues.{take_none, take_next}
 use Rattle.ipc_files.specs.Batches.{block_metadata}
 use Rattle.ipc_files.specs.Dictionaries.{HoldsHeader, IsListedBy, IsListedByOne, ListsValues}
 
--- what the header of a dictionary batch has put
+-- The array that the header of a dictionary batch has set.
 put_or_kept : (most : ℕ) (schema : Schema) (o : Option BlockHeader) (before after : Option ℤ → Layout) → HoldsHeader most schema o before after → (id : ℤ)
     → ListsValues most schema o id (held (after (Some id))) ⊎ (after (Some id) ≡ before (Some id))
 put_or_kept most schema None before after h id = absurd h
@@ -28,7 +28,7 @@ put_or_kept most schema (Some x) before after h id = elim (cases_Bool (int_eq h.
 ]
 
 module _ (known : Bool) (most : ℕ) (schema : Schema) (source : List ℕ) (id : ℤ) where
-  -- the message of one of some blocks is that of one of these and another
+  -- The message of one of some blocks is also one of these blocks and another.
   one_before : (bs : List Block) (b : Block) (n : ℕ) → IsListedByOne known most schema source bs id n → IsListedByOne known most schema source (bs ++ b ∷ []) id n
   one_before [] b n h = inr h
   one_before (a ∷ bs) b n h = elim h [
@@ -41,7 +41,7 @@ module _ (known : Bool) (most : ℕ) (schema : Schema) (source : List ℕ) (id :
   one_last (a ∷ bs) b n h = inr (one_last bs b n h)
 
 module _ (known : Bool) (most : ℕ) (schema : Schema) (source : List ℕ) where
-  -- each array is within what the message of one of some blocks lists
+  -- Each array is within the encoded lengths of the message of one of some blocks.
   pub record EachListed (bs : List Block) (values : Option ℤ → Layout) : Type 0 where
     pub each : (id : ℤ) → IsListedByOne known most schema source bs id (held (values (Some id)))
 

@@ -1,4 +1,4 @@
--- Dictionaries that are known alike.
+-- Dictionaries that agree.
 use Rattle.std.proofs.Common.{◌≡◌, ℕ, suc, ◌+◌, ◌<◌, ◌≤◌, List, [], length, drop, get_or, add-one, ◌∷◌, Option, None, Some, IsSome, IfSome, Result, Ok, Err, refl, sym, ap, subst, ◌∙◌, cond, Bool, true, false, nat_eq}
 use Rattle.std.proofs.Math.Seq.{drop-cons}
 use Rattle.std.proofs.lemmas.List.{drop_all}
@@ -36,7 +36,7 @@ alike-none None None h e = refl
 alike-none None (Some ds) h e = absurd h
 alike-none (Some ds) p h e = cc
 
--- ---- answers
+-- ---- results
 
 none-there : {X : Type 0} (o : Option X) → (IsSome o → ⊥) → o ≡ None
 none-there None h = refl
@@ -82,13 +82,13 @@ after-alike m seen [] ds es alike = alike
 after-alike m seen (b ∷ bs) ds es alike =
     then-alike (dictionaries_at m ds (seen b) b) (dictionaries_at m es (seen b) b) (λ after. dictionaries_after m seen after bs) (after-alike m seen bs) (block-alike m ds es (seen b) b alike)
 
--- the blocks from one on, where that was read
+-- The blocks from one on, if that was read.
 pub block-read : (m : FileMetadata) (seen : Block → List ℕ) (b : Block) (bs : List Block) (ds es : Dictionaries) → AreAlike (dictionaries_at m ds (seen b) b) (Some es)
     → AreAlike (dictionaries_after m seen es bs) (dictionaries_after m seen ds (b ∷ bs))
 block-read m seen b bs ds es h =
     alike-back _ _ (then-alike (dictionaries_at m ds (seen b) b) (Some es) (λ after. dictionaries_after m seen after bs) (after-alike m seen bs) h)
 
--- and where it is refused
+-- The blocks from one on, if that was refused.
 pub block-refused : (m : FileMetadata) (seen : Block → List ℕ) (b : Block) (bs : List Block) (ds : Dictionaries) → dictionaries_at m ds (seen b) b ≡ None
     → dictionaries_after m seen ds (b ∷ bs) ≡ None
 block-refused m seen b bs ds e = ap (λ (o : Option Dictionaries). given o (λ after. dictionaries_after m seen after bs)) e
@@ -114,7 +114,7 @@ module _ (m : FileMetadata) (source : List ℕ) (bs : List Block) (i : ℕ) (d :
       claims_through e _ _ (λ none. alike-none _ all so-far (left-is ∙ block-refused m (all_of source) (get_or bs i d) (drop (suc i) bs) ds
       (ap (λ (xs : List ℕ). dictionaries_at m ds xs (get_or bs i d)) (sym same) ∙ none))) h
 
--- behind the last block
+-- After the last block.
 pub all-known : (m : FileMetadata) (source : List ℕ) (bs : List Block) (i : ℕ) (ds : Dictionaries) (all : Option Dictionaries) → length bs ≤ i
     → AreAlike (dictionaries_after m (all_of source) ds (drop i bs)) all → AreAlike all (Some ds)
 all-known m source bs i ds all past h =

@@ -7,13 +7,13 @@ use Rattle.ipc_model.specs.Batches.{Schema}
 use Rattle.ipc_files.specs.Batches.{block_metadata}
 use Rattle.ipc_files.specs.Dictionaries.{NeedValues, needed_values}
 
--- no more was given than some blocks need
+-- At most as many bytes were read as some blocks need.
 pub record GivenFor (known : Bool) (schema : Schema) (source : List ℕ) (bs : List Block) (old new : ℕ) : Type 0 where
   pub bytes : ℕ
   pub needed : NeedValues known schema source bs bytes
   pub most : new ≤ old + bytes
 
--- one block behind the others
+-- One block after the others.
 need_more : (known : Bool) (schema : Schema) (source : List ℕ) (bs : List Block) (b : Block) (n : ℕ) (metadata : List ℕ) → NeedValues known schema source bs n
     → (IsTrue known → block_metadata source (Some b) ≡ Some metadata) → NeedValues known schema source (bs ++ b ∷ []) (n + needed_values schema metadata)
 need_more known schema source [] b n metadata h stands = (metadata, 0, stands, refl, omega (arith, h))

@@ -31,7 +31,7 @@ sits whole m end n same at is fits =
     let e : m.place ≡ length whole - (n + 10) = omega (arith, at, is, fits) in
     ap (λ xs. drop m.place xs) same ∙ ap (λ k. drop k whole) e
 
--- a footer that is stated is there
+-- A footer whose length is stated is present.
 pub refused-footer : (whole : List ℕ) (m : Memory) (end n : ℕ) (e : Fault) → m.whole ≡ whole → m.place ≡ end - 10 - n → end ≡ length whole → n + 10 ≤ length whole
     → OwnFault e (n ≤ length (after m) → ⊥) → OwnFault e ⊥
 refused-footer whole m end n e same at is fits h =
@@ -55,7 +55,7 @@ pub given-metadata : (r : Result FileMetadata Fault) (start : ℕ) (whole footer
 given-metadata r start whole footer size is long h =
     subst (λ (o : Option Meaning). GivesPart file_seen r o) (sym (metadata-is start whole footer size is long)) h
 
--- what is said of a file that begins anywhere says it of one that begins with the device
+-- What holds of a file that begins at any offset holds of one that begins with the device.
 pub from-beginning : (r : Result FileMetadata Fault) (start : ℕ) (whole : List ℕ) → start ≡ 0 → GivesPart file_seen r (metadata_from start whole) → GivesPart file_seen r (metadata_of whole)
 from-beginning r start whole at h =
     subst (λ (o : Option Meaning). GivesPart file_seen r o) (ap (λ (n : ℕ). metadata_from n whole) at ∙ beginning_law whole) h

@@ -33,14 +33,14 @@ tail_reason bytes e long h = elim (by_tail (last 10 bytes) e h) [
   | inr is ↦ subst (λ (f : Fault). OwnFault f (TailReason bytes f)) (sym is) (long, h ∙ ap Err is)
 ]
 
--- the last 10 bytes, where they are read
+-- The last 10 bytes, if they are read.
 pub tail_read : (whole buf : List ℕ) (m : Memory) (end : ℕ) → m.whole ≡ whole → m.place ≡ end - 10 → end ≡ length whole → 10 ≤ length whole → buf ≡ take 10 (after m) → buf ≡ last 10 whole
 tail_read whole buf m end same at is long h =
     let here : m.place ≡ length whole - 10 = omega (arith, at, is) in
     let there : after m ≡ last 10 whole = ap (λ (xs : List ℕ). drop m.place xs) same ∙ ap (λ (n : ℕ). drop n whole) here in
     h ∙ ap (λ (xs : List ℕ). take 10 xs) there ∙ take_all 10 (last 10 whole) (omega (arith, length-drop (length whole - 10) whole, long))
 
--- a head that begins otherwise
+-- A head that begins with other bytes.
 pub not_feather : (front head : List ℕ) (b : Bool) → head ≡ take 6 front → b ≡ bytes_eq feather (take 4 head) → b ≡ false → take 4 front ≡ feather → ⊥
 not_feather front head b h test unlike e =
     let same : take 4 head ≡ feather = ap (λ (xs : List ℕ). take 4 xs) h ∙ take-take 4 6 front (omega arith) ∙ e in

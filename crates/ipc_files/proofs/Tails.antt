@@ -100,7 +100,7 @@ no-tail false true true false u o h = refl
 no-tail false true true true true o h = refl
 no-tail false true true true false o h = absurd (h refl refl refl refl)
 
--- a tail that ends with ARROW1, before which a length stands
+-- A tail that ends with ARROW1, with a length before that.
 tells : (bytes : List ℕ) (n : ℕ) → from_le_bytes w32 (take 4 (last 10 bytes)) ≡ n → nat_lt (length bytes) 10 ≡ false → bytes_eq (last 6 bytes) magic ≡ true → nat_lt n (2 ^ 31) ≡ true
     → footer_length (last 10 bytes) ≡ Ok n
 tells bytes n is long tail small =
@@ -114,7 +114,7 @@ other-tail start bytes h =
     (Some (take n (last (n + 10) bytes)))
     (λ long tail small whole. h n (isnt-below (length bytes) (n + 10) whole) (tells bytes n refl long tail small))
 
--- What stands before a footer's end: the tail that states its length.
+-- The bytes before a footer's end, by the tail that states its length.
 abbrev pub HasTail : List ℕ → List ℕ → Type 0
 HasTail bytes footer = (n : ℕ) × (n + 10 ≤ length bytes) × (footer_length (last 10 bytes) ≡ Ok n) × (footer ≡ take n (last (n + 10) bytes))
 
@@ -129,7 +129,7 @@ has-tail bytes footer n false true true true true is long tail small whole e = c
 has-tail bytes footer n false true true true false is long tail small whole e =
     (n, isnt-below (length bytes) (n + 10) whole, tells bytes n is long tail small, sym (some-same (take n (last (n + 10) bytes)) footer e))
 
--- a footer that is there ends where its tail begins
+-- A footer that is present ends where its tail begins.
 pub footer-ends : (start : ℕ) (bytes footer : List ℕ) → footer_bytes start bytes ≡ Some footer → HasTail bytes footer
 unfolding footer_bytes
 footer-ends start bytes footer e =
@@ -158,7 +158,7 @@ metadata-is start bytes footer size e is =
     ap (λ (o : Option (List ℕ)). given o (λ footer. given (made (root_at footer)) (footer_at (length bytes - start)))) e
     ∙ ap (λ (k : ℕ). given (made (root_at footer)) (footer_at k)) (sym is)
 
--- what is made of a footer by the tests of a file
+-- The footer that the tests of a file give.
 tested : (a b c t u : Bool) (footer : List ℕ) (means : List ℕ → Option FileMetadata)
     → given (if a then None else if b && c then (if t then (if u then None else Some footer) else None) else None) means
     ≡ (if a then None else if b && c then (if t then (if u then None else means footer) else None) else None)

@@ -1,4 +1,4 @@
--- How many bytes of a block are taken, also where it is refused.
+-- How many bytes of a block are read, also if it is refused.
 use Rattle.std.proofs.Common.{◌≡◌, ℕ, zero, suc, ◌+◌, ◌<◌, ◌≤◌, Bool, IsTrue, List, [], ◌∷◌, length, take, drop, get_or, Option, None, Some, Result, Ok, Err, sym, ap, subst, ◌∙◌, arith, inl, inr}
 use Rattle.std.specs.Prelude.{MatchOption}
 use Rattle.std.specs.Option.{option_and_then}
@@ -62,7 +62,7 @@ module _ (known : Bool) (needed : List ℕ → ℕ) (source metadata : List ℕ)
   nothing_given None h = h
   nothing_given (Some p) h = inl (inl (omega (arith, h)))
 
-  -- the device wasn't asked
+  -- The device wasn't read.
   pub unasked : (o : Option Block) → new ≤ old → RefusedGiven known needed source o metadata old new
   unasked o h = nothing_given (option_and_then placed o) h
 
@@ -70,12 +70,12 @@ module _ (known : Bool) (needed : List ℕ → ℕ) (source metadata : List ℕ)
     at_place : MessageGiven known needed (drop p.message source) metadata old new → RefusedGiven known needed source o metadata old new
     at_place h = subst PlaceGiven (sym (ap (option_and_then placed) listed ∙ stands)) h
 
-    -- its message wasn't read
+    -- The block's message wasn't read.
     pub unread : PrefixGiven known (drop p.message source) old new → RefusedGiven known needed source o metadata old new
     unread h = at_place (inl h)
 
     module _ (framed : IsTrue known → stated_metadata (frame (drop p.message source)) ≡ Some metadata) (most : new ≤ old + needed metadata) where
-      -- it was, and was refused
+      -- The block's message was read, and was refused.
       pub misread : RefusedGiven known needed source o metadata old new
       misread = at_place (inr (framed, most))
 
@@ -85,7 +85,7 @@ module _ (known : Bool) (needed : List ℕ → ℕ) (source metadata : List ℕ)
 
 -- ---- some blocks
 
--- the same of other bytes that are these, and behind fewer that were given
+-- The same of other bytes that are equal, with fewer bytes read before.
 module _ (known : Bool) (needed : List ℕ → ℕ) (whole source metadata : List ℕ) (old mid new : ℕ) (same : IsTrue known → whole ≡ source) (more : mid ≤ old) where
   message_behind : (place : ℕ) → MessageGiven known needed (drop place whole) metadata mid new → MessageGiven known needed (drop place source) metadata old new
   message_behind place (inl (inl h)) = inl (inl (omega (arith, h, more)))
@@ -110,7 +110,7 @@ module _ (known : Bool) (schema : Schema) (source whole : List ℕ) (same : IsTr
   refused_at (b ∷ bs) (suc i) n old within needs most h =
       (needs.0, inr (needs.2, refused_at bs i needs.1 (old + needed_values schema needs.0) (omega (arith, within)) needs.3 (omega (arith, needs.4, most)) h))
 
-  -- the block at i was refused, behind those before it
+  -- The block at i was refused, after those before it.
   pub refused_values : (bs : List Block) (i old : ℕ) → i < length bs → GivenFor known schema source (take i bs) old mid
       → RefusedGiven known (needed_values schema) whole (Some (get_or bs i d)) metadata mid new → RefusedValues known schema source bs old new
   refused_values bs i old within so_far h = refused_at bs i so_far.bytes old within so_far.needed so_far.most h

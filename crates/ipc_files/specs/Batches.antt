@@ -1,4 +1,4 @@
--- What reading the record batch at a block answers.
+-- What reading the record batch at a block returns.
 -- (Arrow columnar format, "IPC File Format" and "RecordBatch message".)
 use Rattle.std.specs.Prelude.{◌≡◌, ◌⊎◌, ℕ, ◌+◌, ◌≤◌, nat_eq, if◌then◌else◌, Bool, List, length, drop, Option, None, Some, MatchOption, IsSomeAnd, Result, Ok, Err}
 use Rattle.std.specs.Option.{option_and_then}
@@ -19,65 +19,71 @@ use Rattle.ipc_read.specs.HeldChunks.{HoldChosen}
 use Rattle.ipc_read.specs.Refusals.{IsFaultOfBatch, TellsBatch}
 use Rattle.ipc_read.specs.Sizes.{chosen_listed}
 
--- the record batch in the header of a message, which has to be one
+-- The record batch in the header of a message; an error if the header is another one.
 abbrev pub needed_record : MessageHeaderRef → Result Spot Fault
 needed_record (RecordBatch t) = Ok t
 needed_record _ = Err (OutOfSpec UnexpectedMessageType)
 
--- the metadata of the message at a block of a file
+-- The metadata of the message at a block of a file.
 abbrev pub block_metadata : List ℕ → Option Block → Option (List ℕ)
 block_metadata source b = option_and_then (λ x. given (placed x) (metadata_at source)) b
 
 -- ---- how many bytes are needed
 
--- how many bytes the buffers of some columns list, as the header of their message has it, if that is a record batch
+-- The encoded length of some columns' buffers, by the header of their
+-- message; 0 if it is no record batch.
 abbrev pub header_lists : Kinds → List ℕ → Option BlockHeader → ℕ
 header_lists ts js None = 0
 header_lists ts js (Some h) = if nat_eq h.tag 3 then chosen_listed (lists_of h.table) h.extra ts js else 0
 
--- those, the message that lists them, and its prefix
+-- How many bytes are read of a block: the message's prefix and metadata, and the encoded length
+-- of the chosen columns' buffers.
 abbrev pub needed_bytes : Kinds → List ℕ → List ℕ → ℕ
 needed_bytes ts js metadata = 8 + length metadata + header_lists ts js (block_header metadata)
 
--- ---- how many bytes are taken
+-- ---- how many bytes are read
 
--- Of a block that was refused no more was given than its message states of itself, or, where it was read and has these metadata, than is
--- needed by them; nothing where a number of the block is below 0.
+-- The bytes read of a block that was refused: no more than its message's prefix states, or, if its
+-- metadata were read, than these need. No byte is read if a number of the block is negative.
 abbrev pub RefusedGiven : Bool → (needed : List ℕ → ℕ) → List ℕ → Option Block → (metadata : List ℕ) → (old new : ℕ) → Type 0
 RefusedGiven known needed source b metadata old new =
     MatchOption (option_and_then placed b) (new ≤ old) (λ p. MessageGiven known needed (drop p.message source) metadata old new)
 
--- No more was given of a block than is needed by the metadata of its message, or where it was refused.
+-- At most so many bytes were read of a block: what the metadata of its message need; or, if it was
+-- refused, at most what its message states.
 abbrev pub BlockGiven : {X : Type 0} → Bool → (needed : List ℕ → ℕ) → List ℕ → Option Block → (metadata : List ℕ) → Result X Fault → (old new : ℕ) → Type 0
 BlockGiven known needed source b metadata (Ok x) old new = new ≤ old + needed metadata
 BlockGiven known needed source b metadata (Err e) old new = RefusedGiven known needed source b metadata old new
 
--- ---- how many bytes are held
+-- ---- how many bytes are retained
 
--- the arrays of some columns hold no more than their buffers list by this header, no more than all buffers may, and one offset for each buffer of
--- offsets that lists nothing
+-- The arrays of some columns retain at most the encoded length of their buffers by this header, and
+-- at most that of all buffers. One offset for each empty buffer of offsets comes on top.
 abbrev pub HeaderHolds : ℕ → Kinds → List ℕ → Option BlockHeader → List AnyArray → Type 0
 HeaderHolds most ts js None xs = ⊥
 HeaderHolds most ts js (Some h) xs = HoldChosen most (lists_of h.table) h.extra ts js xs
 
--- the same by the header of the message that has these metadata
+-- The arrays of some columns retain at most the encoded length of their buffers, and
+-- of all buffers, by the message with this metadata. One offset for each empty
+-- buffer of offsets comes on top.
 abbrev pub HoldBatch : ℕ → Kinds → List ℕ → List ℕ → List AnyArray → Type 0
 HoldBatch most ts js metadata xs = HeaderHolds most ts js (block_header metadata) xs
 
--- ---- faults
+-- ---- errors
 
--- Of a block of a record: a number of the block below 0, a message that isn't there or of a length below 0, that is ill-made or of another kind; or
--- of its batch.
+-- The errors of a record block: a negative number in the block, or an error of its batch. Or its
+-- message isn't there, has a negative length, is invalid, or is of another kind.
 abbrev pub IsRecordFault : Kinds → List ℕ → Fault → Type 0
 IsRecordFault ts js e =
     (e ≡ OutOfSpec NegativeFooterLength) ⊎ (IsFrameFault UnexpectedNegativeInteger e ⊎ (IsHeaderFault e
     ⊎ ((e ≡ OutOfSpec UnexpectedMessageType) ⊎ IsFaultOfBatch ts js e)))
 
--- Which fault the record batch in this header can have, in a file. What a fault says of the lists of the batch is so in its table.
+-- The errors that the record batch in this header can have, in a file. What an error says of the
+-- batch's lists is true of its table.
 abbrev pub BlamesRecord : FileMetadata → List ℕ → BlockHeader → Fault → Type 0
 BlamesRecord m js h e = IsFaultOfBatch (kinds m.schema) js e × TellsBatch m.schema h.extra h.table m.size e
 
--- why a block of a record is refused: its message, which has the tag 3, or its batch
+-- Why a record block is refused: its message, which must have the tag 3, or its batch.
 abbrev pub RecordReason : FileMetadata → List ℕ → List ℕ → Option Block → Fault → Type 0
 RecordReason m js source b e =
     IsSomeAnd b (λ x. MessageReason (block_message 3 NegativeFooterLength UnexpectedNegativeInteger source x) (BlamesRecord m js) e)

@@ -1,4 +1,4 @@
--- What reading a file's block answers: its message, and what refuses it.
+-- What reading a block of a file returns: its message, or why it is refused.
 -- (Arrow columnar format, "IPC File Format" and "Encapsulated message format"; Message.fbs.)
 use Rattle.std.specs.Prelude.{◌≡◌, ◌⊎◌, ◌==◌, ℕ, ◌+◌, ◌^◌, ◌<◌, ◌≤◌, nat_eq, nat_lt, if◌then◌else◌, Bool, IsTrue, List, [], length, drop, Option, Some, None, ok_or, Result, Ok, Err}
 use Rattle.ipc_devices.specs.Faults.{OwnFault}
@@ -20,84 +20,97 @@ use Rattle.ipc_read.specs.Headers.{needed_header}
 use Rattle.ipc_files.specs.declared.read.file.block.BlockMessage.{BlockMessage}
 use Rattle.ipc_files.specs.declared.read.file.block.BlockPlace.{BlockPlace}
 
+-- The offsets of a block's message and of its body.
 abbrev pub place_seen : BlockPlace → Placed
 place_seen p = record { message = p.message; body = p.body }
 
 -- ---- the metadata
 
--- The metadata of the message at the front, of any length: at a block the length 0 is that of a message without bytes.
+-- The metadata of the first message, of any length: at a block, length 0
+-- means a message without bytes.
 abbrev pub stated_metadata : Frame → Option (List ℕ)
 stated_metadata (message m rest) = Some m
 stated_metadata (mark rest) = Some []
 stated_metadata (waiting begun) = None
 stated_metadata broken = None
 
--- The prefix states so many bytes, which follow it; or it isn't there.
+-- The prefix states n bytes, which follow it; or there is no such prefix.
 abbrev pub GivesPrefix : Frame → Result ℕ Fault → (rest : List ℕ) → Type 0
 GivesPrefix f (Ok n) rest = f ≡ sized n rest
 GivesPrefix f (Err e) rest = OwnFault e (stated_metadata f ≡ None)
 
--- the number that a prefix states, in the newer form or in the older one: none where there are too few bytes
+-- The number that a prefix states, in the newer form or in the older one;
+-- none if there are too few bytes.
 unfoldable pub prefix_of : List ℕ → Option ℕ
 prefix_of bytes =
     if nat_lt (length bytes) 4 then None
     else if word bytes == 0xFFFF_FFFF then (if nat_lt (length (drop 4 bytes)) 4 then None else Some (word (drop 4 bytes)))
     else Some (word bytes)
 
--- ---- how many bytes are taken
+-- ---- how many bytes are read
 
--- No more was given than the prefix of a message that wasn't read, and metadata of the length that this states.
+-- At most so many bytes were read of a message that wasn't read: its prefix, and metadata of the
+-- length that the prefix states.
 abbrev pub PrefixGiven : Bool → (bytes : List ℕ) → (old new : ℕ) → Type 0
 PrefixGiven known bytes old new =
     (new ≤ old + 8) ⊎ ((n : ℕ) × (n < 2 ^ 31) × (IsTrue known → prefix_of bytes ≡ Some n) × (new ≤ old + (8 + n)))
 
--- No more was given than the prefix of a message and its metadata, which were read or weren't.
+-- At most so many bytes were read: the prefix of a message and its
+-- metadata, which were read or weren't.
 abbrev pub MetadataGiven : Bool → (bytes : List ℕ) → Result Unit Fault → (metadata : List ℕ) → (old new : ℕ) → Type 0
 MetadataGiven known bytes (Ok _) metadata old new = new ≤ old + (8 + length metadata)
 MetadataGiven known bytes (Err e) metadata old new = PrefixGiven known bytes old new
 
--- No more was given of a message than it states of itself, or, where it was read and has these metadata, than is needed by them.
+-- At most so many bytes were read of a message: what its prefix states, or, if its
+-- metadata were read, what these need.
 abbrev pub MessageGiven : Bool → (needed : List ℕ → ℕ) → (bytes metadata : List ℕ) → (old new : ℕ) → Type 0
 MessageGiven known needed bytes metadata old new =
     PrefixGiven known bytes old new ⊎ ((IsTrue known → stated_metadata (frame bytes) ≡ Some metadata) × (new ≤ old + needed metadata))
 
--- ---- why there is none
+-- ---- why there is no message
 
--- of a frame: fewer bytes than stated, or a length below 0, which has the name that is handed
+-- The errors of a frame: fewer bytes than stated, or a negative length,
+-- which is reported as `negative`.
 abbrev pub IsFrameFault : OutOfSpecKind → Fault → Type 0
 IsFrameFault negative e = (e ≡ Ended) ⊎ (e ≡ OutOfSpec negative)
 
--- of one that isn't there: the prefix states a length below 0, or fewer bytes follow than it states, or there is no prefix
+-- The error of a frame that isn't there: its length is negative, or fewer bytes follow than it
+-- states, or there is no prefix.
 abbrev pub frame_fault : OutOfSpecKind → Option ℕ → Fault
 frame_fault negative (Some n) = if nat_lt n (2 ^ 31) then Ended else OutOfSpec negative
 frame_fault negative None = Ended
 
 -- ---- the header
 
+-- The header of a block's message, as the definitions have it.
 abbrev pub message_seen : BlockMessage → BlockHeader
 message_seen m = record { tag = (header_parts m.header).0; table = (header_parts m.header).1; extra = extra_of m.version }
 
+-- The version of a message, or the error in it.
 abbrev pub stated_version : Result MetadataVersion TableFault → Result MetadataVersion Fault
 stated_version (Ok v) = Ok v
 stated_version (Err e) = Err (OutOfSpec (InvalidFlatbufferVersion e))
 
+-- A header with the version of its message, or the error in the version.
 abbrev pub with_version : ℕ × Spot → Result MetadataVersion Fault → Result BlockHeader Fault
 with_version h (Ok v) = Ok (record { tag = h.0; table = h.1; extra = extra_of v })
 with_version h (Err e) = Err e
 
+-- A header with the version of its message, or the error in one of them.
 abbrev pub with_header : Result (ℕ × Spot) Fault → Result MetadataVersion Fault → Result BlockHeader Fault
 with_header (Ok h) version = with_version h version
 with_header (Err e) version = Err e
 
+-- The header and the version of a message, by its table, or the error in them.
 abbrev pub opened_table : Result Spot TableFault → Result BlockHeader Fault
 opened_table (Ok t) = with_header (needed_header (message_header t)) (stated_version (message_version t))
 opened_table (Err e) = Err (OutOfSpec (InvalidFlatbufferMessage e))
 
--- the message whose metadata these bytes are, or the fault in it
+-- The header of the message that has this metadata, or the error in it.
 unfoldable pub opened_message : List ℕ → Result BlockHeader Fault
 opened_message metadata = opened_table (root_at metadata)
 
--- of a message: its root, its header or its version is absent or ill-made
+-- The errors of a message: its root, its header or its version is absent or invalid.
 abbrev pub IsHeaderFault : Fault → Type 0
 IsHeaderFault (OutOfSpec (InvalidFlatbufferMessage e)) = Unit {0}
 IsHeaderFault (OutOfSpec MissingMessageHeader) = Unit {0}
@@ -107,27 +120,28 @@ IsHeaderFault _ = ⊥
 
 -- ---- the message at a block, or why it is refused
 
--- what comes of a value, or the fault in its place
+-- What a function gives for a value, or the error in its place.
 abbrev pub result_and_then : {A B : Type 0} → (A → Result B Fault) → Result A Fault → Result B Fault
 result_and_then f (Ok x) = f x
 result_and_then f (Err e) = Err e
 
--- a header of this tag in the union MessageHeader
+-- A header that must have this tag in the union MessageHeader.
 abbrev pub needed_kind : ℕ → BlockHeader → Result BlockHeader Fault
 needed_kind tag h = if nat_eq h.tag tag then Ok h else Err (OutOfSpec UnexpectedMessageType)
 
--- the message of this tag at a place, or the fault in it
+-- The message of this tag at an offset, or the error in it.
 abbrev pub placed_message : ℕ → OutOfSpecKind → List ℕ → Placed → Result BlockHeader Fault
 placed_message tag negative source p =
     let bytes = drop p.message source in
     result_and_then (λ metadata. result_and_then (needed_kind tag) (opened_message metadata))
     (ok_or (stated_metadata (frame bytes)) (frame_fault negative (prefix_of bytes)))
 
--- The message of this tag at a block, or the fault in it. Numbers of the block that are below 0, and a length below 0, have the names that are handed.
+-- The message of this tag at a block, or the error in it. `numbers` is the error of negative
+-- numbers in the block, `negative` that of a negative length.
 unfoldable pub block_message : ℕ → (numbers negative : OutOfSpecKind) → List ℕ → Block → Result BlockHeader Fault
 block_message tag numbers negative source b = result_and_then (placed_message tag negative source) (ok_or (placed b) (OutOfSpec numbers))
 
--- It is the fault in the message, or one of what the message holds, whose header is known then.
+-- The error is the one in the message, or P holds of it and of the message's header.
 abbrev pub MessageReason : Result BlockHeader Fault → (BlockHeader → Fault → Type 0) → Fault → Type 0
 MessageReason (Ok h) P e = P h e
 MessageReason (Err f) P e = e ≡ f

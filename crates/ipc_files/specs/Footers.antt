@@ -1,4 +1,4 @@
--- What reading a footer answers: what it says, or which part of it is at fault.
+-- What reading a footer returns: what it says, or which part of it is invalid.
 -- (Arrow columnar format, "IPC File Format"; File.fbs.)
 use Rattle.std.specs.Prelude.{◌≡◌, Vec, List, Option, Some, None, IsSomeAnd, option_map, Result, Ok, Err}
 use Rattle.std.specs.declared.alloc.Global.{Global}
@@ -20,9 +20,11 @@ use Rattle.ipc_files.specs.declared.read.file.metadata.FileMetadata.{FileMetadat
 
 -- ---- what is read, as the meaning of a file has it
 
+-- The blocks of a list that may be absent.
 abbrev pub optional_blocks : Option (Vec Block Global) → Option (List Block)
 optional_blocks o = option_map (λ blocks. blocks.items) o
 
+-- The metadata that were read, as the meaning of a file has them.
 abbrev pub file_seen : FileMetadata → Meaning
 file_seen m = record {
   schema = schema_seen (m.schema, m.ipc_schema);
@@ -32,36 +34,40 @@ file_seen m = record {
   size = m.size;
 }
 
--- ---- answers
+-- ---- results
 
--- The answer is Ok exactly where there is a meaning, and is then what it says. Memory and the devices tell nothing.
+-- The result is Ok exactly if there is a meaning, unless an allocation or the device fails;
+-- its value is then that meaning.
 abbrev pub GivesPart : {X Y : Type 0} → (X → Y) → Result X Fault → Option Y → Type 0
 GivesPart view (Ok x) meaning = meaning ≡ Some (view x)
 GivesPart view (Err e) meaning = OwnFault e (meaning ≡ None)
 
--- a slot of the footer of which no fault of its own tells
+-- A field of the footer that has no error of its own: an invalid one is
+-- reported as an invalid footer.
 abbrev pub in_footer : {A : Type 0} → Result A TableFault → Result A Fault
 in_footer (Ok x) = Ok x
 in_footer (Err e) = Err (OutOfSpec (InvalidFlatbufferFooter e))
 
--- Memory was refused, or a pair is ill-made: then P holds. No other fault comes.
+-- An allocation failed, or a pair is invalid and P holds; no other error comes.
 abbrev pub RefusesPairs : Fault → Type 0 → Type 0
 RefusesPairs Memory P = Unit {0}
 RefusesPairs (OutOfSpec (InvalidFlatbufferFooter e)) P = P
 RefusesPairs _ P = ⊥
 
+-- The result is Ok exactly if the pairs have a meaning, unless an allocation fails.
 abbrev pub GivesPairs : {X Y : Type 0} → (X → Y) → Result X Fault → Option Y → Type 0
 GivesPairs view (Ok x) meaning = meaning ≡ Some (view x)
 GivesPairs view (Err e) meaning = RefusesPairs e (meaning ≡ None)
 
--- ---- which fault refuses a footer
+-- ---- which error refuses a footer
 
--- a schema without a vector of fields
+-- A schema without a vector of fields.
 abbrev pub LacksFields : Option Spot → Type 0
 LacksFields (Some s) = schema_fields s ≡ Ok None
 LacksFields None = ⊥
 
--- Each fault tells of the slot that it names. A fault of the schema tells that a schema is there, and that it has no meaning.
+-- Each error says something about the field of the footer's table that it names. An error of the
+-- schema says that there is a schema without a meaning.
 abbrev pub FooterFault : Fault → Spot → Type 0
 FooterFault Memory t = Unit {0}
 FooterFault (OutOfSpec (InvalidFlatbufferFooter e)) t = given (made (footer_custom_metadata t)) pairs_at ≡ None
@@ -75,7 +81,7 @@ FooterFault (BadSchema NotASchema) t = ⊥
 FooterFault (BadSchema e) t = IsSomeAnd (present (footer_schema t)) (λ s. schema_at s ≡ None)
 FooterFault _ t = ⊥
 
--- the same where the root may be ill-made
+-- By each error, what is wrong with a footer whose root may be invalid.
 abbrev pub RootFault : Fault → Result Spot TableFault → Type 0
 RootFault e (Ok t) = FooterFault e t
 RootFault e (Err f) = e ≡ OutOfSpec (InvalidFlatbufferFooter f)

@@ -1,4 +1,4 @@
--- What is read of a listed buffer.
+-- What is read of a buffer.
 use Rattle.std.proofs.Common.{◌≡◌, ℕ, ◌+◌, ◌<◌, ◌≤◌, ℤ, pos, negsuc, List, [], Result, Ok, Err, IfErr, sym, subst, arith, take, drop, get_or, length}
 use Rattle.std.proofs.lemmas.List.{take-take, length-take, get_or-map}
 use Rattle.std.specs.Result.{IsErr, IsErrAnd}
@@ -11,7 +11,7 @@ use Rattle.ipc_model.specs.Entries.{IsSize, size, Part, bytes_from, part_at, buf
 use Rattle.ipc_flat_columns.specs.Bodies.{source, entries}
 use Rattle.ipc_flat_columns.specs.declared.read.body.Body.{Body}
 
--- the same answer for facts that follow from each other
+-- The same result for equivalent facts.
 pub answers_through :
     {X : Type 0} (r : Result X Fault) (P P' : Type 0) (q q' : X → Type 0) → (P → P') → (P' → P) → ((x : X) → q x → q' x)
     → Answers r P q → Answers r P' q'
@@ -60,13 +60,13 @@ fetched q memory b i len place w r h z at long some same a =
     subst (λ (u : Part). Answers r (IsSize u.offset × (len ≤ size u.length) × (len ≤ length u.bytes)) (q (take len u.bytes)))
     (sym (part_is memory b i h)) (entry_fetched q b.base len (source memory b) e.offset e.length r z long some a')
 
--- a fault that a `?` turned into another one
+-- An error that a `?` converted to another one.
 pub refused :
     {X : Type 0} (r : Result X Fault) (f : Fault) (P : Type 0) (q : X → Type 0) → IsErr r × IsErrAnd r (λ e. e ≡ f) → OwnFault f (P → ⊥) → Answers r P q
 refused (Ok x) f P q is d = let no = is.0 in absurd cc
 refused (Err e) f P q is d = subst (λ (u : Fault). OwnFault u (P → ⊥)) (sym is.1) d
 
--- so has what is said of it
+-- So is what is known of it.
 pub failing : {X : Type 0} (r : Result X Fault) (f : Fault) (P : Fault → Type 0) → IsErr r × IsErrAnd r (λ e. e ≡ f) → P f → IfErr r P
 failing (Ok x) f P is h = tt
 failing (Err e) f P is h = subst P (sym is.1) h

@@ -1,4 +1,4 @@
--- A column without children that was read is the array that its entries say.
+-- A column without children is read to the array that its entries say.
 use Rattle.std.proofs.Common.{arith, ◌≡◌, refl, ℕ, zero, suc, ◌+◌, ◌*◌, ◌/◌, ◌<◌, ◌≤◌, List, ◌∷◌, map, length, take, drop, sym, ap, subst, ◌∙◌}
 use Rattle.std.proofs.lemmas.List.{take-take, drop-take, drop-drop, length-map, length-take-le}
 use Rattle.std.proofs.lemmas.List.FromFn.{length-map-range_with_len}
@@ -52,7 +52,7 @@ values_read value w n xs some long =
     in
     ap (λ k. map value (first_chunks w k (take (w * n) xs))) count ∙ ap (λ cs. map value cs) (first_chunks-take w n xs)
 
--- each piece is read as what stands there
+-- Each piece is read as the value in it.
 pieces_read :
     {T U : Type 0} (f : T → U) (g : List ℕ → U) (value : List ℕ → T) (w : ℕ) (xs : List ℕ)
     → ((ys : List ℕ) → f (value ys) ≡ g ys) → ((ys : List ℕ) → value (take w ys) ≡ value ys) → (n j : ℕ)
@@ -66,7 +66,7 @@ pieces_read f g value w xs is first (suc n) j =
     let tail = ap (λ zs. map f (map value (first_chunks w n zs))) rest ∙ pieces_read f g value w xs is first n (j + 1) in
     λ i. head i ∷ tail i
 
--- what stands in the first bytes
+-- The values in the first bytes.
 pub pieces_are :
     {T U : Type 0} (f : T → U) (g : List ℕ → U) (value : List ℕ → T) (w n : ℕ) (xs : List ℕ) (v : List T)
     → ((ys : List ℕ) → f (value ys) ≡ g ys) → ((ys : List ℕ) → value (take w ys) ≡ value ys) → 0 < w → w * n ≤ length xs

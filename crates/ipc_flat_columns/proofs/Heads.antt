@@ -1,4 +1,4 @@
--- What a column begins with.
+-- The first part of a column: its length and its validity.
 use Rattle.std.proofs.Common.{arith, ◌≡◌, refl, ℕ, pos, ◌<◌, ◌≤◌, ◌==◌, List, map, length, take, drop, Bool, true, false, None, Some, sym, ap, ◌∙◌}
 use Rattle.std.proofs.lemmas.List.{take-append-drop, length-take-le}
 use Rattle.std.proofs.lemmas.List.FromFn.{length-map-range_with_len}

@@ -1,4 +1,5 @@
--- What an array holds that is made of what was read, by what its buffers list.
+-- How many bytes an array retains that is made of what was read, by the
+-- encoded lengths of its buffers.
 use Rattle.std.proofs.Common.{arith, ◌≡◌, refl, ℕ, ℤ, ◌+◌, ◌*◌, ◌≤◌, ◌==◌, ◌&&◌, Bool, true, false, cond, List, [], ◌∷◌, ◌++◌, map, length, Option, sym, ap, ◌∙◌}
 use Rattle.std.proofs.lemmas.List.{length-map}
 use Rattle.lower.specs.Physical.{physical, integer}

@@ -1,4 +1,4 @@
--- The one offset that stands for a buffer of offsets which lists nothing.
+-- The one offset of an array whose buffer of offsets is empty.
 use Rattle.std.proofs.Common.{◌≡◌, ℕ, List, [], ◌∷◌, true, Result, Ok, Err, IfOk}
 use Rattle.lower_types.specs.NumberTypes.{width_of}
 use Rattle.lower_types.specs.declared.PrimitiveType.{PrimitiveType}

@@ -1,4 +1,4 @@
--- Numbers that name one of some things, as a signed number and as a place.
+-- Numbers that name one of some things, as a signed number and as an index.
 use Rattle.std.proofs.Common.{ℕ, ℤ, pos, negsuc}
 use Rattle.lower_rules.specs.Keys.{KeyFits}
 use Rattle.ipc_model.specs.Entries.{IsIndex}

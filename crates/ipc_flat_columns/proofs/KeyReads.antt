@@ -1,4 +1,5 @@
--- A column of keys is well formed where its array keeps the rules of dictionaries, and is that array.
+-- A column of keys is well formed if its array keeps the rules of
+-- dictionaries, and is read to that array.
 use Rattle.std.proofs.Common.{arith, ◌≡◌, refl, ℕ, ℤ, pos, ◌+◌, ◌*◌, ◌<◌, ◌==◌, Bool, true, false, cond, List, [], ◌∷◌, map, length, get_or, Option, None, Some, sym, ap, subst, ◌∙◌, inl, inr}
 use Rattle.std.proofs.lemmas.Bool.{cases_Bool}
 use Rattle.std.proofs.lemmas.List.FromFn.{get_or-map-range_with_len, length-map-range_with_len}
@@ -116,8 +117,8 @@ integer_is s b f k i h = get_or-map-range_with_len (λ j. integer s b f j) 0 k i
 integers_count : (s : Entries) (b : ℕ) (f : PrimitiveType) (k : ℕ) → length (integers_of s b f k) ≡ k
 integers_count s b f k = length-map-range_with_len (λ j. integer s b f j) 0 k
 
--- What is known of the column of keys at node a and buffer b: the type u of its array, which names the type v for its values, the keys
--- that were read, and the array l of the values.
+-- What is known of the column of keys at node a and buffer b. The type u of its array names the
+-- value type v; the keys were read, and l is the array of the values.
 module _ (s : Entries) (vs : Option ℤ → Layout) (key : IntegerType) (u v : TypeTree) (id : Option ℤ) (a b : ℕ) (limit : Limit) (ks : KeysSeen) (l : Layout)
     (lies : physical u ≡ Dictionary key) (named : named_type u ≡ v) (typed : norm (type_of l) ≡ norm v) (many : len_of l ≡ length (values_slots s id))
     (read : ks ≡ keys_at s key a b (rows s a limit)) where

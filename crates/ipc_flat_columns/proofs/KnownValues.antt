@@ -77,7 +77,7 @@ module _ {R : Type 0} (memory : R → Memory) (b : Body R) where
   pub type_known : (id : ℤ) (x : Rc AnyArray Global) → get int_eq b.dictionaries.now id ≡ Some x → values_type (entries memory b) (Some id) ≡ Some (norm (type_of (layout_of x.value)))
   type_known id x there = ap (option_map (λ (d : Dictionary). d.type)) (known_is id ∙ ap dictionary_found there)
 
-  -- which isn't another one
+  -- The array that is known is no other.
   pub other_typed :
       (id : ℤ) (x : Rc AnyArray Global) (t : TypeTree) → get int_eq b.dictionaries.now id ≡ Some x → (norm (type_of (layout_of x.value)) ≡ t → ⊥)
       → IsSome (values_type (entries memory b) (Some id)) × (values_type (entries memory b) (Some id) ≡ Some t → ⊥)
@@ -86,7 +86,7 @@ module _ {R : Type 0} (memory : R → Memory) (b : Body R) where
   pub array_known : (id : ℤ) (x : Rc AnyArray Global) → get int_eq b.dictionaries.now id ≡ Some x → layout_of x.value ≡ known b (Some id)
   array_known id x there = sym (ap array_found there)
 
-  -- it has as many slots
+  -- The array has as many slots.
   pub values_count : (id : Option ℤ) → len_of (known b id) ≡ length (values_slots (entries memory b) id)
   values_count id = sym (length-slots_from (slot_at (known b id)) 0 (len_of (known b id))) ∙ ap length (slots_known id)
 

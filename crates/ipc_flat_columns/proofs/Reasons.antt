@@ -1,4 +1,4 @@
--- What the faults of a column say of the entries that it is read from.
+-- What the errors of a column say of the entries that it is read from.
 use Rattle.std.proofs.Common.{arith, ◌≡◌, ◌⊎◌, ℕ, ◌<◌, ◌≤◌, ℤ, pos, Bool, length, map, Option, None, Some, IsSome, IsTrue, Result, Ok, Err, IfErr, sym, ap, subst, ◌∙◌, ◌*◌, inl, inr}
 use Rattle.std.proofs.lemmas.Grind.{div_ceil_times}
 use Rattle.std.proofs.lemmas.List.{length-map}
@@ -37,7 +37,7 @@ module _ (known : Bool) (s : Entries) where
   pub rule_tells : (e : Fault) → OwnFault e (IsRuleFault e) → OwnFault e (TellsEntries known s e)
   rule_tells e h = claims_through e (IsRuleFault e) (TellsEntries known s e) (rule_says e) h
 
-  -- a number that is below 0
+  -- A number that is negative.
   told_negative : (e : Fault) (P : Type 0) → e ≡ OutOfSpec NegativeFooterLength → OwnFault e P → (P → TellsEntries known s (OutOfSpec NegativeFooterLength))
       → OwnFault e (TellsEntries known s e)
   told_negative e P is h f = subst (λ (x : Fault). OwnFault x (TellsEntries known s x)) (sym is) (f (subst (λ (x : Fault). OwnFault x P) is h))
@@ -50,7 +50,7 @@ module _ (known : Bool) (s : Entries) where
       → OwnFault e (TellsEntries known s e)
   negative_offset i e inside is h = told_negative e (IsSize (buffer s i).offset → ⊥) is h (λ d. inr (record { index = i; inside = inside; is = λ z. d z.0 }))
 
-  -- fewer bytes are listed than are needed
+  -- The encoded length is less than the bytes that are needed.
   pub short_tells : (i count needed n : ℕ) (e : Fault) → i < length s.parts → listed s i ≡ n → n < needed → TellsShort count needed n e → OwnFault e (TellsEntries known s e)
   short_tells i count needed n (OutOfSpec (InvalidBuffer c x m l)) inside is less h =
       (omega (arith, less, h.1, h.2), record { index = i; inside = inside; is = omega (arith, is, h.2) })
@@ -70,7 +70,7 @@ module _ (known : Bool) (s : Entries) where
       let few : d ≤ length (bytes s i) → ⊥ = λ h. denied (natural, long, h) in
       omega (arith, few, long)
 
-  -- the device ends before the bytes that are needed, and listed
+  -- The device ends before the bytes that are needed and encoded.
   ended_says : (i d : ℕ) (e : Fault) → i < length s.parts → IsSize (buffer s i).offset → d ≤ listed s i → OwnFault e (e ≡ Ended) → (IsTrue known → OwnFault e (Need s i d → ⊥))
       → OwnFault e (TellsEntries known s e)
   ended_says i d Ended inside natural long is h = λ k. record { index = i; inside = inside; is = fewer_there i d natural long (h k) }
@@ -113,7 +113,7 @@ module _ (known : Bool) (s : Entries) where
   pub values_tell : (id : Option ℤ) (t : TypeTree) (e : Fault) → OwnFault e (RefusesValues s id t e) → OwnFault e (TellsEntries known s e)
   values_tell id t e h = claims_through e (RefusesValues s id t e) (TellsEntries known s e) (values_say id t e) h
 
--- fewer bytes than some bits take hold fewer bits
+-- If there are fewer bytes than some bits take, there are fewer bits.
 pub fewer_bits : (n count : ℕ) → n < bytes_for count → n * 8 < count
 fewer_bits n count less = omega (arith, less, div_ceil_times count 8 (omega arith))
 

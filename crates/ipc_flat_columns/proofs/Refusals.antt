@@ -1,4 +1,4 @@
--- The faults of a part are faults of a column.
+-- The errors of a part are errors of a column.
 use Rattle.std.proofs.Common.{◌≡◌, sym, subst}
 use Rattle.ipc_devices.proofs.Claims.{claims_through}
 use Rattle.ipc_devices.specs.Faults.{OwnFault}
@@ -68,7 +68,7 @@ kind_in_column (extension_kind t) e h = kind_in_column t e h
 pub kind_column : (t : Kind) (e : Fault) → OwnFault e (IsFaultOf t e) → OwnFault e (IsColumnFault e)
 kind_column t e h = claims_through e (IsFaultOf t e) (IsColumnFault e) (kind_in_column t e) h
 
--- a broken rule is a fault of a column, and says nothing of the entries
+-- A broken rule is an error of a column, and says nothing of the entries.
 rule_in_column : (e : Fault) → IsRuleFault e → IsColumnFault e
 rule_in_column (Lower e) h = tt
 rule_in_column (OutOfSpec k) h = absurd h
@@ -84,7 +84,7 @@ rule_in_column Memory h = absurd h
 pub rule_column : (e : Fault) → OwnFault e (IsRuleFault e) → OwnFault e (IsColumnFault e)
 rule_column e h = claims_through e (IsRuleFault e) (IsColumnFault e) (rule_in_column e) h
 
--- equal kinds have the same faults
+-- Equal kinds have the same errors.
 pub same_kind : (t u : Kind) (e : Fault) → t ≡ u → OwnFault e (IsFaultOf t e) → OwnFault e (IsFaultOf u e)
 same_kind t u e q h = subst (λ z. OwnFault e (IsFaultOf z e)) q h
 

@@ -1,5 +1,7 @@
--- How many bytes the array of a column holds at most, by what its buffers list: bitmaps, offsets, numbers and bytes at every level, the values of
--- dictionaries aside. (Arrow columnar format, "Buffer Listing for Each Layout".)
+-- How many bytes the array of a column retains at most, by the encoded lengths of its
+-- buffers. They are those of bitmaps, offsets, numbers and bytes at every level,
+-- without the values of dictionaries.
+-- (Arrow columnar format, "Buffer Listing for Each Layout".)
 use Rattle.std.specs.Prelude.{ℕ, ◌+◌, ◌*◌, ◌≤◌, ◌==◌, List, length, if◌then◌else◌}
 use Rattle.lower.specs.declared.datatypes.UnionMode.TheVariants.{Sparse, Dense}
 use Rattle.lower.specs.Physical.{physical, integer}
@@ -13,12 +15,13 @@ use Rattle.ipc_model.specs.Entries.{Entries, listed}
 use Rattle.ipc_model.specs.Kinds.{offsets_32, OffsetWidth, offset_width, Kind, null_kind, boolean_kind, number_kind, float_kind, fixed_binary_kind, binary_kind, utf8_kind, list_kind, map_kind, fixed_list_kind, struct_kind, union_kind, dictionary_kind, extension_kind, Kinds, no_kinds, more_kinds, buffers}
 use Rattle.ipc_flat_columns.specs.Kinds.{listed_in, all_listed}
 
--- the one offset 0 that an array holds where its buffer of offsets, which lists n bytes, lists none
+-- The bytes of the one offset 0 that an array has if its buffer of offsets has n = 0 bytes; else 0.
 abbrev pub empty_offset : OffsetWidth → ℕ → ℕ
 empty_offset w n = if n == 0 then offset_width w else 0
 
 abbrev mutual
-  -- the bytes of these offsets in the column at buffer b, where buffer c lists `lists c` bytes
+  -- The bytes of these single offsets in the column at buffer b; buffer c
+  -- has the encoded length `lists c`.
   pub empty_offsets : (ℕ → ℕ) → ℕ → Kind → ℕ → ℕ
   empty_offsets lists extra null_kind b = 0
   empty_offsets lists extra boolean_kind b = 0
@@ -36,31 +39,33 @@ abbrev mutual
   empty_offsets lists extra (dictionary_kind f id t) b = 0
   empty_offsets lists extra (extension_kind t) b = empty_offsets lists extra t b
 
-  -- in some columns, one behind the other
+  -- The bytes of these single offsets in some columns, one after the other.
   pub all_empty_offsets : (ℕ → ℕ) → ℕ → Kinds → ℕ → ℕ
   all_empty_offsets lists extra no_kinds b = 0
   all_empty_offsets lists extra (more_kinds t ts) b = empty_offsets lists extra t b + all_empty_offsets lists extra ts (b + buffers extra t)
 
--- how many bytes the array of a column holds at most: those that its buffers list, and those offsets
+-- How many bytes the array of a column retains at most: the encoded length of its
+-- buffers, and the single offsets.
 abbrev pub most_held : Entries → ℕ → Kind → ℕ → ℕ
 most_held s extra t b = listed_in s extra t b + empty_offsets (λ c. listed s c) extra t b
 
--- so many do those of some columns
+-- How many bytes the arrays of some columns retain at most.
 abbrev pub all_most_held : Entries → ℕ → Kinds → ℕ → ℕ
 all_most_held s extra ts b = all_listed s extra ts b + all_empty_offsets (λ c. listed s c) extra ts b
 
--- an array is within that
+-- An array retains at most that.
 abbrev pub HoldsListed : Entries → ℕ → Kind → ℕ → Layout → Type 0
 HoldsListed s extra t b l = held l ≤ most_held s extra t b
 
--- so are some arrays together
+-- Some arrays together retain at most that.
 abbrev pub HoldAllListed : Entries → ℕ → Kinds → ℕ → Layouts → Type 0
 HoldAllListed s extra ts b ls = all_held ls ≤ all_most_held s extra ts b
 
--- offsets of the type p hold no more than buffer b lists, and the one where it lists nothing
+-- Offsets of the type p retain at most the encoded length of buffer b,
+-- or one offset if that is empty.
 abbrev pub HoldsOffsets : Entries → OffsetWidth → ℕ → PrimitiveType → List ℕ → Type 0
 HoldsOffsets s w b p os = width_of p * length os ≤ listed s b + empty_offset w (listed s b)
 
--- the bytes of keys and of their validity
+-- The bytes of keys and of their validity.
 abbrev pub keys_held : KeysSeen → ℕ
 keys_held ks = validity_held ks.validity + width_in (physical (plain (integer ks.key))) * length ks.integers

@@ -1,4 +1,4 @@
--- What a column of keys has beside the values that they name.
+-- What a column of keys has apart from the values that they name.
 -- (Arrow columnar format, "Dictionary-encoded Layout".)
 use Rattle.std.specs.Prelude.{ℕ, ◌+◌}
 use Rattle.lower.specs.Physical.{integer}
@@ -9,7 +9,7 @@ use Rattle.ipc_model.specs.Entries.{Entries}
 use Rattle.ipc_model.specs.ReadArrays.{validity_of, integers_of}
 use Rattle.ipc_model.specs.TypeKinds.{key_form}
 
--- the keys of the k slots of the column at node a and buffer b
+-- The keys of the k slots of the column at node a and buffer b.
 abbrev pub keys_at : Entries → IntegerType → ℕ → ℕ → ℕ → KeysSeen
 keys_at s key a b k = record {
   key = key;

@@ -1,4 +1,5 @@
--- Where a column of a kind stands among the entries.
+-- Where a column of a kind is among the entries of a batch.
+-- (Arrow columnar format, "Buffer Listing for Each Layout".)
 use Rattle.std.specs.Prelude.{◌≡◌, ℕ, ◌+◌, Bool, true, false}
 use Rattle.lower.specs.Physical.{physical}
 use Rattle.lower.specs.TypeTrees.{TypeTree}
@@ -12,7 +13,7 @@ use Rattle.ipc_model.specs.Kinds.{OffsetWidth, offsets_32, offsets_64, Kind, nul
 use Rattle.ipc_model.specs.Entries.{Entries, listed}
 use Rattle.ipc_flat_columns.specs.declared.read.body.Place.{Place}
 
--- an array's own type, and the type that it is stored as: the first without some of its extensions
+-- An array's own type, and the type that it is stored as: the first without some of its extensions.
 pub record IsStored (own t : TypeTree) : Type 0 where
   pub lies : physical own ≡ physical t
   pub fields : child_fields own ≡ child_fields t
@@ -22,21 +23,23 @@ pub record IsStored (own t : TypeTree) : Type 0 where
   pub ids_named : union_ids own ≡ union_ids t
   pub mode_named : union_mode own ≡ union_mode t
 
+-- The width of offsets, by a flag for large ones.
 abbrev pub form_of : Bool → OffsetWidth
 form_of true = offsets_64
 form_of false = offsets_32
 
--- the next column begins behind one
+-- Position q is after a column of this kind at position p.
 pub record IsBehind (extra : ℕ) (t : Kind) (p q : Place) : Type 0 where
   pub node : q.node ≡ p.node + nodes t
   pub buffer : q.buffer ≡ p.buffer + buffers extra t
 
+-- Position q is after columns of these kinds from position p on.
 pub record AllFollow (extra : ℕ) (ts : Kinds) (p q : Place) : Type 0 where
   pub node : q.node ≡ p.node + all_nodes ts
   pub buffer : q.buffer ≡ p.buffer + all_buffers extra ts
 
--- the listed lengths of the buffers of a column
 abbrev mutual
+  -- The encoded length of the buffers of a column.
   pub listed_in : Entries → ℕ → Kind → ℕ → ℕ
   listed_in s extra null_kind b = 0
   listed_in s extra boolean_kind b = listed s b + listed s (b + 1)
@@ -54,6 +57,7 @@ abbrev mutual
   listed_in s extra (dictionary_kind f id t) b = listed s b + listed s (b + 1)
   listed_in s extra (extension_kind t) b = listed_in s extra t b
 
+  -- The encoded length of the buffers of some columns.
   pub all_listed : Entries → ℕ → Kinds → ℕ → ℕ
   all_listed s extra no_kinds b = 0
   all_listed s extra (more_kinds t ts) b = listed_in s extra t b + all_listed s extra ts (b + buffers extra t)

@@ -1,4 +1,4 @@
--- What writing a footer answers.
+-- The result of writing a footer.
 use Rattle.std.proofs.Common.{◌≡◌, ℕ, ◌≤◌, List, Option, Some, Result, Ok, Err, All, refl, ap, subst, sym, arith, Vec, Global, inl, inr}
 use Rattle.std.specs.Prelude.{option_map}
 use Rattle.lower.specs.TypeTrees.{Pairs, FieldTrees}

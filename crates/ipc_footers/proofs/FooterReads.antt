@@ -53,7 +53,7 @@ pairs-there r [] [] is h = cc
 pairs-there r [] (e ∷ es) is h = cc
 pairs-there r (p ∷ ps) es is h = pairs-read r (p ∷ ps) h
 
--- a vector that is there only where there is a pair
+-- A vector that is present only if there is a pair.
 pairs-mean : (r : Result (Option Vector) TableFault) (o : Option (Vec KeyValue Global)) (es : Pairs) → option_map (λ v. pairs_in v.items) o ≡ some_pairs es → Ascend es
     → AreOptionalPairs r o → given (made r) pairs_at ≡ Some es
 pairs-mean r None [] is up read = pairs-read r [] read

@@ -45,7 +45,7 @@ pair-sizes (p ∷ ps) = omega (arith, text-size (string_bytes p.key), text-size 
 vector-size : (ps : List KeyValue) → size_of (pairs_vector ps) ≤ 8 + pairs_weight (pairs_in ps)
 vector-size ps = omega (arith, count-map pair_part ps, pair-sizes ps, tables-weigh ps)
 
--- pairs that are there
+-- Pairs that are present.
 pub some-same : (ps es : Pairs) → Some ps ≡ some_pairs es → ps ≡ es
 some-same ps [] is = cc
 some-same ps (e ∷ es) is = cc

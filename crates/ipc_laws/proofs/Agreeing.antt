@@ -1,4 +1,4 @@
--- Columns of readers that know the same values at the ids that the columns name.
+-- Columns of readers that have the same values under the ids that the columns name.
 use Rattle.std.proofs.Common.{◌≡◌, ℕ, zero, suc, ℤ, ◌+◌, ◌-◌, ◌*◌, ◌&&◌, nat_le, nat_lt, cond, Bool, true, List, [], ◌∷◌, map, length, slice_index_or, Option, None, Some, option_map, option_and_then, refl, ap, ◌∙◌}
 use Rattle.std.specs.List.{range_with_len}
 use Rattle.lower.specs.declared.datatypes.UnionMode.TheVariants.{Sparse, Dense}
@@ -178,7 +178,7 @@ batch_alike s ds es most schema projection limit e =
 
 -- ---- records
 
--- what a batch lists, without dictionaries
+-- The entries of a batch, without dictionaries.
 abbrev pub listed : Lists → Body → Schema → ℕ → Entries
 listed lists body schema extra = record { nodes = lists.nodes; parts = map (part_at body.source body.base) lists.buffers; order = schema.order; extra = extra; dictionaries = [] }
 

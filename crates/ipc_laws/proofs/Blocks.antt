@@ -26,7 +26,7 @@ use Rattle.ipc_laws.specs.Messages.{message_bytes}
 use Rattle.ipc_laws.proofs.Agreeing.{map_alike}
 use Rattle.ipc_laws.proofs.Moving.{message_then}
 
--- ---- bytes behind others
+-- ---- bytes after others
 
 drop_past : (before bytes : List ℕ) (o : ℕ) → drop (length before + o) (before ++ bytes) ≡ drop o bytes
 drop_past [] bytes o = let e : 0 + o ≡ o = omega arith in ap (λ (n : ℕ). drop n bytes) e
@@ -44,7 +44,7 @@ bytes_past before bytes (negsuc o) l = refl
 part_past : (before bytes : List ℕ) (b : Buffer) → part_at bytes 0 b ≡ part_at (before ++ bytes) (length before) b
 part_past before bytes b = ap (λ (xs : List ℕ). record { offset = b.offset; length = b.length; bytes = xs }) (bytes_past before bytes b.offset b.length)
 
--- ---- a body behind others
+-- ---- a body after others
 
 abbrev past : List ℕ → List ℕ → Body
 past before bytes = record { source = before ++ bytes; base = length before; size = length bytes }

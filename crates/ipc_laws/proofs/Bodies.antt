@@ -1,4 +1,4 @@
--- Messages mean what stands in their bodies.
+-- Messages mean what is in their bodies.
 use Rattle.std.proofs.Common.{◌≡◌, ℕ, ℤ, false, Bool, List, [], ◌∷◌, length, None, Some, Option, Ok, Result, option_and_then, refl, sym, ap, ◌∙◌, subst}
 use Rattle.ipc_devices.specs.declared.fault.TableFault.{TableFault}
 use Rattle.lower.specs.TypeTrees.{TypeTree}
@@ -68,7 +68,7 @@ columns_law h columns extra ids like named w = record {
 
 -- ---- dictionaries
 
--- the values of an array without keys have no place of their own
+-- The values of an array without keys have no dictionary field of their own.
 no_own : (m : ℤ → Option Dictionary) (l : Layout) (is : IdTrees) → Finds m (own_filled l None is)
 no_own m (layout k no_layouts) is = tt
 no_own m (layout k (more_layouts c cs)) is = tt
@@ -80,7 +80,7 @@ values_known ls bs g ds p ids found =
     knows (entries_of ls (whole bs) g.schema.order 0 ds) p.values None p.ids ids
     (finds_both (λ i. dictionary_at ds i) (filled_below p.values p.ids) (own_filled p.values None p.ids) found (no_own (λ i. dictionary_at ds i) p.values p.ids))
 
--- the batch means the values, in the schema of their place
+-- The batch means the values, in the schema of their field.
 values_are : (h : Head) (p : Filled) (metadata body : List ℕ) (lists : Lists) (s : Known) → extra_of h.version ≡ 0 → (v : HasPlace h.schema p) → (m : IsDictionaryMessage metadata p.id lists body)
     → HoldColumns h.schema.order lists body (p.values ∷ []) → Finds (λ i. dictionary_at s.dictionaries i) (filled_below p.values p.ids)
     → record_meaning (values_schema v.place h.schema.order) (extra_of h.version) s.dictionaries (whole body) m.values None None ≡ Some (record { type = v.place.type; slots = slots p.values } ∷ [])

@@ -13,7 +13,7 @@ use Rattle.ipc_laws.proofs.Bodies.{values_law, columns_law}
 use Rattle.ipc_laws.proofs.Fitting.{fit_law}
 use Rattle.ipc_laws.proofs.Sending.{chunk_law}
 
--- ---- what is listed
+-- ---- the values to write
 
 pub listed_law : ListedLaw
 listed_law order m [] ws after bytes s e = (subst (λ (xs : List FilledPlace). HasMessages order xs bytes) s.0 e, s.1)

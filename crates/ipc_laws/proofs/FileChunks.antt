@@ -25,7 +25,7 @@ use Rattle.ipc_model.proofs.Given.{given-some, some-same}
 use Rattle.ipc_laws.proofs.Moving.{finds_known}
 use Rattle.ipc_laws.proofs.Ordering.{order_law}
 
--- ---- what is listed
+-- ---- the values to write
 
 pub listed_blocks_law : ListedBlocksLaw
 listed_blocks_law m seen order r [] ws after bs s e = (subst (λ (xs : List FilledPlace). StandInOrder m seen order xs bs) s.0 e, s.1)
@@ -120,7 +120,7 @@ chunks_then m seen ds es (a ∷ bs) b (d ∷ cs) c k e f =
 knows_more : (before after : Remembered) (ds es : Dictionaries) → StillRemembers before after → KnowsRemembered before ds → KnowsRemembered after es → KnowsMore ds es
 knows_more before after ds es k a b = record { still = λ id d e. b.each id ∙ k.still id d (sym (a.each id) ∙ e) }
 
--- lists of blocks don't matter to a block
+-- The lists of blocks don't matter to one block.
 given_alike : {A B : Type 0} (o : Option A) (f g : A → Option B) → ((x : A) → f x ≡ g x) → given o f ≡ given o g
 given_alike None f g e = refl
 given_alike (Some x) f g e = e x

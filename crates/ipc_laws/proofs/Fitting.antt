@@ -1,4 +1,4 @@
--- What the places of an accepted chunk are.
+-- The dictionary fields of an accepted chunk.
 use Rattle.std.proofs.Common.{suc, ◌≡◌, ◌⊎◌, ℕ, ℤ, ◌<◌, cond, Bool, true, false, List, [], ◌∷◌, ◌++◌, length, map, Option, Some, None, option_map, refl, sym, ap, ap₂, ◌∙◌, subst, arith, inl, inr}
 use Rattle.std.specs.Prelude.{AllPairs, slice_index_or}
 use Rattle.std.specs.List.{AllByRecursion}
@@ -27,7 +27,7 @@ use Rattle.ipc_laws.proofs.Moving.{remembered_here}
 use Rattle.ipc_laws.proofs.Placing.{placed_all}
 use Rattle.ipc_laws.proofs.Sending.{chunk_law}
 
--- ---- the first place of an id
+-- ---- the first dictionary field of an id
 
 has_id_is : (o : Option ℤ) (i : ℤ) → has_id o i ≡ true → o ≡ Some i
 has_id_is None i e = absurd (true≢false (sym e))
@@ -36,7 +36,7 @@ has_id_is (Some j) i e = ap Some ((Decides-int_eq j i).0 e)
 id_has : (o : Option ℤ) (i : ℤ) → o ≡ Some i → has_id o i ≡ true
 id_has o i e = ap (λ (p : Option ℤ). has_id p i) e ∙ (Decides-int_eq i i).1 refl
 
--- a place of the same id as one among the others
+-- A dictionary field of the same id as one among the others.
 first_here : (p : Place) (ps : List Place) (q : Filled) → ((j : ℕ) (d : Place) → j < length ps → SameUnderId p (slice_index_or ps j d)) → p.id ≡ Some q.id → IsAmong ps q → IsPlaceOf p q
 first_here p [] q same e h = absurd h
 first_here p (r ∷ ps) q same e (inl is) =
@@ -62,7 +62,7 @@ first_place (p ∷ ps) q same h =
     behind (inl is) e = absurd (true≢false (sym (id_has p.id q.id is.id) ∙ e))
     behind (inr k) e = k
 
--- the same in the schema that is written, whose types are in the normal form
+-- The same in the schema that is written, whose types are in the normal form.
 have_places : (fs : FieldTrees) (is : IdTrees) (h : Head) (qs : List Filled) → h.schema.fields ≡ norm_fields fs → h.schema.ids ≡ is → AllPairs SameUnderId (places fs is) → ArePlaced (places fs is) qs → HavePlaces h.schema qs
 have_places fs is h [] e i same a = tt
 have_places fs is h (q ∷ qs) e i same a =
@@ -78,9 +78,9 @@ have_places fs is h (q ∷ qs) e i same a =
       have_places fs is h qs e i same a.1,
     )
 
--- ---- places of one id have the same values
+-- ---- dictionary fields of one id have the same values
 
--- what a place brings to a writer
+-- The values that a dictionary field brings to a writer.
 abbrev pub brought : Filled → Brought
 brought p = record { id = p.id; values = record { type = type_of p.values; slots = slots p.values } }
 
@@ -118,7 +118,7 @@ looked_finds : (h : Head) (ps : List Filled) → HavePlaces h.schema ps → AreS
 looked_finds h [] a s = tt
 looked_finds h (p ∷ ps) a s = (remembered_here p.id (dictionary_of p.values) (looked ps), still_found h p ps (looked ps) a.0 a.1 s.0 (looked_finds h ps a.1 s.1))
 
--- ---- the places of an offer are these
+-- ---- the dictionary fields of an offer are these
 
 map_both : (ps qs : List Filled) → map filled_place (ps ++ qs) ≡ map filled_place ps ++ map filled_place qs
 map_both [] qs = refl

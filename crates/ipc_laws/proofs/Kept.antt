@@ -1,4 +1,4 @@
--- Where no dictionary is replaced, all that was remembered stays, and each record means what it did.
+-- If no dictionary is replaced, all that was remembered stays, and each record means what it did.
 use Rattle.std.proofs.Common.{◌≡◌, ◌⊎◌, ℕ, ℤ, ◌+◌, nat_eq, cond, Bool, true, false, List, [], ◌∷◌, map, Option, Some, None, option_map, option_and_then, refl, sym, ap, ap₂, ◌∙◌, subst, inl, inr}
 use Rattle.std.specs.List.{AllByRecursion}
 use Rattle.std.specs.Ordering.{int_eq}
@@ -36,7 +36,7 @@ offer_kept_law m columns is k =
     let all = ap (λ (ps : List FilledPlace). map offered ps) (sym (all_is (layouts columns) is)) ∙ brought_is (filled_of (layouts columns) is) in
     kept_brought m (filled_of (layouts columns) is) (subst (λ (xs : List Brought). AllByRecursion (λ (p : Brought). AreKept (m p.id) p.values) xs) all k)
 
--- of each place nothing is remembered yet, or the chunk's values v
+-- At each dictionary field nothing is remembered yet, or the chunk's values v.
 KeptBy : Remembered → Remembered → List Filled → Type 0
 KeptBy v m ps = AllByRecursion (λ (p : Filled). (m p.id ≡ None) ⊎ (m p.id ≡ v p.id)) ps
 

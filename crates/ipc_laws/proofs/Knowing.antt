@@ -11,13 +11,13 @@ use Rattle.ipc_laws.specs.Places.{HasIds, AllHaveIds, KnownLaw}
 use Rattle.ipc_laws.specs.Remembered.{Remembered, Filled, own_filled, filled_below, filled_inside, filled_of, Finds}
 use Rattle.ipc_laws.proofs.Moving.{finds_front, finds_behind}
 
--- by whether the parts are keys, on which the places depend too
+-- By whether the parts are keys, on which the dictionary fields depend too.
 where_found : (m : Remembered) (p : Parts) (xs ys zs : List Filled) (P Q R S : Type 0) → (P → Finds m xs → R) → (Q → Finds m ys → S)
     → WhereKeyed p P Q → Finds m (cond (is_keyed p) zs ys) → Finds m (cond (is_keyed p) xs []) → WhereKeyed p R S
 where_found m (keys k ks) xs ys zs P Q R S f g w below own = f w own
 where_found m _ xs ys zs P Q R S f g w below own = g w below
 
--- the same where there is no place of its own
+-- The same without a dictionary field of its own.
 where_below : (m : Remembered) (p : Parts) (ys zs : List Filled) (P Q R S : Type 0) → (P → R) → (Q → Finds m ys → S) → WhereKeyed p P Q → Finds m (cond (is_keyed p) zs ys) → WhereKeyed p R S
 where_below m (keys k ks) ys zs P Q R S f g w below = f w
 where_below m _ ys zs P Q R S f g w below = g w below

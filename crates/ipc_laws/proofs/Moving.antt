@@ -30,7 +30,7 @@ pub finds_behind : (m : Remembered) (ps qs : List Filled) → Finds m (ps ++ qs)
 finds_behind m [] qs f = f
 finds_behind m (p ∷ ps) qs f = finds_behind m ps qs f.1
 
--- what the places of the chunk say stays, once it is remembered
+-- The values at the dictionary fields of the chunk stay once they are remembered.
 pub finds_still : (v m after : Remembered) (ps : List Filled) → Finds v ps → Finds m ps → ((i : ℤ) → m i ≡ v i → after i ≡ v i) → Finds after ps
 finds_still v m after [] f g keeps = tt
 finds_still v m after (p ∷ ps) f g keeps = (keeps p.id (g.0 ∙ sym f.0) ∙ f.0, finds_still v m after ps f.1 g.1 keeps)
@@ -79,7 +79,7 @@ pub message_then : (metadata body rest : List ℕ) → message_bytes metadata bo
 message_then metadata body rest =
     append_assoc (prefix (length metadata)) (metadata ++ body) rest ∙ ap (λ (xs : List ℕ). prefix (length metadata) ++ xs) (append_assoc metadata body rest)
 
--- the values of one place, where those inside them are remembered
+-- The values at one dictionary field, if those inside them are remembered.
 pub moves_one : (h : Head) (p : Filled) (metadata body : List ℕ) (m : Remembered) → MeansValues h p metadata body → Finds m (filled_below p.values p.ids)
     → Moves h (message_bytes metadata body) 1 m (remembering p.id (dictionary_of p.values) m)
 moves_one h p metadata body m means found = record {

@@ -1,4 +1,4 @@
--- Types and their normal forms: what lies below them, and where their dictionaries stand.
+-- Types and their normal forms: what is below them, and their dictionary fields.
 use Rattle.std.proofs.Common.{◌≡◌, ℤ, Bool, true, false, List, [], ◌∷◌, ◌++◌, map, Option, Some, option_map, cond, refl, sym, ap, ap₂, ◌∙◌}
 use Rattle.lower.specs.Normal.{norm, norm_field, norm_fields}
 use Rattle.lower.specs.Physical.{physical}
@@ -65,9 +65,9 @@ like_fields (more_fields f fs) (more_fields g gs) (more_layouts c cs) e h = (
 pub like_children : (t u : TypeTree) (cs : Layouts) → norm t ≡ norm u → ChildTypes (child_fields t) cs → AreLike (child_fields u) cs
 like_children t u cs e h = like_fields (child_fields t) (child_fields u) cs (sym (fields_normal t) ∙ ap child_fields e ∙ fields_normal u) h
 
--- ---- places
+-- ---- dictionary fields
 
--- the place with its type in the normal form
+-- The dictionary field with its type in the normal form.
 abbrev pub normal_place : Place → Place
 normal_place p = record { id = p.id; type = norm p.type; ids = p.ids }
 

@@ -1,4 +1,4 @@
--- The dictionary places of a chunk are in order: inner values come before those in which they stand.
+-- The dictionary fields of a chunk are in order: inner values come before those that contain them.
 use Rattle.std.proofs.Common.{◌≡◌, ℤ, cond, Bool, true, false, List, [], ◌∷◌, ◌++◌, Option, Some, None, refl, sym, ap, ◌∙◌, subst, inl, inr}
 use Rattle.std.specs.Ordering.{int_eq}
 use Rattle.lower_arrays.specs.Layouts.{Layout, layout, Layouts, no_layouts, more_layouts, layouts}
@@ -10,7 +10,7 @@ use Rattle.ipc_laws.specs.Order.{Chooses, InOrder, InnerFirstLaw}
 use Rattle.ipc_laws.specs.Remembered.{Remembered, remembering, dictionary_of, Filled, own_filled, filled_below, filled_inside, filled_of, Finds}
 use Rattle.ipc_laws.proofs.Moving.{finds_both, finds_front, finds_behind, finds_still, remembered_here, remembered_still}
 
--- ---- one behind the other
+-- ---- one after the other
 
 finds_same : (m n : Remembered) (ps : List Filled) → ((i : ℤ) → n i ≡ m i) → Finds m ps → Finds n ps
 finds_same m n [] e f = tt
@@ -30,7 +30,7 @@ ordered_then a b c (x ∷ xs) ys f g = (f.0, ordered_then (remembering x.id (dic
 
 -- ---- parts
 
--- those of some places, and those of the places behind them
+-- Some dictionary fields, and those after them.
 record Parts (m : Remembered) (ps qs ws : List Filled) (after : Remembered) : Type 0 where
   pub front : List Filled
   pub behind : List Filled
@@ -55,14 +55,14 @@ parts m (p ∷ ps) qs ws after (inr s) =
       all = s.1 ∙ ap (λ (xs : List Filled). p ∷ xs) r.all;
     }
 
--- ---- places of a chunk whose values by id are v
+-- ---- dictionary fields of a chunk whose values by id are v
 
 record Taken (v : Remembered) (ps ws : List Filled) (m after : Remembered) : Type 0 where
   pub ordered : InOrder m ws after
   pub found : Finds after ps
   pub keeps : (i : ℤ) → m i ≡ v i → after i ≡ v i
 
--- whatever is remembered, and whichever are chosen
+-- Whatever is remembered, and whichever fields are chosen.
 Takes : Remembered → List Filled → Type 0
 Takes v ps = (m after : Remembered) (ws : List Filled) → Finds v ps → Chooses m ps ws after → Taken v ps ws m after
 
@@ -85,7 +85,7 @@ takes_both v ps qs f g m after ws found s =
       keeps = λ i e. y.keeps i (x.keeps i e);
     })
 
--- one place, where the values inside its own are remembered
+-- One dictionary field, if the values inside its own are remembered.
 takes_one : (v : Remembered) (p : Filled) (m after : Remembered) (ws : List Filled) → Finds v (p ∷ []) → Finds m (filled_below p.values p.ids)
     → Chooses m (p ∷ []) ws after → Taken v (p ∷ []) ws m after
 takes_one v p m after ws found inner (inl s) =
@@ -98,7 +98,7 @@ takes_one v p m after ws found inner (inr s) =
       keeps = λ i e. s.2.1 i ∙ remembered_still v m p.id d found.0 i e;
     })
 
--- the place of an array's own keys, where it has keys
+-- The dictionary field of an array's own keys, if it has keys.
 takes_own : (v : Remembered) (b : Bool) (p : Filled) (others : List Filled) (m after : Remembered) (ws : List Filled) → Finds v (cond b (p ∷ []) [])
     → Finds m (cond b (filled_below p.values p.ids) others) → Chooses m (cond b (p ∷ []) []) ws after → Taken v (cond b (p ∷ []) []) ws m after
 unfolding Takes
@@ -113,7 +113,7 @@ own v (layout k (more_layouts c cs)) None is m after ws found inner s = takes_no
 own v (layout k (more_layouts c cs)) (Some id) is m after ws found inner s =
     takes_own v (is_keyed k.parts) (record { id = id; ids = is; values = c }) (filled_of (more_layouts c cs) is) m after ws found inner s
 
--- an array's place comes behind those inside its values
+-- An array's own dictionary field comes after those inside its values.
 takes_field : (v : Remembered) (l : Layout) (id : Option ℤ) (is : IdTrees) → Takes v (filled_below l is) → Takes v (filled_below l is ++ own_filled l id is)
 unfolding Takes
 takes_field v l id is below m after ws found s =

@@ -1,4 +1,4 @@
--- The places of a chunk are among those of the schema's fields, and its keys have ids.
+-- The dictionary fields of a chunk are among those of the schema's fields, and its keys have ids.
 use Rattle.std.proofs.Common.{◌≡◌, ℤ, ◌≤◌, cond, Bool, true, false, List, [], ◌∷◌, ◌++◌, length, Option, Some, None, refl, sym, ap, ◌∙◌, subst, arith, append-nil, length-append, inl, inr}
 use Rattle.std.specs.Prelude.{is_some}
 use Rattle.std.proofs.lemmas.Bool.{cases_Bool}
@@ -29,7 +29,7 @@ use Rattle.ipc_laws.specs.Places.{KeysHaveId, HasIds, AllHaveIds, IsAmong, ArePl
 use Rattle.ipc_laws.specs.Remembered.{Filled, own_filled, filled_below, filled_inside, filled_of}
 use Rattle.ipc_laws.proofs.NormalForms.{same_physical, same_values, like_children}
 
--- ---- more places
+-- ---- more dictionary fields
 
 among_front : (ps qs : List Place) (q : Filled) → IsAmong ps q → IsAmong (ps ++ qs) q
 among_front [] qs q h = absurd h
@@ -73,7 +73,7 @@ dictionary_is (group (choice type_ids mode) fs) = refl
 dictionary_is (dictionary k t ordered) = refl
 dictionary_is (extension name t text) = dictionary_is t
 
--- a type that is no dictionary: its places are those of its children
+-- A type that is no dictionary: its dictionary fields are those of its children.
 record HasChildren (t : TypeTree) (is : IdTrees) : Type 0 where
   pub places_are : inner_places t is ≡ places (child_fields t) is
   pub fit : ChildrenFit t is → AllFit (child_fields t) is
@@ -90,7 +90,7 @@ has_children (group g fs) is e = record { places_are = refl; fit = λ h. h; writ
 has_children (dictionary k t ordered) is e = absurd cc
 has_children (extension name t text) is e = let c = has_children t is e in record { places_are = c.places_are; fit = c.fit; writable = λ h. c.writable h.1 }
 
--- no dictionary stands right under another one
+-- No dictionary is right under another one.
 storage_not : (t : TypeTree) → IsPlainStorage t → is_dictionary t ≡ false
 storage_not (plain p) h = refl
 storage_not (single s f) h = refl
@@ -105,7 +105,7 @@ value_not (group g fs) h w = refl
 value_not (dictionary k t ordered) h w = absurd h
 value_not (extension name t text) h w = storage_not t w.0
 
--- a type that is one: its place is that of its values
+-- A type that is a dictionary: its dictionary field is that of its values.
 record HasValues (t : TypeTree) (id : Option ℤ) (is : IdTrees) : Type 0 where
   pub own_is : own_place t id is ≡ record { id = id; type = values_type t; ids = is } ∷ []
   pub inner_is : inner_places t is ≡ inner_places (values_type t) is
@@ -189,7 +189,7 @@ list_not : (p : PrimitiveType) → is_keys (list_with p) ≡ false
 list_not Primitives.Int64 = refl
 list_not _ = refl
 
--- a type whose arrays lie so is no dictionary, or one
+-- A type with this physical type is no dictionary, or one.
 not_dictionary : (t u : TypeTree) (q : PhysicalType) → norm u ≡ norm t → physical u ≡ q → is_keys q ≡ false → is_dictionary t ≡ false
 not_dictionary t u q e lies n = dictionary_is t ∙ ap is_keys (sym (same_physical u t e) ∙ lies) ∙ n
 
@@ -205,7 +205,8 @@ by_children h cs t id is e d a = not_keyed h cs t id is e (subst (λ (ps : List 
 childless : (h : Level) (t : TypeTree) (id : Option ℤ) (is : IdTrees) → is_keyed h.parts ≡ false → Placed (layout h no_layouts) t id is
 childless h t id is e = not_keyed h no_layouts t id is e (record { ids_stand = tt; all = tt; few = omega arith })
 
--- what has keys has one child, their values; the children of any other have the types of its fields
+-- An array of keys has one child, the values; the children of any other
+-- array have the types of its fields.
 record Keyed (h : Level) (cs : Layouts) : Type 0 where
   pub key : IntegerType
   pub lies : physical h.type ≡ Physicals.Dictionary key

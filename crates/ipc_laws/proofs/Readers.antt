@@ -1,4 +1,4 @@
--- Readers that know the same values at each id: they read the same.
+-- Readers with the same values under each id read the same.
 use Rattle.std.proofs.Common.{◌≡◌, ℕ, zero, suc, ℤ, ◌+◌, ◌==◌, nat_lt, cond, Bool, true, false, List, [], ◌∷◌, ◌++◌, length, take, drop, Option, None, Some, option_and_then, option_to_list, Result, Ok, Err, refl, sym, ap, ◌∙◌, subst, inl, inr}
 use Rattle.std.specs.Ordering.{int_eq}
 use Rattle.std.proofs.lemmas.Bool.{cases_Bool}
@@ -48,7 +48,7 @@ pub alike_dictionary_law : AlikeDictionaryLaw
 unfolding dictionary_meaning
 alike_dictionary_law schema extra ds es body t a = slots_alike schema extra ds es body (dictionary_batch_id t) (dictionary_batch_is_delta t) (dictionary_batch_data t) a
 
--- ---- what stands at the front
+-- ---- what comes first
 
 abbrev ItemAlike : Item → Item → Type 0
 ItemAlike (more c s xs) (more d t ys) = (c ≡ d) × AreAt s t × (xs ≡ ys)
@@ -110,7 +110,7 @@ item_front h s t bytes a = frame_front h s t (frame bytes) a
 
 -- ---- all messages
 
--- what is read on, whatever stands behind
+-- What is read next, whatever comes after it.
 ReadAlike : (Known → List ℕ → Meant) → Type 0
 ReadAlike f = (s t : Known) (xs : List ℕ) → AreAt s t → MeanAlike (f s xs) (f t xs)
 

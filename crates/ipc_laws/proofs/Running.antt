@@ -29,7 +29,7 @@ open_write bytes added h m after cs c o means =
       };
     }
 
--- the same, remembered in other words
+-- The same by another definition of what is remembered.
 open_same : (bytes : List ℕ) (h : Head) (m after : Remembered) (cs : List Chunk) → ((i : ℤ) → after i ≡ m i) → IsOpen bytes h m cs → IsOpen bytes h after cs
 open_same bytes h m after cs same o = record { known = o.known; agrees = record { each = λ i. o.agrees.each i ∙ sym (same i) }; none = o.none; stream = o.stream }
 

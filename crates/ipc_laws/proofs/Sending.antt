@@ -1,4 +1,4 @@
--- The messages at the dictionary places of a chunk, and that of its columns.
+-- The messages at the dictionary fields of a chunk, and that of its columns.
 use Rattle.std.proofs.Common.{◌≡◌, ℕ, ◌+◌, ◌≤◌, List, [], ◌∷◌, ◌++◌, length, Some, refl, sym, ap, ◌∙◌, subst, arith, append_assoc, inl, inr}
 use Rattle.lower_arrays.specs.Layouts.{layouts}
 use Rattle.ipc_model.proofs.Meanings.{meaning_more}

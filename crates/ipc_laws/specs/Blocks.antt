@@ -1,4 +1,4 @@
--- Messages at the blocks of a file: a body means there what it means by itself.
+-- Theorems: a message at a block of a file means there what it means alone.
 -- (Arrow columnar format, "IPC File Format"; File.fbs, Block.)
 use Rattle.std.specs.Prelude.{◌≡◌, ℕ, ℤ, pos, ◌≤◌, List, ◌∷◌, ◌++◌, length, Option, None, Some, Ok}
 use Rattle.ipc_views.specs.MessageSlots.{message_version}
@@ -15,7 +15,7 @@ use Rattle.ipc_laws.specs.Messages.{message_bytes, IsWrittenDictionary}
 
 -- ---- bodies in a source
 
--- these bytes stand where a body begins, and have room in it
+-- A body begins with these bytes, and its size allows for them.
 pub record BodyStands (y : Body) (bytes : List ℕ) : Type 0 where
   pub before : List ℕ
   pub behind : List ℕ
@@ -23,20 +23,21 @@ pub record BodyStands (y : Body) (bytes : List ℕ) : Type 0 where
   pub base_is : y.base ≡ length before
   pub room : length bytes ≤ y.size
 
--- A record whose body is these bytes means the same wherever they stand.
+-- A record batch with these bytes as its body means the same wherever the bytes are.
 abbrev pub PlacedRecordLaw : Type 0
 PlacedRecordLaw = (schema : Schema) (extra : ℕ) (known : Dictionaries) (y : Body) (bytes : List ℕ) (t : Spot) (projection : Option (List ℕ)) (limit : Limit) (c : Chunk)
     → BodyStands y bytes
     → record_meaning schema extra known (whole bytes) t projection limit ≡ Some c → record_meaning schema extra known y t projection limit ≡ Some c
 
--- So does a dictionary.
+-- A dictionary batch with these bytes as its body means the same wherever the bytes are.
 abbrev pub PlacedDictionaryLaw : Type 0
 PlacedDictionaryLaw = (schema : Schema) (extra : ℕ) (known after : Dictionaries) (y : Body) (bytes : List ℕ) (t : Spot) → BodyStands y bytes
     → dictionary_meaning schema extra known (whole bytes) t ≡ Some after → dictionary_meaning schema extra known y t ≡ Some after
 
 -- ---- blocks
 
--- A message stands at a block: its marker, its length and its metadata are as long as the block says, and its body has room in the file.
+-- A message is at a block: its prefix and its metadata are as long as the block says, and
+-- the file has room for its body.
 pub record StandsAt (m : FileMetadata) (source : List ℕ) (b : Block) (metadata body : List ℕ) : Type 0 where
   pub before : List ℕ
   pub behind : List ℕ
@@ -45,7 +46,7 @@ pub record StandsAt (m : FileMetadata) (source : List ℕ) (b : Block) (metadata
   pub metadata_is : b.meta_data_length ≡ pos (length (prefix (length metadata) ++ metadata))
   pub room : length body ≤ m.size
 
--- a message is of a version in which so many buffers stand in front of a union's own
+-- A message has a version by which a union has so many extra buffers.
 pub record IsOfVersion (metadata : List ℕ) (extra : ℕ) : Type 0 where
   pub root : Spot
   pub root_is : root_at metadata ≡ Ok root
@@ -53,13 +54,13 @@ pub record IsOfVersion (metadata : List ℕ) (extra : ℕ) : Type 0 where
   pub version_is : message_version root ≡ Ok version
   pub extra_is : extra_of version ≡ extra
 
--- A record that was written has its chunk at its block.
+-- A record message that was written at a block has its chunk there.
 abbrev pub BlockRecordLaw : Type 0
 BlockRecordLaw = (m : FileMetadata) (h : Head) (s : Known) (source : List ℕ) (b : Block) (metadata body : List ℕ) (c : Chunk) → m.schema ≡ h.schema
     → StandsAt m source b metadata body → BeginsWithRecord h s metadata body c → IsOfVersion metadata (extra_of h.version)
     → chunk_at m s.dictionaries source b None None ≡ Some c
 
--- A dictionary that was written sets the values of its id there.
+-- A dictionary message that was written at a block sets the values of its id there.
 abbrev pub BlockDictionaryLaw : Type 0
 BlockDictionaryLaw = (m : FileMetadata) (h : Head) (s : Known) (source : List ℕ) (b : Block) (metadata body : List ℕ) (id : ℤ) (d : Dictionary) → m.schema ≡ h.schema
     → StandsAt m source b metadata body → IsWrittenDictionary h s metadata body id d → IsOfVersion metadata (extra_of h.version)

@@ -1,4 +1,4 @@
--- Messages by what their tables say, and by what stands in their bodies.
+-- Messages by their tables and their bodies.
 -- (Arrow columnar format, "RecordBatch message" and "Dictionary messages".)
 use Rattle.std.specs.Prelude.{◌≡◌, ℕ, ℤ, ◌^◌, ◌<◌, false, List, [], ◌∷◌, length, None, Some, Ok}
 use Rattle.lower_types.specs.declared.Endianness.{Endianness}
@@ -20,22 +20,22 @@ use Rattle.ipc_laws.specs.Remembered.{Filled, filled_place}
 
 -- ---- bodies
 
--- What a batch lists, and its body, are some columns: in each schema of their types they mean them, where the values of their
--- dictionaries are known.
+-- The lists and the body of a batch are these columns: by each schema of their types the batch
+-- means them, if the values of their dictionaries are known.
 pub record HoldColumns (order : Endianness) (lists : Lists) (body : List ℕ) (ls : List Layout) : Type 0 where
   pub means : (schema : Schema) (k : ℕ) (known : Dictionaries)
       → schema.order ≡ order → AreLike schema.fields (layouts ls) → HaveRows k ls
       → KnowsAll (entries_of lists (whole body) order 0 known) (layouts ls) schema.ids
       → batch (entries_of lists (whole body) order 0 known) (length body) schema None None ≡ Some (chunk_named schema.fields ls)
 
--- What a plan of some columns lists, and its body, are these columns.
+-- Theorem: the lists and the body of a plan for some columns are these columns.
 abbrev pub PlanLaw : Type 0
 PlanLaw = (order : Endianness) (p : Plan) (ls : List Layout) → PlansColumns order ls p → AreArrays (layouts ls)
     → HoldColumns order (lists_of_plan p) (body_of_plan p) ls
 
 -- ---- messages
 
--- the metadata of a record, whose batch lists these
+-- The metadata of a record message, whose batch has these lists.
 pub record IsRecordMessage (metadata : List ℕ) (lists : Lists) (body : List ℕ) : Type 0 where
   pub some : 0 < length metadata
   pub short : length metadata < 2 ^ 31
@@ -45,7 +45,8 @@ pub record IsRecordMessage (metadata : List ℕ) (lists : Lists) (body : List �
   pub long : header.body ≡ length body
   pub lists_are : lists_of header.table ≡ Some lists
 
--- the metadata of a dictionary of this id, which is no delta, and whose batch lists these
+-- The metadata of a dictionary message of this id, which is no delta,
+-- and whose batch has these lists.
 pub record IsDictionaryMessage (metadata : List ℕ) (id : ℤ) (lists : Lists) (body : List ℕ) : Type 0 where
   pub some : 0 < length metadata
   pub short : length metadata < 2 ^ 31
@@ -59,7 +60,7 @@ pub record IsDictionaryMessage (metadata : List ℕ) (id : ℤ) (lists : Lists) 
   pub values_are : dictionary_batch_data header.table ≡ Ok (Some values)
   pub lists_are : lists_of values ≡ Some lists
 
--- a message of some values, and the id that they have
+-- A message of the values at a dictionary field.
 pub record ValuesMessage (order : Endianness) (p : FilledPlace) : Type 0 where
   pub metadata : List ℕ
   pub body : List ℕ
@@ -67,7 +68,7 @@ pub record ValuesMessage (order : Endianness) (p : FilledPlace) : Type 0 where
   pub message : IsDictionaryMessage metadata p.id lists body
   pub holds : HoldColumns order lists body (p.values ∷ [])
 
--- a message of some columns, which have equally many slots
+-- A message of some columns, which have equal numbers of slots.
 pub record ColumnsMessage (order : Endianness) (columns : List Layout) : Type 0 where
   pub metadata : List ℕ
   pub body : List ℕ
@@ -77,12 +78,12 @@ pub record ColumnsMessage (order : Endianness) (columns : List Layout) : Type 0 
   pub message : IsRecordMessage metadata lists body
   pub holds : HoldColumns order lists body columns
 
--- A dictionary message of the values at a place of the schema means them.
+-- Theorem: a dictionary message of the values at a field of the schema means them.
 abbrev pub ValuesLaw : Type 0
 ValuesLaw = (h : Head) (p : Filled) → extra_of h.version ≡ 0 → HasPlace h.schema p → (w : ValuesMessage h.schema.order (filled_place p))
     → MeansValues h p w.metadata w.body
 
--- A record of some columns of the schema's types, whose keys have ids, means them.
+-- Theorem: a record message of columns of the schema's types, whose keys have ids, means them.
 abbrev pub ColumnsLaw : Type 0
 ColumnsLaw = (h : Head) (columns : List Layout) → extra_of h.version ≡ 0 → AllHaveIds (layouts columns) h.schema.ids
     → AreLike h.schema.fields (layouts columns) → chunk_named h.schema.fields columns ≡ chunk_written columns

@@ -1,4 +1,4 @@
--- Streams of a writable schema, by the columns that their writers were handed.
+-- Streams of a writable schema, by the columns that their writers were given.
 -- (Arrow columnar format, "IPC Streaming Format".)
 use Rattle.std.specs.Prelude.{◌≡◌, ℕ, ℤ, Bool, true, false, List, [], ◌∷◌, ◌++◌, map}
 use Rattle.lower.specs.TypeTrees.{Pairs, FieldTrees}
@@ -16,12 +16,12 @@ use Rattle.ipc_laws.specs.Messages.{chunk_written}
 use Rattle.ipc_laws.specs.Places.{head_written}
 use Rattle.ipc_laws.specs.Remembered.{Remembered, nothing_remembered}
 
--- calls that were handed these columns, each with whether it was Ok
+-- Writes of these columns, each with whether it returned Ok.
 abbrev pub column_calls : List (List Layout × Bool) → List (Call × Bool)
 column_calls calls = map (λ c. (write_call (chunk_written c.0), c.1)) calls
 
--- What such calls write: where a chunk is taken it is accepted, and its messages are written; a refused call writes nothing and leaves
--- what is remembered.
+-- The bytes that such writes append: an accepted chunk appends its messages, and a refused write
+-- appends nothing and leaves what is remembered.
 abbrev pub WritesColumns : Endianness → FieldTrees → Pairs → IdTrees → Remembered → List (List Layout × Bool) → List ℕ → Remembered → Type 0
 WritesColumns order fs metadata is m [] bytes after = (bytes ≡ []) × ((i : ℤ) → after i ≡ m i)
 WritesColumns order fs metadata is m ((columns, false) ∷ calls) bytes after = WritesColumns order fs metadata is m calls bytes after
@@ -30,8 +30,9 @@ WritesColumns order fs metadata is m ((columns, true) ∷ calls) bytes after =
     × WritesChunk (head_written order fs metadata is) m columns own then × (bytes ≡ own ++ rest)
     × WritesColumns order fs metadata is then calls rest after
 
--- A stream of a writable schema, once it is finished, has just the chunks that were taken, in either order of bytes: for each list of calls,
--- refused ones among them, and whichever dictionaries were left out.
+-- Theorem: a finished stream of a writable schema has just the chunks whose `write` returned
+-- Ok, in either byte order. This holds for each list of calls, also with refused ones, and
+-- whichever dictionaries are omitted.
 abbrev pub ColumnRunLaw : Type 0
 ColumnRunLaw = (order : Endianness) (fs : FieldTrees) (metadata : Pairs) (is : IdTrees) (bytes added : List ℕ) (after : Remembered)
     (calls : List (List Layout × Bool)) → IsWritable fs metadata is → IsStarted bytes (head_written order fs metadata is) nothing_known []

@@ -21,21 +21,22 @@ use Rattle.ipc_laws.specs.Messages.{chunk_written}
 use Rattle.ipc_laws.specs.Places.{head_written}
 use Rattle.ipc_laws.specs.Remembered.{Remembered, remembering, KnowsRemembered, dictionary_of, Filled, filled_place, filled_of}
 
--- ---- what stands at blocks. `seen b` are the bytes that are seen from the block b.
+-- ---- messages at blocks. `seen b` are the bytes that are read for block b.
 
--- some values, of version 5
+-- The message of some values, of version 5, is at block b.
 pub record ValuesAt (m : FileMetadata) (seen : Block → List ℕ) (order : Endianness) (p : FilledPlace) (b : Block) : Type 0 where
   pub message : ValuesMessage order p
   pub stands : StandsAt m (seen b) b message.metadata message.body
   pub version : IsOfVersion message.metadata 0
 
--- some columns
+-- The message of some columns, of version 5, is at block b.
 pub record ColumnsAt (m : FileMetadata) (seen : Block → List ℕ) (order : Endianness) (columns : List Layout) (b : Block) : Type 0 where
   pub message : ColumnsMessage order columns
   pub stands : StandsAt m (seen b) b message.metadata message.body
   pub version : IsOfVersion message.metadata 0
 
--- the dictionaries at some places, each at a block, or none where it is remembered
+-- The message of the values at each dictionary field is at a block, or there
+-- is none if they are remembered.
 abbrev pub StandAt : FileMetadata → (Block → List ℕ) → Endianness → Remembered → List Filled → List Block → Remembered → Type 0
 StandAt m seen order r [] bs after = (bs ≡ []) × ((i : ℤ) → after i ≡ r i)
 StandAt m seen order r (p ∷ ps) bs after =
@@ -43,30 +44,32 @@ StandAt m seen order r (p ∷ ps) bs after =
     ⊎ ((b : Block) × (rest : List Block) × ValuesAt m seen order (filled_place p) b × (bs ≡ b ∷ rest)
     × StandAt m seen order (remembering p.id (dictionary_of p.values) r) ps rest after)
 
--- one at each block, in order
+-- There is one message at each block, in order.
 abbrev pub StandInOrder : FileMetadata → (Block → List ℕ) → Endianness → List FilledPlace → List Block → Type 0
 StandInOrder m seen order [] bs = bs ≡ []
 StandInOrder m seen order (p ∷ ps) bs =
     (b : Block) × (rest : List Block) × ValuesAt m seen order p b × (bs ≡ b ∷ rest) × StandInOrder m seen order ps rest
 
--- The blocks of what is listed are those of the dictionaries at these places.
+-- Theorem: the blocks of the values to write are those of the dictionary fields.
 abbrev pub ListedBlocksLaw : Type 0
 ListedBlocksLaw = (m : FileMetadata) (seen : Block → List ℕ) (order : Endianness) (r : Remembered) (ps : List Filled) (ws : List FilledPlace) (after : Remembered)
     (bs : List Block) → ListsUnwritten r ps ws after → StandInOrder m seen order ws bs → StandAt m seen order r ps bs after
 
--- ---- a file so far
+-- ---- a file without a footer yet
 
--- its dictionaries are those that its writer remembers, and its records mean these chunks
+-- The dictionaries of a file are those that its writer remembers, and
+-- its records mean these chunks.
 pub record HasChunks (m : FileMetadata) (seen : Block → List ℕ) (r : Remembered) (cs : List Chunk) : Type 0 where
   pub known : Dictionaries
   pub agrees : KnowsRemembered r known
   pub blocks : BlocksMean m seen known cs
 
--- with the blocks of some dictionaries, and that of a record
+-- The file with the blocks of more dictionaries, and that of a record.
 abbrev pub with_blocks : FileMetadata → List Block → Block → FileMetadata
 with_blocks m bs b = record { schema = m.schema; pairs = m.pairs; dictionaries = m.dictionaries ++ bs; blocks = m.blocks ++ b ∷ []; size = m.size }
 
--- An accepted chunk of a writable schema that replaces no dictionary adds just itself, in either order of bytes: all chunks before it are as they were.
+-- Theorem: an accepted chunk of a writable schema that replaces no dictionary adds just itself, in
+-- either byte order: all earlier chunks stay.
 abbrev pub FileChunkLaw : Type 0
 FileChunkLaw = (order : Endianness) (fs : FieldTrees) (metadata : Pairs) (is : IdTrees) (m : FileMetadata) (seen : Block → List ℕ)
     (before after : Remembered) (cs : List Chunk) (columns : List Layout) (bs : List Block) (b : Block)

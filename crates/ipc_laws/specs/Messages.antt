@@ -10,12 +10,12 @@ use Rattle.ipc_model.specs.Streams.{Head, Known, Header, header_of, whole, most_
 use Rattle.ipc_model.specs.WrittenLaws.{prefix, BeginsWithRecord}
 use Rattle.ipc_laws.specs.Remembered.{Filled, filled_below, filled_of, Finds, dictionary_of}
 
--- a message as it stands in a stream
+-- A message as it is in a stream: prefix, metadata and body.
 abbrev pub message_bytes : List ℕ → List ℕ → List ℕ
 message_bytes metadata body = prefix (length metadata) ++ (metadata ++ body)
 
--- A dictionary that was written has its values, and what follows it is read on: its header is that of a dictionary, its body
--- is as long as the header says, and the batch sets the values of the id.
+-- A dictionary message that was written has these values. Its header is that of a dictionary, its
+-- body is as long as the header says, and the batch sets the values of the id.
 pub record IsWrittenDictionary (h : Head) (s : Known) (metadata body : List ℕ) (id : ℤ) (d : Dictionary) : Type 0 where
   pub some : 0 < length metadata
   pub short : length metadata < 2 ^ 31
@@ -25,10 +25,12 @@ pub record IsWrittenDictionary (h : Head) (s : Known) (metadata body : List ℕ)
   pub long : header.body ≡ length body
   pub means : dictionary_meaning h.schema (extra_of h.version) s.dictionaries (whole body) header.table ≡ Some ((id, d) ∷ s.dictionaries)
 
--- what a reader knows after it
+-- What a reader knows after a dictionary message.
 abbrev pub after_dictionary : Known → ℤ → Dictionary → Known
 after_dictionary s id d = record { dictionaries = (id, d) ∷ s.dictionaries; count = s.count + 1 }
 
+-- Theorem: a dictionary message that comes first sets the values of its id, and
+-- the bytes after it are read next.
 abbrev pub WrittenDictionaryLaw : Type 0
 WrittenDictionaryLaw = (h : Head) (s : Known) (metadata body rest : List ℕ) (id : ℤ) (d : Dictionary)
     → s.count < most_dictionaries → IsWrittenDictionary h s metadata body id d
@@ -36,19 +38,22 @@ WrittenDictionaryLaw = (h : Head) (s : Known) (metadata body rest : List ℕ) (i
 
 -- ---- whatever else is known
 
--- The message of the values at a place: they are what it means to each reader that knows the values inside them.
+-- The message of the values at a dictionary field means them to each reader
+-- that has the values inside them.
 pub record MeansValues (h : Head) (p : Filled) (metadata body : List ℕ) : Type 0 where
   pub written : (s : Known) → Finds (dictionary_at s.dictionaries) (filled_below p.values p.ids)
       → IsWrittenDictionary h s metadata body p.id (dictionary_of p.values)
 
--- columns as they are read back
+-- A column as it is read back, with its type in the normal form.
 abbrev pub column_written : Layout → Column
 column_written l = record { type = norm (type_of l); slots = slots l }
 
+-- Some columns as they are read back.
 abbrev pub chunk_written : List Layout → Chunk
 chunk_written columns = map column_written columns
 
--- The message of some columns: they are what it means to each reader that knows the values at their places.
+-- The message of some columns means them to each reader that has the
+-- values at their dictionary fields.
 pub record MeansColumns (h : Head) (columns : List Layout) (metadata body : List ℕ) : Type 0 where
   pub written : (s : Known) → Finds (dictionary_at s.dictionaries) (filled_of (layouts columns) h.schema.ids)
       → BeginsWithRecord h s metadata body (chunk_written columns)

@@ -8,7 +8,7 @@ use Rattle.ipc_model.specs.WrittenLaws.{prefix}
 use Rattle.ipc_laws.specs.Moves.{MeansChunk}
 use Rattle.ipc_laws.specs.Remembered.{Remembered, nothing_remembered, KnowsRemembered}
 
--- a started stream with these chunks, whose reader knows what its writer remembers
+-- A started stream with these chunks, whose reader knows what its writer remembers.
 pub record IsOpen (bytes : List ℕ) (head : Head) (m : Remembered) (cs : List Chunk) : Type 0 where
   pub known : Known
   pub agrees : KnowsRemembered m known.dictionaries
@@ -17,23 +17,25 @@ pub record IsOpen (bytes : List ℕ) (head : Head) (m : Remembered) (cs : List C
 
 -- ---- one call
 
--- a stream that was started knows nothing, as its writer does
+-- Theorem: a stream that was started has no dictionaries, and its writer remembers none.
 abbrev pub OpenStartLaw : Type 0
 OpenStartLaw = (bytes : List ℕ) (h : Head) → IsStarted bytes h nothing_known [] → IsOpen bytes h nothing_remembered []
 
--- the messages of a chunk add it, and what is remembered after is known then
+-- Theorem: the messages of a chunk add it to the stream, and what is
+-- remembered afterwards is known then.
 abbrev pub OpenWriteLaw : Type 0
 OpenWriteLaw = (bytes added : List ℕ) (h : Head) (m after : Remembered) (cs : List Chunk) (c : Chunk) → IsOpen bytes h m cs
     → MeansChunk h added m after c → IsOpen (bytes ++ added) h after (cs ++ c ∷ [])
 
--- the mark finishes it
+-- Theorem: the end-of-stream mark finishes the stream.
 abbrev pub OpenFinishLaw : Type 0
 OpenFinishLaw = (bytes : List ℕ) (h : Head) (m : Remembered) (cs : List Chunk) → IsOpen bytes h m cs → IsFinished (bytes ++ prefix 0) h cs
 
 -- ---- lists of calls
 
--- The calls of a started writer, each with whether it was Ok, write these bytes: a chunk that is taken has its messages, and a refused
--- call writes nothing and leaves what is remembered.
+-- The calls of a started writer, each with whether it returned Ok, append these
+-- bytes. A chunk that is written appends its messages, and a refused call appends
+-- nothing and leaves what is remembered.
 abbrev pub Writes : Head → Remembered → List (Call × Bool) → List ℕ → Remembered → Type 0
 Writes h m [] bytes after = (bytes ≡ []) × ((i : ℤ) → after i ≡ m i)
 Writes h m ((call, false) ∷ calls) bytes after = Writes h m calls bytes after
@@ -42,18 +44,19 @@ Writes h m ((write_call c, true) ∷ calls) bytes after =
 Writes h m ((start_call, true) ∷ calls) bytes after = ⊥
 Writes h m ((finish_call, true) ∷ calls) bytes after = ⊥
 
--- the stream goes on with the chunks that were taken
+-- Theorem: some calls append to a stream the chunks whose `write` returned Ok.
 abbrev pub OpenRunLaw : Type 0
 OpenRunLaw = (bytes added : List ℕ) (h : Head) (m after : Remembered) (cs : List Chunk) (calls : List (Call × Bool))
     → IsOpen bytes h m cs → Writes h m calls added after → IsOpen (bytes ++ added) h after (cs ++ taken calls)
 
--- from its start up to its mark
+-- Theorem: a stream from its start to its mark has the chunks whose `write` returned Ok.
 abbrev pub FinishedRunLaw : Type 0
 FinishedRunLaw = (bytes added : List ℕ) (h : Head) (after : Remembered) (calls : List (Call × Bool))
     → IsStarted bytes h nothing_known [] → Writes h nothing_remembered calls added after
     → IsFinished (bytes ++ added ++ prefix 0) h (taken calls)
 
--- Which dictionaries are omitted changes no slot: two writers that take the same chunks write streams of the same chunks.
+-- Theorem: omitting dictionaries changes no slot: two writers that write the same chunks
+-- write streams of the same chunks.
 abbrev pub OmitLaw : Type 0
 OmitLaw = (xs ys : List ℕ) (h : Head) (a b : Remembered) (calls : List (Call × Bool)) (start : List ℕ)
     → IsStarted start h nothing_known []

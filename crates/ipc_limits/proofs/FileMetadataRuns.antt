@@ -1,4 +1,4 @@
--- What reading the metadata of a file answers, within a limit.
+-- The result of reading the metadata of a file within a limit.
 use Rattle.std.proofs.Common.{◌≡◌, ℕ, ◌-◌, ◌≤◌, List, length, Option, Some, None, Result, Ok, Err, IfErr, refl, sym, subst}
 use Rattle.std.specs.Prelude.{IfSome, IsSomeAnd}
 use Rattle.ipc_devices.proofs.Claims.{both_claimed, claimed, claims_through}
@@ -19,7 +19,7 @@ use Rattle.ipc_files.specs.Footers.{GivesPart, RootFault, file_seen}
 use Rattle.ipc_files.specs.declared.read.file.metadata.FileMetadata.{FileMetadata}
 use Rattle.ipc_limits.specs.Files.{GivesFileWithin}
 
--- ---- faults that don't come of the limit
+-- ---- errors that don't come from the limit
 
 IsOther : Fault → Type 0
 IsOther e = e ≡ Argument TooLarge → ⊥

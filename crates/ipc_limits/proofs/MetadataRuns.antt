@@ -1,4 +1,4 @@
--- What reads of the schema message give, within a limit.
+-- The result of reading the schema message within a limit.
 use Rattle.std.proofs.Common.{◌≡◌, ℕ, ◌<◌, ◌≤◌, List, [], length, Option, Some, None, Result, Ok, Err, refl, subst, inr}
 use Rattle.std.specs.Option.{option_map}
 use Rattle.std.specs.Result.{result_ok}
@@ -29,7 +29,7 @@ use Rattle.ipc_readers.specs.declared.read.stream.metadata.StreamMetadata.{Strea
 use Rattle.ipc_costs.specs.Costs.{schema_cost}
 use Rattle.ipc_limits.specs.Metadata.{AsUnlimited, JudgesCost, MetadataGaveWithin}
 
--- ---- faults that don't come of the limit
+-- ---- errors that don't come from the limit
 
 IsOther : Fault → Type 0
 IsOther e = e ≡ Argument TooLarge → ⊥
@@ -54,7 +54,7 @@ version-other m e h is = at (root_at m) h
     at (Ok t) h = slot (message_version t) h
     at (Err d) h = cc
 
--- ---- what the limit says of an answer
+-- ---- what the limit says of a result
 
 judged : (limit : ℕ) (m behind : List ℕ) (e : Fault) → IsOther e → OwnFault e (schema_cost m ≤ limit) → JudgesCost limit (message m behind) (Err e)
 unfolding IsOther

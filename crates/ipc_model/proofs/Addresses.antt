@@ -1,4 +1,4 @@
--- Where columns stand.
+-- Where columns are in a batch.
 use Rattle.std.proofs.Common.{◌≡◌, ℕ, zero, suc, ◌+◌, ◌<◌, List, [], take, drop, slice_index_or, sym, ap, ◌∙◌, arith, append-nil}
 use Rattle.std.proofs.lemmas.List.{get_or-take, get_or-drop}
 use Rattle.ipc_model.proofs.ExtendedSlots.{extend_law}

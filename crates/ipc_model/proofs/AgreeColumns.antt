@@ -16,7 +16,7 @@ use Rattle.ipc_model.specs.Tests.{all_below, is_size, is_index, has_bytes, begin
 
 -- ---- whether they are well formed
 
--- the test of keys, by the values that stand under an id
+-- The test of keys, by the values under an id.
 abbrev keys_test : Entries → PrimitiveType → TypeTree → ℕ → ℕ → ℕ → Option Dictionary → Bool
 keys_test s f t a b k o =
     is_type (option_map (λ d. d.type) o) t

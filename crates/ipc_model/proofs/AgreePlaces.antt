@@ -1,4 +1,5 @@
--- What agrees at the places of a schema's fields agrees for its columns, and at the places inside the values of each place.
+-- What agrees at the dictionary fields of a schema agrees for its columns, and at the
+-- fields inside the values of each.
 use Rattle.std.proofs.Common.{◌≡◌, ℕ, zero, suc, ℤ, Bool, true, false, cond, List, [], ◌∷◌, ◌++◌, Option, Some, None, ap, subst}
 use Rattle.std.specs.List.{AllByRecursion}
 use Rattle.std.specs.Ordering.{int_eq}
@@ -18,7 +19,7 @@ all_both : {X : Type 0} (P : X → Type 0) (xs ys : List X) → AllByRecursion P
 all_both P [] ys h k = k
 all_both P (x ∷ xs) ys h k = (h.0, all_both P xs ys h.1 k)
 
--- the places of two lists
+-- The dictionary fields of two lists.
 split : (ds es : Dictionaries) (ps qs : List Place) → AgreeAt ds es (ps ++ qs) → AgreeAt ds es ps × AgreeAt ds es qs
 split ds es ps qs h = all_parts (λ (p : Place). AgreeUnder ds es p.id) ps qs h
 
@@ -98,7 +99,7 @@ fields_agree_law schema ds es h =
 
 -- ---- inside values
 
--- the places inside the values of a place
+-- The dictionary fields inside the values of a field.
 abbrev pub AgreeInside : Dictionaries → Dictionaries → Place → Type 0
 AgreeInside ds es p = AgreeAt ds es (inner_places p.type p.ids)
 
@@ -128,7 +129,7 @@ mutual
       let both = split ds es (field_places f (first_ids is)) (places fs (other_ids is)) h in
       all_both (AgreeInside ds es) (field_places f (first_ids is)) (places fs (other_ids is)) (field_inside ds es f (first_ids is) both.0) (fields_inside ds es fs (other_ids is) both.1)
 
--- no id of its own is named by the values of a place
+-- The values of a dictionary field name no id of their own.
 own_none : (ds es : Dictionaries) (t : TypeTree) (is : IdTrees) → AgreeAt ds es (own_place t None is)
 own_none ds es (plain p) is = tt
 own_none ds es (single s f) is = tt
@@ -143,7 +144,7 @@ found_place : (P : Place → Type 0) (q p : Place) (t : Bool) (o : Option Place)
 found_place P q p true o h rest e = let same : ◌≡◌ {A = Place} q p = cc in subst P same h
 found_place P q p false o h rest e = rest e
 
--- what holds of each place holds of the one that is found
+-- What holds of each dictionary field holds of the one that is found.
 pub of_place : (P : Place → Type 0) (ps : List Place) (id : ℤ) (p : Place) → AllByRecursion P ps → place_of ps id ≡ Some p → P p
 of_place P [] id p h e = absurd cc
 of_place P (q ∷ ps) id p h e = found_place P q p (has_id q.id id) (place_of ps id) h.0 (λ f. of_place P ps id p h.1 f) e

@@ -25,7 +25,7 @@ drop-map f (suc n) (x ∷ xs) = drop-map f n xs
 pub own_parts : (f : Buffer → Part) (n m : ℕ) (bs : List Buffer) → take n (drop m (map f bs)) ≡ map f (take n (drop m bs))
 own_parts f n m bs = ap (take n) (drop-map f m bs) ∙ take-map f n (drop m bs)
 
--- the lengths of parts are those that are listed
+-- The lengths of parts are those of the buffers.
 pub lengths_same : (x y : Body) (bs : List Buffer) → list_all (λ p. is_size p.length) (map (part_at x.source x.base) bs) ≡ list_all (λ p. is_size p.length) (map (part_at y.source y.base) bs)
 lengths_same x y [] = refl
 lengths_same x y (b ∷ bs) = ap (λ t. is_size b.length && t) (lengths_same x y bs)

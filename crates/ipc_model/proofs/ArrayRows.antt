@@ -1,4 +1,4 @@
--- Each row is computed.
+-- Each case is computed.
 use Rattle.std.proofs.Common.{◌≡◌, ℕ, List, Option, Some, None, refl, ap, arith}
 use Rattle.lower_types.specs.declared.PrimitiveType.TheVariants.{Int32, Int64}
 use Rattle.lower_arrays.specs.Slots.{Slot}

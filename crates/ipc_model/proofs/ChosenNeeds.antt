@@ -1,4 +1,4 @@
--- What the chosen columns of a batch need is listed.
+-- The chosen columns of a batch need at most their encoded lengths.
 use Rattle.std.proofs.Common.{◌≡◌, ℕ, zero, suc, List, [], ◌∷◌, take, drop, ◌+◌, ◌≤◌, ◌==◌, false, Option, None, Some, refl, sym, ap, ◌∙◌, subst, arith}
 use Rattle.std.proofs.lemmas.Bool.{eqb-false}
 use Rattle.std.proofs.lemmas.List.{drop-drop}
@@ -78,7 +78,7 @@ sum_range f a (suc n) =
 split_sum : (g : Part → ℕ) (b n : ℕ) (xs : List Part) → sum_by g (take n (drop b xs)) + sum_by g (drop (b + n) xs) ≡ sum_by g (drop b xs)
 split_sum g b n xs = ap (λ ys. sum_by g (take n (drop b xs)) + sum_by g ys) (sym (drop-drop n b xs)) ∙ sum_by-take-drop g (drop b xs) n
 
--- what column j lists, where the columns begin at buffer b
+-- The encoded length of column j, if the columns begin at buffer b.
 abbrev listed_at : Entries → ℕ → Kinds → ℕ → ℕ
 listed_at s b ts j = sum_by (λ (p : Part). size p.length) (take (buffers s.extra (kind_at ts j)) (drop (b + buffers_before s.extra ts j) s.parts))
 
@@ -115,7 +115,7 @@ past_columns s ts j h =
     subst (λ (t : Kind). sum_by (λ (p : Part). size p.length) (take (buffers s.extra t) (drop (buffers_before s.extra ts j) s.parts)) ≤ 0)
     (sym (past_kind ts j h)) (omega arith)
 
--- ---- the law
+-- ---- the theorem
 
 each_needs : (s : Entries) (ts : Kinds) (limit : Limit) (k : ℕ) (js : List ℕ) → AllRead s ts limit k js → columns_needed s ts limit js ≤ columns_listed s ts js
 each_needs s ts limit k [] v = omega arith

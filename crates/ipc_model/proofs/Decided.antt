@@ -47,7 +47,7 @@ le_decides m n = (leb-true m n, le-leb m n)
 below_decides : (n : ℕ) (test : ℕ → Bool) (P : ℕ → Type 0) → ((i : ℕ) → Decides (test i) (P i)) → Decides (all_below n test) ((i : ℕ) → i < n → P i)
 below_decides n test P each = Decides-below_and test P (λ m. all_below m test) each refl (λ _. refl) n
 
--- a fact that is asked for only where a test passes
+-- A fact that is required only if a test passes.
 when_decides : {P : Type 0} (v x : Bool) → Decides x P → Decides (cond v x true) (IsTrue v → P)
 when_decides true x d = (λ e _. d.0 e, λ f. d.1 (f refl))
 when_decides false x d = (λ _ e. absurd (false≢true e), λ _. refl)

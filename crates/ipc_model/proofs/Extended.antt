@@ -1,4 +1,4 @@
--- Columns whose entries stand elsewhere, or have more bytes behind them.
+-- Columns whose entries are at another position, or have more bytes after them.
 use Rattle.std.proofs.Common.{◌≡◌, ℕ, zero, suc, ℤ, pos, negsuc, ◌+◌, ◌-◌, ◌*◌, ◌<◌, ◌≤◌, ◌==◌, ◌&&◌, cond, Bool, true, List, ◌∷◌, map, length, drop, Option, Some, None, refl, ap, sym, ◌∙◌, subst, arith, inl, inr, length-append}
 use Rattle.std.specs.Prelude.{IsUtf8, slice_range}
 use Rattle.std.specs.List.{range_with_len}
@@ -20,7 +20,7 @@ use Rattle.ipc_model.specs.Columns.{Begins, is_valid, masked, is_omitted, last_o
 use Rattle.ipc_model.specs.Extending.{Longer, changed, Extends}
 use Rattle.ipc_model.proofs.Needs.{node_law}
 
--- ---- places
+-- ---- positions
 
 -- a window within a window
 pub shift : (s : Entries) (ns : List FieldNode) (ps : List Part) (a c b d n m x y n' m' : ℕ) → Extends s ns ps a c b d n m → x + n' ≤ n → y + m' ≤ m
@@ -52,21 +52,21 @@ part_here s ns ps a c b d n m e h =
     let near : b + 0 ≡ b = omega arith in
     subst (λ (j : ℕ). Longer (buffer s b) (buffer (changed s ns ps) j)) far (subst (λ (j : ℕ). Longer (buffer s j) (buffer (changed s ns ps) (d + 0))) near (e.parts_longer 0 h))
 
--- the part two behind, as one behind the next
+-- The part two further on, as one after the next.
 pub next_part : (s : Entries) (ns : List FieldNode) (ps : List Part) (a c b d n m : ℕ) → Extends s ns ps a c b d n m → 2 < m → Longer (buffer s (b + 1 + 1)) (buffer (changed s ns ps) (d + 1 + 1))
 next_part s ns ps a c b d n m e h =
     let far : d + 2 ≡ d + 1 + 1 = omega arith in
     let near : b + 2 ≡ b + 1 + 1 = omega arith in
     subst (λ (j : ℕ). Longer (buffer s (b + 1 + 1)) (buffer (changed s ns ps) j)) far (subst (λ (j : ℕ). Longer (buffer s j) (buffer (changed s ns ps) (d + 2))) near (e.parts_longer 2 h))
 
--- the part behind part x
+-- The part after part x.
 pub further_part : (s : Entries) (ns : List FieldNode) (ps : List Part) (a c b d n m x : ℕ) → Extends s ns ps a c b d n m → x + 1 < m → Longer (buffer s (b + x + 1)) (buffer (changed s ns ps) (d + x + 1))
 further_part s ns ps a c b d n m x e h =
     let far : d + (x + 1) ≡ d + x + 1 = omega arith in
     let near : b + (x + 1) ≡ b + x + 1 = omega arith in
     subst (λ (j : ℕ). Longer (buffer s (b + x + 1)) (buffer (changed s ns ps) j)) far (subst (λ (j : ℕ). Longer (buffer s j) (buffer (changed s ns ps) (d + (x + 1)))) near (e.parts_longer (x + 1) h))
 
--- places added up in another order
+-- Positions added up in another order.
 pub further : (s : Entries) (ns : List FieldNode) (ps : List Part) (a c b d x y n m : ℕ) → Extends s ns ps a c (b + (x + y)) (d + (x + y)) n m → Extends s ns ps a c (b + x + y) (d + x + y) n m
 further s ns ps a c b d x y n m e =
     let far : d + (x + y) ≡ d + x + y = omega arith in

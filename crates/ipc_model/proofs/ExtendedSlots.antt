@@ -1,4 +1,4 @@
--- The slots of columns whose entries stand elsewhere, or have more bytes behind them.
+-- The slots of columns whose entries are at another position, or have more bytes after them.
 use Rattle.std.proofs.Common.{◌≡◌, ℕ, zero, suc, ◌+◌, ◌*◌, ◌<◌, ◌≤◌, List, map, length, slice_index_or, Some, None, refl, ap, ◌∙◌, arith}
 use Rattle.std.specs.List.{range_with_len}
 use Rattle.std.proofs.Math.Nat.{mul-le-mul_left}
@@ -13,7 +13,7 @@ use Rattle.ipc_model.specs.Entries.{Entries, Part, size, node, bytes, Limit, row
 use Rattle.ipc_model.specs.Columns.{last_offset, child_rows, type_at, child_at, place_at, values_slots, IsWell, AllHaveRows, AllWell, slot_at, slots_at, child_slot}
 use Rattle.ipc_model.specs.Extending.{changed, Extends, ExtendLaw}
 
--- slots of a fixed number behind one another
+-- Slots of a fixed number, one after another.
 pub fixed_room : (n i k : ℕ) → i < k → n * (i + 1) ≤ k * n
 fixed_room n i k h = let next : i + 1 ≤ k = omega arith in omega (arith, mul-le-mul_left n next)
 

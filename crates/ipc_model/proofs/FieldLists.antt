@@ -14,13 +14,13 @@ pub count-and : (fs : FieldTrees) (f : FieldTree) → fields_count (and_field fs
 count-and no_fields f = omega arith
 count-and (more_fields g gs) f = omega (arith, count-and gs f)
 
--- a field, and n behind it
+-- A field, and n after it.
 pub fields-step : (read : Spot → Option Read) (v : Vector) (k n : ℕ) (t : Spot) (x : Read) (rest : ReadAll)
     → table_in v k ≡ Ok t → read t ≡ Some x → fields_from read v (k + 1) n ≡ Some rest
     → fields_from read v k (suc n) ≡ Some (more_fields x.0 rest.0, more_ids x.1 rest.1)
 fields-step read v k n t x rest led is after = rw (led, is, after) refl
 
--- n fields from k on, and the one behind them
+-- n fields from k on, and the one after them.
 pub fields-more : (read : Spot → Option Read) (v : Vector) (k n : ℕ) (all : ReadAll) (t : Spot) (x : Read)
     → fields_from read v k n ≡ Some all → table_in v (k + n) ≡ Ok t → read t ≡ Some x → fields_from read v k (suc n) ≡ Some (and_read all x)
 fields-more read v k zero all t x before led is =
@@ -39,7 +39,7 @@ fields-more read v k (suc n) all t x before led is =
 
 -- ---- one of all fields
 
--- Where all fields mean something, each does; with those before it there are no more than all.
+-- If all fields mean something, each does; with those before it there are no more than all.
 pub record OneField (read : Spot → Option Read) (v : Vector) (k : ℕ) (before all : FieldTrees) : Type 0 where
   pub table : Spot
   pub field : Read

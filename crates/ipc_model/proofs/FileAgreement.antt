@@ -10,7 +10,7 @@ use Rattle.ipc_model.specs.FileLaws.{FileAgreeLaw}
 use Rattle.ipc_model.specs.Kinds.{count}
 use Rattle.ipc_model.specs.Schemas.{given}
 
--- what follows of an optional value is the same where it is the same at each value that is there
+-- What follows from an optional value is the same if it is the same for each value that is there.
 given_same : {A B : Type 0} (o : Option A) (f g : A → Option B) → ((x : A) → o ≡ Some x → f x ≡ g x) → given o f ≡ given o g
 given_same None f g h = refl
 given_same (Some x) f g h = h x refl

@@ -1,4 +1,4 @@
--- The blocks of files that have bytes behind them.
+-- The blocks of files that have bytes after them.
 use Rattle.std.proofs.Common.{◌≡◌, ℕ, zero, suc, ◌≤◌, nat_eq, Bool, true, false, cond, List, [], ◌∷◌, ◌++◌, map, drop, slice_get, Option, None, Some, refl, ap, ◌∙◌}
 use Rattle.std.specs.Option.{option_and_then}
 use Rattle.ipc_views.specs.declared.file.Block.{Block}
@@ -18,7 +18,7 @@ use Rattle.ipc_model.specs.Schemas.{given}
 given_is : {A B : Type 0} (o : Option A) (f : A → Option B) (x : A) (c : B) → o ≡ Some x → f x ≡ Some c → given o f ≡ Some c
 given_is o f x c e h = ap (λ p. given p f) e ∙ h
 
--- a test that lets something through lets through what follows it
+-- A test that passes for something passes for what follows from it.
 where_true : {X : Type 0} (b : Bool) (x y : Option X) (c : X) → (x ≡ Some c → y ≡ Some c) → cond b x None ≡ Some c → cond b y None ≡ Some c
 where_true true x y c f e = f e
 where_true false x y c f e = absurd cc

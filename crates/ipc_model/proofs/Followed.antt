@@ -1,4 +1,4 @@
--- Batches whose source has bytes behind it.
+-- Batches whose source has bytes after it.
 use Rattle.std.proofs.Common.{◌≡◌, ℕ, zero, suc, ℤ, pos, negsuc, ◌+◌, ◌≤◌, nat_le, Bool, true, false, List, [], ◌∷◌, ◌++◌, map, length, take, drop, slice_index_or, Option, None, Some, Result, Ok, Err, refl, sym, ap, ◌∙◌, subst, arith, append-nil}
 use Rattle.std.specs.List.{list_all}
 use Rattle.std.specs.Option.{option_and_then}
@@ -23,7 +23,7 @@ use Rattle.ipc_model.specs.Tests.{is_size}
 
 -- ---- bytes
 
--- the first l of some bytes, and of those with more behind them
+-- The first l of some bytes, and of those with more after them.
 first_then : (l : ℕ) (xs ys : List ℕ) → (more : List ℕ) × (take l (xs ++ ys) ≡ take l xs ++ more)
 first_then zero xs ys = ([], refl)
 first_then (suc l) [] ys = (take (suc l) ys, refl)
@@ -33,7 +33,7 @@ window_none : (l m : ℕ) (ys : List ℕ) → (more : List ℕ) × (take l (drop
 window_none zero m ys = ([], refl)
 window_none (suc l) m ys = (take (suc l) (drop (suc m) ys), refl)
 
--- the same from a place on
+-- The same from an offset on.
 window_then : (l m : ℕ) (xs ys : List ℕ) → (more : List ℕ) × (take l (drop m (xs ++ ys)) ≡ take l (drop m xs) ++ more)
 window_then l zero xs ys = first_then l xs ys
 window_then l (suc m) [] ys = window_none l m ys

@@ -1,4 +1,4 @@
--- What a message at the front says of the bytes, and what the bytes after it change.
+-- What the first message says of the bytes, and what the bytes after it change.
 use Rattle.std.proofs.Common.{◌≡◌, ◌≢◌, ℕ, ◌<◌, ◌≤◌, ◌^◌, ◌==◌, nat_lt, true, false, Bool, cond, List, ◌++◌, length, take, drop, refl, sym, ap, ◌∙◌, length-drop, length-append, arith, inl, inr, ◌⊎◌}
 use Rattle.std.proofs.lemmas.Bool.Decides.{nat_tests}
 use Rattle.std.proofs.lemmas.Bool.{ltb-true, ltb-false, le-ltb, eqb-true, eqb-false, eq-eqb, ne_eqb}

@@ -1,4 +1,4 @@
--- Values that may be absent, and steps that go on where they are there.
+-- Values that may be absent, and steps that continue if they are there.
 use Rattle.std.proofs.Common.{◌≡◌, Option, Some, None, Result, Ok, Err, refl, subst}
 use Rattle.std.specs.Prelude.{IfSome}
 use Rattle.std.specs.Option.{option_map, option_and_then}

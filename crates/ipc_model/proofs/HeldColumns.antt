@@ -1,4 +1,4 @@
--- What the arrays hold that columns are read to.
+-- How many bytes the arrays retain that columns are read to.
 use Rattle.std.proofs.Common.{◌≡◌, ℕ, ℤ, List, [], ◌∷◌, length, map, ◌+◌, ◌*◌, ◌≤◌, ◌==◌, Bool, cond, Option, None, Some, refl, sym, ap, subst, arith, inl, inr}
 use Rattle.std.proofs.lemmas.Bool.{cases_Bool}
 use Rattle.std.proofs.lemmas.List.{length-take}

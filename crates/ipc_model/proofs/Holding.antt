@@ -1,4 +1,4 @@
--- What a well formed column needs is listed.
+-- A well formed column needs at most its encoded lengths.
 use Rattle.std.proofs.Common.{◌≡◌, ℕ, zero, suc, pos, List, [], ◌∷◌, length, drop, get_or, ◌+◌, ◌<◌, ◌≤◌, ◌==◌, Bool, true, false, cond, None, Some, refl, sym, ap, ◌∙◌, subst, arith, inl, inr, ◌⊎◌}
 use Rattle.std.proofs.lemmas.Bool.{cases_lt, eqb-false}
 use Rattle.std.proofs.lemmas.List.{drop_all, drop_more, get_or_past}
@@ -53,13 +53,13 @@ offsets_in s b w k o = o.stored.1
 cut_in : (s : Entries) (b : ℕ) (w : OffsetWidth) (k : ℕ) → HasBytes s b (offset_width w) k → cut_bytes s b w k ≤ listed s b + listed s (b + 1)
 cut_in s b w k h = omega (arith, offsets_in s b (offset_width w) k h.offsets, h.values.1)
 
--- the buffers of a union: those in front, the types, and those of the children
+-- The buffers of a union: the extra ones, the type ids, and those of the children.
 sparse_split : (s : Entries) (b e m : ℕ) → listed_from s b (1 + e + m) ≡ listed_from s b e + listed s (b + e) + listed_from s (b + e + 1) m
 sparse_split s b e m =
     ap (listed_from s b) (let f : 1 + e + m ≡ e + (1 + m) = omega arith in f) ∙ split_listed s b e (1 + m)
     ∙ (let f : listed_from s b e + listed_from s (b + e) (1 + m) ≡ listed_from s b e + listed s (b + e) + listed_from s (b + e + 1) m = omega (arith, split_listed s (b + e) 1 m, one_listed s (b + e)) in f)
 
--- those in front, the types, the offsets, and those of the children
+-- The extra buffers, the type ids, the offsets, and those of the children.
 dense_split : (s : Entries) (b e m : ℕ) → listed_from s b (2 + e + m) ≡ listed_from s b e + (listed s (b + e) + listed s (b + e + 1)) + listed_from s (b + e + 2) m
 dense_split s b e m =
     ap (listed_from s b) (let f : 2 + e + m ≡ e + (2 + m) = omega arith in f) ∙ split_listed s b e (2 + m)
@@ -125,7 +125,7 @@ needed_law s t a b limit v = needed_in s t a b limit v
 
 -- ---- batches
 
--- each of some columns is well formed at its address
+-- Each of some columns is well formed at its position.
 sum_in : (s : Entries) (ts : Kinds) (a b : ℕ) (limit : Limit)
     → ((j : ℕ) → j < count ts → IsWell s (kind_at ts j) (a + nodes_before ts j) (b + buffers_before s.extra ts j) limit)
     → all_needed s ts a b limit ≤ listed_from s b (all_buffers s.extra ts)
@@ -144,7 +144,7 @@ read_at s ts limit k [] i v h = absurd (omega arith)
 read_at s ts limit k (j ∷ js) zero v h = v.0.0
 read_at s ts limit k (j ∷ js) (suc i) v h = read_at s ts limit k js i v.1 (omega arith)
 
--- what is listed from a buffer on is among what all list
+-- The encoded lengths from a buffer on are among all encoded lengths.
 pub listed_in : (s : Entries) (b n : ℕ) → listed_from s b n ≤ sum_by (λ (p : Part). size p.length) (drop b s.parts)
 listed_in s b zero = omega arith
 listed_in s b (suc n) =

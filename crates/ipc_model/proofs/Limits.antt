@@ -23,7 +23,7 @@ rows_same s a c None (Some n) h e = absurd h
 rows_same s a c (Some m) None h e = omega arith
 rows_same s a c (Some m) (Some n) h e = omega arith
 
--- a child that gives as many slots as its limit gives as many as a smaller one
+-- A child that has as many slots as its limit has as many as a smaller one.
 limit_full : (s : Entries) (a low high : ℕ) → low ≤ high → rows s a (Some high) ≡ high → rows s a (Some low) ≡ low
 limit_full s a low high h e = omega arith
 

@@ -1,4 +1,4 @@
--- The meaning goes over messages, and bytes that are added go to its end.
+-- The meaning is found message by message, and bytes that are added go to its end.
 use Rattle.std.proofs.Common.{◌≡◌, ℕ, ◌<◌, ◌≤◌, ◌==◌, nat_lt, List, [], ◌++◌, length, Option, None, Some, option_to_list, zero, suc, refl, sym, ap, ◌∙◌, append_assoc, length-drop, length-append, arith, inl, inr}
 use Rattle.std.proofs.lemmas.List.{take-append-le, drop-append-le}
 use Rattle.std.proofs.lemmas.Bool.{ltb-false, le-ltb}
@@ -34,7 +34,7 @@ known_moved : (o : Option Dictionaries) (s : Known) (a b : List ℕ) (c : Option
 known_moved None s a b c t r xs h e = absurd cc
 known_moved (Some x) s a b c t r xs h e = more_moved _ _ _ _ _ _ _ xs h e
 
--- a message that gives more has all of its body, and is a record or a dictionary
+-- A message that isn't the end has all of its body, and is a record or a dictionary.
 body_shorter : (h : Head) (s : Known) (m : Header) (r : List ℕ) (c : Option Chunk) (t : Known) (rest : List ℕ) → body_item h s m r ≡ more c t rest → length rest ≤ length r
 unfolding body_item
 body_shorter h s m r c t rest e =
@@ -81,7 +81,7 @@ header_found : (h : Head) (s : Known) (o : Option Header) (r : List ℕ) (c : Op
 header_found h s None r c t rest e = absurd cc
 header_found h s (Some m) r c t rest e = (m, refl, e)
 
--- what gives more begins with a message
+-- What isn't the end begins with a message.
 pub item_message : (h : Head) (s : Known) (f : Frame) (c : Option Chunk) (t : Known) (rest : List ℕ) → frame_item h s f ≡ more c t rest
     → (x r : List ℕ) × (f ≡ message x r) × (message_item h s (header_of x) r ≡ more c t rest)
 item_message h s (message x r) c t rest e = (x, r, refl, e)
@@ -157,7 +157,7 @@ pub same_from : (f g : Known → List ℕ → Meant) (i : Item) → ((c : Option
 same_from f g (more c t r) e = ap (with_chunks (option_to_list c)) (e c t r refl)
 same_from f g (done d) e = refl
 
--- any number of messages that is enough gives the same
+-- Any sufficient number of messages gives the same.
 enough : (h : Head) (k j : ℕ) (s : Known) (bytes : List ℕ) → length bytes < k → length bytes < j → meant_within h k s bytes ≡ meant_within h j s bytes
 unfolding meant_within
 enough h zero j s bytes a b = absurd (omega arith)
@@ -177,7 +177,7 @@ meaning_more h s bytes c t rest e = meaning_is h s bytes ∙ ap (from_item (mean
 pub meaning_done : (h : Head) (s : Known) (bytes : List ℕ) (d : End) → item h s bytes ≡ done d → meaning h s bytes ≡ record { chunks = []; end = d }
 meaning_done h s bytes d e = meaning_is h s bytes ∙ ap (from_item (meaning h)) e
 
--- what is added to bytes that wait is read on from where they wait
+-- Bytes that are added to a waiting stream are read from where it waits.
 ReadsOn : Head → Known → List ℕ → Known → List ℕ → List ℕ → Type 0
 ReadsOn h s bytes t begun xs = meaning h s (bytes ++ xs) ≡ with_chunks (meaning h s bytes).chunks (meaning h t (begun ++ xs))
 

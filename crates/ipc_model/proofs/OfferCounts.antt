@@ -123,7 +123,7 @@ nested t below bs q lies own h =
       buffer_count = omega (arith, buffers_by_children t, h.buffer_count, own, same);
     }
 
--- slots of each child go along
+-- The corresponding slots of each child are written.
 abbrev takes_children : Parts → Bool
 takes_children (lists _ p os) = true
 takes_children (maps os) = true

@@ -1,4 +1,4 @@
--- Each row is computed.
+-- Each case is computed.
 use Rattle.std.proofs.Common.{◌≡◌, ℕ, ◌<◌, List, [], ◌∷◌, lit<, refl, ap, arith}
 use Rattle.lower.specs.TypeTrees.{Pairs, TypeTree, single, FieldTree, field}
 use Rattle.ipc_model.proofs.AcceptedRows.{first_byte}

@@ -13,6 +13,6 @@ pub pairs-step : (v : Vector) (k : ℕ) (t : Spot) (es after : Pairs) → k < v.
     → pairs_from v (k + 1) (v.count - (k + 1)) after ≡ pairs_from v k (v.count - k) es
 pairs-step v k t es after inside led read = rw (one-more k v.count inside) (rw (led, read) refl)
 
--- a pair that means nothing
+-- A pair without a meaning.
 pub pairs-none : (v : Vector) (k : ℕ) (t : Spot) (es : Pairs) → k < v.count → table_in v k ≡ Ok t → with_key_value t es ≡ None → pairs_from v k (v.count - k) es ≡ None
 pairs-none v k t es inside led read = rw (one-more k v.count inside) (rw (led, read) refl)

@@ -1,4 +1,4 @@
--- Tables that are led to stand in the message that they are led to from.
+-- A table is in the same message as what leads to it.
 use Rattle.std.proofs.Common.{◌≡◌, ℕ, ◌+◌, Bool, true, false, cond, List, Option, Some, None, Result, Ok, Err, nat_eq, nat_lt, refl, ap, sym, ◌∙◌}
 use Rattle.ipc_devices.specs.declared.fault.TableFault.{TableFault}
 use Rattle.ipc_devices.specs.declared.fault.TableFault.TheVariants.{UnknownTag}
@@ -48,6 +48,6 @@ union-message last m p i tag t e =
     at n false false (Ok (Some x)) is e = let same : ◌≡◌ {A = ℕ × Spot} (n, x) (tag, t) = cc in ap (λ (s : ℕ × Spot). s.1.message) (sym same) ∙ slot-message m p (i + 1) x is
     at n false false (Err d) is e = cc
 
--- the header of a message stands in it
+-- The header of a message is in the message.
 pub header-message : (t : Spot) (tag : ℕ) (s : Spot) → message_header t ≡ Ok (Some (tag, s)) → s.message ≡ t.message
 header-message t tag s e = union-message 5 t.message t.place 1 tag s e

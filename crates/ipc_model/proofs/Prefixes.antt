@@ -1,4 +1,4 @@
--- What is read of the first bytes stays where bytes follow.
+-- What is read of the first bytes stays if bytes follow.
 use Rattle.std.proofs.Common.{◌≡◌, ℕ, pos, ◌+◌, ◌-◌, ◌*◌, ◌/◌, ◌%◌, ◌^◌, ◌<◌, ◌≤◌, ◌==◌, List, ◌++◌, length, take, drop, refl, ap, ◌∙◌, arith, length-drop}
 use Rattle.std.specs.Prelude.{slice_range}
 use Rattle.std.specs.Int.{Width, byte_len, cast_signed, w8, w16, w32, w64, w128}
@@ -20,7 +20,7 @@ unsigned-append n Big xs ys h = big_from-append n xs ys h
 signed-append : (w : Width) (order : Endianness) (xs ys : List ℕ) → byte_len w ≤ length xs → signed_in w order (xs ++ ys) ≡ signed_in w order xs
 signed-append w order xs ys h = ap (cast_signed w) (unsigned-append (byte_len w) order xs ys h)
 
--- the same from a place on
+-- The same from an offset on.
 signed-drop : (w : Width) (order : Endianness) (n : ℕ) (xs ys : List ℕ) → n + byte_len w ≤ length xs → signed_in w order (drop n (xs ++ ys)) ≡ signed_in w order (drop n xs)
 signed-drop w order n xs ys h =
     let inside : n ≤ length xs = omega arith in

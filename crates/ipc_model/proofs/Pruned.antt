@@ -138,7 +138,7 @@ cut_columns s fs ts limit n each (j ∷ js) h =
     ap (λ (c : Column). c ∷ chunk_of s fs ts js limit) (here ∙ ap (cut limit) (sym there))
     ∙ ap (λ (cs : Chunk). cut limit (column_at (chunk_of s fs ts (range_with_len 0 n) None) j) ∷ cs) rest
 
--- ---- the law
+-- ---- the theorem
 
 some_is : {X : Type 0} (x y : X) → Some x ≡ Some y → x ≡ y
 some_is x y e = cc
@@ -151,7 +151,7 @@ passed : {X : Type 0} (b : Bool) (o : Option X) (y : X) → cond b o None ≡ So
 passed true o y e = (refl, e)
 passed false o y e = absurd cc
 
--- a batch that has a meaning has it by a projection
+-- A batch that has a meaning has one by a projection.
 pub batch_projection : (s : Entries) (most : ℕ) (schema : Schema) (projection : Option (List ℕ)) (limit : Limit) (c : Chunk) → batch s most schema projection limit ≡ Some c
     → is_projection projection (count (kinds schema)) ≡ true
 unfolding batch
@@ -175,7 +175,7 @@ batch_is s most schema projection limit v =
     let js = chosen projection (count (kinds schema)) in
     rw ((batch_decides s most (kinds schema) js limit).1 v) refl
 
--- the same where the projection is one
+-- The same if the projection is valid.
 pub projected_is : (s : Entries) (most : ℕ) (schema : Schema) (projection : Option (List ℕ)) (limit : Limit)
     → IsBatch s most (kinds schema) (chosen projection (count (kinds schema))) limit → is_projection projection (count (kinds schema)) ≡ true
     → batch s most schema projection limit ≡ Some (chunk_of s schema.fields (kinds schema) (chosen projection (count (kinds schema))) limit)

@@ -1,4 +1,4 @@
--- The values at the dictionary places of the array that a column is read to.
+-- The values at the dictionary fields of the array that a column is read to.
 use Rattle.std.proofs.Common.{◌≡◌, ℕ, ℤ, ◌+◌, List, [], ◌∷◌, ◌++◌, false, Option, Some, None, refl, sym, ap, subst, ◌∙◌}
 use Rattle.std.specs.List.{AllByRecursion}
 use Rattle.std.specs.Option.{option_map}
@@ -26,7 +26,7 @@ all_left : {X : Type 0} (P : X → Type 0) (xs ys : List X) → AllByRecursion P
 all_left P [] ys h = tt
 all_left P (x ∷ xs) ys h = (h.0, all_left P xs ys h.1)
 
--- some arrays, the first of them by itself
+-- Some arrays, the first of them alone.
 and_others : (known : Dictionaries) (c : Layout) (cs : Layouts) (is : IdTrees) → AllByRecursion (IsKnown known) (values_at c (first_ids is))
     → AllByRecursion (IsKnown known) (outer_values cs (other_ids is)) → AllByRecursion (IsKnown known) (outer_values (more_layouts c cs) is)
 and_others known c cs is h k =

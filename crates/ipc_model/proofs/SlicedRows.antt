@@ -1,4 +1,4 @@
--- Each row is computed.
+-- Each case is computed.
 use Rattle.std.proofs.Common.{refl}
 use Rattle.ipc_model.specs.SlicedRows.{SlicedRows}
 

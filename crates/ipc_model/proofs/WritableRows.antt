@@ -1,4 +1,4 @@
--- Each row is computed; those on weights and on places are for each number.
+-- Each case is computed; those of weights and of dictionary fields are for each number.
 use Rattle.std.proofs.Common.{◌≡◌, ℕ, ℤ, zero, suc, pos, negsuc, ◌+◌, ◌*◌, ◌^◌, ◌-◌, ◌<◌, ◌≤◌, max, true, List, [], ◌∷◌, length, get_or, lit<, lit≤, Option, Some, None, refl, ap, sym, arith, true≢false}
 use Rattle.std.proofs.lemmas.Bool.{false≢true}
 use Rattle.std.proofs.lemmas.List.{length-replicate}
@@ -78,7 +78,7 @@ nested_type_rows = record {
   float_in_an_extension = λ w. w.1;
 }
 
--- ---- pairs of places
+-- ---- pairs of dictionary fields
 
 none_paired : {X : Type 0} (R : X → X → Type 0) → AllPairs R []
 none_paired R = λ i j d before inside. absurd (omega (arith, inside))

@@ -1,9 +1,9 @@
--- What runs of calls leave.
+-- What lists of calls leave.
 use Rattle.std.proofs.Common.{[], ◌∷◌, refl, sym, ap}
 use Rattle.ipc_model.specs.Writers.{Call, start_call, write_call, finish_call}
 use Rattle.ipc_model.specs.WriterStates.{State, new_writer, started_writer, finished_writer, failed_writer, is_taken, is_refused, is_broken, MaySend, Writer, writer_after, IsClosed, ClosedLaw, KeepLaw}
 
--- no call is open in a closed writer
+-- No call of a closed writer may reach the device.
 none_open : (call : Call) (s : State) → IsClosed s → MaySend call s → ⊥
 none_open start_call new_writer h e = h
 none_open start_call started_writer h e = h

@@ -1,4 +1,4 @@
--- How each call of a stream writer moves its stream on.
+-- How each call of a stream writer changes its stream.
 use Rattle.std.proofs.Common.{◌≡◌, ℕ, List, [], ◌∷◌, ◌++◌, length, Some, option_map, refl, sym, ap, ◌∙◌, append-nil}
 use Rattle.ipc_model.proofs.Growing.{grow_law}
 use Rattle.ipc_model.proofs.Meanings.{meaning_more, meaning_done}
@@ -14,7 +14,7 @@ pub item_none : (h : Head) (s : Known) → item h s [] ≡ done (waits s [])
 unfolding item frame
 item_none h s = refl
 
--- no bytes wait for all
+-- A stream without any more bytes waits, without a partial prefix.
 meaning_none : (h : Head) (s : Known) → meaning h s [] ≡ record { chunks = []; end = waits s [] }
 meaning_none h s = meaning_done h s [] (waits s []) (item_none h s)
 

@@ -1,4 +1,4 @@
--- What messages that were written mean.
+-- What messages mean that were written.
 use Rattle.std.proofs.Common.{◌≡◌, ℕ, ◌^◌, ◌<◌, ◌≤◌, ◌==◌, nat_lt, true, false, List, ◌++◌, length, take, drop, Option, None, refl, sym, ap, ◌∙◌, arith, length-append}
 use Rattle.std.specs.Int.{w32, to_le_bytes, from_le_bytes}
 use Rattle.std.proofs.lemmas.Bool.{le-ltb, eq-eqb}
@@ -19,7 +19,7 @@ prefix_word n rest h = ap (from_le_bytes w32) (take_at (to_le_bytes w32 n) rest 
 prefix_rest : (n : ℕ) (rest : List ℕ) → drop 4 (to_le_bytes w32 n ++ rest) ≡ rest
 prefix_rest n rest = drop_at (to_le_bytes w32 n) rest 4 (length_bytes n)
 
--- the marker, and a length behind it
+-- The continuation marker, and a length after it.
 marker_then : (n : ℕ) (rest : List ℕ) → n < 2 ^ 32 → frame (prefix n ++ rest) ≡ sized n rest
 marker_then n rest h =
     let long : 4 ≤ length (to_le_bytes w32 n ++ rest) = omega (arith, length-append (to_le_bytes w32 n) rest, length_bytes n) in

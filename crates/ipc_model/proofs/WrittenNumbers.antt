@@ -113,7 +113,7 @@ at_column k (c ∷ cs) extra (more_kinds t ts) (suc j) v h =
       buffer_place = omega (arith, buffers_two, rest.buffer_place);
     }
 
--- a buffer of numbers, and what is there of it
+-- A buffer of numbers, and the bytes that it has.
 pub numbers_part : ℕ → Numbers → Part
 numbers_part m c = record { offset = pos m; length = pos (length c.bytes); bytes = c.bytes }
 

@@ -1,4 +1,5 @@
--- Chunks that a writer takes. Beside each stands one that it refuses.
+-- Chunks that a writer accepts. Beside each is one that it refuses.
+-- (Arrow columnar format, "RecordBatch message", "Dictionary messages" and "IPC File Format".)
 use Rattle.std.specs.Prelude.{◌≡◌, ℕ, ℤ, pos, ◌+◌, ◌-◌, ◌^◌, true, List, [], ◌∷◌, length, codes, replicate, Option, Some, None, negsuc}
 use Rattle.lower.specs.Normal.{data_key}
 use Rattle.lower.specs.TypeTrees.{Pairs, TypeTree, FieldTrees, int32, float64, utf8, list, plain, single, field, no_fields, more_fields}
@@ -20,11 +21,11 @@ column_is t xs = record { type = t; slots = xs }
 abbrev pub brought : List Slot → Brought
 brought xs = record { id = pos 0; values = values_are xs }
 
--- two columns of one row, and one buffer of so many bytes
+-- Two columns of one row, and one buffer of so many bytes.
 abbrev pub offer : List Column → List Brought → ℕ → Offer
 offer cs ds n = record { columns = cs; dictionaries = ds; nodes = 1 ∷ 1 ∷ []; bodies = (0 ∷ n ∷ []) ∷ [] }
 
--- two columns of the id 0, each with values of its own
+-- Two columns of the id 0, each with values of its own.
 abbrev pub under_one_id : List Slot → List Slot → Offer
 under_one_id xs ys = offer (column_is texts (a ∷ []) ∷ column_is texts (a ∷ []) ∷ []) (brought xs ∷ brought ys ∷ []) 4
 
@@ -37,7 +38,8 @@ written = (pos 0, values_are (a ∷ b ∷ [])) ∷ []
 abbrev pub block_is : ℕ → ℕ → ℕ → Block
 block_is place metadata body = record { offset = pos place; meta_data_length = pos metadata; body_length = pos body }
 
--- two columns of the id 0 with such values: a message for each of its places, and the record's
+-- Two columns of the id 0 with these values: a message for each of the two fields, and the
+-- record's.
 abbrev pub offered_to_file : List Slot → Offer
 offered_to_file xs = record {
   columns = column_is texts (a ∷ []) ∷ column_is texts (a ∷ []) ∷ [];
@@ -46,8 +48,10 @@ offered_to_file xs = record {
   bodies = (0 ∷ 12 ∷ 2 ∷ []) ∷ (0 ∷ 12 ∷ 2 ∷ []) ∷ (0 ∷ 4 ∷ 0 ∷ 4 ∷ []) ∷ [];
 }
 
--- Columns of one id have the same values, and a file keeps those that it has. It has a block more for each message that is written, one behind the other from the place
--- where it goes on: for a dictionary that isn't known, once, and for the record. A body goes up to multiples of 64, and may be less than 2 ^ 63 bytes long.
+-- Columns of one id have the same values, and a file keeps those that it has. It gets one
+-- more block for each message that is written, from the append position on: for a dictionary
+-- that isn't known, once, and for the record. A body is padded to multiples of 64 bytes, and
+-- may be less than 2 ^ 63 bytes long.
 pub record AcceptedRows : Type 0 where
   pub numbers : IsAccepted (two_fields (plain int32) (plain int32)) two_numbers
   pub another_type : ¬ IsAccepted (two_fields (plain int32) (plain utf8)) two_numbers
@@ -68,28 +72,31 @@ pub record AcceptedRows : Type 0 where
 
 -- ---- at the edges
 
--- a chunk without columns, whose messages have such lengths of nodes and of buffers
+-- A chunk without columns, whose messages have these lengths of nodes and of buffers.
 abbrev pub lengths_offered : List ℕ → List ℕ → Offer
 lengths_offered ns body = record { columns = []; dictionaries = []; nodes = ns; bodies = body ∷ [] }
 
--- one without columns, with such values: a message for each, and the record's, none of which has a buffer
+-- A chunk without columns, with these values: a message for each and the
+-- record's, none of which has a buffer.
 abbrev pub values_offered : List Brought → Offer
 values_offered ds = record { columns = []; dictionaries = ds; nodes = []; bodies = replicate (1 + length ds) [] }
 
 abbrev pub brought_as : ℤ → TypeTree → List Slot → Brought
 brought_as id t xs = record { id = id; values = record { type = t; slots = xs } }
 
--- a list of integers, whose field has metadata
+-- A list of integers, whose field has metadata.
 abbrev pub lists_with : Pairs → TypeTree
 lists_with metadata = single list (field [] (plain int32) true metadata)
 
--- a file of so many blocks, which knows values of the id 0, takes such values and has these blocks more, from place 1024 on
+-- A file of so many blocks, which knows values of the id 0, accepts these values and gets
+-- these blocks from offset 1024 on.
 abbrev pub TakesValues : ℕ → List Block → List Brought → Type 0
 TakesValues blocks added ds =
     IsAcceptedByFile no_fields ((pos 0, record { type = lists_with []; slots = a ∷ [] }) ∷ []) blocks 1024 added (values_offered ds)
 
--- Lengths and ends are at most 2 ^ 63 - 1, a body's with its padding, and a file has at most 2 ^ 25 blocks. Values of one id are the same wherever they stand, and those of two ids needn't be. In a file they keep their
--- type too, as it is in the normal form.
+-- Lengths and ends are at most 2 ^ 63 - 1, a body's with its padding, and a file has at most 2 ^ 25
+-- blocks. Values of one id are the same in all fields; those of two ids may differ. In a file they
+-- keep their type too, in its normal form.
 pub record EdgeRows : Type 0 where
   pub longest_node : IsAccepted no_fields (lengths_offered (1 ∷ (2 ^ 63 - 1) ∷ []) [])
   pub longer_node : ¬ IsAccepted no_fields (lengths_offered (1 ∷ (2 ^ 63) ∷ []) [])
@@ -109,14 +116,15 @@ pub record EdgeRows : Type 0 where
 
 -- ---- without a schema
 
--- two columns of one row without a schema: numbers, and texts under an id
+-- Two columns of one row without a schema: numbers, and texts under an id.
 abbrev pub number_and_text : Offer
 number_and_text = offer (column_is (plain int32) (number 1 ∷ []) ∷ column_is texts (a ∷ []) ∷ []) (brought (a ∷ []) ∷ []) 4
 
 abbrev pub ids_of_both : Option ℤ → IdTrees
 ids_of_both o = more_ids (ids None no_ids) (more_ids (ids o no_ids) no_ids)
 
--- Columns are encoded with as many ids, which stand at dictionaries alone, where their types can be written. Their fields have no name.
+-- Columns are encoded with one id for each dictionary, if their types can be
+-- written. Their fields have no name.
 pub record EncodedRows : Type 0 where
   pub with_an_id : MayBeEncoded (ids_of_both (Some (pos 0))) number_and_text
   pub no_id : ¬ MayBeEncoded (ids_of_both None) number_and_text

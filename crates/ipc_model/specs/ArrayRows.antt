@@ -1,4 +1,6 @@
--- The arrays that columns are read to, type by type, and what arrays of each width bring to a writer.
+-- The arrays that columns are read to, type by type, and what arrays of each width bring to a
+-- writer. A definition that is changed in one word fails one of these cases. Each limit is tried at
+-- its edge: the last value that passes, and the first that doesn't.
 -- (Arrow columnar format, "Physical Memory Layout" and "Buffer Listing for Each Layout".)
 use Rattle.std.specs.Prelude.{◌≡◌, ℕ, pos, true, false, List, [], ◌∷◌, ◌++◌, codes, replicate, Some, None}
 use Rattle.lower.specs.TypeTrees.{int16, int64, large_binary, decimal, fixed_binary, utf8, list, large_list, plain, single, dictionary, int32, TypeTree, structure, group}
@@ -29,11 +31,11 @@ own_parts (layout h cs) = h.parts
 abbrev pub two_bytes_each : Entries
 two_bytes_each = entries Little 0 (node_is 1 0 ∷ []) (buffer_is 0 0 ∷ buffer_is 0 16 ∷ []) (2 ∷ replicate 15 0)
 
--- one key, 2, of each type
+-- One key, 2, of each type.
 abbrev pub key_read : IntegerType → Parts
 key_read k = own_parts (read_array (kind_of (dictionary k (plain utf8) false) (Some (pos 0)) no_ids) (dictionary k (plain utf8) false) None two_bytes_each)
 
--- Keys stay of their type, and offsets of theirs.
+-- Keys keep their type, and offsets theirs.
 pub record KeyTypeRows : Type 0 where
   pub signed_8 : key_read integers.Int8 ≡ keys integers.Int8 (pos 2 ∷ [])
   pub signed_16 : key_read integers.Int16 ≡ keys integers.Int16 (pos 2 ∷ [])
@@ -49,11 +51,12 @@ pub record KeyTypeRows : Type 0 where
       (entries Little 0 (node_is 2 0 ∷ node_is 2 0 ∷ []) (buffer_is 0 0 ∷ buffer_is 0 12 ∷ buffer_is 0 0 ∷ buffer_is 12 8 ∷ []) (word 0 ++ word 1 ++ word 2 ++ word 3 ++ word 4)))
       ≡ lists Int32 Int32 (0 ∷ 1 ∷ 2 ∷ [])
 
--- keys of a type with a validity, over one text
+-- Keys of a type with a validity, for one text.
 abbrev pub keys_of : IntegerType → Layout
 keys_of k = array_is (dictionary k (plain utf8) false) 3 (Some (true ∷ false ∷ true ∷ [])) (keys k (pos 0 ∷ pos 0 ∷ pos 0 ∷ [])) (one_child (texts_are 1 (0 ∷ 1 ∷ []) (codes "a")))
 
--- The lengths of nodes and buffers of three slots: what a number, a key, an offset and a fixed number of bytes take.
+-- The lengths of nodes and buffers of three slots: what a number, a key, an offset
+-- and a fixed number of bytes take.
 pub record OfferWidthRows : Type 0 where
   pub short_numbers : lengths_of (array_is (plain int16) 3 None (numbers Int16 (replicate 3 (whole (pos 1)))) no_layouts) ≡ lengths_are (3 ∷ []) (0 ∷ 6 ∷ [])
   pub long_numbers : lengths_of (array_is (plain int64) 3 None (numbers Int64 (replicate 3 (whole (pos 1)))) no_layouts) ≡ lengths_are (3 ∷ []) (0 ∷ 24 ∷ [])
@@ -70,7 +73,7 @@ pub record OfferWidthRows : Type 0 where
 abbrev pub known_texts : Dictionaries
 known_texts = (pos 0, values_are (a ∷ b ∷ [])) ∷ []
 
--- the text "b" by the key 1 of two texts
+-- The text "b" by the key 1 of two texts.
 abbrev pub second_of : List ℕ → Layout
 second_of letters = keyed_texts (pos 1 ∷ []) (texts_are 2 (0 ∷ 1 ∷ 2 ∷ []) letters)
 
@@ -80,7 +83,7 @@ one_id = ids (Some (pos 0)) no_ids
 abbrev pub list_of_ids : IdTree
 list_of_ids = ids None (more_ids one_id no_ids)
 
--- one list of the text "b"
+-- One list of the text "b".
 abbrev pub listed_second : List ℕ → Layout
 listed_second letters = list_of 1 (0 ∷ 1 ∷ []) (second_of letters) dictionary_of_texts
 
@@ -93,7 +96,7 @@ no_id = ids None no_ids
 abbrev pub both_ids : IdTrees
 both_ids = more_ids no_id (more_ids one_id no_ids)
 
--- a struct of the number 1 and the text "b"
+-- A struct of the number 1 and the text "b".
 abbrev pub number_and_text : TypeTree
 number_and_text = group structure (both_fields (plain int32) dictionary_of_texts)
 
@@ -103,8 +106,9 @@ struct_with letters = array_is number_and_text 1 None records (two_children (num
 abbrev pub struct_column : Column
 struct_column = column_is number_and_text (record_slot (slots_of (number 1 ∷ b ∷ [])) ∷ [])
 
--- The array of a column has at each dictionary place all values that are known, also those that no key names. It has the column's type and slots. What stands inside values isn't asked for. Each column has its own ids,
--- whichever are chosen.
+-- At each dictionary field the array of a column has all values that are known, also those that no
+-- key names. It has the column's type and slots. Fields inside values aren't compared. Each column
+-- has its own ids, whichever columns are chosen.
 pub record KnownRows : Type 0 where
   pub known_values : IsArrayOf known_texts one_id (column_is dictionary_of_texts (b ∷ [])) (second_of (codes "ab"))
   pub other_values : ¬ IsArrayOf known_texts one_id (column_is dictionary_of_texts (b ∷ [])) (second_of (codes "xb"))
@@ -121,23 +125,23 @@ pub record KnownRows : Type 0 where
   pub inner_values_aside : IsArrayOf ((pos 0, record { type = plain utf8; slots = p_and_q }) ∷ []) (ids (Some (pos 0)) (more_ids (ids (Some (pos 1)) no_ids) no_ids)) (column_is lists_of_texts p_and_q)
       (keyed_lists (pos 0 ∷ pos 1 ∷ []) (pos 0 ∷ pos 1 ∷ []) (codes "pq"))
 
--- ---- cases
+-- ---- variants of AnyArray
 
--- a list of the number 1, with offsets of 64 bits, in the case that names such offsets
+-- A list of the number 1, with offsets of 64 bits, in the variant that names such offsets.
 abbrev pub large_list_in : PrimitiveType → Layout
 large_list_in named = array_is (single large_list (field_is (plain int32))) 1 None (lists named Int64 (0 ∷ 1 ∷ [])) (one_child (numbers_are (1 ∷ [])))
 
--- a list of such a list, with offsets of 32 bits
+-- A list of such a list, with offsets of 32 bits.
 abbrev pub list_of_large : PrimitiveType → Layout
 list_of_large named = list_of 1 (0 ∷ 1 ∷ []) (large_list_in named) (single large_list (field_is (plain int32)))
 
--- a key over such a list
+-- A key of such a list.
 abbrev pub key_of_large : PrimitiveType → Layout
 key_of_large named =
     array_is (dictionary integers.Int8 (single large_list (field_is (plain int32))) false) 1 None (keys integers.Int8 (pos 0 ∷ [])) (one_child (large_list_in named))
 
--- Lists with 32-bit offsets are List, those with 64-bit offsets LargeList, at each level but in the
--- values of dictionaries.
+-- Lists with 32-bit offsets are List, those with 64-bit offsets LargeList, at each level but
+-- in the values of dictionaries.
 pub record CaseRows : Type 0 where
   pub numbers_have_none : HasListCases (numbers_are (1 ∷ []))
   pub small : HasListCases (list_of 1 (0 ∷ 1 ∷ []) (numbers_are (1 ∷ [])) (plain int32))

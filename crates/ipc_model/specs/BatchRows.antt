@@ -1,5 +1,7 @@
--- Batches and streams that are written out: columns behind others, versions and byte orders. Beside most stands one that has no meaning.
--- (Arrow columnar format, "RecordBatch message", "Dictionary messages" and "Byte Order (Endianness)"; Message.fbs, MetadataVersion.)
+-- Batches and streams as bytes: columns after others, versions and byte orders. Beside
+-- most is one that has no meaning.
+-- (Arrow columnar format, "RecordBatch message", "Dictionary messages" and "Byte Order
+-- (Endianness)"; Message.fbs, MetadataVersion.)
 use Rattle.std.specs.Prelude.{◌≡◌, ℕ, pos, false, List, [], ◌∷◌, ◌++◌, length, codes, slice_set, Option, Some, None}
 use Rattle.lower.specs.TypeTrees.{TypeTree, int32, list, choice, plain, single, group, dictionary, more_fields}
 use Rattle.lower.specs.declared.datatypes.IntegerType.TheVariants.{Int32}
@@ -24,7 +26,7 @@ use Rattle.ipc_views.specs.declared.schema.MetadataVersion.{MetadataVersion}
 abbrev pub integer : TypeTree
 integer = plain int32
 
--- what a schema message of one field says, of this version
+-- What a schema message of one field says, of this version.
 abbrev pub head_with : MetadataVersion → Endianness → TypeTree → IdTree → Head
 head_with version order t i = record {
   schema = record { fields = alone (named t (codes "f")); metadata = []; ids = more_ids i no_ids; order = order };
@@ -37,7 +39,7 @@ no_id = ids None no_ids
 abbrev pub one_chunk : TypeTree → List Slot → Meant
 one_chunk t xs = record { chunks = chunk_is t xs ∷ []; end = waits nothing_known [] }
 
--- what is known of the id 0 after one message
+-- What is known of the id 0 after one message.
 abbrev pub known_values : TypeTree → List Slot → Dictionaries
 known_values t xs = (pos 0, record { type = t; slots = xs }) ∷ []
 
@@ -46,14 +48,14 @@ one_known t xs = record { chunks = []; end = waits (record { dictionaries = know
 
 -- ---- versions
 
--- a sparse union of integers alone
+-- A sparse union of integers alone.
 abbrev pub variants : TypeTree
 variants = group (choice None Sparse) (alone (named integer (codes "f")))
 
 abbrev pub variant_ids : IdTree
 variant_ids = ids None (more_ids no_id no_ids)
 
--- keys of such variants, under the id 0
+-- Keys of such a union's slots, under the id 0.
 abbrev pub keyed_variants : TypeTree
 keyed_variants = dictionary Int32 variants false
 
@@ -63,7 +65,7 @@ keyed_ids = ids (Some (pos 0)) (more_ids no_id no_ids)
 abbrev pub seven : List Slot
 seven = variant 0 (number 7) ∷ []
 
--- the types are the first buffer, as from the fifth version on, or stand behind another one
+-- The buffer of type ids is the first, as from version 5 on, or comes after another one.
 abbrev pub newer_buffers : List (ℕ × ℕ)
 newer_buffers = (0, 1) ∷ (0, 0) ∷ (64, 4) ∷ []
 
@@ -76,11 +78,11 @@ one_seven bs = record_message ((1, 0) ∷ (1, 0) ∷ []) bs (padded (0 ∷ []) +
 abbrev pub seven_as_values : List (ℕ × ℕ) → List ℕ
 seven_as_values bs = dictionary_message 0 ((1, 0) ∷ (1, 0) ∷ []) bs (padded (0 ∷ []) ++ padded (word 7))
 
--- the same message with the number of the fourth version
+-- The same message with the number of version 4.
 abbrev pub in_fourth : List ℕ → List ℕ
 in_fourth message = slice_set message 44 3
 
--- a file of one message
+-- A file of one message.
 abbrev pub file_of : Schema → List Block → List Block → List ℕ → FileMetadata
 file_of schema ds bs message = record { schema = schema; pairs = []; dictionaries = ds; blocks = bs; size = length message }
 
@@ -90,7 +92,9 @@ record_in_file message = file_chunk (file_of (head_with V5 Little variants varia
 abbrev pub values_in_file : List ℕ → Option Dictionaries
 values_in_file message = file_dictionaries (file_of (head_with V5 Little keyed_variants keyed_ids).schema (block_of 0 message 128 ∷ []) [] message) message
 
--- In a stream the version of the schema message counts for each batch, and for the values of dictionaries, whatever the message of the batch says. In a file that of the batch's own message does.
+-- In a stream the version of the schema message counts for each batch and for the
+-- values of dictionaries, whatever the message of the batch says. In a file the version
+-- of the batch's own message counts.
 pub record VersionBatchRows : Type 0 where
   pub newer_stream : meaning (head_with V5 Little variants variant_ids) nothing_known (one_seven newer_buffers) ≡ one_chunk variants seven
   pub older_stream : meaning (head_with V4 Little variants variant_ids) nothing_known (one_seven older_buffers) ≡ one_chunk variants seven
@@ -116,7 +120,7 @@ id_0 = ids (Some (pos 0)) no_ids
 abbrev pub five_last : List ℕ
 five_last = padded (0 ∷ 0 ∷ 0 ∷ 5 ∷ [])
 
--- The numbers of a batch, and of a dictionary's values, are in the order that the schema says.
+-- The numbers of a batch, and of a dictionary's values, are in the byte order that the schema says.
 pub record OrderBatchRows : Type 0 where
   pub highest_first : meaning (head_with V5 Big integer no_id) nothing_known (record_message ((1, 0) ∷ []) ((0, 0) ∷ (0, 4) ∷ []) five_last) ≡ one_chunk integer (number 5 ∷ [])
   pub lowest_first : meaning (head_with V5 Little integer no_id) nothing_known (record_message ((1, 0) ∷ []) ((0, 0) ∷ (0, 4) ∷ []) five_last) ≡ one_chunk integer (number 83886080 ∷ [])
@@ -124,7 +128,7 @@ pub record OrderBatchRows : Type 0 where
   pub values_lowest_first : meaning (head_with V5 Little keyed_integers id_0) nothing_known (dictionary_message 0 ((1, 0) ∷ []) ((0, 0) ∷ (0, 4) ∷ []) five_last)
       ≡ one_known integer (number 83886080 ∷ [])
 
--- ---- columns behind others
+-- ---- columns after others
 
 abbrev pub and_integer : TypeTree → IdTree → Schema
 and_integer t i = record {
@@ -140,12 +144,13 @@ integer_lists = single list (named integer (codes "f"))
 abbrev pub both_are : TypeTree → List Slot → List Slot → Option Chunk
 both_are t xs ys = Some (record { type = t; slots = xs } ∷ record { type = integer; slots = ys } ∷ [])
 
--- three columns of one, two and one rows
+-- Three columns of one, two and one rows.
 abbrev pub one_two_one : Limit → Option Chunk
 one_two_one limit = batch (entries Little 0 (node_is 1 0 ∷ node_is 2 0 ∷ node_is 1 0 ∷ [])
     (buffer_is 0 0 ∷ buffer_is 0 4 ∷ buffer_is 0 0 ∷ buffer_is 0 8 ∷ buffer_is 0 0 ∷ buffer_is 4 4 ∷ []) (word 1 ++ word 2)) 16 three_fields None limit
 
--- A column begins behind all nodes and buffers of those before it, of the union's more in front too. Columns that have different numbers of rows may have as many under a limit.
+-- A column begins after all nodes and buffers of the columns before it, the extra buffer of a union
+-- included. Columns with different numbers of rows may have as many under a limit.
 pub record BehindRows : Type 0 where
   pub behind_a_list : batch (entries Little 0 (node_is 1 0 ∷ node_is 2 0 ∷ node_is 1 0 ∷ [])
       (buffer_is 0 0 ∷ buffer_is 0 8 ∷ buffer_is 0 0 ∷ buffer_is 8 8 ∷ buffer_is 0 0 ∷ buffer_is 16 4 ∷ []) (word 0 ++ word 2 ++ word 3 ++ word 4 ++ word 5))
@@ -168,7 +173,8 @@ two_integers xs ys = both_are integer xs ys
 abbrev pub of_size : ℕ → FileMetadata
 of_size n = record { schema = demo_metadata.schema; pairs = []; dictionaries = []; blocks = demo_metadata.blocks; size = n }
 
--- A body begins as far behind its block's place as the block says, wherever its message ends. Its buffers list no more together than the file is long.
+-- A body begins at the offset that the block's two numbers give, wherever its message ends. The
+-- encoded lengths of its buffers sum to at most the length of the file.
 pub record BodyRows : Type 0 where
   pub behind_the_message : file_chunk (with_block (block_at 208)) [] demo_file None None 0 ≡ Some demo_chunk
   pub four_further : file_chunk (with_block (record { offset = pos 208; meta_data_length = pos 196; body_length = pos 128 })) [] demo_file None None 0

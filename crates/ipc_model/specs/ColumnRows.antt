@@ -1,4 +1,10 @@
--- Columns that are written out, and what they mean. Beside most stands one that has no meaning.
+-- Columns as bytes, and what they mean. Beside most is one that has no meaning.
+-- Mutated definitions fail here:
+-- * without a union's extra buffer before version 5: `dense_buffers_before`,
+--   `sparse_buffers_before`, and `ExtendLaw`
+-- * with an empty buffer of offsets for any number of slots: `one_slot`, and `LimitLaw`
+-- * with its parent's limit for the child of a fixed-size list: `fixed_limit`, and `LimitLaw`
+-- (Arrow columnar format, "Physical Memory Layout".)
 use Rattle.std.specs.Prelude.{◌≡◌, ℕ, pos, negsuc, ◌-◌, Bool, true, false, List, [], ◌∷◌, ◌++◌, length, map, replicate, if◌then◌else◌, Option, Some, None}
 use Rattle.lower_types.specs.NumberTypes.{whole}
 use Rattle.lower.specs.declared.datatypes.UnionMode.TheVariants.{Sparse, Dense}
@@ -13,7 +19,7 @@ use Rattle.ipc_model.specs.Entries.{Entries, part_at, Limit}
 use Rattle.ipc_model.specs.Columns.{column}
 use Rattle.ipc_model.specs.Tests.{is_well}
 
--- ---- words for the rows
+-- ---- definitions for the cases
 
 abbrev pub node_is : ℕ → ℕ → FieldNode
 node_is n nulls = record { length = pos n; null_count = pos nulls }
@@ -21,7 +27,7 @@ node_is n nulls = record { length = pos n; null_count = pos nulls }
 abbrev pub buffer_is : ℕ → ℕ → Buffer
 buffer_is offset length = record { offset = pos offset; length = pos length }
 
--- the entries of a batch in a body
+-- The entries of a batch with this body.
 abbrev pub entries : Endianness → ℕ → List FieldNode → List Buffer → List ℕ → Entries
 entries order extra ns bs body = record {
   nodes = ns;
@@ -32,11 +38,11 @@ entries order extra ns bs body = record {
   dictionaries = [];
 }
 
--- the slots of the column at the beginning, if it is well formed
+-- The slots of the first column, if it is well formed.
 abbrev pub read : Kind → Limit → Entries → Option (List Slot)
 read t limit s = if is_well s t 0 0 limit then Some (column s t 0 0 limit) else None
 
--- a buffer in a body, up to a multiple of 64
+-- A buffer in a body, padded to 64 bytes.
 abbrev pub padded : List ℕ → List ℕ
 padded bytes = bytes ++ replicate (64 - length bytes) 0
 
@@ -57,8 +63,8 @@ two t u = more_kinds t (more_kinds u no_kinds)
 abbrev pub ones : List ℕ
 ones = 0xFF ∷ 0xFF ∷ 0xFF ∷ 0xFF ∷ 1 ∷ 0 ∷ 0 ∷ 0 ∷ []
 
--- numbers; a validity that isn't read isn't judged, and one that is read is; nothing is needed for no
--- slot; both byte orders
+-- Numbers. A validity that isn't read may be anything, and one that is read must be valid. Nothing
+-- is needed for no slot. Both byte orders.
 pub record FlatRows : Type 0 where
   pub numbers : read int32 None
       (entries Little 0 (node_is 2 0 ∷ []) (record { offset = negsuc 4; length = pos 0 } ∷ buffer_is 0 8 ∷ []) ones)
@@ -85,8 +91,8 @@ pub record FlatRows : Type 0 where
       (entries Little 0 (record { length = negsuc 0; null_count = pos 0 } ∷ []) [] []) ≡ None
   pub nulls : read null_kind (Some 2) (entries Little 0 (node_is 3 3 ∷ []) [] []) ≡ Some (null_slot ∷ null_slot ∷ [])
 
--- bytes and texts: each slot of a text is UTF-8, a null one too; an empty buffer of offsets is one
--- offset 0, for no slot alone
+-- Bytes and texts. Each slot of a text is UTF-8, a null one too. An empty buffer of offsets means
+-- the one offset 0, only if there is no slot.
 pub record TextRows : Type 0 where
   pub sliced : read (binary_kind offsets_32) None
       (entries Little 0 (node_is 1 0 ∷ []) (buffer_is 0 0 ∷ buffer_is 0 8 ∷ buffer_is 64 2 ∷ [])
@@ -118,17 +124,18 @@ pub record TextRows : Type 0 where
 abbrev pub numbers_of : List ℕ → Slot
 numbers_of ns = list_slot (slots_of (map number ns))
 
--- offsets 0, 2, 2, 3, 5 over 1 to 5
+-- Offsets 0, 2, 2, 3, 5 of the numbers 1 to 5.
 abbrev pub five_numbers : Entries
 five_numbers = entries Little 0 (node_is 4 0 ∷ node_is 5 0 ∷ [])
     (buffer_is 0 0 ∷ buffer_is 0 20 ∷ buffer_is 20 0 ∷ buffer_is 20 20 ∷ [])
     (word 0 ++ word 2 ++ word 2 ++ word 3 ++ word 5 ++ word 1 ++ word 2 ++ word 3 ++ word 4 ++ word 5)
 
--- a list of two numbers, over three
+-- A list of two numbers, whose child has three.
 abbrev pub three_for_a_pair : Entries
 three_for_a_pair = entries Little 0 (node_is 1 0 ∷ node_is 3 0 ∷ []) (buffer_is 0 0 ∷ buffer_is 0 0 ∷ buffer_is 0 12 ∷ []) (word 3 ++ word 4 ++ word 5)
 
--- a list, as a whole, under a limit, and sliced; its child gives as many slots as its last offset says. Without a limit the child of a list of a fixed number has no slot more
+-- A list, as a whole, under a limit, and sliced; its child has as many slots as its last offset
+-- says. Without a limit the child of a fixed-size list has no slot more.
 pub record ListRows : Type 0 where
   pub all : read (list_kind offsets_32 int32) None five_numbers
       ≡ Some (numbers_of (1 ∷ 2 ∷ []) ∷ numbers_of [] ∷ numbers_of (3 ∷ []) ∷ numbers_of (4 ∷ 5 ∷ []) ∷ [])
@@ -166,7 +173,7 @@ pub record ListRows : Type 0 where
 abbrev pub truth_and_number : Bool → ℕ → Slot
 truth_and_number b n = record_slot (slots_of (truth_slot b ∷ number n ∷ []))
 
--- a struct whose third slot is null; its children give as many slots as it does, under a limit too
+-- A struct whose third slot is null; its children have as many slots as it has, under a limit too.
 pub record StructRows : Type 0 where
   pub third_null : read (struct_kind (two boolean_kind int32)) None
       (entries Little 0 (node_is 4 1 ∷ node_is 4 0 ∷ node_is 4 0 ∷ [])
@@ -187,7 +194,7 @@ pub record StructRows : Type 0 where
 
 -- ---- maps
 
--- offsets 0, 1, 3, keys "a", "b", "c", values 1, 2, null
+-- Offsets 0, 1, 3, keys "a", "b", "c", values 1, 2, null.
 abbrev pub map_entries : Entries
 map_entries =
     entries Little 0 (node_is 2 0 ∷ node_is 3 0 ∷ node_is 3 0 ∷ node_is 3 1 ∷ [])
@@ -199,7 +206,7 @@ map_entries =
 abbrev pub key_and_value : ℕ → Slot → Slot
 key_and_value key value = record_slot (slots_of (text_slot (key ∷ []) ∷ value ∷ []))
 
--- a map's child is a struct of two fields
+-- The child of a map is a struct of two fields.
 pub record MapRows : Type 0 where
   pub two_maps : read (map_kind (struct_kind (two (utf8_kind offsets_32) int32))) None map_entries
       ≡ Some (list_slot (slots_of (key_and_value 0x61 (number 1) ∷ [])) ∷ list_slot
@@ -211,14 +218,14 @@ pub record MapRows : Type 0 where
 abbrev pub variant : ℕ → Slot → Slot
 variant id x = variant_slot (pos id) x
 
--- types 1, 0 over numbers 2, 3 and bits false, true
+-- The type ids 1, 0 with the numbers 2, 3 and the bits false, true.
 abbrev pub sparse_entries : ℕ → Entries
 sparse_entries extra =
     entries Little extra (node_is 2 0 ∷ node_is 2 0 ∷ node_is 2 0 ∷ [])
     (buffer_is 0 2 ∷ buffer_is 64 0 ∷ buffer_is 64 8 ∷ buffer_is 128 0 ∷ buffer_is 128 1 ∷ [])
     (padded (1 ∷ 0 ∷ []) ++ padded (word 2 ++ word 3) ++ padded (2 ∷ []))
 
--- types and offsets over numbers 10, 20 and a bit, the second offset of which is to be 0
+-- Type ids and offsets with the numbers 10, 20 and a bit; the second offset must be 0.
 abbrev pub dense_entries : ℕ → Entries
 dense_entries offset =
     entries Little 0 (node_is 3 0 ∷ node_is 2 0 ∷ node_is 1 0 ∷ [])
@@ -232,7 +239,8 @@ sparse = union_kind Sparse None (two int32 boolean_kind)
 abbrev pub dense : Kind
 dense = union_kind Dense None (two int32 boolean_kind)
 
--- Unions of both modes. Before version 5 one buffer stands in front, and these entries have no meaning.
+-- Unions of both modes. Before version 5 a union has one more buffer, before its own: then
+-- these entries have no meaning.
 pub record UnionRows : Type 0 where
   pub two_variants : read sparse None (sparse_entries 0)
       ≡ Some (variant 1 (truth_slot false) ∷ variant 0 (number 3) ∷ [])
@@ -265,7 +273,7 @@ pub record UnionRows : Type 0 where
       (buffer_is 0 0 ∷ buffer_is 0 8 ∷ buffer_is 8 3 ∷ buffer_is 11 0 ∷ buffer_is 11 12 ∷ [])
       (word 0 ++ word 2 ++ 0 ∷ 0 ∷ 0 ∷ word 1 ++ word 2 ++ word 3)) ≡ None
 
--- the nodes and buffers of a union of two flat columns, from version 5 on and before
+-- The nodes and buffers of a union of two flat columns, from version 5 on and before.
 pub record CountRows : Type 0 where
   pub sparse_nodes : nodes sparse ≡ 3
   pub sparse_buffers : buffers 0 sparse ≡ 5

@@ -1,4 +1,4 @@
--- Arrays that are written out, some of their slots, and bytes that mean these. Beside most stand bytes that don't.
+-- Arrays, some of their slots, and bytes that mean these slots. Beside most are bytes that don't.
 -- (Arrow columnar format, "Physical Memory Layout".)
 use Rattle.std.specs.Prelude.{◌≡◌, ℕ, pos, true, false, List, [], ◌∷◌, ◌++◌, codes, replicate, Some, None}
 use Rattle.lower.specs.TypeTrees.{boolean, int32, binary, fixed_list, plain, single}
@@ -17,15 +17,16 @@ use Rattle.ipc_model.specs.SlicedRows.{sliced_entries}
 
 -- ---- bits
 
--- the bits of the bytes 0, 0, 0, 15, three of the last, as the validity of 27 bits
+-- The bits of the bytes 0, 0, 0, 15, three of the last, as the validity of 27 bits.
 abbrev pub many_bits : Layout
 many_bits = array_is (plain boolean) 27 (Some (replicate 24 false ++ true ∷ false ∷ true ∷ [])) (truths (replicate 27 true)) no_layouts
 
--- five bits whose validity lists so many bytes, with this one
+-- Five bits whose validity has so many bytes, and is this byte.
 abbrev pub five_bits : ℕ → ℕ → Entries
 five_bits listed byte = entries Little 0 (node_is 5 3 ∷ []) (buffer_is 0 listed ∷ buffer_is 64 1 ∷ []) (padded (byte ∷ []) ++ 0x1F ∷ [])
 
--- Bits of a slice count from its first slot: as they stood they say another thing, and some byte has to be listed.
+-- The bits of a slice count from its first slot. Unshifted bytes mean something else,
+-- and a validity must have a byte.
 pub record BitRows : Type 0 where
   pub packed : read boolean_kind None (five_bits 1 0x14) ≡ Some (slots (cut 22 5 many_bits))
   pub its_slots : slots (cut 22 5 many_bits) ≡ null_slot ∷ null_slot ∷ truth_slot true ∷ null_slot ∷ truth_slot true ∷ []
@@ -37,7 +38,7 @@ pub record BitRows : Type 0 where
 abbrev pub two_binaries : Layout
 two_binaries = array_is (plain binary) 2 None (bytes Int32 (0 ∷ 1 ∷ 3 ∷ []) (codes "abc")) no_layouts
 
--- the bytes "bc" by two offsets
+-- The bytes "bc" by two offsets.
 abbrev pub second_binary : ℕ → Entries
 second_binary last = entries Little 0 (node_is 1 0 ∷ []) (buffer_is 0 0 ∷ buffer_is 0 8 ∷ buffer_is 64 2 ∷ [])
     (padded (word 0 ++ word last) ++ padded (codes "bc"))
@@ -45,7 +46,7 @@ second_binary last = entries Little 0 (node_is 1 0 ∷ []) (buffer_is 0 0 ∷ bu
 abbrev pub four_lists : Layout
 four_lists = list_of 4 (0 ∷ 2 ∷ 2 ∷ 3 ∷ 5 ∷ []) (numbers_are (1 ∷ 2 ∷ 3 ∷ 4 ∷ 5 ∷ [])) (plain int32)
 
--- two lists by three offsets, over one number
+-- Two lists by three offsets, with one number.
 abbrev pub two_lists : List ℕ → Entries
 two_lists offsets = entries Little 0 (node_is 2 0 ∷ node_is 1 0 ∷ []) (buffer_is 0 0 ∷ buffer_is 0 12 ∷ buffer_is 64 0 ∷ buffer_is 64 4 ∷ [])
     (padded offsets ++ padded (word 3))
@@ -53,16 +54,16 @@ two_lists offsets = entries Little 0 (node_is 2 0 ∷ node_is 1 0 ∷ []) (buffe
 abbrev pub list_kind_32 : Kind
 list_kind_32 = list_kind offsets_32 int32_kind
 
--- three lists of two numbers each
+-- Three lists of two numbers each.
 abbrev pub three_pairs : Layout
 three_pairs = array_is (single (fixed_list 2) (field_is (plain int32))) 3 None (fixed_lists 2) (one_child (numbers_are (1 ∷ 2 ∷ 3 ∷ 4 ∷ 5 ∷ 6 ∷ [])))
 
--- the second of these, whose numbers' node says so many
+-- The second of these, whose numbers' node has this length.
 abbrev pub second_pair : ℕ → Entries
 second_pair n = entries Little 0 (node_is 1 0 ∷ node_is n 0 ∷ []) (buffer_is 0 0 ∷ buffer_is 0 0 ∷ buffer_is 0 8 ∷ []) (padded (word 3 ++ word 4))
 
--- Offsets of a slice count from its first one: where they are kept and the bytes are cut there is no meaning. Under a limit the first slots
--- are read.
+-- The offsets of a slice count from its first one: unshifted offsets with the cut bytes have no
+-- meaning. Under a limit the first slots are read.
 pub record ListCutRows : Type 0 where
   pub second_bytes : read (binary_kind offsets_32) None (second_binary 2) ≡ Some (slots (cut 1 1 two_binaries))
   pub offset_kept : read (binary_kind offsets_32) None (second_binary 3) ≡ None
@@ -77,17 +78,17 @@ pub record ListCutRows : Type 0 where
 
 -- ---- structs and unions
 
--- four records, whose numbers' node says so many
+-- Four structs, whose numbers' node has this length.
 abbrev pub four_records : ℕ → Entries
 four_records n = entries Little 0 (node_is 4 1 ∷ node_is 4 0 ∷ node_is n 0 ∷ [])
     (buffer_is 0 1 ∷ buffer_is 64 0 ∷ buffer_is 64 1 ∷ buffer_is 128 0 ∷ buffer_is 128 16 ∷ [])
     (padded (0x0B ∷ []) ++ padded (0x0C ∷ []) ++ padded (word 42 ++ word 28 ++ word 19 ++ word 31))
 
--- the types 0, 1, 0 over numbers and bits
+-- The type ids 0, 1, 0 with numbers and bits.
 abbrev pub three_variants : Layout
 three_variants = union_is Sparse None zero_one_zero (numbers_are (1 ∷ 2 ∷ 3 ∷ [])) (bits_are (true ∷ false ∷ true ∷ []))
 
--- two of these slots, whose children's nodes say three
+-- Two of these slots, whose children's nodes have the length 3.
 abbrev pub whole_children : Entries
 whole_children = entries Little 0 (node_is 2 0 ∷ node_is 3 0 ∷ node_is 3 0 ∷ [])
     (buffer_is 0 2 ∷ buffer_is 64 0 ∷ buffer_is 64 12 ∷ buffer_is 128 0 ∷ buffer_is 128 1 ∷ [])
@@ -96,7 +97,8 @@ whole_children = entries Little 0 (node_is 2 0 ∷ node_is 3 0 ∷ node_is 3 0 �
 abbrev pub dense_variants : Layout
 dense_variants = dense_union zero_one_zero (pos 0 ∷ pos 0 ∷ pos 1 ∷ [])
 
--- The children of a struct and of a sparse union go along with a slice, those of a dense union stay whole.
+-- The children of a struct and of a sparse union are sliced like their parent;
+-- those of a dense union are whole.
 pub record ChildCutRows : Type 0 where
   pub records : read (struct_kind (two boolean_kind int32_kind)) None (four_records 4) ≡ Some (slots struct_of_two)
   pub few_numbers : read (struct_kind (two boolean_kind int32_kind)) None (four_records 3) ≡ None
@@ -107,7 +109,8 @@ pub record ChildCutRows : Type 0 where
 
 -- ---- lengths
 
--- The lengths of the nodes and of the buffers of these slices, and of their bodies. A slice of lists lists less than all of them.
+-- The lengths of the nodes and of the buffers of these slices, and of their bodies. A slice of
+-- lists takes fewer bytes than all of them.
 pub record LengthCutRows : Type 0 where
   pub bits : lengths_of (cut 22 5 many_bits) ≡ lengths_are (5 ∷ []) (1 ∷ 1 ∷ [])
   pub second_bytes : lengths_of (cut 1 1 two_binaries) ≡ lengths_are (1 ∷ []) (0 ∷ 8 ∷ 2 ∷ [])

@@ -1,4 +1,4 @@
--- Streams with dictionaries that are written out, and what they mean. Beside most stands one that has no meaning.
+-- Streams with dictionaries as bytes, and what they mean. Beside most is one that has no meaning.
 -- (Arrow columnar format, "Dictionary messages" and "IPC Streaming Format".)
 use Rattle.std.specs.Prelude.{◌≡◌, ℕ, pos, ◌+◌, ◌*◌, true, false, List, [], ◌∷◌, ◌++◌, length, codes, Some}
 use Rattle.lower.specs.TypeTrees.{TypeTree, utf8, plain, list, single, dictionary, field, no_fields, more_fields}
@@ -15,39 +15,39 @@ use Rattle.ipc_views.specs.declared.schema.MetadataVersion.TheVariants.{V5}
 
 -- ---- messages as bytes
 
--- a small number of 64 bits
+-- A small number of 64 bits.
 abbrev pub long : ℕ → List ℕ
 long n = word n ++ word 0
 
--- structs of two numbers: nodes (length, null count), or buffers (offset, length)
+-- A vector of structs of two numbers: nodes (length, null count), or buffers (offset, length).
 abbrev pub pairs : List (ℕ × ℕ) → List ℕ
 pairs [] = []
 pairs (p ∷ ps) = long p.0 ++ long p.1 ++ pairs ps
 
--- the vtable of a record batch, its table (the length, which isn't used, the places of the nodes and
--- of the buffers), and both vectors
+-- The vtable of a record batch, its table (the length, which isn't used, and the offsets of the
+-- nodes and of the buffers), and both vectors.
 abbrev pub batch_bytes : List (ℕ × ℕ) → List (ℕ × ℕ) → List ℕ
 batch_bytes ns bs =
     0x0A ∷ 0 ∷ 0x14 ∷ 0 ∷ 4 ∷ 0 ∷ 0x0C ∷ 0 ∷ 0x10 ∷ 0 ∷ 0 ∷ 0 ∷ []
     ++ word 0x0C ++ long 0 ++ word 0x0C ++ word (16 + 16 * length ns) ++ word 0
     ++ word (length ns) ++ pairs ns ++ word 0 ++ word (length bs) ++ pairs bs
 
--- the root's place, the vtable of the message, and its table: the length of the body, the place of the
--- header, which stands behind it, version 5 and the header's tag
+-- The root's offset, the vtable of the message, and its table: the length of the body, the offset
+-- of the header after it, version 5, and the header's tag.
 abbrev pub message_bytes : ℕ → ℕ → List ℕ → List ℕ
 message_bytes tag body header =
     0x14 ∷ 0 ∷ 0 ∷ 0 ∷ 0x0C ∷ 0 ∷ 0x13 ∷ 0 ∷ 0x10 ∷ 0 ∷ 0x12 ∷ 0 ∷ 0x0C ∷ 0 ∷ 4 ∷ 0 ∷ []
     ++ word 0 ++ word 0x10 ++ long body ++ word 0x14 ++ 4 ∷ 0 ∷ tag ∷ 0 ∷ [] ++ header
 
--- a message with its prefix and its body
+-- A message with its prefix and its body.
 abbrev pub framed : List ℕ → List ℕ → List ℕ
 framed metadata body = marker ++ word (length metadata) ++ metadata ++ body
 
 abbrev pub record_message : List (ℕ × ℕ) → List (ℕ × ℕ) → List ℕ → List ℕ
 record_message ns bs body = framed (message_bytes 3 (length body) (batch_bytes ns bs)) body
 
--- the vtable of a dictionary batch and its table: the id, the place of the batch behind it, and whether
--- it is a delta
+-- The vtable of a dictionary batch and its table: the id, the offset of the batch after
+-- it, and whether it is a delta.
 abbrev pub dictionary_with : ℕ → ℕ → List (ℕ × ℕ) → List (ℕ × ℕ) → List ℕ → List ℕ
 dictionary_with delta id ns bs body =
     framed (message_bytes 2 (length body) (0x0A ∷ 0 ∷ 0x11 ∷ 0 ∷ 4 ∷ 0 ∷ 0x0C ∷ 0 ∷ 0x10 ∷ 0 ∷ 0 ∷ 0 ∷ []
@@ -69,7 +69,7 @@ head_of_field t i = record {
   version = V5;
 }
 
--- keys of 32 bits, texts, and the id 0
+-- Keys of 32 bits, texts, and the id 0.
 abbrev pub texts : TypeTree
 texts = dictionary Int32 (plain utf8) false
 
@@ -85,23 +85,23 @@ a = text_slot (codes "a")
 abbrev pub b : Slot
 b = text_slot (codes "b")
 
--- two texts of a byte each, by the offsets 0, 1, 2
+-- Two texts of a byte each, by the offsets 0, 1, 2.
 abbrev pub two_texts : List ℕ → List ℕ
 two_texts bytes = padded (word 0 ++ word 1 ++ word 2) ++ padded bytes
 
--- the values "a", "b"
+-- The values "a", "b".
 abbrev pub a_and_b : List ℕ
 a_and_b = dictionary_message 0 ((2, 0) ∷ []) ((0, 0) ∷ (0, 12) ∷ (64, 2) ∷ []) (two_texts (codes "ab"))
 
--- two keys, none of them null
+-- Two keys, none of them null.
 abbrev pub two_keys : ℕ → ℕ → List ℕ
 two_keys k l = record_message ((2, 0) ∷ []) ((0, 0) ∷ (0, 8) ∷ []) (padded (word k ++ word l))
 
--- the value "b"
+-- The value "b".
 abbrev pub b_alone : List ℕ
 b_alone = dictionary_message 0 ((1, 0) ∷ []) ((0, 0) ∷ (0, 8) ∷ (64, 1) ∷ []) (padded (word 0 ++ word 1) ++ padded (codes "b"))
 
--- the key 0 and a null, whose key would be past the values
+-- The key 0 and a null, whose key would be past the values.
 abbrev pub key_and_null : List ℕ
 key_and_null = record_message ((2, 1) ∷ []) ((0, 1) ∷ (64, 8) ∷ []) (padded (1 ∷ []) ++ padded (word 0 ++ word 7))
 
@@ -120,13 +120,13 @@ known_texts n = record { dictionaries = (pos 0, values_are (a ∷ b ∷ [])) ∷
 abbrev pub faulty_after : List Chunk → Meant
 faulty_after cs = record { chunks = cs; end = faulty }
 
--- no key at all
+-- No key at all.
 abbrev pub no_rows : List ℕ
 no_rows = record_message ((0, 0) ∷ []) ((0, 0) ∷ (0, 0) ∷ []) []
 
--- A dictionary is known to what follows it, also to the second record, until another one replaces it. A
--- record whose dictionary was never sent, with no key at all too, a delta, an id without a place in the schema and a key past
--- the values have no meaning.
+-- A dictionary is known to the messages after it, also to the second record, until another one
+-- replaces it. A record whose dictionary was never sent has no meaning, even without a key. Nor
+-- have a delta, an id that no field has, and a key past the values.
 pub record DictionaryRows : Type 0 where
   pub dictionary_alone : text_meant a_and_b ≡ record { chunks = []; end = waits (known_texts 1) [] }
   pub first_record : text_meant (a_and_b ++ two_keys 1 0)
@@ -157,7 +157,7 @@ shared_head = record {
   version = V5;
 }
 
--- One dictionary serves all columns of its id, and so has no values for one of them alone.
+-- One dictionary serves all columns of its id.
 pub record SharedRows : Type 0 where
   pub one_for_both : meaning shared_head nothing_known
       (a_and_b ++ record_message ((1, 0) ∷ (1, 0) ∷ []) ((0, 0) ∷ (0, 4) ∷ (0, 0) ∷ (64, 4) ∷ [])
@@ -173,7 +173,7 @@ pub record SharedRows : Type 0 where
 
 -- ---- a dictionary whose values have one
 
--- lists of texts under the id 1, themselves under the id 0
+-- Lists of texts under the id 1, which are themselves under the id 0.
 abbrev pub lists : TypeTree
 lists = dictionary Int32 (single list (field (codes "item") texts true [])) false
 
@@ -184,7 +184,7 @@ list_meant bytes =
 abbrev pub inner : List ℕ → List ℕ
 inner bytes = dictionary_message 1 ((2, 0) ∷ []) ((0, 0) ∷ (0, 12) ∷ (64, 2) ∷ []) (two_texts bytes)
 
--- two lists of one inner key each
+-- Two lists of one inner key each.
 abbrev pub outer : ℕ → ℕ → List ℕ
 outer k l = dictionary_message 0 ((2, 0) ∷ (2, 0) ∷ []) ((0, 0) ∷ (0, 12) ∷ (64, 0) ∷ (64, 8) ∷ [])
     (padded (word 0 ++ word 1 ++ word 2) ++ padded (word k ++ word l))
@@ -195,8 +195,8 @@ one_key k = record_message ((1, 0) ∷ []) ((0, 0) ∷ (0, 4) ∷ []) (padded (w
 abbrev pub list_of_text : List ℕ → Slot
 list_of_text text = list_slot (slots_of (text_slot text ∷ []))
 
--- The inner keys stand for their values when the outer dictionary is read: an inner one that comes
--- later changes no list that is there. An outer one before its inner one has no meaning.
+-- Inner keys get their values when the outer dictionary is read: an inner dictionary that comes
+-- later changes no list that is there. An outer dictionary before its inner one has no meaning.
 pub record NestedRows : Type 0 where
   pub two_records : list_meant (inner (codes "pq") ++ outer 0 1 ++ two_keys 0 1 ++ inner (codes "qp") ++ one_key 1 ++ mark)
       ≡ record {

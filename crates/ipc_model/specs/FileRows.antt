@@ -1,4 +1,5 @@
--- Files that are written out, and what they mean. Beside each stands one that has no meaning.
+-- Files as bytes, and what they mean. Beside each is one that has no meaning. A definition by which
+-- a footer has one byte more than its length says fails `cut_by_a_byte`.
 -- (Arrow columnar format, "IPC File Format"; File.fbs.)
 use Rattle.std.specs.Prelude.{◌≡◌, ℕ, pos, negsuc, List, [], ◌∷◌, ◌++◌, ◌+◌, ◌-◌, ◌^◌, length, take, slice_set, codes, Option, Some, None, option_map, ◌<◌}
 use Rattle.lower.specs.TypeTrees.{Pairs, int32, plain}
@@ -13,7 +14,7 @@ use Rattle.ipc_model.specs.SchemaBytes.{four, three_slots, table_bytes, counted,
 use Rattle.ipc_model.specs.Schemas.{made, given}
 use Rattle.ipc_model.specs.StreamRows.{schema_metadata, record_metadata, demo_record, demo_schema, demo_chunk, marker, mark}
 
--- the footer: a schema of x and y, no dictionaries, and one block (208, 192, 128)
+-- A footer: a schema of x and y, no dictionaries, and one block (208, 192, 128).
 abbrev pub footer : List ℕ
 footer =
     0x10 ∷ 0 ∷ 0 ∷ 0 ∷ 0x0C ∷ 0 ∷ 0x12 ∷ 0 ∷ 0x10 ∷ 0 ∷ 4 ∷ 0 ∷ 8 ∷ 0 ∷ 0x0C ∷ 0 ∷
@@ -32,7 +33,7 @@ footer =
     0 ∷ 0 ∷ 0 ∷ 0 ∷ 1 ∷ 0 ∷ 0 ∷ 0 ∷ 0xD0 ∷ 0 ∷ 0 ∷ 0 ∷ 0 ∷ 0 ∷ 0 ∷ 0 ∷
     0xC0 ∷ 0 ∷ 0 ∷ 0 ∷ 0 ∷ 0 ∷ 0 ∷ 0 ∷ 0x80 ∷ 0 ∷ 0 ∷ 0 ∷ 0 ∷ 0 ∷ 0 ∷ 0 ∷ []
 
--- a file of one record, which stands at 208
+-- A file of one record, which is at offset 208.
 abbrev pub demo_file : List ℕ
 demo_file =
     magic ++ 0 ∷ 0 ∷ [] ++ marker ++ (192 ∷ 0 ∷ 0 ∷ 0 ∷ []) ++ schema_metadata ++ demo_record ++ mark
@@ -50,8 +51,9 @@ demo_metadata = with_block (block_at 208)
 abbrev pub second_column : Chunk
 second_column = record { type = plain int32; slots = number 1 ∷ [] } ∷ []
 
--- Its footer, its dictionaries and its chunk, whole and pruned. Another head or tail, a footer that is too long, a block
--- at the schema's place, and a block that isn't there have no meaning.
+-- The file's footer, its dictionaries and its chunk, whole and pruned. No meaning:
+-- another head or tail, a footer that is too long, a block at the offset of the
+-- schema, and a block that isn't there.
 pub record FileRows : Type 0 where
   pub its_metadata : metadata_of demo_file ≡ Some demo_metadata
   pub its_dictionaries : file_dictionaries demo_metadata demo_file ≡ Some []
@@ -66,16 +68,17 @@ pub record FileRows : Type 0 where
 
 -- ---- the footer
 
--- the file up to its footer
+-- The file up to its footer.
 abbrev pub before_footer : List ℕ
 before_footer = take (length demo_file - 250) demo_file
 
--- with a byte of the footer's vtable as 0: the slot that it says is absent
+-- With a byte of the footer's vtable set to 0: that field is absent.
 abbrev pub without_slot : ℕ → Option FileMetadata
 without_slot place = metadata_of (slice_set demo_file (length demo_file - 250 + place) 0)
 
--- A footer is as long as it is said to be: what stands behind its end isn't its own. A length from 2 ^ 31 on is one below 0, however long the file is. The schema and the
--- blocks of records are there; where no blocks of dictionaries are listed, there are none.
+-- A footer is as long as its length says: bytes after its end aren't its own. A length from 2 ^ 31
+-- on is negative, however long the file is. The schema and the record blocks must be present;
+-- without a list of dictionary blocks there are none.
 pub record FooterRows : Type 0 where
   pub cut_off : metadata_of (before_footer ++ take 236 footer ++ (236 ∷ 0 ∷ 0 ∷ 0 ∷ []) ++ magic) ≡ None
   pub cut_by_a_byte : metadata_of
@@ -90,20 +93,21 @@ pub record FooterRows : Type 0 where
 
 -- ---- the pairs of a footer
 
--- a footer without fields and without blocks, with pairs where they aren't empty
+-- A footer without fields and without blocks, with pairs if they aren't empty.
 abbrev pub footer_bytes : List ℕ → List ℕ
 footer_bytes pairs =
     four 18 ++ table_bytes (4 ∷ 8 ∷ 0 ∷ 16 ∷ entry_of pairs 20 ∷ [])
     (4 ∷ 0 ∷ 0 ∷ 0 ∷ [] ++ four 26 ++ four 0 ++ four 30 ++ four 30 ++ three_slots 0 4 0 (four 4 ++ four 0) ++ four 0 ++ pairs)
 
--- "m" without a value
+-- "m" without a value.
 abbrev pub half_a_pair : List ℕ
 half_a_pair = table_bytes (4 ∷ 0 ∷ []) (four 4 ++ counted (codes "m"))
 
 abbrev pub pairs_in : List ℕ → Option Pairs
 pairs_in pairs = option_map (λ (m : FileMetadata). m.pairs) (given (made (root_at (footer_bytes pairs))) (footer_at 0))
 
--- Pairs of the footer are read as those of a schema: the later of equal keys wins, and a pair without a key or a value is passed over. One that is ill-made has no meaning.
+-- Pairs of the footer are read as those of a schema: the later of equal keys wins, and a pair
+-- without a key or a value is skipped. An invalid pair has no meaning.
 pub record FooterPairRows : Type 0 where
   pub none_there : pairs_in [] ≡ Some []
   pub later_wins : pairs_in (all_pairs (pair_bytes (codes "k") (codes "1") ∷ pair_bytes (codes "k") (codes "2") ∷ half_a_pair ∷ [])) ≡ Some ((codes "k", codes "2") ∷ [])
@@ -111,11 +115,11 @@ pub record FooterPairRows : Type 0 where
 
 -- ---- blocks
 
--- a block of a message at some place, whose body has so many bytes
+-- A block of a message at this offset, whose body has so many bytes.
 abbrev pub block_of : ℕ → List ℕ → ℕ → Block
 block_of place message body = record { offset = pos place; meta_data_length = pos (length message - body); body_length = pos body }
 
--- two messages with values of the id 0, and two records
+-- Two messages with values of the id 0, and two records.
 abbrev pub messages : List ℕ
 messages = a_and_b ++ b_alone ++ two_keys 1 0 ++ two_keys 0 0
 
@@ -146,9 +150,10 @@ first_known = (pos 0, values_are (a ∷ b ∷ [])) ∷ []
 abbrev pub extra_of_block : ℕ → Option ℕ
 extra_of_block version = option_map (λ (h : BlockHeader). h.extra) (block_header (slice_set record_metadata 36 version))
 
--- Dictionary blocks are read in the footer's order, and the last of an id counts; records by their index. A block's message has either prefix, its header is due, its own version
--- counts, and neither of its two numbers that are used is below 0. What the message itself says of its body
--- isn't used. Its buffers are there to their last byte.
+-- Dictionary blocks are read in the footer's order, and the last of an id counts; records by their
+-- index. A block's message has either prefix, the right header, and its own version counts. Neither
+-- of the block's two numbers that are used is negative. What the message says of its body isn't
+-- used. Its buffers are present to their last byte.
 pub record BlockRows : Type 0 where
   pub in_order : file_dictionaries text_blocks messages ≡ Some both_known
   pub in_other_order : file_dictionaries (blocks_are (second_block ∷ first_block ∷ []) []) messages

@@ -1,22 +1,23 @@
--- What stands at the front of the bytes of a stream: the Arrow columnar format, "Encapsulated message
--- format".
+-- The first frame of a stream.
+-- (Arrow columnar format, "Encapsulated message format".)
 use Rattle.std.specs.Prelude.{◌≡◌, ℕ, ◌^◌, ◌==◌, ◌<◌, nat_lt, if◌then◌else◌, List, ◌++◌, length, take, drop}
 use Rattle.std.specs.Int.{w32, from_le_bytes}
 
--- A message is its metadata, and what stands behind it: the body, and then the next frame.
--- A mark ends the stream. Where less than the 4 bytes of a prefix are left, the stream waits for more.
--- Anything else is broken: a length below 0, or less bytes than stated.
+-- The first frame of some bytes. A message is its metadata and the bytes after it: the body, and
+-- then the next frame. A mark ends the stream. With fewer than the 4 bytes of a prefix, the stream
+-- waits for more. Anything else is broken: a negative length, or fewer bytes than stated.
 pub data Frame : Type 0 where
   message : (metadata rest : List ℕ) → Frame
   mark : (rest : List ℕ) → Frame
   waiting : (begun : List ℕ) → Frame
   broken : Frame
 
--- the number in the first 4 bytes
+-- The number in the first 4 bytes, little-endian.
 abbrev pub word : List ℕ → ℕ
 word bytes = from_le_bytes w32 (take 4 bytes)
 
--- A message of n bytes of metadata. A number from 2 ^ 31 on is one below 0, as a signed one, and no length.
+-- A message of n bytes of metadata; a mark if n is 0. From 2 ^ 31 on, n is negative as
+-- a signed number and no length.
 unfoldable pub sized : ℕ → List ℕ → Frame
 sized n bytes =
     if nat_lt n (2 ^ 31)
@@ -24,26 +25,27 @@ sized n bytes =
     (drop n bytes))
     else broken
 
--- the length behind the marker
+-- The length after the continuation marker, and its message.
 unfoldable pub marked : List ℕ → Frame
 marked bytes = if nat_lt (length bytes) 4 then broken else sized (word bytes) (drop 4 bytes)
 
--- The newer prefix is the marker, 4 bytes of 255, and the length. The older one is the length alone.
+-- The newer prefix is the continuation marker, 4 bytes of 255, and the length. The
+-- older one is the length alone.
 unfoldable pub frame : List ℕ → Frame
 frame bytes =
     if nat_lt (length bytes) 4 then waiting bytes
     else if word bytes == 0xFFFF_FFFF then marked (drop 4 bytes)
     else sized (word bytes) (drop 4 bytes)
 
--- a whole message stays what it is where bytes are added, which go to its rest
+-- A complete message is the same if bytes are added, which go to its rest.
 abbrev pub KeepsMessage : (bytes added : List ℕ) → Type 0
 KeepsMessage bytes added = (metadata rest : List ℕ) → frame bytes ≡ message metadata rest
     → frame (bytes ++ added) ≡ message metadata (rest ++ added)
 
--- a message takes bytes
+-- A message takes at least one byte.
 abbrev pub TakesBytes : List ℕ → Type 0
 TakesBytes bytes = (metadata rest : List ℕ) → frame bytes ≡ message metadata rest → length rest < length bytes
 
--- what waits is all that there is
+-- If a stream waits, the partial prefix is all of its bytes.
 abbrev pub WaitsWithAll : List ℕ → Type 0
 WaitsWithAll bytes = (begun : List ℕ) → frame bytes ≡ waiting begun → begun ≡ bytes

@@ -1,5 +1,7 @@
--- How many bytes the arrays hold that columns are read to: bitmaps, offsets, numbers and bytes at every level, the values of dictionaries
--- aside. (Arrow columnar format, "Buffer Listing for Each Layout".)
+-- How many bytes the arrays retain that columns are read to: bitmaps, offsets, numbers and bytes at
+-- every level, without the values of dictionaries. Only theorems and cases of this crate cite these
+-- definitions; contracts of readers use `HeldListed` of `ipc_flat_columns`.
+-- (Arrow columnar format, "Buffer Listing for Each Layout".)
 use Rattle.std.specs.Prelude.{ℕ, ℤ, ◌+◌, ◌≤◌, List, [], ◌∷◌, if◌then◌else◌, Option, None, Some}
 use Rattle.std.specs.List.{sum_by}
 use Rattle.lower.specs.TypeTrees.{TypeTree}
@@ -13,12 +15,13 @@ use Rattle.ipc_model.specs.Kinds.{offsets_32, OffsetWidth, offset_width, Kind, n
 use Rattle.ipc_model.specs.Needed.{needed, IsOnce, columns_listed}
 use Rattle.ipc_model.specs.ReadArrays.{array_at}
 
--- the one offset of an array whose offsets in buffer b are omitted
+-- The bytes of the one offset that an array has if its offsets in buffer b are omitted; else 0.
 abbrev pub omitted_offset : Entries → ℕ → OffsetWidth → ℕ → ℕ
 omitted_offset s b w k = if is_omitted s b k then offset_width w else 0
 
 abbrev mutual
-  -- the bytes of these offsets, in the column at node a and buffer b
+  -- The bytes of the single offsets that stand for empty buffers of offsets, in the column at node
+  -- a and buffer b, at all levels.
   pub omitted : Entries → Kind → ℕ → ℕ → Limit → ℕ
   omitted s null_kind a b limit = 0
   omitted s boolean_kind a b limit = 0
@@ -38,38 +41,41 @@ abbrev mutual
   omitted s (dictionary_kind f id t) a b limit = 0
   omitted s (extension_kind t) a b limit = omitted s t a b limit
 
-  -- in some columns, one behind the other
+  -- The bytes of these single offsets in some columns, one after the other.
   pub all_omitted : Entries → Kinds → ℕ → ℕ → Limit → ℕ
   all_omitted s no_kinds a b limit = 0
   all_omitted s (more_kinds t ts) a b limit = omitted s t a b limit + all_omitted s ts (a + nodes t) (b + buffers s.extra t) limit
 
--- an array holds no more than the column needs, and one offset for each buffer of offsets that is omitted
+-- An array retains no more bytes than its column needs, plus one offset
+-- for each empty buffer of offsets.
 abbrev pub HoldsNeeded : Entries → Kind → ℕ → ℕ → Limit → Layout → Type 0
 HoldsNeeded s t a b limit l = held l ≤ needed s t a b limit + omitted s t a b limit
 
--- the array that a column is read to does
+-- Theorem: the array that a column is read to retains no more than `HoldsNeeded` says.
 abbrev pub ReadHeldLaw : Type 0
 ReadHeldLaw = (s : Entries) (vs : Option ℤ → Layout) (t : Kind) (u : TypeTree) (a b : ℕ) (limit : Limit)
     → HoldsNeeded s t a b limit (array_at s vs t u a b limit)
 
 -- ---- chosen columns
 
--- the offsets that are omitted in some columns, each in its own entries
+-- The bytes of the single offsets in the chosen columns, each read from its own entries.
 abbrev pub columns_omitted : Entries → Kinds → Limit → List ℕ → ℕ
 columns_omitted s ts limit js = sum_by (λ j. omitted (own s ts j) (kind_at ts j) 0 0 limit) js
 
--- an array for each of some columns, which holds no more than its column needs
+-- There is an array for each of these columns, which retains no more than its column needs.
 abbrev pub AllHoldNeeded : Entries → Kinds → Limit → List ℕ → List Layout → Type 0
 AllHoldNeeded s ts limit [] [] = Unit {0}
 AllHoldNeeded s ts limit (j ∷ js) (l ∷ ls) = HoldsNeeded (own s ts j) (kind_at ts j) 0 0 limit l × AllHoldNeeded s ts limit js ls
 AllHoldNeeded s ts limit _ _ = ⊥
 
--- some arrays hold together no more than the columns' own buffers list, no more than so much, and the offsets that are omitted
+-- Some arrays together retain at most the encoded length of their columns' own buffers, or `most`
+-- bytes, plus the single offsets.
 pub record HoldNoMore (s : Entries) (most : ℕ) (ts : Kinds) (js : List ℕ) (limit : Limit) (ls : List Layout) : Type 0 where
   pub own_buffers : sum_by held ls ≤ columns_listed s ts js + columns_omitted s ts limit js
   pub all_buffers : sum_by held ls ≤ most + columns_omitted s ts limit js
 
--- such are the arrays of the columns that are chosen of a batch, each of them once
+-- Theorem: the arrays of a batch's chosen columns, each chosen once, retain
+-- no more than `HoldNoMore` says.
 abbrev pub ChosenHeldLaw : Type 0
 ChosenHeldLaw = (s : Entries) (most : ℕ) (ts : Kinds) (projection : Option (List ℕ)) (limit : Limit) (ls : List Layout) → IsOnce projection
     → IsBatch s most ts (chosen projection (count ts)) limit → AllHoldNeeded s ts limit (chosen projection (count ts)) ls

@@ -1,4 +1,7 @@
--- Columns that are written out, the arrays that they are read to, and how many bytes these hold.
+-- Columns, the arrays that they are read to, and how many bytes these retain. A definition by which
+-- omitted offsets retain nothing fails `omitted_offset`, and `ReadHeldLaw`. One by which a sparse
+-- union's children are read without its limit fails `ReadHeldLaw`.
+-- (Arrow columnar format, "Buffer Listing for Each Layout".)
 use Rattle.std.specs.Prelude.{◌≡◌, false, [], ◌∷◌, ◌++◌, Some, None}
 use Rattle.lower.specs.TypeTrees.{TypeTree, boolean, int32, utf8, list, entries as map_of, structure, choice, plain, single, group}
 use Rattle.lower.specs.declared.datatypes.UnionMode.TheVariants.{Dense}
@@ -18,7 +21,7 @@ use Rattle.ipc_model.specs.OfferRows.{field_is, both_fields, nulls_are, b_then_a
 use Rattle.ipc_model.specs.ReadArrays.{array_at}
 use Rattle.ipc_model.specs.SlicedRows.{sliced_entries}
 
--- the array of the column at the beginning, where no dictionary is known
+-- The array of the first column, if no dictionary is known.
 abbrev pub read_array : Kind → TypeTree → Limit → Entries → Layout
 read_array t u limit s = array_at s (λ id. nulls_are 0) t u 0 0 limit
 
@@ -37,9 +40,11 @@ union_type = group (choice None Dense) (both_fields (plain int32) (plain boolean
 abbrev pub no_texts : Entries
 no_texts = entries Little 0 (node_is 0 0 ∷ []) (buffer_is 0 0 ∷ buffer_is 0 0 ∷ buffer_is 0 0 ∷ []) []
 
--- Five offsets and five numbers; three and two under a limit. Two maps as bytes, offsets, bits and numbers. A slice of a dense union, and its children
--- whole. No text needs a byte, and yet there is one offset. 27 bits and their validity; and five of these. Keys, whose values stand
--- aside. A slice that stands over a whole child has the slots of its column and holds more than that needs: it isn't what the column is read to.
+-- Five offsets and five numbers; three and two under a limit. Two maps: bytes, offsets, bits
+-- and numbers. A slice of a dense union, and its children whole. No text needs a byte, and yet
+-- there is one offset. 27 bits and their validity; and five of these. Keys, without their
+-- values. An array with a whole child has the slots of the sliced column and retains more than
+-- that needs: the column isn't read to it.
 pub record HeldRows : Type 0 where
   pub lists : read_array list_kind_32 list_type None five_numbers ≡ four_lists
   pub whole_list : held (read_array list_kind_32 list_type None five_numbers) ≡ 40

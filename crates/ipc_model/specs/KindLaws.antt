@@ -1,4 +1,6 @@
--- The kinds of fields take the nodes and buffers that the fields take, and no float is a number of theirs.
+-- Theorems: the kinds of fields take as many nodes and buffers as the fields' types, and
+-- none of their numbers is a float.
+-- (Arrow columnar format, "Buffer Listing for Each Layout".)
 use Rattle.std.specs.Prelude.{◌≡◌, ℕ}
 use Rattle.lower.specs.TypeTrees.{FieldTrees}
 use Rattle.lower.specs.Counts.{fields_nodes, fields_buffers}
@@ -8,15 +10,18 @@ use Rattle.lower_types.specs.declared.PrimitiveType.TheVariants.{Float16, Float3
 use Rattle.ipc_model.specs.Kinds.{Kind, number_kind, list_kind, map_kind, fixed_list_kind, struct_kind, union_kind, dictionary_kind, extension_kind, Kinds, no_kinds, more_kinds, all_nodes, all_buffers}
 use Rattle.ipc_model.specs.TypeKinds.{kinds_of}
 
+-- The columns of some fields take as many nodes as the fields' types.
 abbrev pub NodeCountLaw : Type 0
 NodeCountLaw = (fs : FieldTrees) (is : IdTrees) → all_nodes (kinds_of fs is) ≡ fields_nodes fs
 
+-- The columns of some fields take as many buffers as the fields' types.
 abbrev pub BufferCountLaw : Type 0
 BufferCountLaw = (extra : ℕ) (fs : FieldTrees) (is : IdTrees) → all_buffers extra (kinds_of fs is)
     ≡ fields_buffers extra fs
 
 -- ---- floats
 
+-- A type of numbers is no float.
 abbrev pub IsNoFloat : PrimitiveType → Type 0
 IsNoFloat Float16 = ⊥
 IsNoFloat Float32 = ⊥
@@ -24,7 +29,7 @@ IsNoFloat Float64 = ⊥
 IsNoFloat _ = Unit {0}
 
 abbrev mutual
-  -- no number of a kind is a float, and no key
+  -- No numbers and no keys in a kind are floats, at any level.
   pub HasNoFloat : Kind → Type 0
   HasNoFloat (number_kind f) = IsNoFloat f
   HasNoFloat (list_kind w t) = HasNoFloat t
@@ -36,10 +41,12 @@ abbrev mutual
   HasNoFloat (extension_kind t) = HasNoFloat t
   HasNoFloat _ = Unit {0}
 
+  -- No numbers and no keys in some kinds are floats.
   pub HaveNoFloat : Kinds → Type 0
   HaveNoFloat no_kinds = Unit {0}
   HaveNoFloat (more_kinds t ts) = HasNoFloat t × HaveNoFloat ts
 
--- such are the kinds of all fields: a float's kind has no meaning
+-- The kinds of all fields have no float numbers: floats are of the kind
+-- `float_kind`, which has no meaning.
 abbrev pub NoFloatLaw : Type 0
 NoFloatLaw = (fs : FieldTrees) (is : IdTrees) → HaveNoFloat (kinds_of fs is)

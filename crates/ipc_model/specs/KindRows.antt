@@ -1,5 +1,7 @@
--- Columns of each type as bytes, and what they mean: widths, signs, offsets, keys, and how many children there may be. Beside most stands one
--- that has no meaning.
+-- Columns of each type as bytes, and what they mean: widths, signs, offsets, keys, and how many
+-- children there may be. Beside most is one that has no meaning. A definition that is changed in
+-- one word fails one of these cases. Each limit is tried at its edge: the last value that
+-- passes, and the first that doesn't.
 -- (Arrow columnar format, "Physical Memory Layout" and "Data Types".)
 use Rattle.std.specs.Prelude.{◌≡◌, ℕ, zero, suc, ℤ, pos, negsuc, ◌+◌, ◌-◌, ◌*◌, ◌^◌, Bool, true, false, List, [], ◌∷◌, ◌++◌, codes, length, map, replicate, Option, Some, None}
 use Rattle.std.specs.List.{range_with_len}
@@ -25,15 +27,15 @@ use Rattle.lower_types.specs.declared.PrimitiveType.TheVariants.{Int8}
 
 -- ---- numbers of each type
 
--- the slots of a column without nulls at the beginning, by its type
+-- The slots of the first column, without nulls, by its type.
 abbrev pub read_type : TypeTree → Entries → Option (List Slot)
 read_type t s = read (kind_of t None no_ids) None s
 
--- so many slots by so many bytes
+-- So many slots in these bytes.
 abbrev pub values_in : ℕ → List ℕ → Entries
 values_in n body = entries Little 0 (node_is n 0 ∷ []) (buffer_is 0 0 ∷ buffer_is 0 (length body) ∷ []) body
 
--- bytes whose parts differ, by 1, 2, 4, 8 and 16
+-- Bytes whose parts of 1, 2, 4, 8 and 16 bytes differ.
 abbrev pub sixteen_bytes : List ℕ
 sixteen_bytes = 0xFE ∷ 0xFF ∷ 0xFF ∷ 0xFF ∷ 1 ∷ 0 ∷ 0 ∷ 0x80 ∷ 3 ∷ 0 ∷ 0 ∷ 0 ∷ 0 ∷ 0 ∷ 0 ∷ 0xFF ∷ []
 
@@ -43,15 +45,16 @@ first_value p = read_type (plain p) (values_in 1 (sixteen_bytes ++ sixteen_bytes
 abbrev pub one_integer : ℤ → Option (List Slot)
 one_integer z = Some (number_slot (whole z) ∷ [])
 
--- what these bytes are as a signed number of 64 bits, of 128 bits, and as the low half of one of 256
+-- These bytes as a signed number of 64 bits, of 128 bits, and as the low half of one of 256.
 abbrev pub eight_as_signed : ℤ
 eight_as_signed = negsuc (2 ^ 63 - 2 ^ 33 + 1)
 
 abbrev pub sixteen_as_signed : ℤ
 sixteen_as_signed = negsuc (2 ^ 120 - 3 * 2 ^ 64 - 2 ^ 63 - 2 ^ 33 + 1)
 
--- The first value of each type in the same 32 bytes: how many bytes it has, and whether its number is signed. Dates of 32 bits are days and of 64
--- milliseconds; a decimal has 128 bits, and a wide one 256.
+-- The first value of each type in the same 32 bytes: how many bytes it has, and whether
+-- its number is signed. Dates of 32 bits are days, those of 64 bits milliseconds; a
+-- decimal has 128 bits, and a wide one 256.
 pub record WidthRows : Type 0 where
   pub signed_8 : first_value int8 ≡ one_integer (negsuc 1)
   pub signed_16 : first_value int16 ≡ one_integer (negsuc 1)
@@ -83,7 +86,8 @@ pub record WidthRows : Type 0 where
 
 -- ---- bytes of a fixed number, and bits
 
--- Two slots of three bytes each; no slot has no bytes at all. Eight bits have one byte, and the ninth is the lowest of the next.
+-- Two slots of three bytes each; no slot has 0 bytes. Eight bits take one byte, and the
+-- ninth is the lowest of the next.
 pub record FixedRows : Type 0 where
   pub three_bytes : read_type (plain (fixed_binary 3)) (values_in 2 (1 ∷ 2 ∷ 3 ∷ 4 ∷ 5 ∷ 6 ∷ []))
       ≡ Some (bytes_slot (1 ∷ 2 ∷ 3 ∷ []) ∷ bytes_slot (4 ∷ 5 ∷ 6 ∷ []) ∷ [])
@@ -103,7 +107,7 @@ pub record FixedRows : Type 0 where
 
 -- ---- offsets
 
--- one list of nulls, by two offsets of some bytes, over so many nulls
+-- One list of nulls, by two offsets of some bytes, with so many nulls.
 abbrev pub list_of_nulls : Kind → List ℕ → ℕ → Entries
 list_of_nulls t offsets n = entries Little 0 (node_is 1 0 ∷ node_is n n ∷ []) (buffer_is 0 0 ∷ buffer_is 0 (length offsets) ∷ []) offsets
 
@@ -113,7 +117,7 @@ short_lists last = is_well (list_of_nulls null_kind (word 0 ++ to_le_bytes w32 l
 abbrev pub long_lists : ℕ → Bool
 long_lists last = is_well (list_of_nulls null_kind (replicate 8 0 ++ to_le_bytes w64 last) last) (list_kind offsets_64 null_kind) 0 0 None
 
--- two lists of integers by three offsets of 8 bytes each
+-- Two lists of integers by three offsets of 8 bytes each.
 abbrev pub large_lists_of : List ℕ → Entries
 large_lists_of body = entries Little 0 (node_is 2 0 ∷ node_is 2 0 ∷ []) (buffer_is 0 0 ∷ buffer_is 0 24 ∷ buffer_is 0 0 ∷ buffer_is 24 8 ∷ []) body
 
@@ -123,12 +127,13 @@ list_field = field [] (plain int32) true []
 abbrev pub three_long_offsets : List ℕ
 three_long_offsets = word 0 ++ word 0 ++ word 1 ++ word 0 ++ word 2 ++ word 0
 
--- one slot of bytes by two offsets, and what stands behind
+-- One slot of bytes by two offsets, and the bytes after it.
 abbrev pub bytes_by : List ℕ → List ℕ → Entries
 bytes_by offsets values = entries Little 0 (node_is 1 0 ∷ []) (buffer_is 0 0 ∷ buffer_is 0 (length offsets) ∷ buffer_is (length offsets) (length values) ∷ []) (offsets ++ values)
 
--- Offsets are signed: the greatest is one less than half of what their bytes can say. Large forms have offsets of 8 bytes, whichever the numbers. Their bytes are
--- in the schema's order. Offsets are omitted where no slot is read and no byte is listed; else the first is judged too.
+-- Offsets are signed: the greatest is one less than half of what their bytes can encode. Large
+-- forms have offsets of 8 bytes, whatever the numbers. Their bytes are in the schema's order.
+-- Offsets are omitted if no slot is read and the buffer is empty; else the first must be valid too.
 pub record OffsetRows : Type 0 where
   pub greatest : short_lists (2 ^ 31 - 1) ≡ true
   pub past_the_greatest : short_lists (2 ^ 31) ≡ false
@@ -157,7 +162,7 @@ pub record OffsetRows : Type 0 where
 
 -- ---- keys
 
--- one key by its bytes, under an id with so many values
+-- One key by its bytes, under an id with so many values.
 abbrev pub under_key : IntegerType → Endianness → List ℕ → ℕ → Bool
 under_key k order body n = is_well (record {
   nodes = node_is 1 0 ∷ [];
@@ -170,7 +175,8 @@ under_key k order body n = is_well (record {
 abbrev pub at_key : IntegerType → List ℕ → ℕ → Bool
 at_key k body n = under_key k Little body n
 
--- A key is below the number of values, and not below 0. It has the bytes and the sign of its type, in the schema's order.
+-- A key is below the number of values and not negative. It has the bytes and the sign of
+-- its type, in the schema's order.
 pub record KeyRows : Type 0 where
   pub last_value : at_key keys.Int8 (2 ∷ []) 3 ≡ true
   pub past_the_last : at_key keys.Int8 (3 ∷ []) 3 ≡ false
@@ -207,34 +213,37 @@ null_kinds (suc n) = more_kinds null_kind (null_kinds n)
 abbrev pub numbers_up_to : ℕ → List ℤ
 numbers_up_to n = map (λ i. pos i) (range_with_len 0 n)
 
--- a sparse union of no slot, over so many nulls
+-- A sparse union without slots, with so many children of nulls.
 abbrev pub union_over : Option (List ℤ) → ℕ → Bool
 union_over type_ids n = is_well (entries Little 0 (replicate (1 + n) (node_is 0 0)) (buffer_is 0 0 ∷ []) []) (union_kind Sparse type_ids (null_kinds n)) 0 0 None
 
--- a sparse union of one slot over two nulls, whose type is this byte
+-- A sparse union of one slot with two children of nulls, whose type id is this byte.
 abbrev pub typed_by : Option (List ℤ) → ℕ → Bool
 typed_by type_ids byte = is_well (entries Little 0 (replicate 3 (node_is 1 1)) (buffer_is 0 1 ∷ []) (byte ∷ [])) (union_kind Sparse type_ids (null_kinds 2)) 0 0 None
 
--- a dense union of two slots over two integers, the second of which lies at this offset's bytes; of the children's bytes so many are listed
+-- A dense union of two slots with two integers; the second slot has this offset. The
+-- children's buffer has so many bytes.
 abbrev pub dense_of_two : Endianness → ℕ → List ℕ → ℕ → Limit → Bool
 dense_of_two order listed offset values limit =
     is_well (entries order 0 (node_is 2 0 ∷ node_is 2 0 ∷ []) (buffer_is 0 2 ∷ buffer_is 2 listed ∷ buffer_is 0 0 ∷ buffer_is 0 values ∷ [])
     (0 ∷ 0 ∷ word 0 ++ offset)) (union_kind Dense None (more_kinds int32_kind no_kinds)) 0 0 limit
 
--- a dense union of one slot, over a list of two integers and three integers behind it: the slot is that of the second at this place
+-- A dense union of one slot, with a list of two integers and three integers after it: the slot is
+-- that of the second child at this offset.
 abbrev pub list_or_integer : ℕ → Option (List Slot)
 list_or_integer byte = read (union_kind Dense None (two (list_kind offsets_32 int32_kind) int32_kind)) None
     (entries Little 0 (node_is 1 0 ∷ node_is 1 0 ∷ node_is 2 0 ∷ node_is 3 0 ∷ [])
     (buffer_is 0 1 ∷ buffer_is 1 4 ∷ buffer_is 0 0 ∷ buffer_is 5 8 ∷ buffer_is 0 0 ∷ buffer_is 13 8 ∷ buffer_is 0 0 ∷ buffer_is 13 12 ∷ [])
     (1 ∷ byte ∷ 0 ∷ 0 ∷ 0 ∷ word 0 ++ word 2 ++ word 3 ++ word 4 ++ word 5))
 
--- a node that says a length below 0
+-- A node with a negative length.
 abbrev pub negative_node : FieldNode
 negative_node = record { length = negsuc 0; null_count = pos 0 }
 
--- A union has 1 to 127 children. Its ids, where they are given, are as many, each once, from 0 to 126; else they are 0, 1 and on. Types and offsets are there for
--- each slot, and an offset is a signed number in the schema's order. A dense union's children are whole, whatever the limit; the second begins behind all that the first has. A length is
--- not below 0.
+-- A union has 1 to 127 children. Its type ids, if it has any, are one for each child, distinct,
+-- from 0 to 126; else they are 0, 1 and so on. There are type ids and offsets for each slot, and an
+-- offset is a signed number in the schema's order. A dense union's children are whole, whatever the
+-- limit; the second begins after all of the first. A length isn't negative.
 pub record UnionEdgeRows : Type 0 where
   pub no_children : union_over None 0 ≡ false
   pub most_children : union_over None 127 ≡ true
@@ -262,18 +271,19 @@ pub record UnionEdgeRows : Type 0 where
   pub negative_length : is_well (entries Little 0 (negative_node ∷ node_is 0 0 ∷ []) (buffer_is 0 0 ∷ []) []) (union_kind Sparse None (null_kinds 1)) 0 0 None ≡ false
   pub negative_dense_length : is_well (entries Little 0 (negative_node ∷ node_is 0 0 ∷ []) (buffer_is 0 0 ∷ buffer_is 0 0 ∷ []) []) (union_kind Dense None (null_kinds 1)) 0 0 None ≡ false
 
--- a struct of a list of two integers and an integer
+-- A struct of a list of two integers and an integer.
 abbrev pub list_and_integer : Option (List Slot)
 list_and_integer = read (struct_kind (two (list_kind offsets_32 int32_kind) int32_kind)) None
     (entries Little 0 (node_is 1 0 ∷ node_is 1 0 ∷ node_is 2 0 ∷ node_is 1 0 ∷ [])
     (buffer_is 0 0 ∷ buffer_is 0 0 ∷ buffer_is 0 8 ∷ buffer_is 0 0 ∷ buffer_is 8 8 ∷ buffer_is 0 0 ∷ buffer_is 16 4 ∷ [])
     (word 0 ++ word 2 ++ word 3 ++ word 4 ++ word 5))
 
--- one map, over so many nodes of no slot, whose child is of this kind
+-- One map, with so many nodes of no slot, whose child is of this kind.
 abbrev pub map_over : Kind → Bool
 map_over t = is_well (entries Little 0 (replicate 5 (node_is 0 0)) (replicate 8 (buffer_is 0 0)) []) (map_kind t) 0 0 None
 
--- A map's child is a struct of two fields, and no extension of one. A field of a struct begins behind all that those before it have.
+-- The child of a map is a struct of two fields, and no extension of one. A field of a struct begins
+-- after all of the fields before it.
 pub record PairRows : Type 0 where
   pub two_fields : map_over (struct_kind (two null_kind null_kind)) ≡ true
   pub one_field : map_over (struct_kind (null_kinds 1)) ≡ false
@@ -283,15 +293,16 @@ pub record PairRows : Type 0 where
   pub second_field : list_and_integer ≡ Some (record_slot (slots_of (numbers_of (3 ∷ 4 ∷ []) ∷ number 5 ∷ [])) ∷ [])
   pub an_extended_column : read_type (extension (codes "e") (plain int32) None) (values_in 1 (word 5)) ≡ Some (number 5 ∷ [])
 
--- the entries of so many columns without a slot
+-- The entries of so many columns without slots.
 abbrev pub empty_entries : ℕ → ℕ → Entries
 empty_entries ns bs = entries Little 0 (replicate ns (node_is 0 0)) (replicate bs (buffer_is 0 0)) []
 
 abbrev pub null_field : FieldTree
 null_field = field [] (plain null) true []
 
--- What a type with children says of its bytes: a map, its keys in order or not, isn't read as a list, since its child has to be a pair; a list of a fixed number has that number;
--- a union has the ids that it names; an extension of a dictionary has the dictionary's id.
+-- Types with children. A map isn't read as a list, whether its keys are in order or not, since its
+-- child must be a struct of two fields. A fixed-size list has its number, a union its type ids; an
+-- extension of a dictionary has the dictionary's id.
 pub record NestedKindRows : Type 0 where
   pub a_list : read_type (single list list_field) (empty_entries 2 4) ≡ Some []
   pub no_map : read_type (single (map_of false) list_field) (empty_entries 2 4) ≡ None

@@ -1,5 +1,11 @@
--- Messages of a stream that are written out slot by slot, and what they mean. Beside most stands one that has no meaning.
--- (Arrow columnar format, "RecordBatch message", "Dictionary messages" and "IPC Streaming Format"; Message.fbs.)
+-- Messages of a stream, field by field, and what they mean. Beside most is one that has no meaning.
+-- A definition that is changed in one word fails one of these cases. Each limit is tried at its
+-- edge: the last value that passes, and the first that doesn't. Mutated definitions fail here:
+-- * with three bytes as a length: `cut_length`
+-- * with one byte more of metadata than their length says: `a_byte_behind`, `behind_the_marker`
+-- * with one byte more of a body than its length says: `body_a_byte_short`, `values_a_byte_short`
+-- (Arrow columnar format, "RecordBatch message", "Dictionary messages" and "IPC
+-- Streaming Format"; Message.fbs.)
 use Rattle.std.specs.Prelude.{◌≡◌, ℕ, ℤ, pos, ◌+◌, ◌-◌, ◌*◌, ◌^◌, true, false, List, [], ◌∷◌, ◌++◌, length, codes, slice_set, flat_map, map, Option, Some, None, option_map}
 use Rattle.std.specs.Int.{w64, to_le_bytes}
 use Rattle.lower.specs.Normal.{data_key}
@@ -23,7 +29,8 @@ use Rattle.ipc_views.specs.declared.schema.MetadataVersion.TheVariants.{V1, V2, 
 
 -- ---- frames
 
--- Three bytes wait, as one and two do. A length from 2 ^ 31 on is one below 0, whatever follows.
+-- A stream of three bytes waits, as it does with one and two. A length from 2 ^ 31 on
+-- is negative, whatever follows.
 pub record FrameRows : Type 0 where
   pub three_begun : frame (0xFF ∷ 0xFF ∷ 0xFF ∷ []) ≡ waiting (0xFF ∷ 0xFF ∷ 0xFF ∷ [])
   pub nothing : frame [] ≡ waiting []
@@ -38,11 +45,11 @@ pub record FrameRows : Type 0 where
 
 -- ---- records
 
--- numbers of 64 bits, two for each struct
+-- Numbers of 64 bits, two for each struct.
 abbrev pub structs : List (ℕ × ℕ) → List ℕ
 structs ps = flat_map (λ p. to_le_bytes w64 p.0 ++ to_le_bytes w64 p.1) ps
 
--- which slots of a record batch are there
+-- Which fields of a record batch are present.
 pub record Slots : Type 0 where
   pub nodes : ℕ
   pub buffers : ℕ
@@ -51,7 +58,8 @@ pub record Slots : Type 0 where
 abbrev pub usual : Slots
 usual = record { nodes = 12; buffers = 16; compression = 0 }
 
--- a record batch with its length, which isn't used, and a compression's table, which is there where its slot is
+-- A record batch with its length, which isn't used, and a compression's table,
+-- which is present if its field is.
 abbrev pub batch_with : Slots → List (ℕ × ℕ) → List (ℕ × ℕ) → List ℕ
 batch_with s ns bs =
     table_bytes (4 ∷ s.nodes ∷ s.buffers ∷ s.compression ∷ [])
@@ -64,7 +72,7 @@ integer_head = head_of_field (plain int32) (ids None no_ids)
 abbrev pub in_message : ℕ → ℕ → List ℕ → List ℕ → Meant
 in_message tag n header body = meaning integer_head nothing_known (framed (message_bytes tag n header) body)
 
--- one integer, 5, by what lists it, in a body of 64 bytes
+-- One integer, 5, by its nodes and buffers, in a body of 64 bytes.
 abbrev pub five_by : Slots → List (ℕ × ℕ) → List (ℕ × ℕ) → Meant
 five_by s ns bs = in_message 3 64 (batch_with s ns bs) (padded (word 5))
 
@@ -77,15 +85,17 @@ nothing_read = faulty_after []
 abbrev pub minus_one : ℕ
 minus_one = 2 ^ 64 - 1
 
--- The values "a" and a zero byte, in a body that is said to have so many bytes: they take 66.
--- What is behind these is zeros, which are a mark.
+-- The values "a" and a zero byte, in a body whose message says this length: they take 66 bytes. The
+-- bytes after them are zeros, which are a mark.
 abbrev pub values_in : ℕ → Meant
 values_in n = meaning text_head nothing_known
     (slice_set (dictionary_message 0 ((2, 0) ∷ []) ((0, 0) ∷ (0, 12) ∷ (64, 2) ∷ [])
     (two_texts (0x61 ∷ 0 ∷ []))) 32 n)
 
--- A batch that names a compression, or lists no nodes or no buffers, has no meaning. What is left over isn't used, and yet a listed length is at least 0,
--- and the sum at most the body. A body has the stated length, which is at least 0, and nothing behind it is the batch's. Other messages have no place.
+-- A batch that names a compression, or has no list of nodes or of buffers, has no meaning. Nodes
+-- and buffers that are left over aren't used; yet each encoded length is at least 0, and the sum at
+-- most the body. A body has the stated length, which is at least 0, and no byte after it is the
+-- batch's. Messages of other kinds have no meaning.
 pub record RecordRows : Type 0 where
   pub as_it_stands : five_by usual ((1, 0) ∷ []) ((0, 0) ∷ (0, 4) ∷ []) ≡ five
   pub compressed : five_by (record { nodes = 12; buffers = 16; compression = 20 }) ((1, 0) ∷ []) ((0, 0) ∷ (0, 4) ∷ []) ≡ nothing_read
@@ -116,14 +126,15 @@ pub record RecordRows : Type 0 where
   pub no_header : in_message 0 64 (batch_with usual ((1, 0) ∷ []) ((0, 0) ∷ (0, 4) ∷ [])) (padded (word 5)) ≡ nothing_read
   pub ill_made_compression : meaning integer_head nothing_known (slice_set (framed (message_bytes 3 64 (batch_with (record { nodes = 12; buffers = 16; compression = 20 }) ((1, 0) ∷ []) ((0, 0) ∷ (0, 4) ∷ []))) (padded (word 5))) 81 0xFF) ≡ nothing_read
 
--- the version of a schema message of the version with this number, and the buffers in front in it
+-- The version of a schema message with this number, and how many extra buffers a union has by it.
 abbrev pub version_in : ℕ → Option MetadataVersion
 version_in version = option_map (λ (h : Head). h.version) (head_of (slice_set smallest 24 version))
 
 abbrev pub extra_in : ℕ → Option ℕ
 extra_in version = option_map (λ (h : Head). extra_of h.version) (head_of (slice_set smallest 24 version))
 
--- One buffer stands in front of a union's own in each version before the fifth. There are five.
+-- A union has one extra buffer, before its own, in each version before the
+-- fifth. There are five versions.
 pub record VersionRows : Type 0 where
   pub first : extra_in 0 ≡ Some 1
   pub second : extra_in 1 ≡ Some 1
@@ -138,15 +149,15 @@ pub record VersionRows : Type 0 where
 abbrev pub after_messages : ℕ → Known
 after_messages n = record { dictionaries = []; count = n }
 
--- what is known of a dictionary's id after a message with these values
+-- What is known of a dictionary's id after a message with these values.
 abbrev pub known_as : Dictionary → ℕ → Known
 known_as d n = record { dictionaries = (pos 0, d) ∷ []; count = n }
 
--- a dictionary batch without its data
+-- A dictionary batch without its data.
 abbrev pub without_data : List ℕ
 without_data = framed (message_bytes 2 0 (table_bytes (4 ∷ 0 ∷ 0 ∷ 0 ∷ []) (to_le_bytes w64 0))) []
 
--- At most 65,536 dictionary messages stand before a record, those before a wait among them.
+-- At most 65,536 dictionary messages come before a record, those before a wait included.
 pub record CountRows : Type 0 where
   pub first : meaning text_head (after_messages 0) a_and_b ≡ record { chunks = []; end = waits (known_texts 1) [] }
   pub most : meaning text_head (after_messages 65535) a_and_b ≡ record { chunks = []; end = waits (known_texts 65536) [] }
@@ -159,7 +170,7 @@ keyed t = dictionary Int32 t false
 abbrev pub under_0 : IdTree
 under_0 = ids (Some (pos 0)) no_ids
 
--- two columns of one id, whose values have these types
+-- Two columns of one id, whose values have these types.
 abbrev pub columns_of : TypeTree → IdTree → TypeTree → IdTree → Head
 columns_of t i u j = record {
   schema = record {
@@ -171,14 +182,14 @@ columns_of t i u j = record {
   version = V5;
 }
 
--- a list of integers, whose field has metadata
+-- A list of integers, whose field has metadata.
 abbrev pub lists_with : Pairs → TypeTree
 lists_with metadata = single list (field (codes "f") (plain int32) true metadata)
 
 abbrev pub list_ids : IdTree
 list_ids = ids (Some (pos 0)) (more_ids (ids None no_ids) no_ids)
 
--- one list, [5], as the values of the id 0
+-- One list, [5], as the values of the id 0.
 abbrev pub list_of_five : List ℕ
 list_of_five = dictionary_message 0 ((1, 0) ∷ (1, 0) ∷ []) ((0, 0) ∷ (0, 8) ∷ (0, 0) ∷ (64, 4) ∷ []) (padded (word 0 ++ word 1) ++ padded (word 5))
 
@@ -191,8 +202,10 @@ both_are t u xs = record { type = keyed t; slots = xs } ∷ record { type = keye
 abbrev pub with_data_key : Pairs
 with_data_key = (data_key, codes "m") ∷ []
 
--- The values of an id are read by the type of its first place, whichever the later ones have; a column of another type has no meaning. Types are compared in their
--- normal form: a key of an extension without a name counts for nothing, and any other metadata do. A place without an id is none of any id, and its column has no meaning.
+-- The values of an id are read by the type of its first field, whatever the later ones have; a
+-- column of another type has no meaning. Types are compared in their normal form: a key of an
+-- extension without a name doesn't count, and any other metadata do. A field without an id belongs
+-- to no id, and its column has no meaning.
 pub record FirstPlaceRows : Type 0 where
   pub texts_first : meaning (columns_of (plain utf8) under_0 (plain binary) under_0) nothing_known a_and_b
       ≡ record { chunks = []; end = waits (known_as (values_are (a ∷ b ∷ [])) 1) [] }
@@ -217,7 +230,8 @@ ids_in (p ∷ ps) = p.id ∷ ids_in ps
 abbrev pub places_of : FieldTree → IdTree → List (Option ℤ)
 places_of f i = ids_in (places (alone f) (more_ids i no_ids))
 
--- An extension over a dictionary is a place, and so is a dictionary in an extension's struct; a dictionary comes before those in its values.
+-- An extension of a dictionary is a dictionary field, and so is a dictionary in an extension's
+-- struct. A dictionary comes before those in its values.
 pub record WhereRows : Type 0 where
   pub behind_an_extension : places_of (named (extension (codes "e") (keyed (plain utf8)) None) (codes "d")) under_0 ≡ Some (pos 0) ∷ []
   pub in_a_struct : places_of (named (extension (codes "e") (group structure (more_fields (named (plain boolean) []) (alone (named (keyed (plain utf8)) [])))) None) (codes "s"))

@@ -1,4 +1,5 @@
--- How many bytes a column needs: what is held of it where it was read, dictionaries aside.
+-- How many bytes a column needs: what an array retains of it, without the values of dictionaries.
+-- Contracts of readers cite none of this: they use `HeldListed` of `ipc_flat_columns`.
 -- (Arrow columnar format, "Buffer Listing for Each Layout".)
 use Rattle.std.specs.Prelude.{ℕ, zero, suc, ◌+◌, ◌*◌, ◌≤◌, ◌==◌, List, if◌then◌else◌, Option, None, Some}
 use Rattle.std.specs.List.{IsDistinct, sum_by}
@@ -9,20 +10,20 @@ use Rattle.ipc_model.specs.Columns.{is_omitted, last_offset, IsWell}
 use Rattle.ipc_model.specs.Entries.{Entries, size, node, listed, Limit, rows, times, bytes_for}
 use Rattle.ipc_model.specs.Kinds.{offsets_32, OffsetWidth, offset_width, Kind, null_kind, boolean_kind, number_kind, float_kind, fixed_binary_kind, binary_kind, utf8_kind, list_kind, map_kind, fixed_list_kind, struct_kind, union_kind, dictionary_kind, extension_kind, Kinds, no_kinds, more_kinds, count, nodes, buffers}
 
--- the bits of k slots, where some slot is null
+-- The bytes of the validity of k slots; 0 if no slot is null.
 abbrev pub validity_bytes : Entries → ℕ → ℕ → ℕ
 validity_bytes s a k = if size (node s a).null_count == 0 then 0 else bytes_for k
 
--- the k + 1 offsets of w bytes in buffer b
+-- The bytes of the k + 1 offsets of w bytes in buffer b; 0 if they are omitted.
 abbrev pub offset_bytes : Entries → ℕ → ℕ → ℕ → ℕ
 offset_bytes s b w k = if is_omitted s b k then 0 else w * (k + 1)
 
--- those and the bytes that they cut into slots
+-- The bytes of the k + 1 offsets in buffer b, and the bytes that they cut into slots.
 abbrev pub cut_bytes : Entries → ℕ → OffsetWidth → ℕ → ℕ
 cut_bytes s b w k = offset_bytes s b (offset_width w) k + last_offset s b (offset_width w) k
 
 abbrev mutual
-  -- the bytes that the first slots of the column at node a and buffer b need
+  -- The bytes that the first slots of the column at node a and buffer b need, at all levels.
   pub needed : Entries → Kind → ℕ → ℕ → Limit → ℕ
   needed s null_kind a b limit = 0
   needed s boolean_kind a b limit = validity_bytes s a (rows s a limit) + bytes_for (rows s a limit)
@@ -44,47 +45,49 @@ abbrev mutual
   needed s (dictionary_kind f id t) a b limit = validity_bytes s a (rows s a limit) + width_of f * rows s a limit
   needed s (extension_kind t) a b limit = needed s t a b limit
 
-  -- those of some columns, one behind the other
+  -- The bytes that the first slots of some columns need, one after the other.
   pub all_needed : Entries → Kinds → ℕ → ℕ → Limit → ℕ
   all_needed s no_kinds a b limit = 0
   all_needed s (more_kinds t ts) a b limit = needed s t a b limit + all_needed s ts (a + nodes t) (b + buffers s.extra t) limit
 
--- how many bytes are listed in n buffers from b on
+-- The sum of the encoded lengths of n buffers from buffer b on.
 abbrev pub listed_from : Entries → ℕ → ℕ → ℕ
 listed_from s b zero = 0
 listed_from s b (suc n) = listed s b + listed_from s (b + 1) n
 
--- a well formed column needs no more than its buffers list
+-- A well formed column needs at most the encoded length of its buffers.
 abbrev pub NeededLaw : Type 0
 NeededLaw = (s : Entries) (t : Kind) (a b : ℕ) (limit : Limit) → IsWell s t a b limit
     → needed s t a b limit ≤ listed_from s b (buffers s.extra t)
 
--- all columns of a batch together need no more than its buffers may list
+-- All columns of a batch together need at most the size that its buffers may have.
 abbrev pub BatchNeededLaw : Type 0
 BatchNeededLaw = (s : Entries) (most : ℕ) (ts : Kinds) (limit : Limit) → IsBatch s most ts (chosen None (count ts)) limit
     → all_needed s ts 0 0 limit ≤ most
 
 -- ---- chosen columns
 
--- no column is chosen twice
+-- No column is chosen twice.
 abbrev pub IsOnce : Option (List ℕ) → Type 0
 IsOnce None = Unit {0}
 IsOnce (Some js) = IsDistinct (λ i j. i == j) js
 
--- the bytes that some columns need, each in its own entries, and those that their buffers list
+-- The bytes that the chosen columns need, each read from its own entries.
 abbrev pub columns_needed : Entries → Kinds → Limit → List ℕ → ℕ
 columns_needed s ts limit js = sum_by (λ j. needed (own s ts j) (kind_at ts j) 0 0 limit) js
 
+-- The encoded lengths of the chosen columns' own buffers.
 abbrev pub columns_listed : Entries → Kinds → List ℕ → ℕ
 columns_listed s ts js = sum_by (λ j. listed_bytes (own s ts j)) js
 
--- some columns need no more than their own buffers list, and these no more than so much
+-- The chosen columns need at most the encoded lengths of their own buffers,
+-- and these sum to at most `most`.
 pub record NeedNoMore (s : Entries) (most : ℕ) (ts : Kinds) (js : List ℕ) (limit : Limit) : Type 0 where
   pub own_buffers : columns_needed s ts limit js ≤ columns_listed s ts js
   pub all_buffers : columns_listed s ts js ≤ most
 
--- The columns that are chosen of a batch, each of them once, need no more than their own buffers list, and these list no more than all
--- buffers may.
+-- The chosen columns of a batch, each chosen once, need at most the encoded lengths of their own
+-- buffers. These sum to at most the size that all buffers may have.
 abbrev pub ChosenNeededLaw : Type 0
 ChosenNeededLaw = (s : Entries) (most : ℕ) (ts : Kinds) (projection : Option (List ℕ)) (limit : Limit) → IsOnce projection
     → IsBatch s most ts (chosen projection (count ts)) limit → NeedNoMore s most ts (chosen projection (count ts)) limit

@@ -1,4 +1,5 @@
--- Columns that are written out, and how many bytes they need.
+-- Columns, and how many bytes they need.
+-- (Arrow columnar format, "Buffer Listing for Each Layout".)
 use Rattle.std.specs.Prelude.{◌≡◌, [], ◌∷◌, ◌++◌, Some, None}
 use Rattle.lower_types.specs.declared.Endianness.TheVariants.{Little}
 use Rattle.ipc_model.specs.ColumnRows.{node_is, buffer_is, entries, padded, word, int32, five_numbers, map_entries, ones, two, dense}
@@ -7,14 +8,15 @@ use Rattle.ipc_model.specs.Kinds.{offsets_32, utf8_kind, list_kind, map_kind, fi
 use Rattle.ipc_model.specs.Needed.{needed, columns_needed, columns_listed}
 use Rattle.ipc_model.specs.SlicedRows.{sliced_entries}
 
--- two columns of two numbers
+-- Two columns of two numbers.
 abbrev pub two_columns : Entries
 two_columns = entries Little 0 (node_is 2 0 ∷ node_is 2 0 ∷ []) (buffer_is 0 0 ∷ buffer_is 0 8 ∷ buffer_is 0 0 ∷ buffer_is 64 8 ∷ []) (padded ones ++ padded ones)
 
--- Five offsets and five numbers; three and two under a limit. Numbers with a null have one byte for its bit. Three offsets of two maps,
--- four of the three keys, a byte each, three numbers and the bits of their null. A slice of a dense union has two types and offsets, and its children
--- whole. Offsets that are omitted need nothing. A chosen
--- column's own buffers count, also under a limit; they count twice for a column that is chosen twice.
+-- Five offsets and five numbers; three and two under a limit. Numbers with a null have one byte for
+-- its bit. Three offsets of two maps, four of the three keys, a byte each, three numbers and the
+-- bits of their null. A slice of a dense union has two type ids and offsets, and its children
+-- whole. Offsets that are omitted need nothing. A chosen column's own buffers count, also under a
+-- limit; they count twice for a column that is chosen twice.
 pub record NeededRows : Type 0 where
   pub whole_list : needed five_numbers (list_kind offsets_32 int32) 0 0 None ≡ 40
   pub first_lists : needed five_numbers (list_kind offsets_32 int32) 0 0 (Some 2) ≡ 20

@@ -1,11 +1,13 @@
--- Numbers in bytes that are written out.
+-- Numbers as bytes. A definition that reverses months, days and nanoseconds as 16 bytes fails
+-- `months_big`, and `ExtendLaw`.
+-- (Arrow columnar format, "Byte Order (Endianness)" and "Fixed-size Primitive Layout".)
 use Rattle.std.specs.Prelude.{◌≡◌, pos, negsuc, [], ◌∷◌, None, Some}
 use Rattle.lower_types.specs.NumberTypes.{whole, wide, day_time, month_day_nano}
 use Rattle.lower_types.specs.declared.Endianness.TheVariants.{Little, Big}
 use Rattle.lower_types.specs.declared.PrimitiveType.TheVariants.{Int8, UInt8, Int32, Int128, Int256, DaysMs, MonthDayNano}
 use Rattle.ipc_model.specs.Numbers.{number_at}
 
--- -1 and 5 in four bytes, in both orders; 255 in one; and nothing past the end
+-- -1 and 5 in four bytes, in both orders; 255 in one; and nothing past the end.
 pub record NumberRows : Type 0 where
   pub minus_one : number_at Int32 Little (0xFF ∷ 0xFF ∷ 0xFF ∷ 0xFF ∷ []) 0 ≡ Some (whole (negsuc 0))
   pub five_little : number_at Int32 Little (5 ∷ 0 ∷ 0 ∷ 0 ∷ []) 0 ≡ Some (whole (pos 5))
@@ -15,7 +17,7 @@ pub record NumberRows : Type 0 where
   pub signed_byte : number_at Int8 Little (1 ∷ 0xFF ∷ []) 1 ≡ Some (whole (negsuc 0))
   pub past_the_end : number_at Int32 Little (5 ∷ 0 ∷ 0 ∷ 0 ∷ []) 1 ≡ None
 
--- days and milliseconds, and months, days and nanoseconds: each part has its own bytes reversed
+-- Days and milliseconds, and months, days and nanoseconds: each part has its own bytes reversed.
 pub record PartRows : Type 0 where
   pub days_little : number_at DaysMs Little (5 ∷ 0 ∷ 0 ∷ 0 ∷ 0xFF ∷ 0xFF ∷ 0xFF ∷ 0xFF ∷ []) 0
       ≡ Some (day_time (pos 5) (negsuc 0))
@@ -32,7 +34,7 @@ pub record PartRows : Type 0 where
   pub months_cut : number_at MonthDayNano Big
       (0 ∷ 0 ∷ 0 ∷ 1 ∷ 0 ∷ 0 ∷ 0 ∷ 2 ∷ 0 ∷ 0 ∷ 0 ∷ 0 ∷ 0 ∷ 0 ∷ 0 ∷ []) 0 ≡ None
 
--- 16 and 32 bytes
+-- Numbers of 16 and of 32 bytes.
 pub record WideRows : Type 0 where
   pub minus_two : number_at Int128 Little
       (0xFE ∷ 0xFF ∷ 0xFF ∷ 0xFF ∷ 0xFF ∷ 0xFF ∷ 0xFF ∷ 0xFF ∷ 0xFF ∷ 0xFF ∷ 0xFF ∷ 0xFF ∷ 0xFF ∷ 0xFF ∷ 0xFF ∷ 0xFF ∷ []) 0

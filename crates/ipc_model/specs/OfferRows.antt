@@ -1,5 +1,8 @@
--- Arrays that are written out, and what chunks of them bring to a writer.
--- (Arrow columnar format, "Buffer Listing for Each Layout", "RecordBatch message" and "Dictionary messages".)
+-- Arrays, and what chunks of them bring to a writer. Mutated definitions fail here:
+-- * with the whole child of a sliced list: `slice_of_lists`, `lists_in_lists`, `structs_in_lists`
+-- * without the validity of a struct: `structs`, and `EntryCountLaw`
+-- (Arrow columnar format, "Buffer Listing for Each Layout", "RecordBatch
+-- message" and "Dictionary messages".)
 use Rattle.std.specs.Prelude.{◌≡◌, ℕ, ℤ, pos, negsuc, ◌-◌, ◌^◌, Bool, true, false, List, [], ◌∷◌, length, map, codes, Option, Some, None}
 use Rattle.lower.specs.Normal.{data_key}
 use Rattle.lower.specs.TypeTrees.{Pairs, TypeTree, null, boolean, int32, int64, binary, utf8, large_utf8, list, fixed_list, entries, structure, choice, plain, single, group, dictionary, FieldTree, field, FieldTrees, no_fields, more_fields}
@@ -16,7 +19,7 @@ use Rattle.ipc_model.specs.AcceptedRows.{column_is}
 use Rattle.ipc_model.specs.DictionaryRows.{lists as lists_of_texts, list_of_text, values_are}
 use Rattle.ipc_model.specs.Offers.{offer_of, IsAcceptedChunk}
 
--- ---- words for the rows
+-- ---- definitions for the cases
 
 abbrev pub array_is : TypeTree → ℕ → Validity → Parts → Layouts → Layout
 array_is t n v p cs = layout (record { type = t; len = n; validity = v; parts = p }) cs
@@ -45,14 +48,14 @@ numbers_are ns = integers_are (map (λ n. pos n) ns)
 abbrev pub bits_are : List Bool → Layout
 bits_are xs = array_is (plain boolean) (length xs) None (truths xs) no_layouts
 
--- texts by their offsets
+-- Texts by their offsets.
 abbrev pub texts_are : ℕ → List ℕ → List ℕ → Layout
 texts_are n os xs = array_is (plain utf8) n None (texts Int32 os xs) no_layouts
 
 abbrev pub list_of : ℕ → List ℕ → Layout → TypeTree → Layout
 list_of n os c t = array_is (single list (field_is t)) n None (lists Int32 Int32 os) (one_child c)
 
--- the lengths of the nodes and of the buffers of one column, without dictionaries
+-- The lengths of the nodes and of the buffers of one column, without dictionaries.
 pub record Lengths : Type 0 where
   pub nodes : List ℕ
   pub bodies : List (List ℕ)
@@ -65,29 +68,30 @@ lengths_are ns body = record { nodes = ns; bodies = body ∷ [] }
 
 -- ---- arrays
 
--- the second slot of two
+-- The second slot of two.
 abbrev pub sliced_binary : Layout
 sliced_binary = array_is (plain binary) 1 None (bytes Int32 (1 ∷ 3 ∷ []) (0x61 ∷ 0x62 ∷ 0x63 ∷ [])) no_layouts
 
--- the slots [] and [3] of four lists
+-- The slots [] and [3] of four lists.
 abbrev pub sliced_list : Layout
 sliced_list = list_of 2 (2 ∷ 2 ∷ 3 ∷ []) (numbers_are (1 ∷ 2 ∷ 3 ∷ 4 ∷ 5 ∷ [])) (plain int32)
 
--- the second of two lists of lists, which has the last of two lists, which has the last of three numbers
+-- The second of two lists of lists: it has the last of two lists, which
+-- has the last of three numbers.
 abbrev pub list_of_lists : Layout
 list_of_lists = list_of 1 (1 ∷ 2 ∷ []) (list_of 2 (0 ∷ 2 ∷ 3 ∷ []) (numbers_are (1 ∷ 2 ∷ 3 ∷ [])) (plain int32))
     (single list (field_is (plain int32)))
 
--- four records, the third of them null
+-- Four structs, the third of them null.
 abbrev pub struct_of_two : Layout
 struct_of_two = array_is (group structure (both_fields (plain boolean) (plain int32))) 4 (Some (true ∷ true ∷ false ∷ true ∷ [])) records
     (two_children (bits_are (false ∷ false ∷ true ∷ true ∷ [])) (numbers_are (42 ∷ 28 ∷ 19 ∷ 31 ∷ [])))
 
--- two of these four records, as one list
+-- Two of these four structs, as one list.
 abbrev pub list_of_records : Layout
 list_of_records = list_of 1 (1 ∷ 3 ∷ []) struct_of_two (group structure (both_fields (plain boolean) (plain int32)))
 
--- the types of the slots of two children
+-- The type ids of slots of two children.
 abbrev pub union_is : UnionMode → Option (List ℤ) → List ℤ → Layout → Layout → Layout
 union_is mode os ts c d = array_is (group (choice None mode) (both_fields (plain int32) (plain boolean))) (length ts) None (choices None ts os)
     (two_children c d)
@@ -98,11 +102,11 @@ zero_one_zero = pos 0 ∷ pos 1 ∷ pos 0 ∷ []
 abbrev pub dense_union : List ℤ → List ℤ → Layout
 dense_union ts os = union_is Dense (Some os) ts (numbers_are (10 ∷ 20 ∷ [])) (bits_are (true ∷ []))
 
--- the second list of three, two numbers each
+-- The second list of three, two numbers each.
 abbrev pub sliced_pairs : Layout
 sliced_pairs = array_is (single (fixed_list 2) (field_is (plain int32))) 1 None (fixed_lists 2) (one_child (numbers_are (3 ∷ 4 ∷ [])))
 
--- the keys "a", "b", "c" of the values 1, 2 and null
+-- The keys "a", "b", "c" of the values 1, 2 and null.
 abbrev pub three_pairs : Layout
 three_pairs = array_is (group structure (both_fields (plain utf8) (plain int32))) 3 None records
     (two_children (texts_are 3 (0 ∷ 1 ∷ 2 ∷ 3 ∷ []) (codes "abc"))
@@ -112,12 +116,13 @@ abbrev pub two_maps : Layout
 two_maps = array_is (single (entries false) (field_is (group structure (both_fields (plain utf8) (plain int32))))) 2 None
     (maps (0 ∷ 1 ∷ 3 ∷ [])) (one_child three_pairs)
 
--- n slots where nothing lies in memory
+-- n slots that take no memory.
 abbrev pub nulls_are : ℕ → Layout
 nulls_are n = array_is (plain null) n None nothing no_layouts
 
--- Five bits with a validity, a byte each. Texts with large offsets have 8 bytes for each. Offsets of a slice are as many as its slots and one, and what
--- they cut goes along, level by level; the children of a sparse union go along too, those of a dense one are whole.
+-- Five bits with a validity, a byte each. Texts with large offsets have 8 bytes for each. A slice
+-- has one offset more than slots, and what they cut is written with it, level by level. The
+-- children of a sparse union are cut too, those of a dense one are written whole.
 pub record LengthRows : Type 0 where
   pub two_numbers : lengths_of (integers_are (negsuc 0 ∷ pos 1 ∷ [])) ≡ lengths_are (2 ∷ []) (0 ∷ 8 ∷ [])
   pub five_bits : lengths_of (array_is (plain boolean) 5 (Some (true ∷ true ∷ false ∷ true ∷ false ∷ [])) (truths (true ∷ true ∷ true ∷ true ∷ true ∷ []))
@@ -141,11 +146,11 @@ pub record LengthRows : Type 0 where
 
 -- ---- dictionaries
 
--- keys of 32 bits, in a type over values of another
+-- Keys of 32 bits, in a type with values of another.
 abbrev pub keys_are : TypeTree → List ℤ → Layout → Layout
 keys_are t ks values = array_is (dictionary integers.Int32 t false) (length ks) None (keys integers.Int32 ks) (one_child values)
 
--- keys of texts
+-- Keys of texts.
 abbrev pub keyed_texts : List ℤ → Layout → Layout
 keyed_texts ks values = keys_are (plain utf8) ks values
 
@@ -158,18 +163,18 @@ zero_ids = more_ids (ids (Some (pos 0)) no_ids) no_ids
 abbrev pub both_zero : IdTrees
 both_zero = more_ids (ids (Some (pos 0)) no_ids) zero_ids
 
--- the texts "b", "a" by the values "a", "b"
+-- The texts "b", "a" by the values "a", "b".
 abbrev pub b_then_a : Layout
 b_then_a = keyed_texts (pos 1 ∷ pos 0 ∷ []) (texts_are 2 (0 ∷ 1 ∷ 2 ∷ []) (codes "ab"))
 
 abbrev pub text_alone : List ℕ → Layout
 text_alone xs = keyed_texts (pos 0 ∷ []) (texts_are 1 (0 ∷ 1 ∷ []) xs)
 
--- the text "a" of the values "x", "a", cut to the second
+-- The text "a" of the values "x", "a", cut to the second.
 abbrev pub second_text : Layout
 second_text = keyed_texts (pos 0 ∷ []) (texts_are 1 (1 ∷ 2 ∷ []) (codes "xa"))
 
--- lists of one text each, by keys, themselves by the keys given
+-- Lists of one text each, by keys, which are themselves under these keys.
 abbrev pub keyed_lists : List ℤ → List ℤ → List ℕ → Layout
 keyed_lists outer inner text = keys_are (single list (field (codes "item") dictionary_of_texts true [])) outer
     (array_is (single list (field (codes "item") dictionary_of_texts true [])) (length inner) None (lists Int32 Int32 (0 ∷ 1 ∷ 2 ∷ []))
@@ -178,7 +183,8 @@ keyed_lists outer inner text = keys_are (single list (field (codes "item") dicti
 abbrev pub one_then_zero : IdTrees
 one_then_zero = more_ids (ids (Some (pos 1)) no_ids) zero_ids
 
--- A dictionary has a message of its own, in which its values are a column. Inner values come before those in which they stand, and those of a column before those of the next.
+-- A dictionary has a message of its own, in which its values are a column. Inner values come before
+-- those that contain them, and those of a column before those of the next.
 pub record FilledRows : Type 0 where
   pub one_place : offer_of (b_then_a ∷ []) zero_ids ≡ record {
     columns = column_is dictionary_of_texts (text_slot (codes "b") ∷ text_slot (codes "a") ∷ []) ∷ [];
@@ -204,21 +210,22 @@ x_and_y x y = x ∷ y ∷ []
 abbrev pub number : ℤ → Slot
 number z = number_slot (whole z)
 
--- two columns of two rows
+-- Two columns of two rows.
 abbrev pub demo : List Layout
 demo = x_and_y (integers_are (negsuc 0 ∷ pos 1 ∷ [])) (integers_are (pos 1 ∷ negsuc 0 ∷ []))
 
--- a list whose field has metadata of its own
+-- A list whose field has metadata of its own.
 abbrev pub list_with : Pairs → TypeTree
 list_with metadata = single list (field (codes "f") (plain int32) true metadata)
 
--- a dense union of no slots, whose child has so many
+-- A dense union without slots, whose child has so many.
 abbrev pub children_alone : ℕ → Layout
 children_alone n = array_is (group (choice None Dense) (one_field (plain null))) 0 None (choices None [] (Some [])) (one_child (nulls_are n))
 
--- The demo's chunk, and a nested list, are taken by a writer of their schema, and by no other one: types are compared in their normal form,
--- in which the key of an extension without a name is left out, and names of children count. Columns of one id have the same values, however they lie. A
--- length is one that a signed number of 64 bits says.
+-- The demo's chunk, and a nested list, are accepted by a writer of their schema, and by no other.
+-- Types are compared in their normal form, which leaves out the key of an extension without a name;
+-- names of children count. Columns of one id have the same values, however they are laid out. A
+-- length fits in a signed 64-bit integer.
 pub record ChunkRows : Type 0 where
   pub demo_offer : offer_of demo no_ids ≡ record {
     columns = column_is (plain int32) (number (negsuc 0) ∷ number (pos 1) ∷ []) ∷ column_is (plain int32) (number (pos 1) ∷ number (negsuc 0) ∷ []) ∷ [];

@@ -1,4 +1,6 @@
--- The array that a column is read to: of each buffer it has as much as its slots need.
+-- The array that a column is read to: of each buffer it has as much as its slots need. If offsets
+-- are omitted, the array has the one offset 0. The contract of `ipc_columns` promises this array;
+-- that of `ipc_read` promises the column's type and slots.
 -- (Arrow columnar format, "Physical Memory Layout".)
 use Rattle.std.specs.Prelude.{◌≡◌, ℕ, ℤ, ◌+◌, ◌*◌, ◌==◌, Bool, List, [], ◌∷◌, map, take, if◌then◌else◌, Option, None, Some}
 use Rattle.std.specs.List.{range_with_len}
@@ -18,34 +20,38 @@ use Rattle.ipc_model.specs.Kinds.{OffsetWidth, offsets_32, offsets_64, offset_wi
 
 -- ---- what it has of a buffer
 
+-- The first k bits of buffer b.
 abbrev pub bits_of : Entries → ℕ → ℕ → List Bool
 bits_of s b k = map (λ i. bit (bytes_in s b) i) (range_with_len 0 k)
 
--- a bit for each of k slots, where some slot is null
+-- The validity of k slots; none if no slot is null.
 abbrev pub validity_of : Entries → ℕ → ℕ → ℕ → Validity
 validity_of s a b k = if size (node s a).null_count == 0 then None else Some (bits_of s b k)
 
+-- The first k numbers of buffer b.
 abbrev pub numbers_of : Entries → ℕ → PrimitiveType → ℕ → List Number
 numbers_of s b f k = map (λ i. number_in f s.order (value_bytes s b (width_of f) i)) (range_with_len 0 k)
 
+-- The first k integers of buffer b.
 abbrev pub integers_of : Entries → ℕ → PrimitiveType → ℕ → List ℤ
 integers_of s b f k = map (λ i. integer s b f i) (range_with_len 0 k)
 
--- the k + 1 offsets of w bytes; an array has the one offset 0 where none is stored
+-- The k + 1 offsets of w bytes in buffer b; the one offset 0 if they are omitted.
 abbrev pub offsets_of : Entries → ℕ → ℕ → ℕ → List ℕ
 offsets_of s b w k = if is_omitted s b k then 0 ∷ [] else map (λ i. offset s b w i) (range_with_len 0 (k + 1))
 
--- the first n bytes
+-- The first n bytes of buffer b.
 abbrev pub bytes_of : Entries → ℕ → ℕ → List ℕ
 bytes_of s b n = take n (bytes_in s b)
 
 -- ---- types
 
+-- The type of the integers that offsets are.
 abbrev pub offset_type : OffsetWidth → PrimitiveType
 offset_type offsets_32 = numbers_in.Int32
 offset_type offsets_64 = numbers_in.Int64
 
--- the integers that keys are
+-- The integer type of a dictionary's keys.
 abbrev pub key_type : PrimitiveType → IntegerType
 key_type numbers_in.Int16 = integers.Int16
 key_type numbers_in.Int32 = integers.Int32
@@ -56,34 +62,37 @@ key_type numbers_in.UInt32 = integers.UInt32
 key_type numbers_in.UInt64 = integers.UInt64
 key_type _ = integers.Int8
 
--- the type of the first field, and the fields behind it
+-- The type of the first field; the null type if there is no field.
 abbrev pub first_type : FieldTrees → TypeTree
 first_type no_fields = plain null
 first_type (more_fields f fs) = field_type f
 
+-- The fields after the first.
 abbrev pub other_fields : FieldTrees → FieldTrees
 other_fields no_fields = no_fields
 other_fields (more_fields f fs) = fs
 
 -- ---- the array
 
+-- The children of an array that has one child.
 abbrev pub only : Layout → Layouts
 only c = more_layouts c no_layouts
 
--- k slots of the column at node a and buffer b, with their validity
+-- A level of k slots of the column at node a and buffer b, with their validity.
 abbrev pub masked_level : Entries → TypeTree → ℕ → ℕ → ℕ → Parts → Level
 masked_level s u a b k p = record { type = u; len = k; validity = validity_of s a b k; parts = p }
 
--- k slots without one
+-- A level of k slots without a validity.
 abbrev pub whole_level : TypeTree → ℕ → Parts → Level
 whole_level u k p = record { type = u; len = k; validity = None; parts = p }
 
--- bytes by the offsets in buffer b
+-- The bytes of k slots, by the offsets in buffer b.
 abbrev pub cut_by : (PrimitiveType → List ℕ → List ℕ → Parts) → Entries → ℕ → OffsetWidth → ℕ → Parts
 cut_by parts s b w k = parts (offset_type w) (offsets_of s b (offset_width w) k) (bytes_of s (b + 1) (last_offset s b (offset_width w) k))
 
 abbrev mutual
-  -- the array that the column at node a and buffer b is read to: it has the type u, and vs are the arrays of the dictionaries' values
+  -- The array of type u that the column at node a and buffer b is read to. `vs` gives the
+  -- arrays of the dictionaries' values.
   pub array_at : Entries → (Option ℤ → Layout) → Kind → TypeTree → ℕ → ℕ → Limit → Layout
   array_at s vs null_kind u a b limit = layout (whole_level u (rows s a limit) nothing) no_layouts
   array_at s vs boolean_kind u a b limit =
@@ -119,7 +128,7 @@ abbrev mutual
       layout (masked_level s u a b (rows s a limit) (keys (key_type f) (integers_of s (b + 1) f (rows s a limit)))) (only (vs id))
   array_at s vs (extension_kind t) u a b limit = array_at s vs t u a b limit
 
-  -- those of some columns, one behind the other
+  -- The arrays that some columns are read to, one after the other.
   pub arrays_at : Entries → (Option ℤ → Layout) → Kinds → FieldTrees → ℕ → ℕ → Limit → Layouts
   arrays_at s vs no_kinds fs a b limit = no_layouts
   arrays_at s vs (more_kinds t ts) fs a b limit =
@@ -128,11 +137,11 @@ abbrev mutual
 
 -- ---- its slots
 
--- the arrays of the dictionaries' values have the slots that are known
+-- The arrays of the dictionaries' values have the slots that are known under their ids.
 pub record AreValues (s : Entries) (vs : Option ℤ → Layout) : Type 0 where
   pub each : (id : Option ℤ) → slots (vs id) ≡ values_slots s id
 
--- the array that a well formed column is read to has the column's slots
+-- The array that a well formed column is read to has the column's slots.
 abbrev pub ReadSlotsLaw : Type 0
 ReadSlotsLaw = (s : Entries) (vs : Option ℤ → Layout) (t : Kind) (u : TypeTree) (a b : ℕ) (limit : Limit) → AreValues s vs
     → IsWell s t a b limit → slots (array_at s vs t u a b limit) ≡ column s t a b limit

@@ -1,4 +1,6 @@
--- Schemas that are written out, and what their tables say of types, keys and levels. Beside each limit stands one that is past it.
+-- Schemas as bytes, and what their tables say of types, keys and levels. A definition that is
+-- changed in one word fails one of these cases. Each limit is tried at its edge: the last value
+-- that passes, and the first that doesn't.
 -- (Arrow columnar format, "Schema message" and "Data Types"; Schema.fbs.)
 use Rattle.std.specs.Prelude.{◌≡◌, ℕ, zero, suc, pos, negsuc, ◌+◌, ◌-◌, ◌^◌, true, false, List, [], ◌∷◌, ◌++◌, codes, nat_eq, flat_map, if◌then◌else◌, Option, Some, None, option_map, slice_set, Bool}
 use Rattle.std.specs.Int.{w64, to_le_bytes}
@@ -18,16 +20,16 @@ use Rattle.ipc_model.specs.StreamRows.{demo_schema, extended_field}
 use Rattle.ipc_model.specs.TypeKinds.{first_ids}
 use Rattle.ipc_model.specs.Visits.{visits}
 
--- ---- words for the rows
+-- ---- definitions for the cases
 
--- a schema of one field
+-- A schema of one field.
 abbrev pub one_field_schema : List ℕ → Option Schema
 one_field_schema f = schema_of (schema_bytes 0 (all_fields (f ∷ [])) [])
 
 abbrev pub first_of : Schema → TypeTree × IdTree
 first_of schema = (type_at schema.fields 0, first_ids schema.ids)
 
--- the type of a field whose type has a tag and a table, and whose children are these
+-- The type of a field whose type has this tag and table, and whose children are these.
 abbrev pub type_with : ℕ → List ℕ → List (List ℕ) → Option TypeTree
 type_with tag type_ children = option_map (λ schema. (first_of schema).0) (one_field_schema (field_bytes tag type_ [] (all_fields children) []))
 
@@ -37,7 +39,7 @@ plain_read tag type_ = type_with tag type_ []
 abbrev pub is_plain : Plain → Option TypeTree
 is_plain p = Some (plain p)
 
--- a type's table without slots, with one number of 16 or 32 bits, and with one of 16 and one of 32
+-- A type's table without fields; with one number of 16 or 32 bits; with one of 16 and one of 32.
 abbrev pub bare : List ℕ
 bare = three_slots 0 0 0 []
 
@@ -56,13 +58,13 @@ integer_is width signed = three_slots 4 8 0 (four width ++ signed ∷ [])
 abbrev pub decimal_is : ℕ → ℕ → ℕ → List ℕ
 decimal_is precision scale width = three_slots 4 8 12 (four precision ++ four scale ++ four width)
 
--- a number below 0, as 32 bits
+-- A negative number, as 32 bits.
 abbrev pub below_zero : ℕ → ℕ
 below_zero n = 2 ^ 32 - n
 
 -- ---- types without a child
 
--- Widths of 8, 16, 32 and 64 bits, signed and not; no other, and none where the width is absent.
+-- Widths of 8, 16, 32 and 64 bits, signed and not; no other, and none if the width is absent.
 pub record IntegerRows : Type 0 where
   pub signed_8 : plain_read 2 (integer_is 8 1) ≡ is_plain int8
   pub signed_16 : plain_read 2 (integer_is 16 1) ≡ is_plain int16
@@ -77,7 +79,8 @@ pub record IntegerRows : Type 0 where
   pub seven_bits : plain_read 2 (integer_is 7 1) ≡ None
   pub wide : plain_read 2 (integer_is 128 1) ≡ None
 
--- Types whose table is empty; half, single and double floats; dates are of 64 bits where no unit stands. A tag past the last has no type.
+-- Types whose table is empty; half, single and double floats. Dates have 64 bits if the unit is
+-- absent. A tag past the last has no type.
 pub record PlainRows : Type 0 where
   pub nulls : plain_read 1 bare ≡ is_plain null
   pub bytes : plain_read 4 bare ≡ is_plain binary
@@ -95,8 +98,9 @@ pub record PlainRows : Type 0 where
   pub no_such_tag : plain_read 22 bare ≡ None
   pub no_tag : plain_read 0 bare ≡ None
 
--- Times of the day: seconds and milliseconds have 32 bits, microseconds and nanoseconds 64, and no pair else is one. Where nothing stands, it
--- is milliseconds of 32 bits. Points in time count in seconds, and durations in milliseconds, where no unit stands.
+-- Times of the day: seconds and milliseconds have 32 bits, microseconds and nanoseconds 64, and no
+-- other pair is valid. If both are absent, they are milliseconds of 32 bits. Timestamps without a
+-- unit count in seconds, durations in milliseconds.
 pub record TimeRows : Type 0 where
   pub seconds : plain_read 9 (unit_and_width 0 32) ≡ is_plain (time32 Second)
   pub milliseconds : plain_read 9 (unit_and_width 1 32) ≡ is_plain (time32 Millisecond)
@@ -116,7 +120,8 @@ pub record TimeRows : Type 0 where
   pub days_and_milliseconds : plain_read 11 (unit_is 1) ≡ is_plain (interval DayTime)
   pub three_parts : plain_read 11 (unit_is 2) ≡ is_plain (interval MonthDayNano)
 
--- Sizes, precisions and scales are signed numbers of 32 bits, from 0 on. A decimal has 128 bits where no width stands, or 256.
+-- Sizes, precisions and scales are signed numbers of 32 bits, from 0 on. A decimal has 128 bits
+-- if the width is absent, or 256.
 pub record SizeRows : Type 0 where
   pub sixteen_bytes : plain_read 15 (size_is 16) ≡ is_plain (fixed_binary 16)
   pub no_bytes : plain_read 15 bare ≡ is_plain (fixed_binary 0)
@@ -138,7 +143,7 @@ integer_field = field_bytes 2 (integer_is 32 1) [] [] []
 abbrev pub text_field : List ℕ
 text_field = field_bytes 5 bare [] [] []
 
--- a field without a type has no meaning
+-- A field without a type has no meaning.
 abbrev pub no_type_field : List ℕ
 no_type_field = field_bytes 0 bare [] [] []
 
@@ -148,7 +153,8 @@ integer_is_read = field (codes "f") (plain int32) true []
 abbrev pub text_is_read : FieldTree
 text_is_read = field (codes "f") (plain utf8) true []
 
--- Of a list's children the first is used, and no other judged; a struct and a union use all, and a type without children none. None has a meaning without a child.
+-- Of a list's children the first is used, and no other need be valid. A struct and a union use all,
+-- and a type without children none. Types with children have no meaning without one.
 pub record ChildRows : Type 0 where
   pub lists : type_with 12 bare (integer_field ∷ []) ≡ Some (single list integer_is_read)
   pub large_lists : type_with 21 bare (integer_field ∷ []) ≡ Some (single large_list integer_is_read)
@@ -169,11 +175,11 @@ pub record ChildRows : Type 0 where
 
 -- ---- dictionaries and extensions
 
--- an encoding: the id, the type of the keys, and whether they are in order
+-- An encoding: the id, the type of the keys, and whether they are in order.
 abbrev pub encoding_is : ℕ → ℕ → List ℕ → List ℕ
 encoding_is id ordered keys_type = three_slots 8 4 16 (four 23 ++ to_le_bytes w64 id ++ ordered ∷ [] ++ keys_type)
 
--- texts by keys of a type
+-- Texts by keys of a type.
 abbrev pub keyed_by : List ℕ → Option (TypeTree × IdTree)
 keyed_by keys_type = option_map first_of (one_field_schema (field_bytes 5 bare (encoding_is 7 0 keys_type) [] []))
 
@@ -186,8 +192,9 @@ extension_pairs = all_pairs (pair_bytes name_key (codes "e") ∷ pair_bytes data
 abbrev pub with_pairs : List ℕ → Option (TypeTree × IdTree)
 with_pairs pairs = option_map first_of (one_field_schema (field_bytes 5 bare [] [] pairs))
 
--- Keys are of the integer types, and 32 signed bits don't stand where no type of keys does. An id is signed. The metadata of an extension
--- alone make none. An extension of a dictionary's field is that of its values.
+-- Keys have the integer types; a missing type of keys isn't read as 32 signed bits. An id is
+-- signed. Extension metadata without a name make no extension. An extension of a
+-- dictionary's field is that of its values.
 pub record EncodingRows : Type 0 where
   pub keys_signed_8 : keyed_by (integer_is 8 1) ≡ Some (texts_under_7 (dictionary keys.Int8 (plain utf8) false))
   pub keys_unsigned_64 : keyed_by (integer_is 64 0) ≡ Some (texts_under_7 (dictionary keys.UInt64 (plain utf8) false))
@@ -201,27 +208,27 @@ pub record EncodingRows : Type 0 where
   pub extended_values : option_map first_of (one_field_schema (field_bytes 5 bare (encoding_is 7 0 (integer_is 8 1)) [] extension_pairs))
       ≡ Some (texts_under_7 (dictionary keys.Int8 (extension (codes "e") (plain utf8) (Some (codes "m"))) false))
 
--- ---- what else a field says
+-- ---- the other parts of a field
 
--- the fields of a schema that has one
+-- The fields of a schema that has one.
 abbrev pub fields_in : List ℕ → Option FieldTrees
 fields_in f = option_map (λ (schema : Schema). schema.fields) (one_field_schema f)
 
 abbrev pub is_field : TypeTree → Bool → Pairs → Option FieldTrees
 is_field t nullable metadata = Some (more_fields (field (codes "f") t nullable metadata) no_fields)
 
--- with one byte of the vtable or of the table of a field of integers in place of what stood there
+-- With another value for one byte of the vtable or of the table of a field of integers.
 abbrev pub integer_with : ℕ → ℕ → Option FieldTrees
 integer_with place byte = fields_in (slice_set integer_field place byte)
 
--- "v" without a key
+-- "v" without a key.
 abbrev pub value_alone : List ℕ
 value_alone = table_bytes (0 ∷ 4 ∷ []) (four 4 ++ counted (codes "v"))
 
 abbrev pub one_pair : List ℕ
 one_pair = all_pairs (pair_bytes (codes "k") (codes "1") ∷ [])
 
--- texts by keys of 8 bits, under the id 7
+-- Texts by keys of 8 bits, under the id 7.
 abbrev pub keyed_field : List ℕ
 keyed_field = field_bytes 5 bare (encoding_is 7 0 (integer_is 8 1)) [] []
 
@@ -231,7 +238,8 @@ keyed_texts = field (codes "f") (dictionary keys.Int8 (plain utf8) false) true [
 abbrev pub under_7 : IdTree
 under_7 = ids (Some (pos 7)) no_ids
 
--- A field may hold nulls where its byte isn't 0, and may not where none stands. It has its metadata, and so has a child; a pair without a key is passed over. Ids stand where their fields do.
+-- A field is nullable if its byte isn't 0, and isn't if the byte is absent. It has its metadata,
+-- and so has a child; a pair without a key is skipped. Each field has its own id.
 pub record FieldRows : Type 0 where
   pub nullable : integer_with 42 2 ≡ is_field (plain int32) true []
   pub not_nullable : integer_with 42 0 ≡ is_field (plain int32) false []
@@ -250,31 +258,32 @@ pub record FieldRows : Type 0 where
 abbrev pub order_in : Option Schema → Option Endianness
 order_in o = option_map (λ schema. schema.order) o
 
--- so many lists, one in the other, over integers
+-- So many lists, one in the other, of integers.
 abbrev pub nested_lists : ℕ → List ℕ
 nested_lists zero = integer_field
 nested_lists (suc n) = field_bytes 12 bare [] (all_fields (nested_lists n ∷ [])) []
 
--- The same, each level in 36 bytes, with nulls below: so many fields from place p on. All have one vtable, at 4, and all types one, at 22. Behind a field's table stand
--- that of its type, its name, which is empty, and the vector of its one child.
+-- The same, each level in 36 bytes, with nulls below: so many fields from offset p on. All have one
+-- vtable, at 4, and all types one, at 22. After a field's table come that of its type, its name,
+-- which is empty, and the vector of its one child.
 abbrev pub short_levels : ℕ → ℕ → List ℕ
 short_levels p zero = []
 short_levels p (suc n) =
     four (p - 4) ++ four 20 ++ four 12 ++ four 16 ++ (if nat_eq n 0 then 1 else 12) ∷ 0 ∷ 0 ∷ 0 ∷ [] ++ four (p - 2) ++ four 0 ++ four 1 ++ four 4 ++ short_levels (p + 36) n
 
--- a schema message of one field that has so many levels
+-- A schema message of one field that has so many levels.
 abbrev pub levels_message : ℕ → List ℕ
 levels_message n =
     four 44 ++ short 18 ++ short 36 ++ flat_map short (4 ∷ 0 ∷ 16 ∷ 8 ∷ 0 ∷ 12 ∷ 0 ∷ []) ++ short 4 ++ short 4
     ++ short 10 ++ short 12 ++ flat_map short (8 ∷ 10 ∷ 4 ∷ []) ++ short 8 ++ short 8 ++ flat_map short (0 ∷ 4 ∷ [])
     ++ four 18 ++ four 8 ++ 4 ∷ 0 ∷ 1 ∷ 0 ∷ [] ++ four 20 ++ four 4 ++ four 1 ++ four 4 ++ short_levels 72 n
 
--- whether a schema is read, and of how many fields at all levels
+-- Whether a schema is read, and of how many fields at all levels.
 abbrev pub fields_read : Option Schema → Option ℕ
 fields_read o = option_map visits o
 
--- Both byte orders, and no third. Fields go to level 64, a top field being level 1. A table of fields counts each time that it is visited, and
--- visits are no more than bytes.
+-- Both byte orders, and no third. Fields go to level 64; a top field is at level 1. A table of
+-- fields counts each time that it is visited, and there are no more visits than bytes.
 pub record LevelRows : Type 0 where
   pub lowest_first : order_in (schema_of (schema_bytes 0 (all_fields []) [])) ≡ Some Little
   pub highest_first : order_in (schema_of (schema_bytes 1 (all_fields []) [])) ≡ Some Big

@@ -1,4 +1,5 @@
--- What a schema table means, and a schema message.
+-- What a schema table means, and a schema message. Only what is used must be valid: of a list's
+-- children the first. No field is below level 64.
 -- (Arrow columnar format, "Schema message" and "Extension Types"; Schema.fbs and Message.fbs.)
 use Rattle.std.specs.Prelude.{ℕ, zero, suc, ℤ, pos, negsuc, ◌+◌, nat_eq, nat_le, if◌then◌else◌, Bool, true, List, [], ◌∷◌, length, Option, Some, None, Result, Ok, Err}
 use Rattle.std.specs.Option.{option_map}
@@ -41,50 +42,55 @@ use Rattle.ipc_model.specs.Streams.{Head}
 
 -- ---- steps that may fail
 
--- what is well made
+-- A value that was read without an error.
 abbrev pub made : {A : Type 0} → Result A TableFault → Option A
 made (Ok x) = Some x
 made (Err e) = None
 
--- what is well made and present
+-- A value that was read without an error and is present.
 abbrev pub present : {A : Type 0} → Result (Option A) TableFault → Option A
 present (Ok (Some x)) = Some x
 present (Ok None) = None
 present (Err e) = None
 
--- what follows of a value that is there
+-- What a function gives for a value that is there.
 abbrev pub given : {A B : Type 0} → Option A → (A → Option B) → Option B
 given None f = None
 given (Some x) f = f x
 
--- a size that is not below 0
+-- A size that isn't negative.
 abbrev pub size_of : ℤ → Option ℕ
 size_of (pos n) = Some n
 size_of (negsuc n) = None
 
 -- ---- enumerations
 
+-- The byte order of a schema's buffers.
 abbrev pub order_of : Order → Endianness
 order_of Little = orders.Little
 order_of Big = orders.Big
 
+-- The unit of times.
 abbrev pub unit_of : Unit' → TimeUnit
 unit_of Second = units.Second
 unit_of Millisecond = units.Millisecond
 unit_of Microsecond = units.Microsecond
 unit_of Nanosecond = units.Nanosecond
 
+-- The unit of intervals.
 abbrev pub interval_of : Interval → IntervalUnit
 interval_of YearMonth = intervals.YearMonth
 interval_of DayTime = intervals.DayTime
 interval_of MonthDayNano = intervals.MonthDayNano
 
+-- The mode of a union: sparse or dense.
 abbrev pub mode_of : Mode → UnionMode
 mode_of Sparse = modes.Sparse
 mode_of Dense = modes.Dense
 
 -- ---- types without a child
 
+-- The integer type of a bit width and a sign.
 abbrev pub integer_of : ℤ → Bool → Option IntegerType
 integer_of width signed =
     if int_eq width (pos 8) then Some (if signed then Int8 else UInt8)
@@ -93,10 +99,12 @@ integer_of width signed =
     else if int_eq width (pos 64) then Some (if signed then Int64 else UInt64)
     else None
 
+-- The integer type that an `Int` table means.
 unfoldable pub integer_at : Spot → Option IntegerType
 integer_at t = given (made (int_bit_width t))
     (λ width. given (made (int_is_signed t)) (λ signed. integer_of width signed))
 
+-- The type without children that an integer type is.
 abbrev pub integers : IntegerType → Plain
 integers Int8 = int8
 integers Int16 = int16
@@ -107,35 +115,40 @@ integers UInt16 = uint16
 integers UInt32 = uint32
 integers UInt64 = uint64
 
+-- The type of floats of a precision.
 abbrev pub float_of : Precision → Plain
 float_of Half = float16
 float_of single_precision = float32
 float_of Double = float64
 
+-- The type of dates of a unit: days have 32 bits, milliseconds 64.
 abbrev pub date_of : DateUnit → Plain
 date_of Day = date32
 date_of day_millisecond = date64
 
--- 32 bits count seconds or milliseconds, 64 bits microseconds or nanoseconds
+-- The type of times of day: 32 bits count seconds or milliseconds, 64
+-- bits microseconds or nanoseconds.
 abbrev pub time_of : Unit' → ℤ → Option Plain
 time_of Second width = if int_eq width (pos 32) then Some (time32 units.Second) else None
 time_of Millisecond width = if int_eq width (pos 32) then Some (time32 units.Millisecond) else None
 time_of Microsecond width = if int_eq width (pos 64) then Some (time64 units.Microsecond) else None
 time_of Nanosecond width = if int_eq width (pos 64) then Some (time64 units.Nanosecond) else None
 
+-- The type of decimals of 128 or 256 bits.
 abbrev pub decimal_of : ℕ → ℕ → ℤ → Option Plain
 decimal_of precision scale width =
     if int_eq width (pos 128) then Some (decimal precision scale)
     else if int_eq width (pos 256) then Some (decimal256 precision scale)
     else None
 
+-- The type that a `Decimal` table means.
 unfoldable pub decimal_at : Spot → Option Plain
 decimal_at t =
     given (made (decimal_precision t)) (λ p. given (size_of p) (λ precision.
     given (made (decimal_scale t)) (λ s. given (size_of s) (λ scale.
     given (made (decimal_bit_width t)) (λ width. decimal_of precision scale width)))))
 
--- the type without a child that has a tag
+-- The type without children that a tag and a table mean.
 unfoldable pub plain_at : ℕ → Spot → Option Plain
 plain_at tag t =
     if nat_eq tag 1 then Some null
@@ -160,7 +173,7 @@ plain_at tag t =
 
 -- ---- types with children
 
--- the type of one child that has a tag: a list of any form, or a map
+-- The type of one child that a tag and a table mean: a list of any form, or a map.
 unfoldable pub single_at : ℕ → Spot → Option Single
 single_at tag t =
     if nat_eq tag 12 then Some list
@@ -169,7 +182,7 @@ single_at tag t =
     else if nat_eq tag 21 then Some large_list
     else None
 
--- the type of several children that has a tag: a struct, or a union
+-- The type of several children that a tag and a table mean: a struct, or a union.
 unfoldable pub group_at : ℕ → Spot → Option Group
 group_at tag t =
     if nat_eq tag 13 then Some structure
@@ -177,14 +190,15 @@ group_at tag t =
     (λ mode. option_map (λ type_ids. choice type_ids (mode_of mode)) (made (union_type_ids t)))
     else None
 
--- a field and its ids; some of them
+-- A field with its dictionary ids.
 abbrev pub Read : Type 0
 Read = FieldTree × IdTree
 
+-- Some fields with their dictionary ids.
 abbrev pub ReadAll : Type 0
 ReadAll = FieldTrees × IdTrees
 
--- n fields of a vector, from one on, where `read` says what a field's table means
+-- The n fields of a vector from index k on; `read` says what the table of a field means.
 abbrev pub fields_from : (Spot → Option Read) → Vector → ℕ → ℕ → Option ReadAll
 fields_from read v k zero = Some (no_fields, no_ids)
 fields_from read v k (suc n) =
@@ -192,31 +206,36 @@ fields_from read v k (suc n) =
     (λ t. given (read t) (λ x. option_map (λ (all : ReadAll). (more_fields x.0 all.0, more_ids x.1 all.1))
     (fields_from read v (k + 1) n)))
 
--- the first field of a vector alone
+-- The first field of a vector; the others aren't read.
 abbrev pub first_field : (Spot → Option Read) → Vector → Option Read
 first_field read v = if nat_eq v.count 0 then None else given (made (table_in v 0)) read
 
--- all fields of a vector, at least one
+-- All fields of a vector, at least one.
 abbrev pub some_fields : (Spot → Option Read) → Vector → Option ReadAll
 some_fields read v = if nat_eq v.count 0 then None else fields_from read v 0 v.count
 
--- a type, and the ids of its children
+-- A type with the dictionary ids of its children.
 abbrev pub ReadType : Type 0
 ReadType = TypeTree × IdTrees
 
+-- A type of one child, with the child's ids.
 abbrev pub single_with : Single → Read → ReadType
 single_with s x = (single s x.0, more_ids x.1 no_ids)
 
+-- A type of several children, with their ids.
 abbrev pub group_with : Group → ReadAll → ReadType
 group_with g x = (group g x.0, x.1)
 
+-- The tag is that of a type with one child: a list of any form, or a map.
 abbrev pub is_single_tag : ℕ → Bool
 is_single_tag tag = if nat_eq tag 12 then true else if nat_eq tag 16 then true else if nat_eq tag 17 then true else nat_eq tag 21
 
+-- The tag is that of a type with several children: a struct, or a union.
 abbrev pub is_group_tag : ℕ → Bool
 is_group_tag tag = if nat_eq tag 13 then true else nat_eq tag 14
 
--- the type of a field whose type has a tag and a table: the children stand in the field's table
+-- The type of a field, by the tag and the table of its type; the
+-- children are in the field's own table.
 abbrev pub type_of_field : (Spot → Option Read) → Spot → ℕ × Spot → Option ReadType
 type_of_field read t type_ =
     if is_single_tag type_.0 then
@@ -229,48 +248,53 @@ type_of_field read t type_ =
 
 -- ---- metadata
 
--- Key and value are well made; a pair in which one is absent is passed over, and the later of equal
--- keys wins.
+-- Pairs with one more that was read: the later of equal keys wins. A pair without a key
+-- or without a value is skipped.
 abbrev pub with_read : Option (List ℕ) → Option (List ℕ) → Pairs → Pairs
 with_read (Some k) (Some v) es = with_pair k v es
 with_read None _ es = es
 with_read (Some k) None es = es
 
+-- Pairs with one more from a table, whose key and value must be valid.
 abbrev pub with_key_value : Spot → Pairs → Option Pairs
 with_key_value t es = given (made (key_value_key t))
     (λ k. given (made (key_value_value t)) (λ v. Some (with_read k v es)))
 
--- n pairs of a vector, from one on, after some others
+-- Some pairs and then the n pairs of a vector from index k on.
 abbrev pub pairs_from : Vector → ℕ → ℕ → Pairs → Option Pairs
 pairs_from v k zero es = Some es
 pairs_from v k (suc n) es = given (made (table_in v k))
     (λ t. given (with_key_value t es) (λ after. pairs_from v (k + 1) n after))
 
+-- The pairs of a vector; none if it is absent.
 unfoldable pub pairs_at : Option Vector → Option Pairs
 pairs_at None = Some []
 pairs_at (Some v) = pairs_from v 0 v.count []
 
--- the value of a key
+-- The value of a key.
 abbrev pub value_under : List ℕ → Pairs → Option (List ℕ)
 value_under k [] = None
 value_under k (e ∷ es) = if is_eq (slice_cmp nat_cmp k e.0) then Some e.1 else value_under k es
 
--- the type with the extension that the metadata name, if they do
+-- A type as an extension of this name, if there is a name.
 abbrev pub extended : Option (List ℕ) → Option (List ℕ) → TypeTree → TypeTree
 extended None text t = t
 extended (Some name) text t = extension name t text
 
+-- A type as the extension that its field's metadata name, if they do.
 abbrev pub with_extension : Pairs → TypeTree → TypeTree
 with_extension es t = extended (value_under name_key es) (value_under data_key es) t
 
 -- ---- fields
 
--- The keys of a dictionary encoding: their type, the id, and whether they are in order
+-- A dictionary encoding: the type of the keys, the dictionary's id,
+-- and whether the keys are ordered.
 pub record Encoding : Type 0 where
   pub keys : IntegerType
   pub id : ℤ
   pub ordered : Bool
 
+-- The dictionary encoding that a table means.
 unfoldable pub encoding_at : Spot → Option Encoding
 encoding_at t =
     given (made (dictionary_encoding_id t))
@@ -278,24 +302,29 @@ encoding_at t =
     given (made (dictionary_encoding_is_ordered t))
     (λ ordered. Some (record { keys = keys; id = id; ordered = ordered })))))
 
+-- The dictionary encoding of a table that may be absent.
 abbrev pub optional_encoding : Option Spot → Option (Option Encoding)
 optional_encoding None = Some None
 optional_encoding (Some t) = option_map Some (encoding_at t)
 
--- An extension is that of a dictionary's values.
+-- A type with a dictionary encoding, if there is one. An extension is then
+-- that of the dictionary's values.
 abbrev pub encoded : Option Encoding → TypeTree → TypeTree
 encoded None t = t
 encoded (Some e) t = dictionary e.keys t e.ordered
 
+-- The id of a dictionary encoding, if there is one.
 abbrev pub id_of : Option Encoding → Option ℤ
 id_of None = None
 id_of (Some e) = Some e.id
 
+-- A field with its ids, from its parts. The extension is that of the values if the
+-- field has a dictionary encoding.
 abbrev pub field_with : List ℕ → Bool → Pairs → Option Encoding → ReadType → Read
 field_with name nullable es encoding t =
     (field name (encoded encoding (with_extension es t.0)) nullable es, ids (id_of encoding) t.1)
 
--- what a field's table means, where `read` says what those of its children mean
+-- What the table of a field means; `read` says what the tables of its children mean.
 unfoldable pub field_from : (Spot → Option Read) → Spot → Option Read
 field_from read t =
     given (present (field_name t)) (λ name. given (made (field_nullable t)) (λ nullable.
@@ -304,21 +333,23 @@ field_from read t =
     given (present (field_type t))
     (λ type_. option_map (field_with name nullable es encoding) (type_of_field read t type_))))))))
 
--- the same to so many levels
+-- What the table of a field means, if it has at most n levels.
 unfoldable pub field_at : ℕ → Spot → Option Read
 field_at zero t = None
 field_at (suc n) t = field_from (λ s. field_at n s) t
 
--- fields go to this level, at most
+-- The largest number of levels of fields.
 abbrev pub most_levels : ℕ
 most_levels = 64
 
 -- ---- how many fields there are, at all levels
 
 abbrev mutual
+  -- How many fields a field has at all levels, itself included.
   pub field_count : FieldTree → ℕ
   field_count (field name t nullable es) = 1 + inner_count t
 
+  -- How many fields are below a type.
   pub inner_count : TypeTree → ℕ
   inner_count (plain p) = 0
   inner_count (single s f) = field_count f
@@ -326,19 +357,21 @@ abbrev mutual
   inner_count (dictionary keys t ordered) = inner_count t
   inner_count (extension name t text) = inner_count t
 
+  -- How many fields there are at all levels.
   pub fields_count : FieldTrees → ℕ
   fields_count no_fields = 0
   fields_count (more_fields f fs) = field_count f + fields_count fs
 
 -- ---- schemas
 
--- The fields are no more than the message has bytes: a table that is shared counts each time.
+-- The schema, if it has at most `most` fields at all levels. A table that is
+-- shared counts each time it is used.
 abbrev pub schema_with : ℕ → Endianness → Pairs → ReadAll → Option Schema
 schema_with most order es all =
     if nat_le (fields_count all.0) most then Some
     (record { fields = all.0; metadata = es; ids = all.1; order = order }) else None
 
--- what a schema table means
+-- What a schema table means.
 unfoldable pub schema_at : Spot → Option Schema
 schema_at t =
     given (made (schema_endianness t))
@@ -347,14 +380,15 @@ schema_at t =
     (λ fields. given (fields_from (λ s. field_at most_levels s) fields 0 fields.count)
     (λ all. schema_with (length t.message) (order_of order) es all)))))
 
+-- What the header of a message means as a schema: it must have the tag 1.
 abbrev pub schema_header : ℕ × Spot → Option Schema
 schema_header h = if nat_eq h.0 1 then schema_at h.1 else None
 
--- what a schema message means: its header is a schema
+-- What a schema message means.
 unfoldable pub schema_of : List ℕ → Option Schema
 schema_of metadata = given (made (root_at metadata)) (λ t. given (present (message_header t)) schema_header)
 
--- the same with its version
+-- What a schema message means, with the version of its metadata.
 unfoldable pub head_of : List ℕ → Option Head
 head_of metadata =
     given (schema_of metadata) (λ schema. given (made (root_at metadata)) (λ t. given (made (message_version t))

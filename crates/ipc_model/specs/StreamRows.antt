@@ -1,4 +1,7 @@
--- Messages and streams that are written out, and what they mean. Beside most stands one that has no meaning.
+-- Messages and streams as bytes, and what they mean. Beside most is one that has no meaning.
+-- A definition by which a cut prefix is broken and doesn't wait fails `no_more`,
+-- `begun_prefix`, and `ResumeLaw`.
+-- (Arrow columnar format, "Encapsulated message format" and "IPC Streaming Format".)
 use Rattle.std.specs.Prelude.{◌≡◌, ℕ, pos, negsuc, true, false, List, [], ◌∷◌, ◌++◌, replicate, take, drop, slice_set, codes, Some, None}
 use Rattle.lower.specs.Normal.{norm_field, name_key, data_key}
 use Rattle.lower_types.specs.NumberTypes.{whole as whole_number}
@@ -16,8 +19,8 @@ use Rattle.ipc_views.specs.declared.schema.MetadataVersion.TheVariants.{V4, V5}
 
 -- ---- the smallest schema message
 
--- the root's place; the vtable and the table of the message; the vtable and the table of the schema; no
--- fields
+-- The root's offset; the vtable and the table of the message; the vtable and the
+-- table of the schema; no fields.
 abbrev pub smallest : List ℕ
 smallest =
     0x10 ∷ 0 ∷ 0 ∷ 0 ∷ 0x0A ∷ 0 ∷ 0x0C ∷ 0 ∷ 8 ∷ 0 ∷ 0x0A ∷ 0 ∷
@@ -28,9 +31,9 @@ smallest =
 abbrev pub no_schema_fields : Schema
 no_schema_fields = record { fields = no_fields; metadata = []; ids = no_ids; order = Little }
 
--- Whatever its version, it says a schema; a stream asks for a version that there is.
--- Without its last four bytes, with no header, with that of a record or of no known kind, and without
--- fields it has no meaning
+-- It is a schema message whatever its version; a stream must have a version that exists. It has
+-- no meaning without its last four bytes, without a header, with that of a record or of an
+-- unknown kind, and without fields.
 pub record SmallestRows : Type 0 where
   pub smallest_schema : schema_of smallest ≡ Some no_schema_fields
   pub its_version : head_of smallest ≡ Some (record { schema = no_schema_fields; version = V5 })
@@ -57,7 +60,7 @@ two_text = codes "2"
 abbrev pub later_pair : Pairs
 later_pair = (key, two_text) ∷ []
 
--- a schema message whose schema has three pairs: "k" and "1", "k" and "2", and "j" without a value
+-- A schema message whose schema has three pairs: "k" and "1", "k" and "2", and "j" without a value.
 abbrev pub metadata_message : List ℕ
 metadata_message =
     0x10 ∷ 0 ∷ 0 ∷ 0 ∷ 0x0A ∷ 0 ∷ 0x0C ∷ 0 ∷ 8 ∷ 0 ∷ 0x0A ∷ 0 ∷ 4 ∷ 0 ∷ 0 ∷ 0 ∷
@@ -81,9 +84,10 @@ extended_field = (
   ids (Some (pos 0)) no_ids,
 )
 
--- The later of equal keys wins, and a pair without a value is passed over; a key that is no text has no meaning. The extension of a
--- dictionary field is that of its values, and the key stays in what is read. The normal form of a field
--- without an extension has none of the extension keys, and keeps others.
+-- The later of equal keys wins, and a pair without a value is skipped; a key that is no text
+-- has no meaning. The extension of a dictionary field is that of its values, and the key
+-- stays in what is read. The normal form of a field without an extension has none of the
+-- extension keys, and keeps others.
 pub record MetadataRows : Type 0 where
   pub later_wins : with_read (Some (codes "j")) None
       (with_read (Some key) (Some two_text) (with_read (Some key) (Some one) [])) ≡ later_pair
@@ -102,7 +106,7 @@ pub record MetadataRows : Type 0 where
 
 -- ---- a stream of two columns of numbers
 
--- a schema message: x and y, integers of 32 bits
+-- A schema message: x and y, integers of 32 bits.
 abbrev pub schema_metadata : List ℕ
 schema_metadata =
     0x10 ∷ 0 ∷ 0 ∷ 0 ∷ 0x0A ∷ 0 ∷ 0x0B ∷ 0 ∷ 8 ∷ 0 ∷ 0x0A ∷ 0 ∷ 4 ∷ 0 ∷ 0 ∷ 0 ∷
@@ -118,7 +122,8 @@ schema_metadata =
     1 ∷ 0 ∷ 0 ∷ 0 ∷ 0x79 ∷ 0 ∷ 0 ∷ 0 ∷ 8 ∷ 0 ∷ 9 ∷ 0 ∷ 4 ∷ 0 ∷ 8 ∷ 0 ∷
     8 ∷ 0 ∷ 0 ∷ 0 ∷ 0x20 ∷ 0 ∷ 0 ∷ 0 ∷ 1 ∷ 0 ∷ 0 ∷ 0 ∷ 0 ∷ 0 ∷ 0 ∷ 0 ∷ []
 
--- a record message: nodes (2, 0) twice, buffers (0, 0), (0, 8), (64, 0), (64, 8), and a body of 128 bytes
+-- A record message: nodes (2, 0) twice, buffers (0, 0), (0, 8), (64, 0),
+-- (64, 8), and a body of 128 bytes.
 abbrev pub record_metadata : List ℕ
 record_metadata =
     0x14 ∷ 0 ∷ 0 ∷ 0 ∷ 0x0C ∷ 0 ∷ 0x13 ∷ 0 ∷ 0x10 ∷ 0 ∷ 0x12 ∷ 0 ∷ 0x0C ∷ 0 ∷ 4 ∷ 0 ∷
@@ -153,14 +158,14 @@ demo_head = record { schema = demo_schema; version = V5 }
 abbrev pub minus_one : Slot
 minus_one = number_slot (whole_number (negsuc 0))
 
--- -1, 1 and 1, -1
+-- -1, 1 and 1, -1.
 abbrev pub demo_chunk : Chunk
 demo_chunk = record { type = plain int32; slots = minus_one ∷ number 1 ∷ [] } ∷ record { type = plain int32; slots = number 1 ∷ minus_one ∷ [] } ∷ []
 
 abbrev pub marker : List ℕ
 marker = 0xFF ∷ 0xFF ∷ 0xFF ∷ 0xFF ∷ []
 
--- a record as it stands in a stream
+-- A record as it is in a stream.
 abbrev pub demo_record : List ℕ
 demo_record = marker ++ word 184 ++ record_metadata ++ demo_body
 
@@ -173,9 +178,9 @@ meant bytes = meaning demo_head nothing_known bytes
 abbrev pub ends_waiting : List Chunk → List ℕ → Meant
 ends_waiting cs begun = record { chunks = cs; end = waits nothing_known begun }
 
--- A schema, a stream of it with both prefixes, and one that is cut: in a prefix it waits, anywhere else
--- it is faulty. What was begun is read with what comes later. A type that isn't known, a width that no integer has, a field without a
--- name, and a column longer than its buffer have no meaning.
+-- A schema, a stream of it with both prefixes, and one that is cut: in a prefix it waits, anywhere
+-- else it is faulty. A partial prefix is read with what comes later. No meaning: an unknown type, a
+-- width that no integer has, a field without a name, and a column longer than its buffer.
 pub record DemoRows : Type 0 where
   pub schema : head_of schema_metadata ≡ Some demo_head
   pub unknown_type : head_of (slice_set schema_metadata 89 22) ≡ None
@@ -205,7 +210,8 @@ pub record DemoRows : Type 0 where
 abbrev pub smallest_head : Head
 smallest_head = record { schema = no_schema_fields; version = V5 }
 
--- Behind either prefix it waits. Behind one that says a byte more, or with none, it is no stream.
+-- After either prefix it waits. With a length that is one byte too long, or
+-- with no length, it is no stream.
 pub record AloneRows : Type 0 where
   pub newer_prefix : stream_of (marker ++ word 48 ++ smallest) ≡ Some (record { head = smallest_head; meant = ends_waiting [] [] })
   pub older_prefix : stream_of (word 48 ++ smallest) ≡ Some (record { head = smallest_head; meant = ends_waiting [] [] })
@@ -225,8 +231,9 @@ three_fields = record {
   order = Little;
 }
 
--- Three columns with two nodes are no batch, whichever are chosen; with three they are, and in the
--- order in which they are chosen. A projection that names a column that isn't there, or one twice, has no meaning.
+-- Three columns with two nodes are no batch, whichever are chosen. With three nodes they
+-- are, in the order in which they are chosen. A projection that names a column that isn't
+-- there, or one twice, has no meaning.
 pub record ChosenRows : Type 0 where
   pub first_alone : batch
       (entries Little 0 (node_is 0 0 ∷ node_is 0 0 ∷ []) (replicate 6 (buffer_is 0 0)) []) 0 three_fields

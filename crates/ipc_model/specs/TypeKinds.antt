@@ -1,4 +1,4 @@
--- The kinds of types, with the ids of their dictionaries.
+-- The kinds of columns by their types, with the ids of their dictionaries.
 -- (Arrow columnar format, "Data Types" and "Physical Memory Layout".)
 use Rattle.std.specs.Prelude.{ℤ, Option, None}
 use Rattle.lower.specs.declared.datatypes.IntegerType.{IntegerType}
@@ -12,7 +12,7 @@ use Rattle.lower_types.specs.declared.PrimitiveType.{PrimitiveType}
 use Rattle.lower_types.specs.declared.PrimitiveType.TheVariants as numbers
 use Rattle.ipc_model.specs.Kinds.{offsets_32, offsets_64, Kind, null_kind, boolean_kind, number_kind, float_kind, fixed_binary_kind, binary_kind, utf8_kind, list_kind, map_kind, fixed_list_kind, struct_kind, union_kind, dictionary_kind, extension_kind, Kinds, no_kinds, more_kinds}
 
--- the keys of a dictionary
+-- How the keys of a dictionary are stored.
 abbrev pub key_form : IntegerType → PrimitiveType
 key_form Int8 = numbers.Int8
 key_form Int16 = numbers.Int16
@@ -23,12 +23,13 @@ key_form UInt16 = numbers.UInt16
 key_form UInt32 = numbers.UInt32
 key_form UInt64 = numbers.UInt64
 
--- months; days and milliseconds; months, days and nanoseconds
+-- How intervals are stored: as months; as days and milliseconds; as months, days and nanoseconds.
 abbrev pub interval_form : IntervalUnit → PrimitiveType
 interval_form YearMonth = numbers.Int32
 interval_form DayTime = numbers.DaysMs
 interval_form MonthDayNano = numbers.MonthDayNano
 
+-- The kind of a type without children.
 abbrev pub plain_kind : Plain → Kind
 plain_kind null = null_kind
 plain_kind boolean = boolean_kind
@@ -58,27 +59,31 @@ plain_kind large_utf8 = utf8_kind offsets_64
 plain_kind (decimal precision scale) = number_kind numbers.Int128
 plain_kind (decimal256 precision scale) = number_kind numbers.Int256
 
+-- The kind of a type with one child.
 abbrev pub single_kind : Single → Kind → Kind
 single_kind list t = list_kind offsets_32 t
 single_kind large_list t = list_kind offsets_64 t
 single_kind (fixed_list n) t = fixed_list_kind n t
 single_kind (entries sorted) t = map_kind t
 
+-- The kind of a type with several children.
 abbrev pub group_kind : Group → Kinds → Kind
 group_kind structure ts = struct_kind ts
 group_kind (choice type_ids mode) ts = union_kind mode type_ids ts
 
--- the ids of the first field and of the others: none where they don't go so far
+-- The ids of the first field; none if there are no ids left.
 abbrev pub first_ids : IdTrees → IdTree
 first_ids no_ids = ids None no_ids
 first_ids (more_ids i is) = i
 
+-- The ids of the fields after the first.
 abbrev pub other_ids : IdTrees → IdTrees
 other_ids no_ids = no_ids
 other_ids (more_ids i is) = is
 
--- The id is that of the field whose type this is, and the others are those of the child fields.
 abbrev mutual
+  -- The kind of a type: `id` is the dictionary id of its field, and `is`
+  -- are the ids of the child fields.
   pub kind_of : TypeTree → Option ℤ → IdTrees → Kind
   kind_of (plain p) id is = plain_kind p
   kind_of (single s f) id is = single_kind s (field_kind f (first_ids is))
@@ -86,9 +91,11 @@ abbrev mutual
   kind_of (dictionary keys t ordered) id is = dictionary_kind (key_form keys) id (norm t)
   kind_of (extension name t text) id is = extension_kind (kind_of t id is)
 
+  -- The kind of a field's column.
   pub field_kind : FieldTree → IdTree → Kind
   field_kind (field name t nullable metadata) (ids id is) = kind_of t id is
 
+  -- The kinds of some fields' columns.
   pub kinds_of : FieldTrees → IdTrees → Kinds
   kinds_of no_fields is = no_kinds
   kinds_of (more_fields f fs) is = more_kinds (field_kind f (first_ids is)) (kinds_of fs (other_ids is))

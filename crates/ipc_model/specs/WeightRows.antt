@@ -1,4 +1,5 @@
--- The weights of schemas that are written out, and the places of dictionaries.
+-- The weights of schemas, and the dictionary fields of schemas.
+-- (Arrow columnar format, "Schema message"; the weight is this project's own.)
 use Rattle.std.specs.Prelude.{◌≡◌, ℕ, pos, true, false, List, [], ◌∷◌, codes, map, Some, None}
 use Rattle.lower.specs.Normal.{data_key}
 use Rattle.lower.specs.TypeTrees.{int32, boolean, utf8, binary, timestamp, fixed_binary, list, structure, choice, TypeTree, plain, single, group, dictionary, extension, FieldTree, field, FieldTrees, no_fields, more_fields}
@@ -15,7 +16,8 @@ named t name = field name t true []
 abbrev pub alone : FieldTree → FieldTrees
 alone f = more_fields f no_fields
 
--- The values of a dictionary and each child weigh too, and metadata as they are in the normal form; so do the pairs of a file's footer.
+-- The values of a dictionary and each child weigh too, and metadata as they are in the normal form;
+-- so do the pairs of a file's footer.
 pub record WeightRows : Type 0 where
   pub two_integers : weight
       (more_fields (named (plain int32) (codes "x")) (alone (named (plain int32) (codes "y")))) [] ≡ 2050
@@ -43,7 +45,8 @@ pub record WeightRows : Type 0 where
   pub footer_pairs : file_weight (alone (named (plain int32) (codes "x"))) ((codes "k", codes "vw") ∷ []) ((codes "j", codes "v") ∷ []) ≡ 1670
   pub normal_metadata : weight (alone (field (codes "x") (plain int32) true ((data_key, codes "m") ∷ (codes "k", codes "v") ∷ []))) [] ≡ 1603
 
--- a dictionary of texts, and one of lists whose items are a dictionary of bytes: their ids in pre-order
+-- A dictionary of texts, and one of lists whose items are a dictionary of
+-- bytes: their ids in pre-order.
 abbrev pub two_dictionaries : FieldTrees
 two_dictionaries = more_fields (named (dictionary Int8 (plain utf8) false) (codes "a"))
     (alone (named (dictionary Int8 (single list (named (dictionary Int8 (plain binary) false) (codes "item"))) false)

@@ -1,4 +1,6 @@
--- Schemas that can be written. Beside each stands one that can't.
+-- Schemas that can be written. Beside each is one that can't. A definition that is changed in one
+-- word fails one of these cases. Each limit is tried at its edge. If a limit is too large to write
+-- out (weights, dictionary fields), the case is for every number.
 -- (Arrow columnar format, "Schema message" and "Data Types"; the limits are this project's own.)
 use Rattle.std.specs.Prelude.{ℕ, zero, suc, ℤ, pos, negsuc, ◌-◌, ◌^◌, ◌≤◌, ◌↔◌, true, false, List, [], ◌∷◌, codes, replicate, Option, Some, None}
 use Rattle.lower.specs.Normal.{data_key}
@@ -15,7 +17,8 @@ use Rattle.ipc_model.specs.Writable.{IsWritableType, IsWritable, IsWritableFile}
 abbrev pub IsWritablePlainType : Plain → Type 0
 IsWritablePlainType p = IsWritableType (plain p)
 
--- No float is written. Times of the day are pairs that the format lists. Sizes are above 0, and sizes, precisions and scales numbers of 31 bits.
+-- No float can be written. Times of the day have the pairs of unit and width that the format lists.
+-- Sizes are above 0, and sizes, precisions and scales are numbers of 31 bits.
 pub record PlainTypeRows : Type 0 where
   pub half_float : ¬ IsWritablePlainType float16
   pub single_float : ¬ IsWritablePlainType float32
@@ -55,7 +58,7 @@ listed s = single s integer_field
 abbrev pub both : FieldTree → FieldTree → FieldTrees
 both f g = more_fields f (alone g)
 
--- so many integers
+-- So many integers.
 abbrev pub integer_fields : ℕ → FieldTrees
 integer_fields zero = no_fields
 integer_fields (suc n) = more_fields integer_field (integer_fields n)
@@ -75,9 +78,11 @@ keyed t = dictionary Int8 t false
 abbrev pub extended : TypeTree → TypeTree
 extended t = extension (codes "e") t None
 
--- Lists of a fixed number have at least one slot each; a struct a child; a map's child is a struct of two fields, and no extension of one; a union 1 to 127 children,
--- and ids from 0 to 126, as many, each once. A dictionary stands neither right under a dictionary nor right under an extension, and no extension right
--- under one. What is inside a type can be written too, wherever it stands.
+-- Fixed-size lists have at least one slot each; a struct has a child. A map's child is a
+-- struct of two fields, and no extension of one. A union has 1 to 127 children, and
+-- distinct type ids from 0 to 126, one for each. A dictionary is neither right under a
+-- dictionary nor right under an extension, and no extension right under one. What is inside
+-- a type can be written too, at all levels.
 pub record NestedTypeRows : Type 0 where
   pub lists : IsWritableType (listed list)
   pub large_lists : IsWritableType (listed large_list)
@@ -127,7 +132,7 @@ one_id i = more_ids i no_ids
 abbrev pub two_ids : IdTree → IdTree → IdTrees
 two_ids i j = more_ids i (one_id j)
 
--- so many lists, one in the other, over integers; and their ids
+-- So many lists, one in the other, of integers; and their ids.
 abbrev pub nested_lists : ℕ → FieldTree
 nested_lists zero = integer_field
 nested_lists (suc n) = of_type (single list (nested_lists n))
@@ -136,22 +141,22 @@ abbrev pub nested_ids : ℕ → IdTree
 nested_ids zero = no_id
 nested_ids (suc n) = ids None (one_id (nested_ids n))
 
--- lists of texts under an id
+-- Lists of texts under an id.
 abbrev pub lists_under : ℤ → IdTree
 lists_under z = ids (Some (pos 0)) (one_id (id_is z))
 
 abbrev pub text_lists : TypeTree
 text_lists = keyed (single list (of_type (keyed (plain utf8))))
 
--- lists of integers, whose field has metadata
+-- Lists of integers, whose field has metadata.
 abbrev pub integer_lists : Pairs → FieldTree
 integer_lists metadata = of_type (keyed (single list (field (codes "f") (plain int32) true metadata)))
 
--- a field whose name has so many bytes
+-- A field whose name has so many bytes.
 abbrev pub long_named : ℕ → FieldTrees
 long_named n = alone (named (plain int32) (replicate n 97))
 
--- so many dictionaries of texts, and their ids
+-- So many dictionaries of texts, and their ids.
 abbrev pub dictionaries_of : ℕ → FieldTrees
 dictionaries_of zero = no_fields
 dictionaries_of (suc n) = more_fields (of_type (keyed (plain utf8))) (dictionaries_of n)
@@ -160,8 +165,10 @@ abbrev pub zero_ids : ℕ → IdTrees
 zero_ids zero = no_ids
 zero_ids (suc n) = more_ids (id_is (pos 0)) (zero_ids n)
 
--- Ids stand exactly at dictionaries. There are at most 64 levels of fields, a top field being level 1. Two places of one id have one type of values, as it is in the normal form, and the same ids
--- in them. A schema's weight is at most 2 ^ 30: here 1,536 and the bytes of a name; for a file with the pairs of its footer, here 1,602 and the bytes of a value. There are at most 65,536 dictionary places.
+-- Exactly the dictionaries have ids. There are at most 64 levels of fields; a top field is at level
+-- 1. Two fields of one id have one type of values, in its normal form, and the same ids in them. A
+-- schema's weight is at most 2 ^ 30. Here it is 1,536 and the bytes of a name; for a file with the
+-- pairs of its footer, 1,602 and the bytes of a value. There are at most 65,536 dictionary fields.
 pub record WritableSchemaRows : Type 0 where
   pub an_integer : IsWritable (alone integer_field) [] (one_id no_id)
   pub a_float : ¬ IsWritable (alone float_field) [] (one_id no_id)

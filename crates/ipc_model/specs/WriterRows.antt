@@ -1,4 +1,5 @@
--- Lists of calls of a writer, and what they take. Beside most stands one that there is not.
+-- Lists of calls of a writer, and the chunks that they write. Beside most is one that isn't
+-- possible. A definition that is changed in one word fails one of these cases.
 -- (Arrow columnar format, "IPC Streaming Format": a schema, then batches, then the end.)
 use Rattle.std.specs.Prelude.{◌≡◌, List, [], ◌∷◌}
 use Rattle.lower_types.specs.declared.Endianness.TheVariants.{Little}
@@ -15,12 +16,13 @@ Runs s calls t = IsRun (writer_in s) calls (writer_in t)
 abbrev pub write_demo : Call
 write_demo = write_call demo_chunk
 
--- one write between a start and an end, each of which ends so
+-- One write between a start and an end, each of which ends so.
 abbrev pub one_write : Outcome → List (Call × Outcome)
 one_write o = (start_call, is_taken) ∷ (write_demo, o) ∷ (finish_call, is_taken) ∷ []
 
--- A stream is started once, written while it is open, and finished once. A call that is refused changes nothing, one that is broken off closes the writer, and only an open writer's is.
--- The chunks that were taken are those of the writes that were Ok, in their order.
+-- A stream is started once, written to while it is open, and finished once. A refused call changes
+-- nothing. A call that is broken off closes the writer; only an open writer's call can be. The
+-- chunks that were written are those of the writes that returned Ok, in their order.
 pub record RunRows : Type 0 where
   pub whole : Runs new_writer (one_write is_taken) finished_writer
   pub refused_between : Runs new_writer (one_write is_refused) finished_writer

@@ -1,5 +1,5 @@
--- Columns of numbers as they are written, and what they mean: no validity, and each buffer padded to a
--- multiple of 64.
+-- Columns of numbers as they are written, and what they mean: without a validity, each buffer
+-- padded to a multiple of 64 bytes.
 -- (Arrow columnar format, "RecordBatch message" and "Buffer Alignment and Padding".)
 use Rattle.std.specs.Prelude.{◌≡◌, ℕ, ℤ, pos, ◌-◌, ◌*◌, ◌+ℤ◌, List, [], ◌∷◌, ◌++◌, length, map, drop, replicate, Some, None}
 use Rattle.std.specs.Int.{next_multiple_of}
@@ -16,7 +16,7 @@ use Rattle.ipc_model.specs.Entries.{Dictionaries}
 use Rattle.ipc_model.specs.Kinds.{number_kind, Kinds, no_kinds, more_kinds}
 use Rattle.ipc_model.specs.Streams.{whole}
 
--- the numbers of a column: what they are, how many, and their bytes
+-- The numbers of a column: their type, how many there are, and their bytes.
 pub record Numbers : Type 0 where
   pub form : PrimitiveType
   pub rows : ℕ
@@ -24,19 +24,23 @@ pub record Numbers : Type 0 where
 
 -- ---- how they are written
 
+-- Bytes with zeros after them, up to a multiple of 64.
 abbrev pub padded : List ℕ → List ℕ
 padded bytes = bytes ++ replicate (next_multiple_of (length bytes) 64 - length bytes) 0
 
+-- The body of a batch of these columns.
 abbrev pub body_of : List Numbers → List ℕ
 body_of cs = flat_map (λ c. padded c.bytes) cs
 
+-- The node of a column, which has no nulls.
 abbrev pub node_of : Numbers → FieldNode
 node_of c = record { length = pos c.rows; null_count = pos 0 }
 
+-- A buffer of n bytes at offset o.
 abbrev pub entry : ℤ → ℕ → Buffer
 entry o n = record { offset = o; length = pos n }
 
--- the entries of columns from place o on: of each a validity that isn't there, and the numbers
+-- The buffers of columns from offset o on: for each an empty validity, and the numbers.
 abbrev pub buffers_from : ℤ → List Numbers → List Buffer
 buffers_from o [] = []
 buffers_from o (c ∷ cs) =
@@ -44,23 +48,25 @@ buffers_from o (c ∷ cs) =
 
 -- ---- what they mean
 
+-- The slots of a column of numbers.
 abbrev pub number_slots : Endianness → Numbers → List Slot
 number_slots order c =
     map (λ i. number_slot (number_in c.form order (drop (width_of c.form * i) c.bytes))) (range_with_len 0 c.rows)
 
--- the columns of k numbers each are those of the kinds
+-- The columns have k numbers each, of the types that the kinds say.
 abbrev pub AreNumbers : ℕ → List Numbers → Kinds → Type 0
 AreNumbers k [] no_kinds = Unit {0}
 AreNumbers k (c ∷ cs) (more_kinds t ts) =
     (t ≡ number_kind c.form) × (c.rows ≡ k) × (length c.bytes ≡ width_of c.form * c.rows) × AreNumbers k cs ts
 AreNumbers k _ _ = ⊥
 
+-- The columns of numbers as a chunk, with the types of the fields.
 abbrev pub numbers_chunk : Endianness → FieldTrees → List Numbers → Chunk
 numbers_chunk order (more_fields f fs) (c ∷ cs) =
     record { type = field_type f; slots = number_slots order c } ∷ numbers_chunk order fs cs
 numbers_chunk order _ _ = []
 
--- a batch of columns of numbers that was written means these columns
+-- A batch that was written of columns of numbers means these columns.
 abbrev pub WrittenBatchLaw : Type 0
 WrittenBatchLaw = (k : ℕ) (cs : List Numbers) (schema : Schema) (extra : ℕ) (known : Dictionaries)
     → AreNumbers k cs (kinds schema)

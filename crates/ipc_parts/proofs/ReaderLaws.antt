@@ -1,4 +1,4 @@
--- From what a message holds to what its readers give.
+-- From the parts of a message to what its readers give.
 use Rattle.std.proofs.Common.{◌≡◌, ℕ, zero, suc, ◌+◌, ◌*◌, ◌<◌, ◌≤◌, List, [], ◌∷◌, ◌++◌, length, map, take, drop, Option, None, Some, Result, Ok, refl, sym, ap, subst, ◌∙◌, arith}
 use Rattle.std.specs.Prelude.{slice_get}
 use Rattle.std.specs.List.{flat_map}
@@ -14,11 +14,11 @@ use Rattle.ipc_parts.specs.Readers.{HoldsOptional, HoldsTables, optional, parts_
 use Rattle.ipc_parts.specs.Tree.{Part, Slots, elements, table, tables, text}
 use Rattle.ipc_parts.proofs.Standing.{stands-first, stands-then}
 
--- the number in a slot
+-- The number in a field.
 pub number-read : (w d : ℕ) (m : List ℕ) (p i q x : ℕ) → slot_at m p i ≡ Ok (Some q) → number_at w m q ≡ Ok x → number_slot w d m p i ≡ Ok x
 number-read w d m p i q x e f = ap (λ s. or_default d (of_slot s (number_at w m))) e ∙ ap (λ r. or_default d (map_ok Some r)) f
 
--- what a slot leads to, for any reader of it
+-- What a field leads to, for any reader of it.
 pub offset-read : {T : Type 0} (m : List ℕ) (p i q t : ℕ) (read : ℕ → Result T TableFault) (x : T) → slot_at m p i ≡ Ok (Some q) → target_at m q ≡ Ok t → read t ≡ Ok x
     → of_slot (slot_at m p i) (λ k. and_then (target_at m k) read) ≡ Ok (Some x)
 offset-read m p i q t read x e f g =
@@ -32,11 +32,11 @@ pub spot-read : (m : List ℕ) (t : ℕ) (slots : Slots) → HoldsPart m t (tabl
 unfolding spot_at
 spot-read m t slots (v, size, e, f, h) = ap (map_ok (λ _. spot m t)) e
 
--- a table that a slot leads to
+-- A table that a field leads to.
 pub table-read : (m : List ℕ) (p i q t : ℕ) (slots : Slots) → slot_at m p i ≡ Ok (Some q) → target_at m q ≡ Ok t → HoldsPart m t (table slots) → table_slot m p i ≡ Ok (Some (spot m t))
 table-read m p i q t slots e f h = offset-read m p i q t (spot_at m) (spot m t) e f (spot-read m t slots h)
 
--- a text that a slot leads to
+-- A text that a field leads to.
 pub text-read : (m : List ℕ) (p i q t : ℕ) (bytes : List ℕ) → slot_at m p i ≡ Ok (Some q) → target_at m q ≡ Ok t → HoldsPart m t (text bytes) → text_slot m p i ≡ Ok (Some bytes)
 text-read m p i q t bytes e f h = offset-read m p i q t (text_at m) bytes e f h.0
 
@@ -44,7 +44,7 @@ text-read m p i q t bytes e f h = offset-read m p i q t (text_at m) bytes e f h.
 pub union-read : (last : ℕ) (m : List ℕ) (p i tag : ℕ) (t : Spot) → number_slot 1 0 m p i ≡ Ok tag → 0 < tag → tag ≤ last → table_slot m p (i + 1) ≡ Ok (Some t) → union_slot last m p i ≡ Ok (Some (tag, t))
 union-read last m p i tag t e h k f = grind (arith, nat_tests)
 
--- a slot that may be absent, and those after it
+-- A field that may be absent, and those after it.
 pub optional-read : (m : List ℕ) (p size i : ℕ) (x : Option Part) (rest : Slots) → HoldsSlots m p size i (optional x rest) → HoldsOptional m p i x × HoldsSlots m p size (i + 1) rest
 optional-read m p size i None rest (e, h) = (e, h)
 optional-read m p size i (Some x) rest ((q, t, e, f, g, k), h) = ((q, t, e, f, k), h)
@@ -70,7 +70,7 @@ table-in : (m : List ℕ) (p count k t : ℕ) → target_at m (p + 4 * k) ≡ Ok
 unfolding table_in
 table-in m p count k t e f = ap (λ r. and_then r (spot_at m)) e ∙ f
 
--- a vector of tables that a slot leads to
+-- A vector of tables that a field leads to.
 pub tables-read : {V : Type 0} (f : V → Part) (is_table : (v : V) → (slots : Slots) × (f v ≡ table slots)) (m : List ℕ) (p i q t : ℕ) (vs : List V)
     → slot_at m p i ≡ Ok (Some q) → target_at m q ≡ Ok t → HoldsPart m t (tables (parts_of (map f vs)))
     → (v : Vector) × (vector_slot 4 m p i ≡ Ok (Some v)) × (v.message ≡ m) × HoldsTables v f vs
@@ -87,7 +87,7 @@ tables-read f is_table m p i q t vs e g h = (
   },
 )
 
--- bytes that are read stand there
+-- Bytes that are read are there.
 inside : (n p : ℕ) (m xs : List ℕ) → bytes_at n m p ≡ Ok xs → p + n ≤ length m
 inside n p m xs e = grind (arith, nat_tests)
 
@@ -102,7 +102,7 @@ stands-read n p m xs e = record {
   parts = sym (take-append-drop p m) ∙ ap (λ (r : List ℕ). take p m ++ r) (sym (take-append-drop n (drop p m)) ∙ ap (λ (r : List ℕ). r ++ drop n (drop p m)) (taken n p m xs e));
 }
 
--- the bytes of structs read as what bytes keep of each
+-- The bytes of structs are read as the numbers that they encode.
 structs-back : {S : Type 0} (read : List ℕ → ℕ → S) (size : ℕ) (bytes_of : S → List ℕ) (kept : S → S) → ((s : S) → length (bytes_of s) ≡ size)
     → ((m : List ℕ) (p : ℕ) (s : S) → Stands m p (bytes_of s) → read m p ≡ kept s)
     → (m : List ℕ) (p : ℕ) (ss : List S) → Stands m p (flat_map bytes_of ss) → structs_from (read m) size (length ss) p ≡ map kept ss
@@ -117,7 +117,7 @@ structs-is : {S : Type 0} (read : List ℕ → ℕ → S) (size : ℕ) (m : List
 unfolding structs_at
 structs-is read size m t count ss e f = ap (map_ok (λ v. structs_from (read m) size v.count v.place)) e ∙ ap (λ r. Ok r) f
 
--- a vector of structs that a slot leads to
+-- A vector of structs that a field leads to.
 pub structs-read : {S : Type 0} (read : List ℕ → ℕ → S) (align size : ℕ) (bytes_of : S → List ℕ) (kept : S → S) → ((s : S) → length (bytes_of s) ≡ size)
     → ((m : List ℕ) (p : ℕ) (s : S) → Stands m p (bytes_of s) → read m p ≡ kept s)
     → (m : List ℕ) (p i q t : ℕ) (ss : List S) → slot_at m p i ≡ Ok (Some q) → target_at m q ≡ Ok t → HoldsPart m t (elements align size (length ss) (flat_map bytes_of ss))

@@ -1,4 +1,4 @@
--- A root's place, and then the root.
+-- The offset of a root, and then the root.
 use Rattle.std.proofs.Common.{◌≡◌, ℕ, ◌+◌, ◌*◌, ◌^◌, ◌<◌, List, [], ◌++◌, length, refl, sym, subst, ap, arith, length-append}
 use Rattle.ipc_parts.specs.declared.build.Built.{Built}
 use Rattle.ipc_parts.specs.Encodes.{IsEncoding}

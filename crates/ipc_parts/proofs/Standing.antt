@@ -1,4 +1,4 @@
--- What is read where some bytes stand.
+-- What is read at the offset of some bytes.
 use Rattle.std.proofs.Common.{◌≡◌, ℕ, zero, suc, ◌+◌, ◌-◌, ◌^◌, ◌<◌, ◌≤◌, List, ◌∷◌, ◌++◌, length, take, drop, Ok, sym, ap, subst, ◌∙◌, arith, append_assoc, length-append}
 use Rattle.std.proofs.lemmas.List.{drop_at, take-append-le}
 use Rattle.std.proofs.Math.Seq.{take-length}
@@ -27,7 +27,7 @@ stands-second m p xs ys s = record {
   here = length-append s.front xs ∙ ap (λ (n : ℕ). n + length xs) s.here;
 }
 
--- what stands after the first k bytes, at a place told otherwise
+-- The bytes after the first k, at an offset given otherwise.
 pub stands-then : (m : List ℕ) (p q : ℕ) (xs ys : List ℕ) → p + length xs ≡ q → Stands m p (xs ++ ys) → Stands m q ys
 stands-then m p q xs ys e s = subst (λ (r : ℕ). Stands m r ys) e (stands-second m p xs ys s)
 

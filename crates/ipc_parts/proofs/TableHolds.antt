@@ -1,4 +1,4 @@
--- The bytes of a table hold its slots.
+-- The bytes of a table have its fields.
 use Rattle.std.proofs.Common.{◌≡◌, ℕ, ◌+◌, ◌*◌, ◌/◌, ◌%◌, ◌^◌, ◌<◌, ◌≤◌, List, ◌∷◌, ◌++◌, length, Option, None, Some, Result, Ok, refl, sym, ap, subst, ◌∙◌, arith, length-append}
 use Rattle.std.proofs.Math.Nat.{zero-mod, zero-mul}
 use Rattle.std.proofs.lemmas.Nat.{mul-mod}
@@ -19,7 +19,7 @@ use Rattle.ipc_parts.proofs.TableBytes.{length-vtable, length-numbers, length-ta
 use Rattle.ipc_parts.proofs.Lengths.{length-le}
 use Rattle.ipc_parts.proofs.Standing.{stands-first, stands-then, stands-at, number_at-stands}
 
--- a table of a vtable that is well made
+-- A table with a valid vtable.
 opens : (m : List ℕ) (p v size second : ℕ) → v < 2 ^ 31 → 4 ≤ size → number_at 4 m (p + v) ≡ Ok v → number_at 2 m p ≡ Ok size → number_at 2 m (p + 2) ≡ Ok second → table_at m (p + v) ≡ Ok (p, size)
 unfolding table_at
 opens m p v size second hv hs e f g = grind (arith, nat_tests)
@@ -36,7 +36,8 @@ slot-past : (m : List ℕ) (t v size i : ℕ) → table_at m t ≡ Ok (v, size) 
 unfolding slot_at
 slot-past m t v size i e h = grind (arith, nat_tests)
 
--- The slots from i on, of a table of n slots at t with its vtable at v. The parts of the earlier slots take u bytes.
+-- The fields from field i on of a table of n fields at t with its vtable at v. The parts of
+-- the earlier fields take u bytes.
 record Layout (m : List ℕ) (t v n i u : ℕ) (slots : List Slot) : Type 0 where
   opened : table_at m t ≡ Ok (v, 4 + 2 * n)
   few : n < 8000
@@ -47,7 +48,7 @@ record Layout (m : List ℕ) (t v n i u : ℕ) (slots : List Slot) : Type 0 wher
   whole : (t + u) % 8 ≡ 0
   small : 8 * n + u < 2 ^ 31
 
--- the slots after the first
+-- The fields after the first.
 next : (m : List ℕ) (t v n i u : ℕ) (x : Slot) (rest : List Slot) (o : ℕ) → entries i (x ∷ rest) ≡ le 2 o ++ entries (i + 1) rest
     → length (tail_of x) % 8 ≡ 0 → 8 * n + u + length (tail_of x) < 2 ^ 31
     → Layout m t v n i u (x ∷ rest) → Layout m t v n (i + 1) (u + length (tail_of x)) rest
@@ -65,7 +66,7 @@ next m t v n i u x rest o e whole small l =
       small = omega arith;
     }
 
--- the entry of a slot that is there
+-- The vtable entry of a field that is present.
 entry-is : (m : List ℕ) (t v n i u : ℕ) (x : Slot) (rest : List Slot) → entries i (x ∷ rest) ≡ le 2 (8 + 8 * i) ++ entries (i + 1) rest
     → Layout m t v n i u (x ∷ rest) → slot_at m t i ≡ Ok (Some (t + (8 + 8 * i)))
 entry-is m t v n i u x rest e l =
@@ -78,7 +79,7 @@ pub target-is : (m : List ℕ) (q o : ℕ) → number_at 4 m q ≡ Ok o → targ
 unfolding target_at
 target-is m q o e = grind (arith, nat_tests)
 
--- a part that stands at a multiple of 8
+-- A part at a multiple of 8.
 pub part-at : (m : List ℕ) (p q : ℕ) (y : Built) (x : Part) → IsPart y x → length y.bytes.items < 2 ^ 31 → p % 8 ≡ 0 → p + y.entry ≡ q → Stands m p y.bytes.items → HoldsPart m q x
 part-at m p q y x is small whole e s =
     let a : p ≡ 8 * (p / 8) = omega arith in
@@ -128,7 +129,7 @@ count-is _ _ (is_absent {slots = slots} {rest = rest} a) = omega (arith, count-i
 count-is _ _ (is_number {slots = slots} {rest = rest} same fits whole range a) = omega (arith, count-is slots rest a)
 count-is _ _ (is_offset {slots = slots} {rest = rest} is a) = omega (arith, count-is slots rest a)
 
--- the parts below a table take what the slots say
+-- The parts below a table take as many bytes as its fields say.
 length-tails : (slots : List Slot) (xs : Slots) → AreSlots slots xs → length (tails slots) ≡ slots_size xs
 length-tails _ _ no_more = refl
 length-tails _ _ (is_absent {slots = slots} {rest = rest} a) = length-tails slots rest a
@@ -163,7 +164,7 @@ inline-laid m t v n i u _ _ (is_offset {slots = slots} {rest = rest} {y = y} {x 
     (AreLaidOut-later _ (t + 8 + 8 * (i + 1)) _ _ (omega arith)
     (inline-laid m t v n (i + 1) _ slots rest a (next m t v n i u (Offset y) slots (8 + 8 * i) refl length_is (omega arith) l) at (omega arith)))
 
--- the regions of a part that stands at a multiple of 8
+-- The regions of a part at a multiple of 8.
 pub laid-at : (g : Grain) (m : List ℕ) (p q hi : ℕ) (y : Built) (x : Part) → IsPart y x → length y.bytes.items < 2 ^ 31 → p % 8 ≡ 0 → p + y.entry ≡ q → p + length y.bytes.items ≡ hi → Stands m p y.bytes.items → AreLaidOut p (regions g m q x) hi
 laid-at g m p q hi y x is small whole e f s =
     let a : p ≡ 8 * (p / 8) = omega arith in
@@ -205,7 +206,7 @@ children-laid g m t v n i u _ _ (is_offset {slots = slots} {rest = rest} {y = y}
 missing-whole : (p n : ℕ) → (8 * p + (n + missing n) + 0) % 8 ≡ 0
 missing-whole p n = omega arith
 
--- what the bytes of a table give where they stand
+-- What the bytes of a table give at their offset.
 record Opened (m : List ℕ) (p : ℕ) (slots : List Slot) : Type 0 where
   layout : Layout m (8 * p + vtable_size (length slots)) (8 * p) (length slots) 0 0 slots
   size : number_at 2 m (8 * p + 2) ≡ Ok (8 + 8 * length slots)

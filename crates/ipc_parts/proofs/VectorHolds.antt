@@ -1,4 +1,4 @@
--- The bytes of texts and vectors hold these.
+-- The bytes of texts and vectors are these parts.
 use Rattle.std.proofs.Common.{◌≡◌, ℕ, ◌+◌, ◌*◌, ◌%◌, ◌^◌, ◌<◌, ◌≤◌, Bool, true, List, [], ◌∷◌, ◌++◌, length, Ok, Err, refl, sym, ap, subst, suc, suc-mul, zero, ◌∙◌, arith, length-append}
 use Rattle.std.specs.Prelude.{if◌then◌else◌}
 use Rattle.std.specs.Str.{is_utf8}
@@ -102,14 +102,14 @@ length-joined _ _ end_parts = refl
 length-joined _ _ (is_part {parts = parts} {rest = rest} {y = y} is a) =
     omega (arith, is.size, length-append y.bytes.items (joined_parts parts), length-joined parts rest a)
 
--- The offsets from place q on, and the parts after them and a gap, where the earlier parts take u bytes.
+-- The offsets from offset q on, and the parts after them and a gap; the earlier parts take u bytes.
 record Row (m : List ℕ) (q gap u : ℕ) (parts : List Built) : Type 0 where
   offset : Stands m q (offsets gap u parts)
   followed : Stands m (q + 4 * length parts + gap + u) (joined_parts parts)
   whole : (q + 4 * length parts + gap + u) % 8 ≡ 0
   small : 4 * length parts + gap + u + length (joined_parts parts) < 2 ^ 31
 
--- where the first offset leads to
+-- What the first offset leads to.
 offset-is : (m : List ℕ) (q gap u : ℕ) (y : Built) (parts : List Built) → Row m q gap u (y ∷ parts)
     → target_at m q ≡ Ok (q + (4 * (length parts + 1) + (gap + u) + y.entry))
 offset-is m q gap u y parts r =
@@ -135,7 +135,7 @@ next-row m q gap u y parts r =
       small = omega arith;
     }
 
--- the first part stands where its offset leads to
+-- The first part is where its offset leads to.
 first-stands : (m : List ℕ) (q gap u : ℕ) (y : Built) (parts : List Built) → Row m q gap u (y ∷ parts) → Stands m (q + 4 * (length parts + 1) + gap + u) y.bytes.items
 first-stands m q gap u y parts r = stands-first m _ y.bytes.items (joined_parts parts) (stands-at m _ _ _ (omega arith) r.followed)
 

@@ -20,7 +20,7 @@ either : (b : Bool) → (b ≡ true) ⊎ (b ≡ false)
 either true = inl refl
 either false = inr refl
 
--- a test of texts is the test
+-- A test of texts is the test of the definitions.
 pub utf8_test : (b : Bool) (xs : List ℕ) → IsTrue b ↔ IsUtf8 xs → b ≡ is_utf8 xs
 utf8_test true xs f = sym (is_utf8-from_IsUtf8 xs (f.0 refl))
 utf8_test false xs f =

@@ -1,4 +1,4 @@
--- Where the columns of a batch stand.
+-- Where the columns of a batch are.
 use Rattle.std.proofs.Common.{◌≡◌, ℕ, zero, suc, ◌+◌, ◌-◌, ◌<◌, ◌≤◌, ◌&&◌, ◌==◌, List, [], ◌∷◌, map, take, drop, refl, ap, sym, ◌∙◌, subst, arith, add-one, get_or, length, slice_range, length-take, length-drop}
 use Rattle.std.proofs.lemmas.List.{take-map, drop-map}
 use Rattle.lower_types.specs.declared.Endianness.{Endianness}
@@ -66,7 +66,7 @@ buffers_inside extra (x ∷ ks) (suc j) h = omega (arith, buffers_inside extra k
 
 pub ruleset places = (nodes_step, buffers_step, nodes_inside, buffers_inside, none_before, no_buffer_before)
 
--- the entries from a place on are those of the column
+-- The entries from a position on are those of the column.
 pub own_is : (ns : List FieldNode) (ps : List PlainPart) (order : Endianness) (extra : ℕ) (ts : Kinds) (j node n buffer m : ℕ)
     → node ≡ nodes_before ts j → n ≡ nodes (kind_at ts j) → buffer ≡ buffers_before extra ts j → m ≡ buffers extra (kind_at ts j)
     → record { nodes = slice_range ns node (node + n); parts = map part_view (slice_range ps buffer (buffer + m)); order = order; extra = extra; dictionaries = [] }

@@ -48,7 +48,7 @@ read_more f xs ys x from j e h g is =
     let at : from + (j - from) ≡ j = omega arith in
     ap slots_view e ∙ pushed f xs x from (j - from) j g is at ∙ ap (λ n. map f (range_with_len from n)) n
 
--- some slots in front of others
+-- Some slots before others.
 abbrev pub onto : List Slot → Slots → Slots
 onto [] r = r
 onto (x ∷ xs) r = more_slots x (onto xs r)
@@ -74,7 +74,7 @@ list_is s t a b i from to j items valid f g e past few =
     slot-List items ∙ ap (λ xs. list_slot (slots_of xs)) all
     ∙ sym (ap (λ v. cond v (list_slot (slots_of (map child (range_with_len (offset s (b + 1) 4 i) (offset s (b + 1) 4 (i + 1) - offset s (b + 1) 4 i))))) null_slot) valid)
 
--- one more slot of a record
+-- One more slot of a struct.
 pub record_more : (s : Entries) (ks : List PlainKind) (place i node buffer n m : ℕ) (k : PlainKind) (xs ys : List PlainSlot) (x : PlainSlot) (all : Slots)
     → ys ≡ xs ++ x ∷ [] → k ≡ get_or ks place k → place < length ks
     → onto (slots_view xs) (slots_at s (kinds_view (drop place ks)) node buffer i) ≡ all

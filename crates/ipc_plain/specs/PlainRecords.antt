@@ -1,4 +1,6 @@
--- The slots of a record batch's columns.
+-- The slots of a record batch's columns. What the program returns for some bytes is what they mean,
+-- so that faster readers can be compared with it. `plain_column` is `column` if `is_well` passes,
+-- `plain_batch` the same with `is_batch`, and `plain_record` the slots of `record_meaning`.
 -- (Arrow columnar format, "RecordBatch message".)
 use Rattle.std.specs.Prelude.{◌≡◌, ℕ, [], List, map, Option}
 use Rattle.std.specs.Option.{option_and_then, option_map}
@@ -11,20 +13,21 @@ use Rattle.ipc_model.specs.Kinds.{Kinds, count}
 use Rattle.ipc_plain.specs.PlainBatches.{columns_of}
 use Rattle.ipc_plain.specs.declared.record.PlainBody.{PlainBody}
 
--- where a body lies
+-- Where a body is.
 abbrev pub body_view : PlainBody → Body
 body_view b = record { source = b.source.now; base = b.base; size = b.size }
 
--- the slots of the chosen columns of what is listed, if it has a meaning
+-- The slots of the chosen columns of a batch with these lists, if it has a meaning.
 abbrev pub record_columns : Option Lists → Body → Endianness → ℕ → Kinds → List ℕ → Limit → Option (List (List Slot))
 record_columns lists body order extra ts js limit =
     option_and_then (λ l. columns_of (entries_of l body order extra []) body.size ts js limit) lists
 
--- the slots of each column
+-- The slots of each column.
 abbrev pub chunk_slots : Chunk → List (List Slot)
 chunk_slots c = map (λ x. x.slots) c
 
--- They are those of the meaning of the record batch, where no dictionary is known, and the projection names columns that are there, each once.
+-- Theorem: these are the slots of the record batch's meaning, if no dictionary is known, for each
+-- projection to columns that exist, each once.
 abbrev pub RecordLaw : Type 0
 RecordLaw = (schema : Schema) (extra : ℕ) (body : Body) (t : Spot) (projection : Option (List ℕ)) (limit : Limit)
     → IsProjection projection (count (kinds schema))

@@ -47,7 +47,7 @@ view-and (g ∷ gs) f = ap (λ (all : ReadAll). (more_fields (field_view g).0 al
 
 -- ---- fields that mean nothing
 
--- a table that is ill-made
+-- An invalid table.
 pub no-table : (read : Spot → Option Read) (v : Vector) (i n : ℕ) (before : ReadAll) (d : TableFault) (P : ReadAll → Type 0)
     → fields_from read v 0 i ≡ Some before → table_in v i ≡ Err d → i < n → IfSome (fields_from read v 0 n) P
 no-table read v i n before d P first led inside = if-some (fields_from read v 0 n) P (λ all e.

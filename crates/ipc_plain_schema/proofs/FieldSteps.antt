@@ -20,7 +20,7 @@ use Rattle.ipc_plain_schema.specs.declared.shape.Shape.TheVariants as shapes
 pub some-field : (f : FieldTree) → 0 < field_count f
 some-field (field name t nullable es) = omega arith
 
--- a slot that is present, or isn't
+-- A field of a table that is present, or isn't.
 pub present-map : {A B : Type 0} (f : A → B) (r : Result (Option A) TableFault) (s : Result (Option B) TableFault) (o : Option A)
     → map_ok (option_map f) r ≡ s → o ≡ present r → present s ≡ option_map f o
 present-map f (Ok None) s o same e = ap present (sym same) ∙ ap (option_map f) (sym e)
@@ -87,7 +87,7 @@ no-type levels t some none = level-down levels t some ∙ field-by-head (λ s. f
     at None = refl
     at (Some h) = ap (λ o. given o (λ type_. option_map (field_with h.name h.nullable h.metadata h.encoding) (type_of_field (λ s. field_at (levels - 1) s) t type_))) none
 
--- a field whose head and type are there
+-- A field with its head and its type.
 pub field-is : (levels : ℕ) (t : Spot) (p : PlainHead) (h : FieldHead) (type_ : ℕ × Spot) → 0 < levels → head_at t ≡ Some h → IsHead p h → present (field_type t) ≡ Some type_
     → field_at levels t ≡ option_map (field_with (string_bytes p.name) p.is_nullable (pairs_of p.metadata.entries) h.encoding) (type_of_field (λ s. field_at (levels - 1) s) t type_)
 field-is levels t p h type_ some headed is typed =

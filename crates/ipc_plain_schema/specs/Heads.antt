@@ -1,4 +1,4 @@
--- What a field's table says beside its type.
+-- What a field's table says apart from its type.
 -- (Arrow columnar format, "Schema message"; Field of Schema.fbs.)
 use Rattle.std.specs.Prelude.{◌≡◌, ℕ, Bool, List, Option, Some, is_some, string_bytes}
 use Rattle.lower.specs.TypeTrees.{Pairs}
@@ -8,13 +8,15 @@ use Rattle.ipc_views.specs.Spot.{Spot}
 use Rattle.ipc_model.specs.Schemas.{Encoding, given, made, present, pairs_at, optional_encoding}
 use Rattle.ipc_plain_schema.specs.declared.head.Head.{Head as PlainHead}
 
--- the name, whether a slot may be null, the metadata, and the encoding where there is a dictionary
+-- The name, whether the field is nullable, its metadata, and its
+-- dictionary encoding if there is one.
 pub record FieldHead : Type 0 where
   pub name : List ℕ
   pub nullable : Bool
   pub metadata : Pairs
   pub encoding : Option Encoding
 
+-- The head of a field's table, if it is valid.
 unfoldable pub head_at : Spot → Option FieldHead
 head_at t =
     given (present (field_name t)) (λ name. given (made (field_nullable t)) (λ nullable.
@@ -22,7 +24,7 @@ head_at t =
     given (given (made (field_dictionary t)) optional_encoding)
     (λ encoding. Some (record { name = name; nullable = nullable; metadata = metadata; encoding = encoding })))))
 
--- whether a head is as this program has it, which knows of a dictionary only that there is one
+-- The program's head is this one; of a dictionary it has only that there is one.
 pub record IsHead (p : PlainHead) (h : FieldHead) : Type 0 where
   pub name : h.name ≡ string_bytes p.name
   pub nullable : h.nullable ≡ p.is_nullable

@@ -1,4 +1,4 @@
--- What the answers of this program say of a schema message's meaning.
+-- What the program's results say of a schema message's meaning.
 -- (Arrow columnar format, "Schema message".)
 use Rattle.std.specs.Prelude.{◌≡◌, IsFalse, IsTrue, IsSomeAnd, None, Option, Some}
 use Rattle.lower.specs.TypeViews.{pairs_of}
@@ -9,7 +9,7 @@ use Rattle.ipc_plain_schema.specs.declared.types.PlainSchema.{PlainSchema}
 use Rattle.ipc_plain_schema.specs.declared.schema.PlainAnswer.{PlainAnswer}
 use Rattle.ipc_plain_schema.specs.declared.schema.PlainAnswer.TheVariants.{NoSchema, Other, Plain}
 
--- the schema that one of this program stands for
+-- What one of the program's schemas means.
 abbrev pub schema_view : PlainSchema → Schema
 schema_view s = record {
   fields = (fields_view s.fields.items).0;
@@ -18,8 +18,10 @@ schema_view s = record {
   order = s.order;
 }
 
--- NoSchema: there is no meaning. Other: it has a type outside of this program's. Plain: it is this, and
--- has no such type.
+-- NoSchema: there is no meaning. Other: the schema has a type that the program doesn't
+-- know. Plain: the meaning is this schema, without such a type. Ids and byte order are part
+-- of it. An extension counts as the type that it is stored as, since the metadata give the
+-- rest; a dictionary as another type.
 abbrev pub FindsPlainly : PlainAnswer → Option Schema → Type 0
 FindsPlainly NoSchema meaning = meaning ≡ None
 FindsPlainly Other meaning = IsSomeAnd meaning (λ s. IsTrue (fields_have_other s.fields))

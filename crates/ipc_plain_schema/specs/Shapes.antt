@@ -16,19 +16,20 @@ use Rattle.ipc_plain_schema.specs.declared.shape.Group.TheVariants.{Struct, Othe
 use Rattle.ipc_plain_schema.specs.declared.shape.Shape.{Shape}
 use Rattle.ipc_plain_schema.specs.declared.shape.Shape.TheVariants as shapes
 
--- a type with no child, with one, or with several
+-- A type without children, with one, or with several.
 pub data Form : Type 0 where
   leaf : trees.Plain → Form
   one : trees.Single → Form
   several : trees.Group → Form
 
+-- The type that a tag and a table mean, without its children.
 abbrev pub form_at : ℕ × Spot → Option Form
 form_at type_ =
     if is_single_tag type_.0 then option_map one (single_at type_.0 type_.1)
     else if is_group_tag type_.0 then option_map several (group_at type_.0 type_.1)
     else option_map leaf (plain_at type_.0 type_.1)
 
--- the same as this program has it
+-- A type without children, as the program has it.
 abbrev pub leaf_of : trees.Plain → Leaf
 leaf_of int8 = Int Int8
 leaf_of int16 = Int Int16
@@ -41,14 +42,17 @@ leaf_of uint64 = Int UInt64
 leaf_of utf8 = Utf8
 leaf_of _ = OtherLeaf
 
+-- A type with one child, as the program has it.
 abbrev pub single_of : trees.Single → Single
 single_of list = List
 single_of _ = OtherSingle
 
+-- A type with several children, as the program has it.
 abbrev pub group_of : trees.Group → Group
 group_of structure = Struct
 group_of _ = OtherGroup
 
+-- A type without its children, as the program has it.
 abbrev pub shape_of : Form → Shape
 shape_of (leaf p) = shapes.Leaf (leaf_of p)
 shape_of (one s) = shapes.Single (single_of s)

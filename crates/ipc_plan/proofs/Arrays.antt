@@ -1,4 +1,5 @@
--- Levels of an array that stand are a column of its type with its slots: by recursion over the array, each kind by its own lemma.
+-- The levels of an array in a batch are a column of its type with its slots: by recursion on the
+-- array, each kind by its own lemma.
 use Rattle.std.proofs.Common.{arith, ◌≡◌, ℕ, ℤ, ◌+◌, List, length, map, Option, Some, None, refl, ap, ◌∙◌}
 use Rattle.std.specs.List.{range_with_len}
 use Rattle.lower_arrays.specs.Cuts.{cut_level}

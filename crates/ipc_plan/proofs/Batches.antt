@@ -185,7 +185,7 @@ parts_count : (body : List ℕ) (bs : List Buffer) → length (map (part_at body
 parts_count body [] = refl
 parts_count body (b ∷ bs) = let e = parts_count body bs in omega (arith, e)
 
--- ---- what is listed
+-- ---- the nodes and buffers of the plan
 
 length_padded : (xs : List ℕ) → length (padded xs) ≡ next_multiple_of (length xs) 64
 length_padded xs =
@@ -212,7 +212,7 @@ total_listed source o (x ∷ bs) =
     let long = ap length (flat_map-cons padded x bs) in
     omega (arith, first, rest, long, length-append (padded x) (body bs), length_padded x)
 
--- buffers that stand one behind the other list no more than their bytes, each of which is padded
+-- Buffers one after the other take at most their bytes, each padded.
 bounded : (order : Endianness) (lists : Lists) (bs : List (List ℕ)) (known : Dictionaries) (source : List ℕ) → lists.buffers ≡ entries_from 0 bs → source ≡ body bs
     → AreBounded (entries_of lists (whole source) order 0 known) (length source)
 unfolding entries_of

@@ -1,4 +1,4 @@
--- Buffers of a body that stands in a source, whatever stands before it and behind.
+-- Buffers of a body in a source, with any bytes before and after it.
 use Rattle.std.proofs.Common.{arith, ◌≡◌, ℕ, suc, pos, ◌+◌, ◌-◌, List, [], ◌∷◌, ◌++◌, map, length, take, drop, replicate, get_or, refl, sym, ap, ◌∙◌, subst, length-append, append_assoc, rules}
 use Rattle.std.specs.Int.{next_multiple_of}
 use Rattle.std.specs.List.{flat_map}
@@ -33,7 +33,7 @@ at_front (y ∷ front) x xs d = at_front front x xs d
 one_more : {A : Type 0} → (front : List A) (x : A) (xs : List A) → front ++ x ∷ xs ≡ (front ++ x ∷ []) ++ xs
 one_more front x xs = sym (append_assoc front (x ∷ []) xs)
 
--- nodes that are listed stand
+-- The nodes of a list are in the batch.
 nodes_listed : (s : Entries) (front ns : List FieldNode) → s.nodes ≡ front ++ ns → NodesStand s (length front) ns
 nodes_listed s front [] e = tt
 nodes_listed s front (n ∷ ns) e =
@@ -50,7 +50,7 @@ length_padded xs =
     let n = next_multiple_of (length xs) 64 - length xs in
     omega (arith, length-append xs (replicate n zero_byte), length-replicate n zero_byte)
 
--- the buffer at place o of a body, whose bytes stand behind `front` in the source
+-- The buffer at offset o of a body, whose bytes are after `front` in the source.
 part_stands : (source front : List ℕ) (base o : ℕ) (x rest : List ℕ) → source ≡ front ++ (padded x ++ rest) → length front ≡ base + o → IsBufferOf (part_at source base (entry (pos o) (length x))) x
 part_stands source front base o x rest e h = record {
   offset_is = search rules;
@@ -61,7 +61,7 @@ part_stands source front base o x rest e h = record {
       ∙ take_at x _ (length x) refl;
 }
 
--- buffers that are listed one behind the other, whose padded bytes stand so in the source
+-- Buffers one after the other, whose padded bytes are so in the source.
 parts_listed : (s : Entries) (source done : List ℕ) (base o : ℕ) (front : List Part) (bs : List (List ℕ)) (rest : List ℕ) → s.parts ≡ front ++ map (part_at source base) (entries_from o bs)
     → source ≡ done ++ (body bs ++ rest) → length done ≡ base + o → PartsStand s (length front) bs
 parts_listed s source done base o front [] rest e f h = tt

@@ -1,4 +1,4 @@
--- Pieces that have zeros behind their bits.
+-- Pieces that have zeros after their bits.
 use Rattle.std.proofs.Common.{arith, ◌≡◌, ℕ, zero, suc, ◌+◌, ◌*◌, ◌-◌, ◌/◌, ◌%◌, ◌^◌, ◌<◌, ◌≤◌, min, ◌==◌, false, inl, inr, List, [], ◌∷◌, ◌++◌, length, replicate, get_or, refl, ap, ◌∙◌, append-nil, append_assoc, sym}
 use Rattle.std.specs.Int.{next_multiple_of}
 use Rattle.std.specs.List.{AllByRecursion}
@@ -22,7 +22,7 @@ use Rattle.ipc_plan.specs.declared.plan.Plan.{Plan}
 bit_of_zero : (xs : List ℕ) (i : ℕ) → get_or xs (i / 8) 0 ≡ 0 → bit xs i ≡ false
 bit_of_zero xs i e = ap (λ n. (n / 2 ^ (i % 8)) % 2 == 1) e ∙ ap (λ n. n % 2 == 1) (zero-div (2 ^ (i % 8)))
 
--- what a mask took away
+-- The bits that a mask removed.
 masked_bit : (n m j : ℕ) → m ≤ j → n % 2 ^ m / 2 ^ j ≡ 0
 masked_bit n m j h = let low = mod-lt n (pow_pos m) in let wide = pow_mono h in div-eq_of_lt (omega (arith, low, wide))
 
@@ -48,7 +48,7 @@ zeros_clear n k = let z : ℕ = 0 in record { each = λ i h. bit_of_zero (replic
 
 -- ---- the pieces of a buffer
 
--- none where there is no byte
+-- No piece is kept if there is no byte.
 pub none_kept : (ps : List Piece) (x : Piece) (n : ℕ) → n ≡ 0 → ps ≡ ps ++ kept x n
 none_kept ps x n e = sym (ap (λ k. ps ++ kept x k) e ∙ append-nil ps)
 

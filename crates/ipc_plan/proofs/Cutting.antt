@@ -1,4 +1,4 @@
--- Offsets that stand, counted from their first.
+-- Offsets in a buffer, counted from their first.
 use Rattle.std.proofs.Common.{arith, ◌≡◌, ℕ, zero, suc, ◌+◌, ◌-◌, ◌*◌, ◌^◌, ◌<◌, ◌≤◌, ◌==◌, cond, Bool, false, List, length, drop, sym, ap, ◌∙◌, subst}
 use Rattle.std.specs.Prelude.{slice_index}
 use Rattle.std.proofs.Math.Nat.{mul-le-mul_left}
@@ -28,7 +28,7 @@ wide_some : (p : PrimitiveType) → 0 < offset_width (wide_of p)
 wide_some Int64 = omega arith
 wide_some _ = omega arith
 
--- the n + 1 offsets from place o on of rising ones stand in buffer b
+-- The n + 1 offsets from index o on of ascending ones are in buffer b.
 pub record CutOffsets (s : Entries) (b w : ℕ) (os : List ℕ) (o n : ℕ) : Type 0 where
   pub offsets : Offsets s b w n
   pub last : last_offset s b w n ≡ slice_index os (o + n) - slice_index os o

@@ -31,7 +31,7 @@ use Rattle.ipc_plan.specs.declared.pieces.Piece.TheVariants.{Zeros}
 use Rattle.ipc_plan.specs.declared.plan.Plan.{Plan}
 use Rattle.ipc_plan.proofs.Standing.{joined-append}
 
--- ---- buffers, and buffers behind them
+-- ---- buffers, and buffers after them
 
 end-append : (o : ℕ) (xs ys : List (List ℕ)) → end_from o (xs ++ ys) ≡ end_from (end_from o xs) ys
 end-append o [] ys = refl
@@ -67,11 +67,11 @@ pub one_piece : (order : Endianness) (ps qs : List Piece) (x : Piece) → qs ≡
 one_piece order ps qs x e =
     ap (pieces_bytes order) e ∙ flat_map-append (piece_bytes order) ps (x ∷ []) ∙ ap (λ xs. pieces_bytes order ps ++ xs) (append-nil (piece_bytes order x))
 
--- no piece in place of one that has no byte
+-- No piece for one that has no byte.
 pub no_piece : (order : Endianness) (ps : List Piece) (x : Piece) → length (piece_bytes order x) ≡ 0 → pieces_bytes order ps ≡ pieces_bytes order ps ++ piece_bytes order x
 no_piece order ps x e = sym (ap (λ xs. pieces_bytes order ps ++ xs) (nil_from_length _ e) ∙ append-nil (pieces_bytes order ps))
 
--- one buffer more: its piece, and zeros
+-- One more buffer: its piece, and zeros.
 pub one_buffer : (order : Endianness) (ps qs rs : List Piece) (x : Piece) (n : ℕ) → pieces_bytes order qs ≡ pieces_bytes order ps ++ piece_bytes order x
     → pieces_bytes order rs ≡ pieces_bytes order qs ++ piece_bytes order (Zeros n) → n ≡ next_multiple_of (length (piece_bytes order x)) 64 - length (piece_bytes order x)
     → pieces_bytes order rs ≡ pieces_bytes order ps ++ body (piece_bytes order x ∷ [])
@@ -108,12 +108,12 @@ adds_one p q h a = record {
   grows = subst (λ (bs : List (List ℕ)). Grows p q (node_of h ∷ []) bs) (sym (append-nil a.own)) a.grows;
 }
 
--- what follows where a call is Ok
+-- What follows if a call is Ok.
 pub on_ok : {X E P Q : Type 0} → (r : Result X E) → (P → Q) → OnOk r P → OnOk r Q
 on_ok (Ok x) f p = f p
 on_ok (Err e) f p = tt
 
--- offsets behind a node and a validity
+-- Offsets after a node and a validity.
 pub head_level : (p q r : Plan) (n : ℕ) (t : PrimitiveType) (os : List ℕ) (v : Validity) → AddsStart p q n v → AddsOffsets q r t os → AddsHead p r n t os v
 head_level p q r n t os v a x = record {
   validity_bytes = a.validity_bytes;
@@ -174,7 +174,7 @@ numbers_adds p q r n u t ns v form a x = adds_one p r (record { type = u; len = 
       grows = grows_then p q r _ _ _ _ a.grows x.grows;
     })
 
--- a list, and its child behind it
+-- A list, and its child after it.
 pub child_then : (p q r : Plan) (h : Level) (hs : List Level) → Adds p q (h ∷ []) → Adds q r hs → Adds p r (h ∷ (hs ++ []))
 child_then p q r h hs f g = subst (λ (ks : List Level). Adds p r (h ∷ ks)) (sym (append-nil hs)) (adds_then p q r (h ∷ []) hs f g)
 
@@ -252,7 +252,7 @@ adds_none p small = record {
   };
 }
 
--- a union's node and types
+-- A union's node and type ids.
 pub types_adds : (p q r : Plan) (n : ℕ) (u : TypeTree) (ids : Option (List ℤ)) (zs : List ℤ) → Grows p q (record { length = pos n; null_count = pos 0 } ∷ []) [] → AddsNumbers q r Int8Form (map (λ z. whole z) zs)
     → Adds p r (record { type = u; len = n; validity = None; parts = choices ids zs None } ∷ [])
 types_adds p q r n u ids zs g x = adds_one p r (record { type = u; len = n; validity = None; parts = choices ids zs None })
@@ -262,7 +262,7 @@ types_adds p q r n u ids zs g x = adds_one p r (record { type = u; len = n; vali
       grows = grows_then p q r _ _ _ _ g x.grows;
     })
 
--- and its places
+-- And its offsets.
 pub places_adds : (p q r s : Plan) (n : ℕ) (u : TypeTree) (ids : Option (List ℤ)) (zs os : List ℤ) → Grows p q (record { length = pos n; null_count = pos 0 } ∷ []) [] → AddsNumbers q r Int8Form (map (λ z. whole z) zs)
     → AddsNumbers r s Int32Form (map (λ z. whole z) os) → Adds p s (record { type = u; len = n; validity = None; parts = choices ids zs (Some os) } ∷ [])
 places_adds p q r s n u ids zs os g x y = adds_one p s (record { type = u; len = n; validity = None; parts = choices ids zs (Some os) })

@@ -1,4 +1,4 @@
--- Levels of lists and of maps, over any child.
+-- Levels of lists and of maps, with any child.
 use Rattle.std.proofs.Common.{arith, ◌≡◌, ℕ, zero, suc, ℤ, ◌+◌, ◌-◌, ◌<◌, ◌≤◌, true, List, [], ◌∷◌, length, map, min, Option, Some, refl, sym, ap, ap₂, ◌∙◌, subst}
 use Rattle.std.specs.Prelude.{slice_index}
 use Rattle.std.specs.List.{range_with_len}
@@ -27,7 +27,7 @@ use Rattle.ipc_plan.proofs.ValidityRows.{begins, rows_of, masked_is}
 use Rattle.ipc_plan.proofs.Rows.{Row, RowMeans, ChildrenMean, masked_row}
 use Rattle.ipc_plan.proofs.Standing.{stands_both}
 
--- slots of a child that stand x places from where they stood
+-- Slots of a child that are x indices from where they were.
 pub shifted_slots : (g f : ℕ → Slot) (x y m : ℕ) → ((j : ℕ) → j < m → g (x + j) ≡ f (y + j)) → map g (range_with_len x m) ≡ slots_from f y m
 shifted_slots g f x y zero h = refl
 shifted_slots g f x y (suc m) h =
@@ -65,7 +65,7 @@ pub first_kind_is : (fs : FieldTrees) (is : IdTrees) (c : Layout) (cs : Layouts)
 first_kind_is no_fields is c cs h = absurd h
 first_kind_is (more_fields f fs) is c cs h = field_kind_is f (first_ids is) ∙ ap (λ t. kind_of t (own_id (first_ids is)) (inner_ids (first_ids is))) (sym h.0)
 
--- what lists over one child are, whose offsets stand in buffer b + 1 and whose child stands behind
+-- What lists with one child are, whose offsets are in buffer b + 1 and whose child comes after it.
 record Items (s : Entries) (a b w : ℕ) (t : Kind) (os : List ℕ) (o n : ℕ) (g : ℕ → Slot) : Type 0 where
   pub offsets : CutOffsets s (b + 1) w os o n
   pub child : Means s t (a + 1) (b + 2) (Some (slice_index os (o + n) - slice_index os o)) (slice_index os (o + n) - slice_index os o) (λ j. g (slice_index os o + j))
@@ -124,7 +124,7 @@ lists_mean s h named p os (more_layouts c cs) o n a b limit id is (m ∷ x ∷ [
 lists_mean s h named p os no_layouts o n a b limit id is own fit mean r st = absurd (never_childless h.type (list_with p) (one_list p) fit.0 fit.1)
 lists_mean s h named p os cs o n a b limit id is _ fit mean r st = absurd r.are
 
--- a map's child is a record of two
+-- The child of a map is a struct of two fields.
 pair_kind : (t : TypeTree) (id : Option ℤ) (is : IdTrees) → IsPairType t → IsPairKind (kind_of t id is)
 pair_kind (plain p) id is h = absurd h
 pair_kind (single k f) id is h = absurd h

@@ -51,7 +51,7 @@ stand_from_none_64 order [] h = refl
 stand_from_none_64 order (z ∷ zs) h =
     ap₂ (λ (xs ys : List ℕ). xs ++ ys) (ap (unsigned_bytes (byte_len w64) order) (sym (less_none_64 z (All-head (FitsSigned w64) z zs h)))) (stand_from_none_64 order zs (All-tail (FitsSigned w64) z zs h))
 
--- offsets that begin at 0, as they stand
+-- Offsets that begin at 0, unchanged.
 pub from_none_64 : (order : Endianness) (zs : List ℤ) → cast_unsigned w64 (slice_index_or zs 0 (pos 0)) ≡ 0 → All (FitsSigned w64) zs → flat_map (signed_bytes w64 order) zs ≡ offset_bytes w64 (2 ^ 64) order zs
 from_none_64 order zs e h =
     stand_from_none_64 order zs h ∙ ap (λ first. flat_map (λ z. unsigned_bytes (byte_len w64) order (less w64 (2 ^ 64) first z)) zs) (sym e)
@@ -62,7 +62,7 @@ below_32 z a h e = let fits : FitsSigned w32 (pos a) = subst (FitsSigned w32) e 
 below_64 : (z : ℤ) (a : ℕ) → FitsSigned w64 z → z ≡ pos a → a < 2 ^ 63
 below_64 z a h e = let fits : FitsSigned w64 (pos a) = subst (FitsSigned w64) e h in omega (arith, fits)
 
--- some of rising offsets
+-- Some of ascending offsets.
 pub rising_part : (os : List ℕ) (o n : ℕ) → IsRising os → o + n ≤ length os → IsRising (part o n os)
 rising_part os o n rising h = λ k l.
     let count : length (part o n os) ≡ n = length-part o n os h in
@@ -107,7 +107,7 @@ offsets_64 order ys os same rising some fits =
       small = let s = low (length os - 1) (omega (arith, some)) in omega (arith, s);
     }
 
--- the offsets of some slots, as they stand
+-- The offsets of some slots, unchanged.
 pub stand_part : (zs : List ℤ) (os : List ℕ) (o n k : ℕ) → map (λ z. z) zs ≡ map pos os → k ≡ n → take k (drop o zs) ≡ map pos (part o n os)
 stand_part zs os o n k same e =
     ap (λ j. take j (drop o zs)) e ∙ ap (λ (ys : List ℤ). take n (drop o ys)) (sym (map-id zs) ∙ same) ∙ sym (map-part pos o n os)

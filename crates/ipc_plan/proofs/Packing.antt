@@ -1,4 +1,4 @@
--- Bits that are packed anew.
+-- Bits that are packed again.
 use Rattle.std.proofs.Common.{arith, ◌≡◌, ℕ, zero, suc, ◌+◌, ◌-◌, ◌*◌, ◌/◌, ◌%◌, ◌^◌, ◌<◌, ◌≤◌, min, ◌==◌, Bool, false, inl, inr, lit<, List, [], ◌∷◌, ◌++◌, length, map, take, drop, get_or, refl, sym, ap, ap₂, ◌∙◌, subst}
 use Rattle.std.specs.Prelude.{slice_index, slice_set}
 use Rattle.std.specs.List.{range_with_len}
@@ -22,7 +22,7 @@ pub next_byte : (f : ℕ → ℕ) (at k : ℕ) (to : List ℕ) (x : ℕ) → k <
 next_byte f at k to x h e i =
     take_more_set to k x h ∙ ap (λ xs. xs ++ x ∷ []) i ∙ ap (λ y. map f (range_with_len at k) ++ y ∷ []) e ∙ sym (map-range_with_len_more f at k (at + k) refl)
 
--- all bits of a byte are wanted
+-- All bits of a byte are needed.
 pub whole_byte : (xs : List ℕ) (s count k : ℕ) → 8 * k + 8 ≤ count → packed_byte xs s count k ≡ ((slice_index xs k + 256 * slice_index xs (k + 1)) / 2 ^ s) % 256
 whole_byte xs s count k h = let e : min 8 (count - 8 * k) ≡ 8 = omega (arith, h) in ap (λ m. ((slice_index xs k + 256 * slice_index xs (k + 1)) / 2 ^ s) % 2 ^ m) e
 
@@ -44,7 +44,7 @@ run_split f a (suc n) m =
     let d : a + 1 + n ≡ a + suc n = omega arith in
     ap (λ k. map f (range_with_len a k)) e ∙ ap (λ xs. f a ∷ xs) (run_split f (a + 1) n m ∙ ap (λ b. map f (range_with_len (a + 1) n) ++ map f (range_with_len b m)) d)
 
--- ---- where a bit stands
+-- ---- where a bit is
 
 same_bit : (xs : List ℕ) (i : ℕ) → has_bit xs i ≡ bit xs i
 same_bit xs i = refl
@@ -84,7 +84,7 @@ comes s j t m lo hi h k small =
     low_bit ((lo + 256 * hi) / 2 ^ s) m j k ∙ ap (λ n. n % 2)
     (shr-shr (lo + 256 * hi) s j ∙ ap (λ e. (lo + 256 * hi) / 2 ^ e) h ∙ sym (shr-shr (lo + 256 * hi) 8 t) ∙ ap (λ n. n / 2 ^ t) high)
 
--- the bits of bytes that are packed anew
+-- The bits of bytes that are packed again.
 packed_bit : (xs : List ℕ) (s n i : ℕ) → s < 8 → ((k : ℕ) → get_or xs k 0 < 256) → i < n → bit (packed xs s n) i ≡ bit xs (s + i)
 packed_bit xs s n i small bytes h =
     let q = i / 8 in
@@ -107,7 +107,7 @@ packed_bit xs s n i small bytes h =
           ∙ ap₂ (λ p e. (slice_index xs p / 2 ^ e) % 2 == 1) (sym place) (sym at))
     ]
 
--- bits of a bitmap: bit i of n from place o on, where its first one is bit s of the bytes
+-- Bits of a bitmap: bit i of n from index o on; the first one is bit s of the bytes.
 bit_of : (xs : List ℕ) (bits : List Bool) (s m o n i : ℕ) → map (has_bit xs) (range_with_len s m) ≡ bits → o + n ≤ length bits → i < n → get_or (part o n bits) i false ≡ bit xs (s + (o + i))
 bit_of xs bits s m o n i e h l =
     let long : m ≡ length bits = sym (length-map-range_with_len (has_bit xs) s m) ∙ ap (λ (bs : List Bool). length bs) e in

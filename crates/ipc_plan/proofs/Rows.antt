@@ -1,4 +1,4 @@
--- One level that stands, whatever its kind.
+-- One level in a batch, whatever its kind.
 use Rattle.std.proofs.Common.{◌≡◌, ℕ, ℤ, pos, ◌+◌, ◌≤◌, List, Option}
 use Rattle.lower_flat.specs.Validities.{ValidityFits, null_count_of, is_valid as array_valid, cut_validity}
 use Rattle.lower_flat.proofs.Cuts.{fits-cut}
@@ -13,7 +13,8 @@ use Rattle.ipc_plan.specs.Levels.{AreBuffers, IsValidity}
 use Rattle.ipc_plan.specs.Meaning.{IsBufferOf, PartsStand, StandsAmong, Means}
 use Rattle.ipc_plan.proofs.ValidityRows.{Masked}
 
--- n slots from place o on of a level with the parts p, whose own node and buffers stand at node a and buffer b
+-- n slots from index o on of a level with the parts p, whose own node and
+-- buffers are at node a and buffer b.
 pub record Row (s : Entries) (h : Level) (p : Parts) (o n a b : ℕ) (limit : Limit) (own : List (List ℕ)) : Type 0 where
   pub extra_is : s.extra ≡ 0
   pub fits : ValidityFits h.validity h.len
@@ -28,7 +29,7 @@ abbrev pub RowMeans : Entries → Level → Parts → Layouts → (o n a b : ℕ
 RowMeans s h p cs o n a b limit id is =
     Means s (kind_of h.type id is) a b limit n (λ i. slot_where (array_valid h.validity (o + i)) (value_at p (children_at cs) (o + i)))
 
--- a child, wherever some of its slots stand
+-- A child, wherever some of its slots are.
 abbrev pub ChildMeans : Entries → Layout → Option ℤ → IdTrees → Type 0
 ChildMeans s c id is = (o n a b : ℕ) (limit : Limit) → o + n ≤ len_of c → limited limit n ≡ n → StandsAmong s a b (written_levels c o n)
     → Means s (kind_of (type_of c) id is) a b limit n (λ i. array_slot c (o + i))
@@ -38,7 +39,7 @@ abbrev pub ChildrenMean : Entries → Layouts → IdTrees → Type 0
 ChildrenMean s no_layouts is = Unit {0}
 ChildrenMean s (more_layouts c cs) is = ChildMeans s c (own_id (first_ids is)) (inner_ids (first_ids is)) × ChildrenMean s cs (other_ids is)
 
--- the validity in front of a level's buffers
+-- The validity before a level's buffers.
 pub masked_row : (s : Entries) (h : Level) (o n a b : ℕ) (m : List ℕ) → ValidityFits h.validity h.len → o + n ≤ h.len
     → node s a ≡ record { length = pos n; null_count = pos (null_count_of (cut_validity o n h.validity)) }
     → IsBufferOf (buffer s b) m → IsValidity (cut_validity o n h.validity) m → Masked s a b n (cut_validity o n h.validity)

@@ -78,7 +78,7 @@ sends_then known grows d d' d'' (Err e) xs ys f g = record {
   room = tt;
 }
 
--- what fails on the way, before other bytes
+-- A failure on the way, before other bytes.
 pub sends_stop : {X Y : Type 0} (known grows : Bool) (d d' : DeviceSeen) (e : Fault) (xs ys : List ℕ) → Sends {X = X} known grows d d' (Err e) xs → Sends {X = Y} known grows d d' (Err e) (xs ++ ys)
 sends_stop known grows d d' e xs ys f = record {
   monotone = f.monotone;
@@ -90,7 +90,7 @@ sends_stop known grows d d' e xs ys f = record {
   room = tt;
 }
 
--- a loop that sends: what stands before `left` was sent
+-- A loop that sends: the bytes before `left` were sent.
 pub record SentBefore (known grows : Bool) (d d' : DeviceSeen) (left bytes : List ℕ) : Type 0 where
   pub front : List ℕ
   pub parts : front ++ left ≡ bytes

@@ -1,4 +1,4 @@
--- Levels of records, and children that stand side by side.
+-- Levels of structs, and children that correspond slot by slot.
 use Rattle.std.proofs.Common.{arith, ◌≡◌, ℕ, ℤ, ◌+◌, ◌<◌, ◌≤◌, List, [], ◌∷◌, length, Option, refl, sym, ap, ◌∙◌, subst}
 use Rattle.lower.specs.TypeTrees.{FieldTree, FieldTrees, no_fields, more_fields}
 use Rattle.lower.specs.declared.datatypes.physical_type.PhysicalType.TheVariants as Physicals
@@ -39,7 +39,7 @@ pub child_kind : (f : FieldTree) (fs : FieldTrees) (is : IdTrees) (c : Layout) (
     → field_kind f (first_ids is) ≡ kind_of (type_of c) (own_id (first_ids is)) (inner_ids (first_ids is))
 child_kind f fs is c cs h = field_kind_is f (first_ids is) ∙ ap (λ t. kind_of t (own_id (first_ids is)) (inner_ids (first_ids is))) (sym h.0)
 
--- children that stand slot by slot: n slots of each from place o on
+-- Children that correspond slot by slot: n slots of each from index o on.
 pub record Beside (s : Entries) (ts : Kinds) (cs : Layouts) (o n a b : ℕ) (limit : Limit) : Type 0 where
   pub well : AllHaveRows s ts a b limit n
   pub each : (i : ℕ) → i < n → slots_at s ts a b i ≡ slots_of (each_at (children_at cs) (o + i))

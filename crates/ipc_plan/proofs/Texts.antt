@@ -34,7 +34,7 @@ utf8_by : (p : PrimitiveType) (t : TypeTree) (id : Option ℤ) (is : IdTrees) �
 utf8_by Int64 t id is = refl
 utf8_by _ t id is = refl
 
--- bytes between two places, in those from a lower place up to a higher one
+-- Bytes between two offsets, among those from a lower offset up to a higher one.
 inside_cut : (xs : List ℕ) (f l u v : ℕ) → f ≤ u → u ≤ v → v ≤ l → slice_range (slice_range xs f l) (u - f) (v - f) ≡ take (v - u) (drop u xs)
 inside_cut xs f l u v a b c =
     let room : (u - f) + (v - f - (u - f)) ≤ l - f = omega (arith, a, b, c) in
@@ -42,7 +42,7 @@ inside_cut xs f l u v a b c =
     let wide : v - f - (u - f) ≡ v - u = omega (arith, a, b) in
     part_again f (u - f) (v - f - (u - f)) (l - f) xs room ∙ ap (λ k. part k (v - f - (u - f)) xs) there ∙ ap (λ w. part u w xs) wide
 
--- the bytes of n slots from place o on
+-- The bytes of n slots from index o on.
 record CutBytes (s : Entries) (b w : ℕ) (os xs : List ℕ) (o n : ℕ) : Type 0 where
   pub has : HasBytes s b w n
   pub each : (i : ℕ) → i < n → bytes_at s b w i ≡ span os xs (o + i)

@@ -1,4 +1,5 @@
--- Levels of unions: sparse ones, whose children stand slot by slot, and dense ones, whose children are whole.
+-- Levels of unions: sparse ones, whose children correspond slot by slot, and dense
+-- ones, whose children are whole.
 use Rattle.std.proofs.Common.{arith, ◌≡◌, ◌≢◌, ℕ, zero, suc, ℤ, pos, negsuc, ◌+◌, ◌*◌, ◌<◌, ◌≤◌, true, false, List, [], ◌∷◌, ◌++◌, length, map, drop, get_or, Option, Some, None, refl, sym, ap, ap₂, ◌∙◌, subst, All, cond, inl, inr}
 use Rattle.std.specs.Prelude.{nat_lt}
 use Rattle.std.specs.List.{IsDistinct, AllByRecursion, position_or_len}
@@ -173,7 +174,7 @@ given_count : (m : UnionMode) (os : List ℤ) (k : ℕ) → OffsetsGiven m (Some
 given_count Sparse os k h = absurd h
 given_count Dense os k h = h
 
--- the types of n slots, which stand in buffer u
+-- The type ids of n slots, which are in buffer u.
 pub record Types (s : Entries) (h : Level) (ids : TypeIds) (zs : List ℤ) (cs : Layouts) (is : IdTrees) (o n u : ℕ) : Type 0 where
   pub union : IsUnionKind (union_ids h.type) (count (kinds_of (child_fields h.type) is))
   pub types : HasTypes s (union_ids h.type) (count (kinds_of (child_fields h.type) is)) u n

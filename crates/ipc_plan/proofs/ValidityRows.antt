@@ -1,4 +1,4 @@
--- The validity of a level that stands.
+-- The validity of a level in a batch.
 use Rattle.std.proofs.Common.{arith, ◌≡◌, ℕ, zero, suc, pos, ◌+◌, ◌<◌, ◌≤◌, ◌==◌, cond, Bool, true, false, List, [], ◌∷◌, length, get_or, Some, None, refl, sym, ap, ◌∙◌, subst, inl, inr, rules}
 use Rattle.std.specs.Prelude.{not}
 use Rattle.std.specs.List.{count_by}
@@ -24,7 +24,7 @@ none_unset (true ∷ bits) (suc i) e h =
 none_unset (false ∷ bits) i e h =
     let first = sum_by-cons (λ b. cond (not b) 1 0) false bits in absurd (omega (arith, first, e))
 
--- n slots whose validity, if any, stands at node a and buffer b
+-- n slots whose validity, if any, is at node a and buffer b.
 pub record Masked (s : Entries) (a b n : ℕ) (v : Validity) : Type 0 where
   pub node_is : node s a ≡ record { length = pos n; null_count = pos (null_count_of v) }
   pub validity_bytes : List ℕ

@@ -1,4 +1,4 @@
--- What a record batch of columns means whose entries and whose body are those of a plan.
+-- What a record batch of columns means whose entries and body are those of a plan.
 -- (Arrow columnar format, "RecordBatch message".)
 use Rattle.std.specs.Prelude.{◌≡◌, ℕ, List, [], ◌∷◌, length, None, Some}
 use Rattle.lower.specs.Normal.{norm}
@@ -15,33 +15,34 @@ use Rattle.ipc_plan.specs.declared.plan.Plan.{Plan}
 
 -- ---- columns and fields
 
--- columns of the types of some fields, in the normal form
+-- The columns have the types of the fields, in the normal form.
 abbrev pub AreLike : FieldTrees → Layouts → Type 0
 AreLike no_fields no_layouts = Unit {0}
 AreLike (more_fields f fs) (more_layouts c cs) = (norm (type_of c) ≡ norm (field_type f)) × AreLike fs cs
 AreLike _ _ = ⊥
 
--- each column has so many slots
+-- Each column has k slots.
 abbrev pub HaveRows : ℕ → List Layout → Type 0
 HaveRows k [] = Unit {0}
 HaveRows k (l ∷ ls) = (len_of l ≡ k) × HaveRows k ls
 
--- the columns with the types of the fields
+-- The columns as a chunk, with the types of the fields.
 abbrev pub chunk_named : FieldTrees → List Layout → Chunk
 chunk_named (more_fields f fs) (l ∷ ls) = record { type = field_type f; slots = slots l } ∷ chunk_named fs ls
 chunk_named _ _ = []
 
--- ---- the law
+-- ---- the theorem
 
--- what a plan lists
+-- The nodes and buffers of a plan.
 abbrev pub lists_of_plan : Plan → Lists
 lists_of_plan p = record { nodes = p.nodes.items; buffers = p.buffers.items }
 
+-- The body of a plan.
 abbrev pub body_of_plan : Plan → List ℕ
 body_of_plan p = pieces_bytes p.order p.pieces.items
 
--- A batch that lists what a plan of some columns does, with its body, means these columns, where the values of their dictionaries
--- are known.
+-- A batch with the nodes, buffers and body of a plan for some columns means these columns, if the
+-- values of their dictionaries are known.
 abbrev pub ColumnsBatchLaw : Type 0
 ColumnsBatchLaw = (schema : Schema) (p : Plan) (ls : List Layout) (k : ℕ) (known : Dictionaries)
     → PlansColumns schema.order ls p → AreArrays (layouts ls) → AreLike schema.fields (layouts ls) → HaveRows k ls

@@ -1,4 +1,5 @@
--- What a plan of columns means, wherever its body stands in a source.
+-- What a plan of columns means, wherever its body is in a source.
+-- (Arrow columnar format, "RecordBatch message".)
 use Rattle.std.specs.Prelude.{◌≡◌, ℕ, ◌+◌, ◌*◌, ◌≤◌, List, [], ◌∷◌, ◌++◌, length, map, None}
 use Rattle.std.specs.List.{flat_map}
 use Rattle.lower_types.specs.declared.Endianness.{Endianness}
@@ -16,7 +17,7 @@ use Rattle.ipc_plan.specs.Pieces.{pieces_bytes}
 use Rattle.ipc_plan.specs.Plans.{entries_from, body}
 use Rattle.ipc_plan.specs.declared.plan.Plan.{Plan}
 
--- the entries of a plan whose body stands behind `before` in a source, and whatever behind it
+-- The entries of a plan whose body is after `before` in a source, with any bytes after it.
 abbrev pub entries_of_plan : Plan → Dictionaries → List ℕ → List ℕ → Entries
 entries_of_plan p known before rest = record {
   nodes = p.nodes.items;
@@ -26,7 +27,8 @@ entries_of_plan p known before rest = record {
   dictionaries = known;
 }
 
--- each column at its address, from node a and buffer b on, is well formed and has just the array's slots
+-- Each column at its position, from node a and buffer b on, is well formed and
+-- has exactly the array's slots.
 abbrev pub AllMean : Entries → List Layout → IdTrees → ℕ → ℕ → Type 0
 AllMean s [] is a b = Unit {0}
 AllMean s (l ∷ ls) is a b =
@@ -36,9 +38,10 @@ AllMean s (l ∷ ls) is a b =
     × AllMean s ls (other_ids is) (a + nodes (kind_of (type_of l) (own_id (first_ids is)) (inner_ids (first_ids is))))
     (b + buffers 0 (kind_of (type_of l) (own_id (first_ids is)) (inner_ids (first_ids is))))
 
--- A plan of these columns: its nodes are those of their levels, its buffers stand one behind the other, each padded, and are those
--- of the levels, and its pieces are these bytes. So it has as many nodes and buffers as the levels, and at most two pieces for a
--- buffer, and it means the columns wherever its body stands.
+-- A plan of these columns. Its nodes are those of their levels, its buffers are one after
+-- the other, each padded, and are those of the levels; its pieces are these bytes. So it has
+-- as many nodes and buffers as the levels, and at most two pieces for each buffer. It means
+-- the columns wherever its body is.
 pub record PlansColumns (order : Endianness) (ls : List Layout) (p : Plan) : Type 0 where
   pub order_is : p.order ≡ order
   pub buffers : List (List (List ℕ))

@@ -1,4 +1,5 @@
 -- What planning adds to a plan.
+-- (Arrow columnar format, "Buffer Alignment and Padding".)
 use Rattle.std.specs.Prelude.{◌≡◌, ℕ, pos, ◌+◌, ◌*◌, ◌^◌, ◌<◌, ◌≤◌, Bool, List, [], ◌∷◌, ◌++◌, length, map}
 use Rattle.std.specs.Int.{next_multiple_of}
 use Rattle.std.specs.List.{AllByRecursion, flat_map}
@@ -16,20 +17,21 @@ use Rattle.ipc_plan.specs.declared.pieces.NumberSlice.{NumberSlice}
 use Rattle.ipc_plan.specs.declared.pieces.Piece.{Piece}
 use Rattle.ipc_plan.specs.declared.plan.Plan.{Plan}
 
--- the entries of buffers of these bytes from place o on, and where they end: each is padded to a multiple of 64
+-- The entries of buffers of these bytes from offset o on; each is padded to a multiple of 64 bytes.
 abbrev pub entries_from : ℕ → List (List ℕ) → List Buffer
 entries_from o [] = []
 entries_from o (x ∷ bs) = entry (pos o) (length x) ∷ entries_from (o + next_multiple_of (length x) 64) bs
 
+-- The offset after buffers of these bytes that begin at offset o.
 abbrev pub end_from : ℕ → List (List ℕ) → ℕ
 end_from o [] = o
 end_from o (x ∷ bs) = end_from (o + next_multiple_of (length x) 64) bs
 
--- the buffers, each padded
+-- The buffers, each padded to a multiple of 64 bytes.
 abbrev pub body : List (List ℕ) → List ℕ
 body bs = flat_map padded bs
 
--- the plan has these nodes, and buffers of these bytes, more
+-- The plan has these nodes more, and buffers of these bytes.
 pub record Grows (p q : Plan) (ns : List FieldNode) (bs : List (List ℕ)) : Type 0 where
   pub order_same : q.order ≡ p.order
   pub nodes_are : q.nodes.items ≡ p.nodes.items ++ ns
@@ -39,61 +41,61 @@ pub record Grows (p q : Plan) (ns : List FieldNode) (bs : List (List ℕ)) : Typ
   pub few : length q.pieces.items ≤ length p.pieces.items + 2 * length bs
   pub small : q.end < 2 ^ 63
 
--- one buffer: a validity
+-- The plan has one buffer more: a validity.
 pub record AddsValidity (p q : Plan) (v : Validity) : Type 0 where
   pub bytes : List ℕ
   pub validity : IsValidity v bytes
   pub grows : Grows p q [] (bytes ∷ [])
 
--- one buffer: bits
+-- The plan has one buffer more: bits.
 pub record AddsBits (p q : Plan) (bits : List Bool) : Type 0 where
   pub bytes : List ℕ
   pub are : AreBits bits bytes
   pub grows : Grows p q [] (bytes ∷ [])
 
--- the pieces of one buffer: this one of so many bytes, and zeros
+-- The plan has the pieces of one buffer more: x of n bytes, and zeros.
 pub record AddsPieces (p q : Plan) (x : Piece) (n : ℕ) : Type 0 where
   pub pieces_are : q.pieces.items ≡ p.pieces.items ++ buffer_pieces x n
 
--- pieces more, of which each that isn't bytes as they stand has zeros behind the n bits
+-- The plan has more pieces; each that isn't unchanged bytes has zeros after its n bits.
 pub record AddsClear (p q : Plan) (n : ℕ) : Type 0 where
   pub pieces : List Piece
   pub more : q.pieces.items ≡ p.pieces.items ++ pieces
   pub clear : AllByRecursion (EndsClear p.order n) pieces
 
--- one buffer: numbers
+-- The plan has one buffer more: numbers.
 pub record AddsNumbers (p q : Plan) (t : PrimitiveType) (ns : List Number) : Type 0 where
   pub bytes : List ℕ
   pub are : AreNumberBytes p.order t ns bytes
   pub grows : Grows p q [] (bytes ∷ [])
 
--- the node and the buffers of a level of n slots
+-- The plan has the node and the buffers of a level of n slots more.
 pub record AddsLevel (p q : Plan) (n : ℕ) (parts : Parts) (v : Validity) : Type 0 where
   pub own : List (List ℕ)
   pub are : AreBuffers p.order parts v own
   pub grows : Grows p q (record { length = pos n; null_count = pos (nulls_among parts n v) } ∷ []) own
 
--- levels, one behind the other
+-- The plan has these levels more, one after the other.
 pub record Adds (p q : Plan) (hs : List Level) : Type 0 where
   pub buffers : List (List (List ℕ))
   pub have : HaveBuffers p.order hs buffers
   pub grows : Grows p q (map node_of hs) (joined_buffers buffers)
 
--- numbers of a type, in their bytes
+-- Values are written as their numbers' bytes, and read as these numbers.
 pub record AreSpelt {T : Type 0} (t : PrimitiveType) (number : T → Number) (spelt : Endianness → T → List ℕ) (xs : List T) : Type 0 where
   pub each : (order : Endianness) → AreRead order t (map number xs) (flat_map (spelt order) xs)
 
--- numbers of any type
+-- Numbers of any type are read from their bytes.
 pub record IsSpelt (xs : NumberSlice) : Type 0 where
   pub each : (order : Endianness) → AreRead order (slice_type xs) (slice_numbers xs) (number_bytes order xs)
 
--- one buffer: offsets of a type, counted from the first
+-- The plan has one buffer more: offsets of a type, each less the first.
 pub record AddsOffsets (p q : Plan) (t : PrimitiveType) (os : List ℕ) : Type 0 where
   pub bytes : List ℕ
   pub are : AreOffsetBytes p.order t os bytes
   pub grows : Grows p q [] (bytes ∷ [])
 
--- a node, a validity and offsets
+-- The plan has a node, a validity and offsets more.
 pub record AddsHead (p q : Plan) (n : ℕ) (t : PrimitiveType) (os : List ℕ) (v : Validity) : Type 0 where
   pub validity_bytes : List ℕ
   pub offset_bytes : List ℕ
@@ -101,7 +103,7 @@ pub record AddsHead (p q : Plan) (n : ℕ) (t : PrimitiveType) (os : List ℕ) (
   pub offsets : AreOffsetBytes p.order t os offset_bytes
   pub grows : Grows p q (record { length = pos n; null_count = pos (null_count_of v) } ∷ []) (validity_bytes ∷ offset_bytes ∷ [])
 
--- the same, and the bytes that the offsets cut out
+-- The plan has a node, a validity, offsets and the bytes that these cut out more.
 pub record AddsSpans (p q : Plan) (n : ℕ) (t : PrimitiveType) (os xs : List ℕ) (v : Validity) : Type 0 where
   pub validity_bytes : List ℕ
   pub offset_bytes : List ℕ
@@ -109,7 +111,7 @@ pub record AddsSpans (p q : Plan) (n : ℕ) (t : PrimitiveType) (os xs : List �
   pub offsets : AreOffsetBytes p.order t os offset_bytes
   pub grows : Grows p q (record { length = pos n; null_count = pos (null_count_of v) } ∷ []) (validity_bytes ∷ offset_bytes ∷ cut_out os xs ∷ [])
 
--- a node and a validity
+-- The plan has a node and a validity more.
 pub record AddsStart (p q : Plan) (n : ℕ) (v : Validity) : Type 0 where
   pub validity_bytes : List ℕ
   pub validity : IsValidity v validity_bytes

@@ -1,4 +1,4 @@
--- Columns that are read in rising order and given in the order in which they were asked for.
+-- Columns that are read in ascending order and returned in the requested order.
 use Rattle.std.proofs.Common.{◌≡◌, ℕ, ◌<◌, ◌==◌, nat_eq, List, map, length, get_or, Option, None, Some, IfOk, Result, Ok, Err, IsTrue, slice_get, option_map, arith, refl, sym, ◌∙◌, ap, subst}
 use Rattle.std.specs.HashMap.{HashMap, get}
 use Rattle.std.specs.List.Sorted.{IsPermutation}
@@ -17,7 +17,7 @@ use Rattle.ipc_projections.proofs.Reorderings.{some_of}
 use Rattle.ipc_projections.specs.AskedOrder.{Asked, KeepsPlaces, IsInAskedOrder, AreInAskedOrder, AskedBatchLaw, AskedRecordLaw}
 use Rattle.ipc_projections.specs.Projections.{IsIncreasing, IsPrepared, AreReordered}
 
--- what is brought to the places is in the order that was asked for
+-- What is moved to the indices is in the requested order.
 pub in_asked_order : {S X : Type 0} (a : Asked) (m : HashMap ℕ ℕ S) (xs ys : List X) → KeepsPlaces a m → AreReordered m xs ys → IsInAskedOrder a xs ys
 in_asked_order a m xs ys k h = record {
   count = h.count;
@@ -41,14 +41,14 @@ asked_images a f xs ys h = record {
   moved = λ i p j r q. slice_get-map f ys p ∙ ap (option_map f) (h.moved i p j r q) ∙ sym (slice_get-map f xs i);
 }
 
--- so is what is made of the numbers
+-- So is what is made of the indices.
 asked_numbers : {X : Type 0} (a : Asked) (f : ℕ → X) → IsPermutation a.columns a.rising → IsInAskedOrder a (map f a.rising) (map f a.columns)
 asked_numbers a f same = record {
   count = length-map a.columns f ∙ sym (length_permutation a.columns a.rising same) ∙ sym (length-map a.rising f);
   moved = λ i p j r q. slice_get-map f a.columns p ∙ ap (option_map f) (q ∙ sym r) ∙ sym (slice_get-map f a.rising i);
 }
 
--- there is one such order
+-- There is exactly one such order.
 pub asked_once : {X : Type 0} (a : Asked) (xs ys zs : List X) → IsPermutation a.columns a.rising → length xs ≡ length a.rising
     → IsInAskedOrder a xs ys → IsInAskedOrder a xs zs → ys ≡ zs
 asked_once a xs ys zs shuffled long h k = same_places ys zs (h.count ∙ sym k.count) same
@@ -63,19 +63,19 @@ asked_once a xs ys zs shuffled long h k = same_places ys zs (h.count ∙ sym k.c
         let there : slice_get a.rising w.0 ≡ Some j = slice_get_read a.rising (length a.rising) w.0 j refl w.1 (sym w.2) in
         h.moved w.0 p j there here ∙ sym (k.moved w.0 p j there here)
 
--- columns that are there, in rising order, are as a batch is read
+-- Columns that exist, in ascending order, as a batch is read.
 pub rising_prepared : (a : Asked) (n : ℕ) → IsPermutation a.columns a.rising → IsIncreasing a.rising → IsTrue (is_projection (Some a.columns) n) → IsPrepared a.rising n
 rising_prepared a n same up h =
     let is = (projection_decides (Some a.columns) n).0 h in
     (all_of n a.rising (All-permutation (λ j. j < n) a.columns a.rising same (each_of n a.columns is.0)), up)
 
--- the columns of a projection are there
+-- The columns of a projection exist.
 pub are_there : (js ks : List ℕ) (n : ℕ) → js ≡ ks → IsProjection (Some ks) n → IsTrue (is_projection (Some js) n)
 are_there js ks n e is = subst (λ (xs : List ℕ). IsTrue (is_projection (Some xs) n)) (sym e) ((projection_decides (Some ks) n).1 is)
 
 -- ---- what they mean
 
--- what has a meaning in rising order has this one as it is asked for
+-- What has a meaning in ascending order has this one in the requested order.
 pub given_as_asked : (a : Asked) (o p : Option Chunk) (read given : Chunk) → IsPermutation a.columns a.rising → AreInAskedOrder a o p → o ≡ Some read
     → length read ≡ length a.rising → IsInAskedOrder a read given → p ≡ Some given
 given_as_asked a None p read given same h e long order = absurd cc

@@ -1,4 +1,4 @@
--- Columns that go to their places.
+-- Columns that are moved to their indices.
 use Rattle.std.proofs.Common.{◌≡◌, ℕ, zero, suc, ◌<◌, ◌≤◌, ◌≢◌, nat_eq, List, [], ◌∷◌, ◌++◌, length, get_or, set, Option, Some, None, IsSome, slice_get, option_map, arith, refl, sym, ◌∙◌, ap, subst, inl, inr}
 use Rattle.std.specs.List.{All, filter_map}
 use Rattle.std.specs.HashMap.{HashMap, get}
@@ -55,7 +55,7 @@ within (y ∷ ys) (suc i) l = within ys i (omega (arith, l))
 none_some : {X : Type 0} {x : X} → Some None ≡ Some (Some x) → ⊥
 none_some {X} {x} e = false≢true (subst (λ (o : Option X). IsSome o) (sym (some_same e)) refl)
 
--- what a list is of which each place is full
+-- The elements of a list with none left out.
 pub taken : {X : Type 0} (os : List (Option X)) → ((p : ℕ) → p < length os → (x : X) × (slice_get os p ≡ Some (Some x)))
     → (length (filter_map (λ o. o) os) ≡ length os) × ((p : ℕ) → slice_get os p ≡ option_map Some (slice_get (filter_map (λ o. o) os) p))
 taken [] full = (refl, λ p. refl)
@@ -84,7 +84,7 @@ module _ {S X : Type 0} (m : HashMap ℕ ℕ S) (xs : List X) (r : IsReordering 
     at = λ k p l e. let inside = column_inside k p e in absurd (omega (arith, l, inside));
   }
 
-  -- the last column that is left has a place
+  -- The last column that is left has an index.
   pub has_place : (left rest : List X) (x : X) (os : List (Option X)) → Placing m xs left os → left ≡ rest ++ x ∷ [] → IsSome (get nat_eq m (length rest))
   has_place left rest x os h e = let long = ap length e ∙ length_last rest x in (r.keys (length rest)).1 (omega (arith, long, h.within))
 

@@ -1,4 +1,4 @@
--- A projection, prepared by sorting its columns with their places.
+-- A projection, prepared by sorting its columns with their indices.
 use Rattle.std.proofs.Common.{◌≡◌, ℕ, zero, suc, ◌+◌, ◌<◌, ◌≤◌, ◌==◌, ◌≢◌, nat_eq, false, List, [], ◌∷◌, ◌++◌, map, length, get_or, take, Option, Some, None, IsSome, slice_get, option_map, arith, refl, sym, ◌∙◌, ap, subst, inl, inr}
 use Rattle.std.specs.List.{All, AllByRecursion, IsDistinct, enumerate_from, cons_option}
 use Rattle.std.specs.List.Sorted.{IsPermutation, IsNonDecreasingBy, IsNonDecreasing}
@@ -57,7 +57,7 @@ not_twice xs distinct i j c l e f =
     eqb-false (get_or xs i 0) (get_or xs j 0) (apart_from_distinct (λ i j. i == j) xs i j 0 distinct l inside)
     (get_or_from_slice_get xs i c 0 e ∙ sym (get_or_from_slice_get xs j c 0 f))
 
--- what stands once has one place
+-- An element that occurs once has one index.
 pub same_place : (xs : List ℕ) → IsDistinct (λ i j. i == j) xs → (i j c : ℕ) → slice_get xs i ≡ Some c → slice_get xs j ≡ Some c → i ≡ j
 same_place xs distinct i j c e f = elim (cases_lt i j) [
   | inl l ↦ absurd (not_twice xs distinct i j c l e f)
@@ -89,7 +89,7 @@ module _ {S : Type 0} (asked : List ℕ) (n : ℕ) (ps : List Pair) (sorted : Li
           let long : j < length ps = omega (arith, k, length-map ps column) in
           omega (arith, up i j (0, d) l long, get_or-map column ps i (0, d) d (omega (arith, l, long)), get_or-map column ps j (0, d) d long)
 
-  -- the pairs are columns with their places
+  -- The pairs are columns with their indices.
   abbrev Stands : Pair → Type 0
   Stands q = slice_get asked q.0 ≡ Some q.1
 
@@ -189,9 +189,9 @@ selected_more {X} {Y} f xs js done k x y l inside so_far is copied =
     ∙ sym (more (map f xs) js k (get_or js k 0) (f x) (slice_get-get_or js k 0 l) at)
     ∙ ap (λ (n : ℕ). selected (map f xs) (take n js)) next
 
--- ---- places by their numbers
+-- ---- indices by their numbers
 
--- the first k pairs have their places in a map, and no other has
+-- The first k pairs have their indices in a map, and no other has.
 pub record HasFirst {S : Type 0} (m : HashMap ℕ ℕ S) (ps : List Pair) (k : ℕ) : Type 0 where
   pub below : (i : ℕ) → i < k → get nat_eq m i ≡ option_map place (slice_get ps i)
   pub other : (i : ℕ) → k ≤ i → get nat_eq m i ≡ None

@@ -1,4 +1,4 @@
--- Columns that were read in rising order, brought to the places that were asked for.
+-- Columns that were read in ascending order, moved to the requested indices.
 use Rattle.std.proofs.Common.{◌≡◌, ℕ, zero, suc, ◌<◌, ◌==◌, List, [], ◌∷◌, map, length, Some, slice_get, option_map, arith, refl, sym, ◌∙◌, ap, subst}
 use Rattle.std.specs.List.{All}
 use Rattle.std.specs.HashMap.{HashMap}
@@ -17,7 +17,7 @@ use Rattle.ipc_projections.proofs.Reorderings.{some_same}
 use Rattle.ipc_projections.specs.Projections.{IsReordering, AreReordered}
 use Rattle.ipc_projections.specs.Preparing.{ReorderLaw}
 
--- what stands at the places of two lists tells them apart
+-- The elements at the indices of two lists tell them apart.
 pub same_places : {X : Type 0} (xs ys : List X) → length xs ≡ length ys → ((p : ℕ) → p < length ys → slice_get xs p ≡ slice_get ys p) → xs ≡ ys
 same_places [] [] long same = refl
 same_places [] (y ∷ ys) long same = absurd (omega (arith, long))
@@ -33,7 +33,7 @@ moved_images m f xs ys h = record {
   moved = λ i p e. slice_get-map f ys p ∙ ap (option_map f) (h.moved i p e) ∙ sym (slice_get-map f xs i);
 }
 
--- there is one order to which a map brings columns
+-- There is one order to which a map moves columns.
 pub moved_once : {S X : Type 0} (m : HashMap ℕ ℕ S) (xs ys zs : List X) → IsReordering m (length xs) → AreReordered m xs ys → AreReordered m xs zs → ys ≡ zs
 moved_once m xs ys zs r h k = same_places ys zs (h.count ∙ sym k.count) same
   where

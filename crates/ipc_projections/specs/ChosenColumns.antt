@@ -1,4 +1,4 @@
--- The columns of a schema that a reader is asked for, with the schema of what it gives then.
+-- The columns of a schema that a reader is requested to read, with the schema of what it returns.
 use Rattle.std.specs.Prelude.{◌≡◌, ℕ, List, map, length, Option, None, Some, option_map, Vec, IsTrue}
 use Rattle.std.specs.List.Sorted.{IsPermutation}
 use Rattle.std.specs.declared.alloc.Global.{Global}
@@ -10,42 +10,43 @@ use Rattle.ipc_projections.specs.Preparing.{selected}
 use Rattle.ipc_projections.specs.Projections.{IsIncreasing}
 use Rattle.ipc_projections.specs.declared.read.chosen.ChosenColumns.{ChosenColumns}
 
--- the numbers in a list, if there is one
+-- The numbers in a vector, if there is one.
 abbrev pub items_of : Option (Vec ℕ Global) → Option (List ℕ)
 items_of p = option_map (λ js. js.items) p
 
--- as they are asked for, and in rising order: none where all are given
+-- The indices of the columns in the requested order; none if all are read.
 abbrev pub asked_by : Option ChosenColumns → Option (List ℕ)
 asked_by c = option_map (λ x. x.columns.columns) c
 
+-- The indices of the columns in ascending order; none if all are read.
 abbrev pub rising_by : Option ChosenColumns → Option (List ℕ)
 rising_by c = option_map (λ x. x.columns.rising) c
 
--- they are some of n columns, none of them twice
+-- The requested columns are some of n columns, none of them twice.
 abbrev pub AreThere : Option ChosenColumns → ℕ → Type 0
 AreThere c n = IsTrue (is_projection (asked_by c) n)
 
--- they are the same in rising order
+-- The ascending columns are the requested ones in ascending order.
 abbrev pub AreShuffled : Option ChosenColumns → Type 0
 AreShuffled None = Unit {0}
 AreShuffled (Some c) = IsPermutation c.columns.columns c.columns.rising × IsIncreasing c.columns.rising
 
--- n columns are as many as are asked for
+-- n columns are as many as are requested.
 abbrev pub AreAsMany : Option ChosenColumns → ℕ → Type 0
 AreAsMany None n = Unit {0}
 AreAsMany (Some c) n = n ≡ length c.columns.rising
 
--- what was read of each column is given in the order in which they are asked for
+-- What was read of each column is returned in the requested order.
 abbrev pub AreOrdered : {X : Type 0} → Option ChosenColumns → (read given : List X) → Type 0
 AreOrdered None read given = given ≡ read
 AreOrdered (Some c) read given = IsInAskedOrder c.columns read given
 
--- the schema of what is given
+-- The schema of what is returned.
 abbrev pub shown_by : Schema → Option ChosenColumns → Schema
 shown_by s None = s
 shown_by s (Some c) = c.schema
 
--- The schema t is that of the columns of s that are asked for, in this order, with the metadata of s.
+-- The schema t has the requested columns of s, in this order, with the metadata of s.
 abbrev pub ShowsColumns : Option (List ℕ) → (s t : Schema) → Type 0
 ShowsColumns None s t = t ≡ s
 ShowsColumns (Some js) s t = (map field_view t.fields.items ≡ selected (map field_view s.fields.items) js) × (pairs_of t.metadata.entries ≡ pairs_of s.metadata.entries)

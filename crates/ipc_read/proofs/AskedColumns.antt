@@ -1,4 +1,4 @@
--- The arrays and the faults of columns that were read in rising order, as they are asked for.
+-- The arrays and the errors of columns that were read in ascending order, in the requested order.
 use Rattle.std.proofs.Common.{◌≡◌, ℕ, zero, suc, List, [], ◌∷◌, map, length, Option, None, Some, slice_get, refl, sym, ◌∙◌, subst, arith, inl, inr}
 use Rattle.std.specs.List.Sorted.{IsPermutation}
 use Rattle.std.proofs.lemmas.List.Sorted.{Contains-permutation, IsPermutation-sym, length_permutation}
@@ -22,18 +22,18 @@ use Rattle.ipc_read.specs.Chunks.{chunk_seen, column_seen}
 use Rattle.ipc_read.specs.Refusals.{IsFaultOfBatch, IsFaultOfSome}
 use Rattle.ipc_read.specs.Columns.{ArePrepared}
 
--- where a column stands in another order
+-- The index of a column in another order.
 stands_in : (xs ys : List ℕ) → IsPermutation xs ys → (i j : ℕ) → slice_get xs i ≡ Some j → (k : ℕ) × (slice_get ys k ≡ Some j)
 stands_in xs ys same i j e =
     let w = Contains-permutation xs ys j same (i, slice_get_within xs i j e, get_or_from_slice_get xs i j j e) in
     (w.0, slice_get_read ys (length ys) w.0 j refl w.1 (sym w.2))
 
--- columns that are there are read in rising order
+-- Columns that exist are read in ascending order.
 pub are_prepared : (n : ℕ) (c : Option ChosenColumns) → AreThere c n → AreShuffled c → ArePrepared (rising_by c) n
 are_prepared n None there same = tt
 are_prepared n (Some c) there same = rising_prepared c.columns n same.0 same.1 there
 
--- there are as many columns as are asked for
+-- There are as many columns as are requested.
 pub as_many_read : (n : ℕ) (c : Option ChosenColumns) (k : ℕ) → k ≡ length (chosen (rising_by c) n) → AreAsMany c k
 as_many_read n None k e = tt
 as_many_read n (Some c) k e = e
@@ -69,7 +69,7 @@ module _ (known : Dictionaries) (is : IdTrees) where
       let w = stands_in c.columns.columns c.columns.rising same.0 p j e in
       array_at c.columns.rising read a w.0 j x w.1 (sym (moved.moved w.0 p j w.1 e) ∙ f))
 
--- ---- faults
+-- ---- errors
 
 module _ (ts : Kinds) (e : Fault) where
   fault_at : (js : List ℕ) (i j : ℕ) → slice_get js i ≡ Some j → IsFaultOf (kind_at ts j) e → IsFaultOfSome ts js e
@@ -87,7 +87,7 @@ module _ (ts : Kinds) (e : Fault) where
   batch_fault js ks same (inr (inl f)) = inr (inl (some_fault js ks (stands_in js ks same) f))
   batch_fault js ks same (inr (inr f)) = inr (inr f)
 
-  -- a fault of a column in rising order is one of a column that is asked for
+  -- An error of a column in ascending order is one of a requested column.
   pub faults_in_order : (n : ℕ) (c : Option ChosenColumns) → AreShuffled c → OwnFault e (IsFaultOfBatch ts (chosen (rising_by c) n) e) → OwnFault e (IsFaultOfBatch ts (chosen (asked_by c) n) e)
   faults_in_order n None same f = f
   faults_in_order n (Some c) same f =

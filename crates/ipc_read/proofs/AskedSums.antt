@@ -1,4 +1,4 @@
--- What columns list and hold in sum, whatever their order.
+-- The encoded lengths of columns, and the bytes that they retain, in sum, whatever their order.
 use Rattle.std.proofs.Common.{arith, ◌≡◌, refl, ℕ, suc, ◌+◌, ◌<◌, ◌≤◌, ◌==◌, Bool, true, false, cond, List, [], ◌∷◌, map, length, Option, None, Some, option_map, sym, ap, subst, ◌∙◌}
 use Rattle.std.proofs.lemmas.Bool.Decides.{nat_tests}
 use Rattle.std.proofs.lemmas.List.{length-map}
@@ -49,7 +49,7 @@ all_worth m (j ∷ js) (n ∷ ns) up long =
     let tail = past_first j n (suc j) js ns js (omega arith) up.1 ∙ all_worth (suc j) js ns up.1 (omega (arith, long)) in
     λ i. here i ∷ tail i
 
--- what is given in the order that was asked for is in sum what was read
+-- What is returned in the requested order is in sum what was read.
 asked_sum : {X : Type 0} (f : X → ℕ) (a : Asked) (read given : List X) → IsPermutation a.columns a.rising → IsIncreasing a.rising → length read ≡ length a.rising
     → IsInAskedOrder a read given → sum_by f given ≡ sum_by f read
 asked_sum f a read given same up many order =
@@ -98,7 +98,7 @@ empty_same (Some lists) extra ts xs ys same =
 
 -- ---- what arrays hold
 
--- arrays that were read in rising order, as they are asked for
+-- Arrays that were read in ascending order, in the requested order.
 pub held_in_order :
     (q : Option ChosenColumns) (n most : ℕ) (lists : Option Lists) (extra : ℕ) (ts : Kinds) (read given : List AnyArray) → AreShuffled q → AreAsMany q (length read)
     → AreOrdered q read given → HoldChosen most lists extra ts (chosen (rising_by q) n) read → HoldChosen most lists extra ts (chosen (asked_by q) n) given

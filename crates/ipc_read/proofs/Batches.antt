@@ -1,4 +1,5 @@
--- The entries that columns are read from are those of the batch, over the dictionaries that are known.
+-- The entries that columns are read from are those of the batch, with
+-- the dictionaries that are known.
 use Rattle.std.proofs.Common.{◌≡◌, ℕ, map}
 use Rattle.ipc_devices.specs.Device.{Memory}
 use Rattle.lower_types.specs.declared.Endianness.{Endianness}

@@ -9,12 +9,12 @@ use Rattle.ipc_model.specs.Batches.{chosen}
 use Rattle.ipc_projections.specs.Projections.{IsIncreasingFrom}
 use Rattle.ipc_read.specs.Columns.{ArePrepared, IsChosen}
 
--- those from column i of n on, where m were before
+-- The columns from column i of n on, if m were before.
 abbrev pub left_of : Option (List ℕ) → ℕ → ℕ → ℕ → List ℕ
 left_of None n m i = range_with_len i (n - i)
 left_of (Some js) n m i = drop m js
 
--- they are in rising order, none of them before column i
+-- They are in ascending order, none of them before column i.
 abbrev pub AreLeft : Option (List ℕ) → ℕ → ℕ → ℕ → Type 0
 AreLeft None n m i = Unit {0}
 AreLeft (Some js) n m i = AllByRecursion (λ j. j < n) (drop m js) × IsIncreasingFrom i (drop m js)
@@ -40,7 +40,7 @@ left_chosen (Some js) n m i h c are =
     let rising : IsIncreasingFrom i (i ∷ drop (m + 1) js) = subst (λ (ks : List ℕ). IsIncreasingFrom i ks) more are.1 in
     (below.1, subst (λ (k : ℕ). IsIncreasingFrom k (drop (m + 1) js)) (let e : suc i ≡ i + 1 = omega arith in e) rising.1)
 
--- it isn't
+-- Column i isn't the first of them.
 rising_past : (i : ℕ) (ks : List ℕ) → ((k : ℕ) (rest : List ℕ) → ks ≡ k ∷ rest → k ≡ i → ⊥) → IsIncreasingFrom i ks → IsIncreasingFrom (i + 1) ks
 rising_past i [] other rising = tt
 rising_past i (k ∷ ks) other rising = elim (cases_lt i k) [
@@ -65,7 +65,7 @@ pub left_same : (p : Option (List ℕ)) (n m i : ℕ) → (IsChosen p m i → �
 left_same None n m i other = absurd (other tt)
 left_same (Some js) n m i other = refl
 
--- none is behind the last
+-- None comes after the last.
 none_past : (n i : ℕ) (ks : List ℕ) → n ≤ i → AllByRecursion (λ j. j < n) ks → IsIncreasingFrom i ks → ks ≡ []
 none_past n i [] h below rising = refl
 none_past n i (k ∷ ks) h below rising = absurd (omega (arith, h, below.0, rising.0))

@@ -12,7 +12,7 @@ use Rattle.ipc_flat_columns.specs.Refusals.{IsFaultOf}
 use Rattle.ipc_read.specs.Columns.{HasColumns, IsColumnAt, AreColumns}
 use Rattle.ipc_read.specs.Refusals.{IsFaultOfSome}
 
--- a fault of those that are left is one of all
+-- An error of those that are left is one of all.
 pub record Among (ts : Kinds) (js left : List ℕ) : Type 0 where
   pub each : (e : Fault) → IsFaultOfSome ts left e → IsFaultOfSome ts js e
 

@@ -1,4 +1,4 @@
--- Where the columns of a batch stand.
+-- Where the columns of a batch are.
 use Rattle.std.proofs.Common.{arith, ◌≡◌, refl, ℕ, ℤ, zero, suc, ◌+◌, ◌<◌, ◌≤◌, List, [], ◌∷◌, length, get_or, Option, ap, sym, subst, ◌∙◌}
 use Rattle.lower.specs.Counts as types
 use Rattle.lower.specs.TypeTrees.{TypeTree}
@@ -24,7 +24,7 @@ use Rattle.ipc_flat_columns.specs.declared.read.body.Body.{Body}
 use Rattle.ipc_flat_columns.specs.declared.read.body.Place.{Place}
 use Rattle.ipc_read.proofs.Fields.{type_is}
 
--- ---- places
+-- ---- positions
 
 nodes_start : (ts : Kinds) → nodes_before ts 0 ≡ 0
 nodes_start no_kinds = refl
@@ -56,7 +56,7 @@ buffers_inside extra (more_kinds t ts) (suc j) h = omega (arith, buffers_inside 
 
 -- ---- ids
 
--- those of the fields from j on
+-- The columns of the fields from j on.
 abbrev pub ids_from : IdTrees → ℕ → IdTrees
 ids_from is zero = is
 ids_from is (suc j) = ids_from (other_ids is) j
@@ -71,9 +71,9 @@ kind_is [] is j f h e = absurd (omega (arith, h))
 kind_is (g ∷ fs) is zero f h e = ap (λ (x : Field). field_kind (field_view x) (first_ids is)) e
 kind_is (g ∷ fs) is (suc j) f h e = kind_is fs (other_ids is) j f (omega (arith, h)) e
 
--- ---- one column behind the other
+-- ---- one column after the other
 
--- a place is that of column j, and these are the ids from there on
+-- A position is that of column j, and these are the ids from there on.
 pub record IsPlace (extra : ℕ) (ts : Kinds) (is left : IdTrees) (j : ℕ) (p : Place) : Type 0 where
   pub ids : left ≡ ids_from is j
   pub node : p.node ≡ nodes_before ts j
@@ -89,7 +89,7 @@ kind_there extra fs is left j f p at h e t k = sym k ∙ ap (λ i. field_kind (f
 pub type_there : (fs : List Field) (j : ℕ) (f : Field) → j < length fs → f ≡ get_or fs j f → type_view f.data_type ≡ type_at (fields_view fs) j
 type_there fs j f h e = ap (λ (g : Field). type_view g.data_type) e ∙ sym (type_is fs j f h)
 
--- the column of kind t, that is the one at j
+-- The column of kind t, which is the one at j.
 module _ (extra : ℕ) (ts : Kinds) (is left : IdTrees) (j : ℕ) (p : Place) (t : Kind) (at : IsPlace extra ts is left j p) (inside : j < count ts) (same : t ≡ kind_at ts j) where
   pub room_there : {R : Type 0} (b : Body R) → b.extra ≡ extra → HasRoom b (record { node = 0; buffer = 0 }) (all_nodes ts) (all_buffers b.extra ts) → HasRoom b p (nodes t) (buffers b.extra t)
   room_there b e room =
@@ -134,19 +134,19 @@ module _ (extra : ℕ) (ts : Kinds) (is left : IdTrees) (j : ℕ) (p : Place) (t
       (subst (λ (y : ℕ). IsColumn s vs (kind_at ts j) v y p.buffer limit x) at.node
       (subst (λ (k : Kind). IsColumn s vs k v p.node p.buffer limit x) same (subst (λ (w : TypeTree). IsColumn s vs t w p.node p.buffer limit x) typed is_column)))
 
-  -- its buffers list the same there
+  -- Its buffers have the same encoded lengths there.
   pub listed_there : (s : Entries) → listed_in s extra t p.buffer ≡ listed_in s extra (kind_at ts j) (buffers_before extra ts j)
   listed_there s = ap (λ (k : Kind). listed_in s extra k p.buffer) same ∙ ap (listed_in s extra (kind_at ts j)) at.buffer
 
-  -- an array that is within what they list is so there
+  -- An array that retains at most these lengths does so there.
   pub held_there : (s : Entries) (x : Layout) → HoldsListed s extra t p.buffer x → HoldsListed s extra (kind_at ts j) (buffers_before extra ts j) x
   held_there s x h = subst (λ (b : ℕ). HoldsListed s extra (kind_at ts j) b x) at.buffer (subst (λ (k : Kind). HoldsListed s extra k p.buffer x) same h)
 
-  -- its faults are those of the kind there
+  -- Its errors are those of the kind there.
   pub faults_there : (e : Fault) → OwnFault e (IsFaultOf t e) → OwnFault e (IsFaultOf (kind_at ts j) e)
   faults_there e h = subst (λ (k : Kind). OwnFault e (IsFaultOf k e)) same h
 
--- the place behind a column that a type tells
+-- The position after a column, by its type.
 pub skipped : (extra : ℕ) (u : TypeTree) (id : Option ℤ) (is : IdTrees) (p q : Place) → q.node ≡ p.node + types.nodes u → q.buffer ≡ p.buffer + types.buffers extra u
     → IsBehind extra (kind_of u id is) p q
 skipped extra u id is p q n m =

@@ -29,7 +29,7 @@ use Rattle.ipc_read.specs.DictionaryBatches.{GivesColumn, whole_head, dictionary
 use Rattle.ipc_read.specs.Refusals.{TellsLists}
 use Rattle.ipc_read.specs.Sizes.{chosen_listed}
 
--- ---- faults
+-- ---- errors
 
 pub head_in_dictionary : (e : Fault) → OwnFault e (IsHeadFault e) → OwnFault e (IsDictionaryFault e)
 head_in_dictionary e h = claims_through e (IsHeadFault e) (IsDictionaryFault e) (λ f. inl f) h
@@ -65,7 +65,7 @@ head_of_tells : (schema : Schema) (extra size : ℕ) (o : Option (ℤ × Spot)) 
 head_of_tells schema extra size None e each = tt
 head_of_tells schema extra size (Some h) e each = place_tells extra h.1 size (place_of (places schema.fields schema.ids) h.0) e (each h.1)
 
--- a fault that says nothing of any lists
+-- An error that says nothing of any lists.
 pub any_tells : (schema : Schema) (extra : ℕ) (t : Spot) (size : ℕ) (e : Fault) → ((v : Spot) (n k : ℕ) → TellsLists v size n k e) → TellsValues schema extra t size e
 any_tells schema extra t size e each = head_of_tells schema extra size (dictionary_head t) e each
 
@@ -91,7 +91,7 @@ memory_tells schema extra t size = any_tells schema extra t size Memory (λ v n 
 
 pub ruleset dictionary_faults = (head_in_dictionary, values_in_dictionary, unplaced_in_dictionary, head_blames, head_tells, unplaced_tells, memory_tells)
 
--- ---- faults behind the head
+-- ---- errors after the head
 
 module _ (schema : Schema) (t : Spot) (id : ℤ) (v : Spot) (headed : dictionary_head t ≡ Some (id, v)) where
   by_place : (o : Option Place) (e : Fault) → place_of (places schema.fields schema.ids) id ≡ o → BlamesPlace id o e → BlamesDictionary schema t e
@@ -105,7 +105,7 @@ module _ (schema : Schema) (t : Spot) (id : ℤ) (v : Spot) (headed : dictionary
       → OwnFault e (BlamesDictionary schema t e)
   values_blame p e placed h = claims_through e (IsValuesFault (kind_of p.type None p.ids) e) (BlamesDictionary schema t e) (by_place (Some p) e placed) h
 
-  -- what is said of the lists is said of those of the values
+  -- What is known of the lists is known of those of the values.
   pub values_told : (p : Place) (extra size : ℕ) (e : Fault) → place_of (places schema.fields schema.ids) id ≡ Some p → TellsLists v size (nodes p.type) (buffers extra p.type) e
       → TellsValues schema extra t size e
   values_told p extra size e placed h =
@@ -142,7 +142,7 @@ module _ (schema : Schema) (extra : ℕ) (known : Dictionaries) (b : Body) (t : 
         meaning_is
         ∙ ap (option_and_then (λ (h : ℤ × Spot). option_and_then (values_meaning schema extra known b h.0 h.1) (place_of (places schema.fields schema.ids) h.0))) headed
 
-    -- its id has a place
+    -- A field has its id.
     pub place_there : IsSome (dictionary_meaning schema extra known b t) → IsSome (place_of (places schema.fields schema.ids) id)
     place_there h = some_listed _ (place_of (places schema.fields schema.ids) id) (subst (λ (o : Option Dictionaries). IsSome o) placed_is h)
 
@@ -169,6 +169,6 @@ module _ (schema : Schema) (extra : ℕ) (known : Dictionaries) (b : Body) (t : 
           in
           (some_is _ _ means, subst (λ (o : Option Dictionaries). IfSome o (λ ds. KnowAlike ds after)) (sym means) same)
 
-      -- what its values list
+      -- The encoded lengths of its values.
       pub listed_is : values_listed schema extra t ≡ chosen_listed (lists_of v) extra (kinds (values_schema p schema.order)) (0 ∷ [])
       listed_is = ap (head_listed schema extra) headed ∙ ap (place_listed extra schema.order v) placed

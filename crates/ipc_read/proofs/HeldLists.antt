@@ -1,4 +1,4 @@
--- What the arrays of a batch hold, by the lists of the batch.
+-- How many bytes the arrays of a batch retain, by the lists of the batch.
 use Rattle.std.proofs.Common.{arith, refl, ◌≡◌, ℕ, ℤ, pos, ◌+◌, ◌≤◌, List, [], ◌∷◌, length, Option, None, Some, Result, Ok, Err, IfOk, sym, ap, subst, ◌∙◌, inl, inr}
 use Rattle.std.proofs.lemmas.Bool.{cases_lt}
 use Rattle.std.proofs.lemmas.List.{get_or_past}
@@ -42,7 +42,7 @@ listed_is lists m order extra known c =
       | inr h ↦ listed_outside m.source m.base lists.buffers s same c h ∙ sym (ap (λ (r : Buffer). size r.length) (get_or_past lists.buffers c d h))
     ]
 
--- what stands for buffers is told by their lengths alone
+-- The single offsets of empty buffers depend on the buffers' lengths alone.
 same_lengths : (f g : ℕ → ℕ) → ((c : ℕ) → f c ≡ g c) → (extra : ℕ) (ts : Kinds) (js : List ℕ) → columns_empty f extra ts js ≡ columns_empty g extra ts js
 same_lengths f g same extra ts js = λ i. columns_empty (λ c. same c i) extra ts js
 

@@ -1,5 +1,5 @@
--- The arrays that are read have the values that are known at their dictionary places, and the cases
--- of their offsets.
+-- The arrays that are read have the values that are known at their dictionary fields, and
+-- the variants of their offsets.
 use Rattle.std.proofs.Common.{◌≡◌, refl, ℕ, zero, suc, ℤ, List, [], ◌∷◌, map, Option, IfOk, Result, Ok, Err, sym, ap, subst, ◌∙◌}
 use Rattle.std.specs.List.{AllByRecursion}
 use Rattle.lower.specs.TypeTrees.{TypeTree, plain, null, field, FieldTrees, no_fields, more_fields}

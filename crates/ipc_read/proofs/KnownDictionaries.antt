@@ -24,7 +24,7 @@ use Rattle.ipc_read.specs.DictionaryBatches.{dictionary_head, PutsCases, PutsVal
 pub empty_known : {Z S : Type 0} (m : HashMap ℤ (Rc AnyArray Z) S) → IsEmpty m → known_dictionaries m ≡ []
 empty_known m empty = ap (map known_entry) empty
 
--- of a map that stayed the same are known
+-- What is known of a map that stayed the same.
 pub same_known : {Z S : Type 0} (m n : HashMap ℤ (Rc AnyArray Z) S) → IsUnchanged m n → known_dictionaries n ≡ known_dictionaries m
 same_known m n same = ap (map known_entry) same
 
@@ -33,7 +33,7 @@ pub known_at : {Z S : Type 0} (m : HashMap ℤ (Rc AnyArray Z) S) (id : ℤ) →
 known_at m id = found_under m id
 
 module _ {Z S : Type 0} (m n : HashMap ℤ (Rc AnyArray Z) S) (id : ℤ) (x : Rc AnyArray Z) (put : Updates int_eq m n id (Some x)) where
-  -- an array that is put into a map stands before the others
+  -- An array that is put into a map comes before the others.
   pub known_put : KnowAlike ((id, dictionary_of (layout_of x.value)) ∷ known_dictionaries m) (known_dictionaries n)
   known_put = record {
     each = λ q.
@@ -49,7 +49,7 @@ module _ {Z S : Type 0} (m n : HashMap ℤ (Rc AnyArray Z) S) (id : ℤ) (x : Rc
   pub put_beside : (q : ℤ) → int_eq id q ≡ false → dictionary_at (known_dictionaries n) q ≡ dictionary_at (known_dictionaries m) q
   put_beside q e = found_under n q ∙ ap dictionary_found (put.2 q e) ∙ sym (found_under m q)
 
-  -- its cases are those of the array that a dictionary batch puts under its id
+  -- Its variants are those of the array that a dictionary batch puts under its id.
   pub puts_cases : (t values : Spot) → dictionary_head t ≡ Some (id, values) → HasListCases (layout_of x.value) → PutsCases t (λ i. array_under n i)
   puts_cases t values head has =
       subst (λ (o : Option (ℤ × Spot)). IfSome o (λ h. HasListCases (array_under n (Some h.0)))) (sym head)

@@ -1,4 +1,4 @@
--- What the buffers of a column list is what the batch lists of them.
+-- The encoded lengths of a column's buffers are those that the batch has for them.
 use Rattle.std.proofs.Common.{arith, ◌≡◌, ℕ, zero, suc, pos, ◌+◌, ◌<◌, ◌≤◌, List, [], ◌∷◌, map, length, take, drop, get_or, Option, Some, refl, ap, ◌∙◌, inl, inr}
 use Rattle.std.proofs.lemmas.Bool.{cases_lt}
 use Rattle.std.proofs.lemmas.List.{drop_more, drop_all, get_or-map, get_or_past, length-map}
@@ -20,7 +20,7 @@ use Rattle.ipc_read.specs.Sizes.{total_of, chosen_total, chosen_listed}
 
 -- ---- from one buffer on
 
--- those of a union: in front, its own, and those of its children
+-- The buffers of a union: the extra ones, its own, and those of its children.
 in_front : (s : Entries) (b own extra m : ℕ) → listed_from s b (own + extra + m) ≡ listed_from s b extra + (listed_from s (b + extra) own + listed_from s (b + extra + own) m)
 in_front s b own extra m =
     ap (listed_from s b) (let e : own + extra + m ≡ extra + (own + m) = omega arith in e) ∙ split_listed s b extra (own + m)
@@ -103,7 +103,7 @@ pub parts_are : (lists : Lists) (b : Body) (order : Endianness) (extra : ℕ) (k
 unfolding entries_of
 parts_are lists b order extra known = refl
 
--- what a device gave at most, by the lists of the batch
+-- How many bytes were read at most, by the lists of the batch.
 pub given_total :
     {R : Type 0} (memory : R → Memory) (b : Read R) (lists : Lists) (m : Body) (order : Endianness) (extra : ℕ) (known : Dictionaries) (o : Option Lists) (ts : Kinds) (js : List ℕ) (x y : ℕ)
     → entries memory b ≡ entries_of lists m order extra known → b.extra ≡ extra → o ≡ Some lists → y ≤ x + columns_listed (entries memory b) b.extra ts js

@@ -81,7 +81,7 @@ total_from : (w : List ℕ) (base n : ℕ) (bs : List Buffer)
 total_from w base n [] = refl
 total_from w base n (b ∷ bs) = total_from w base (n + size b.length) bs
 
--- what is judged of the lists before a column is read
+-- What is checked of the lists before a column is read.
 pub record IsListed (lists : Lists) (most extra : ℕ) (ts : Kinds) : Type 0 where
   pub sizes : AreSizes lists.buffers
   pub total : total_of lists.buffers ≤ most
@@ -146,7 +146,7 @@ pub projection_is : (p : Option (List ℕ)) (n : ℕ) → ArePrepared p n → Is
 projection_is None n h = tt
 projection_is (Some js) n h = prepared_projection js n h
 
--- what was read of a batch: all but the count of the rows
+-- What was read of a batch: all but the count of the rows.
 pub record Fetched (schema : Schema) (extra : ℕ) (known : Dictionaries) (vs : Option ℤ → Layout) (b : Body) (t : Spot) (projection : Option (List ℕ)) (limit : Limit) (lists : Lists) (ys : List AnyArray) : Type 0 where
   pub listed : lists_of t ≡ Some lists
   pub judged : IsListed lists b.size extra (kinds schema)
@@ -231,14 +231,14 @@ pub some_listed : {X Y : Type 0} (f : X → Option Y) (o : Option X) → IsSome 
 some_listed f (Some x) h = refl
 some_listed f None h = h
 
--- a meaning is one of listed entries
+-- A meaning is one of the batch's entries.
 pub listed_of : (schema : Schema) (extra : ℕ) (known : Dictionaries) (b : Body) (t : Spot) (projection : Option (List ℕ)) (limit : Limit)
     → HasMeaning schema extra known b t projection limit → IsSome (lists_of t)
 unfolding record_meaning
 listed_of schema extra known b t projection limit h =
     some_listed (λ (l : Lists). batch (entries_of l b schema.order extra known) b.size schema projection limit) (lists_of t) h
 
--- ---- the answer
+-- ---- the result
 
 pub gives_batch :
     (schema : Schema) (extra : ℕ) (known : Dictionaries) (vs : Option ℤ → Layout) (b : Body) (t : Spot) (projection : Option (List ℕ)) (limit : Limit) (lists : Lists) (ys : List AnyArray) (r : Result (List AnyArray) Fault)

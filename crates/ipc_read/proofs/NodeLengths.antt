@@ -1,4 +1,4 @@
--- The lengths of nodes are those of signed numbers of 64 bits.
+-- The lengths of nodes fit in signed 64-bit integers.
 use Rattle.std.proofs.Common.{arith, ◌≡◌, refl, ℕ, zero, suc, ℤ, pos, negsuc, ◌+◌, ◌^◌, ◌<◌, false, List, Option, None, Some, Result, Ok, Err, sym, ap, subst, ◌∙◌, inl, inr}
 use Rattle.std.proofs.lemmas.Bool.{cases_lt}
 use Rattle.std.proofs.lemmas.Bool.Decides.{nat_tests}
@@ -14,7 +14,7 @@ use Rattle.ipc_views.specs.declared.message.FieldNode.{FieldNode}
 use Rattle.ipc_model.specs.Entries.{size}
 use Rattle.ipc_flat_columns.specs.Limits.{AreSmall}
 
--- a signed number of 64 bits, as a size
+-- A signed 64-bit integer, as a size.
 signed_size : (n : ℕ) (z : ℤ) → z ≡ cast_signed w64 n → size z < 2 ^ 63
 signed_size n (negsuc m) e = omega arith
 signed_size n (pos m) e =
@@ -58,7 +58,7 @@ slot_small m (Ok None) ns e = absurd cc
 slot_small m (Ok (Some q)) ns e = placed_small m (target_at m q) ns e
 slot_small m (Err f) ns e = absurd cc
 
--- those of a record batch
+-- The nodes of a record batch.
 pub nodes_small : (t : Spot) (ns : List FieldNode) → record_batch_nodes t ≡ Ok (Some ns) → AreSmall ns
 nodes_small t ns e = slot_small t.message (slot_at t.message t.place 1) ns e
 

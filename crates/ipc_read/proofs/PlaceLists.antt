@@ -1,4 +1,4 @@
--- The first dictionary places of some fields, in pre-order.
+-- The first dictionary fields of some fields, in pre-order.
 use Rattle.std.proofs.Common.{◌≡◌, refl, ℕ, ℤ, ◌+◌, ◌<◌, Bool, true, false, cond, is_some, List, [], ◌∷◌, ◌++◌, length, drop, get_or, Box, Global, Option, None, Some, MatchOption, sym, ap, subst, ◌∙◌, inl, inr}
 use denote.Hole.Carrier.{out}
 use Rattle.std.proofs.lemmas.Bool.{cases_Bool}
@@ -19,7 +19,7 @@ use Rattle.ipc_model.specs.Batches.{Place, field_places, own_place, inner_places
 use Rattle.ipc_model.specs.TypeKinds.{first_ids, other_ids}
 use Rattle.ipc_columns.proofs.StructReads.{fields_left}
 
--- ---- the first of some places
+-- ---- the first of some dictionary fields
 
 module _ (id : ℤ) where
   none_first : (b : Bool) (x : Place) (o p q : Option Place) → cond b (Some x) o ≡ None → (o ≡ None → p ≡ q) → cond b (Some x) p ≡ q
@@ -38,7 +38,7 @@ module _ (id : ℤ) where
   first_before [] ys p e = let no : None ≡ Some p = e in absurd cc
   first_before (x ∷ xs) ys p e = some_first (has_id x.id id) x p (place_of xs id) (place_of (xs ++ ys) id) e (first_before xs ys p)
 
-  -- a type whose field has no id is passed over
+  -- A type whose field has no id is skipped.
   pub first_unowned : (t : TypeTree) (is : IdTrees) (ps : List Place) → place_of (own_place t None is ++ ps) id ≡ place_of ps id
   first_unowned (plain p) is ps = refl
   first_unowned (single s f) is ps = refl
@@ -66,7 +66,7 @@ module _ (id : ℤ) where
       ap (λ (b : Bool). cond b (Some (record { id = own; type = t; ids = is })) (place_of ps id)) (has_other own other)
       ∙ sym (first_unowned t is ps)
 
-  -- what was found of some places, with the same first as others
+  -- What was found of some dictionary fields, with the same first as others.
   abbrev pub Finds : {X : Type 0} → Option X → (X → TypeTree) → (X → IdTrees) → List Place → Type 0
   Finds r type_in ids_in ps = MatchOption r (place_of ps id ≡ None) (λ x. place_of ps id ≡ Some (record { id = Some id; type = type_in x; ids = ids_in x }))
 

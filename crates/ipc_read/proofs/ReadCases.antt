@@ -1,5 +1,5 @@
--- The array that a column is read to is List where its offsets have 32 bits, and LargeList where
--- they have 64.
+-- The array that a column is read to is List if its offsets have 32 bits,
+-- and LargeList if they have 64.
 use Rattle.std.proofs.Common.{refl, ℕ, ℤ, ◌+◌, Option, None, Some}
 use Rattle.lower.specs.TypeTrees.{TypeTree, FieldTrees}
 use Rattle.lower.specs.declared.datatypes.UnionMode.TheVariants.{Sparse, Dense}

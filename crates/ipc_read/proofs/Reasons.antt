@@ -1,4 +1,4 @@
--- What the faults of a batch say of the entries that it lists.
+-- What the errors of a batch say of its entries.
 use Rattle.std.proofs.Common.{arith, rules, ◌≡◌, ◌<◌, ℕ, zero, suc, ℤ, pos, negsuc, Bool, List, [], ◌∷◌, length, map, get_or, Option, None, Some, IsSome, IfSome, sym, subst, inr, refl}
 use Rattle.std.proofs.lemmas.List.{length-map, get_or-map}
 use Rattle.lower_types.specs.declared.Endianness.{Endianness}
@@ -49,7 +49,7 @@ negative_of : (bs : List Buffer) → (AreSizes bs → ⊥) → Negative bs
 negative_of [] h = absurd (h sizes_of_none)
 negative_of (r ∷ bs) h = by_first r bs r.length refl h (negative_of bs)
 
--- ---- what is said of lists that are there
+-- ---- what is known of lists that are present
 
 pub each_list : (o : Option Lists) (P : Lists → Type 0) → ((lists : Lists) → P lists) → IfSome o P
 each_list None P h = tt

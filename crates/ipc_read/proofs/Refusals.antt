@@ -1,4 +1,4 @@
--- The faults of a part are faults of the whole.
+-- The errors of a part are errors of the whole.
 use Rattle.std.proofs.Common.{◌≡◌, ℕ, List, [], ◌∷◌, length, Option, None, Some, Result, Ok, Err, refl, sym, ap, subst, inl, inr}
 use Rattle.ipc_devices.proofs.Claims.{claimed, claims_own, claims_through}
 use Rattle.ipc_devices.specs.Faults.{OwnFault}
@@ -69,7 +69,7 @@ module _ (t : Spot) where
 
 pub ruleset table_faults = (tells_compression, tells_compressed, tells_buffers, tells_no_buffers, tells_nodes, tells_no_nodes)
 
--- ---- of lists that are there
+-- ---- of lists that are present
 
 both_there : (c : Result (Option Spot) TableFault) (n : Result (Option (List FieldNode)) TableFault) (b : Result (Option (List Buffer)) TableFault) (lists : Lists)
     → both_lists c n b ≡ Some lists → (n ≡ Ok (Some lists.nodes)) × (b ≡ Ok (Some lists.buffers))
@@ -100,7 +100,7 @@ module _ (t : Spot) (lists : Lists) (listed : lists_of t ≡ Some lists) where
     counts_tell (OutOfSpec ExpectedBuffer) h = subst (λ (r : Result (Option (List Buffer)) TableFault). IsShorter r buffers) (sym there.1) h
     counts_tell _ h = absurd h
 
--- ---- of columns, whose faults say nothing of the lists
+-- ---- of columns, whose errors say nothing of the lists
 
 module _ (t : Spot) (size nodes buffers : ℕ) where
   column_tells : (e : Fault) → OwnFault e (IsColumnFault e) → TellsLists t size nodes buffers e

@@ -1,4 +1,4 @@
--- Steps of a device that end in a fault.
+-- Steps of a device that end in an error.
 use Rattle.std.proofs.Common.{arith, ◌≡◌, ℕ, ◌+◌, ◌≤◌, Bool, Result, Ok, Err, sym, subst, ◌∙◌}
 use Rattle.std.proofs.lemmas.Bool.{false≢true}
 use Rattle.std.specs.Result.{IsErr, IsErrAnd}
@@ -25,7 +25,7 @@ io_through : (X Y : Type 0) (r : Result Y Fault) (e : Fault) (P Q : Type 0) → 
 io_through X Y (Ok x) e P Q is f h = tt
 io_through X Y (Err u) e P Q is f h = subst (λ (v : Fault). OnIo {X = Y} (Err v) Q) (sym is.1) (on_io X Y e P Q f h)
 
--- the same where no device failed
+-- The same if no device failed.
 unless_io : (X Y : Type 0) (e : Fault) (P Q : Type 0) → (P → Q) → UnlessIo {X = X} (Err e) P → UnlessIo {X = Y} (Err e) Q
 unless_io X Y (Faults.OutOfSpec k) P Q f h = f h
 unless_io X Y Faults.Ended P Q f h = f h
@@ -45,7 +45,7 @@ unless_io_through X Y (Err u) e P Q is f h = subst (λ (v : Fault). UnlessIo {X 
 rises_from : (a b c : ℕ) → a ≤ b → Rises b c → Rises a c
 rises_from a b c le h = omega (arith, le, h)
 
--- a part of a step that ended in a fault ends it
+-- A part of a step that ended in an error ends it.
 pub step_err :
     {R X Y : Type 0} (still : Bool) (memory : R → Memory) (failures given : R → ℕ) (s : Body R) (n m : ℕ) (a0 a b : R) (e : Fault) (r : Result Y Fault)
     → IsErr r × IsErrAnd r (λ f. f ≡ e) → failures a0 ≤ failures a → failures a ≡ failures a0 → given a + n ≤ given a0 + m

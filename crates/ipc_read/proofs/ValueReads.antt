@@ -31,7 +31,7 @@ use Rattle.ipc_read.specs.DictionaryBatches.{GivesColumn, IsValuesFault}
 use Rattle.ipc_read.specs.Refusals.{IsEntriesFault, IsListFault}
 use Rattle.ipc_read.specs.Sizes.{chosen_listed}
 
--- ---- faults
+-- ---- errors
 
 pub list_in_values : (t : Kind) (e : Fault) → OwnFault e (IsListFault e) → OwnFault e (IsValuesFault t e)
 list_in_values t e h = claims_through e (IsListFault e) (IsValuesFault t e) (λ f. inl f) h
@@ -46,7 +46,7 @@ pub ruleset values_faults = (list_in_values, entries_in_values, column_in_values
 
 -- ---- the column
 
--- what the values of a place are read by
+-- What the values of a dictionary field are read by.
 abbrev pub schema_of : TypeTree → IdTrees → Endianness → Schema
 schema_of u is order = values_schema (record { id = None; type = u; ids = is }) order
 

@@ -1,4 +1,4 @@
--- What the faults of a dictionary batch say of the entries of its values.
+-- What the errors of a dictionary batch say of the entries of its values.
 use Rattle.std.proofs.Common.{◌≡◌, ℤ, ℕ, Bool, Option, None, Some, IsSome, IfSome, sym, subst}
 use Rattle.ipc_devices.specs.declared.fault.Fault.{Fault}
 use Rattle.ipc_devices.specs.declared.fault.Fault.TheVariants.{Memory, OutOfSpec, NotYetImplemented}
@@ -26,7 +26,7 @@ module _ (known : Bool) (schema : Schema) (extra : ℕ) (ds : Dictionaries) (b :
   at_each e None each = tt
   at_each e (Some h) each = placed h.1 e (place_of (places schema.fields schema.ids) h.0) (each h.1)
 
-  -- of what a batch says of itself nothing of its values is said
+  -- An error of the batch itself says nothing of its values.
   head_says : (v : Spot) (e : Fault) → RefusesHead t e → TellsColumns known schema.order extra ds b v e
   head_says v (OutOfSpec (InvalidFlatbufferIsDelta x)) h = each_list (lists_of v) _ (λ lists. tt)
   head_says v (OutOfSpec (InvalidFlatbufferId x)) h = each_list (lists_of v) _ (λ lists. tt)

@@ -1,4 +1,5 @@
--- What the buffers of chosen columns list is no more than what all buffers of their batch list.
+-- The encoded lengths of chosen columns' buffers sum to at most those
+-- of all buffers of their batch.
 use Rattle.std.proofs.Common.{arith, ◌≡◌, ℕ, zero, suc, ◌+◌, ◌-◌, ◌<◌, ◌≤◌, List, [], ◌∷◌, take, drop, Option, None, Some, ap, sym, subst, ◌∙◌}
 use Rattle.std.proofs.lemmas.List.{drop-drop}
 use Rattle.std.proofs.lemmas.List.Sums.{sum_by-take-drop}
@@ -14,7 +15,7 @@ use Rattle.ipc_read.specs.Columns.{ArePrepared}
 use Rattle.ipc_read.specs.HeldChunks.{arrays_held, chosen_empty, HoldChosen}
 use Rattle.ipc_read.specs.Sizes.{total_of, chosen_total, chosen_listed}
 
--- ---- columns in rising order
+-- ---- columns in ascending order
 
 split_total : (bs : List Buffer) (b n : ℕ) → total_of (take n (drop b bs)) + total_of (drop (b + n) bs) ≡ total_of (drop b bs)
 split_total bs b n =

@@ -1,4 +1,4 @@
--- Some columns of a batch, each at its place: behind all those before it.
+-- Some columns of a batch, each at its position: after all columns before it.
 -- (Arrow columnar format, "RecordBatch message".)
 use Rattle.std.specs.Prelude.{◌≡◌, ℕ, ℤ, ◌+◌, List, [], ◌∷◌, slice_get, Option, None, Some}
 use Rattle.lower.specs.TypeTrees.{FieldTrees}
@@ -13,32 +13,33 @@ use Rattle.ipc_flat_columns.specs.Kinds.{listed_in}
 use Rattle.ipc_columns.specs.ReadColumns.{IsColumn}
 use Rattle.ipc_projections.specs.Projections.{IsPrepared}
 
--- the columns of a projection are each one of n, in rising order
+-- The columns of a projection are each one of n, in ascending order; without a
+-- projection nothing is required.
 abbrev pub ArePrepared : Option (List ℕ) → ℕ → Type 0
 ArePrepared None n = Unit {0}
 ArePrepared (Some js) n = IsPrepared js n
 
--- some columns are well formed
+-- These columns are well formed.
 abbrev pub HasColumns : Entries → Kinds → Limit → List ℕ → Type 0
 HasColumns s ts limit [] = Unit {0}
 HasColumns s ts limit (j ∷ js) = IsWellInBatch s ts limit j × HasColumns s ts limit js
 
--- an array is that of column j, where vs are those of the dictionaries' values
+-- An array is that of column j; `vs` gives the arrays of the dictionaries' values.
 abbrev pub IsColumnAt : Entries → (Option ℤ → Layout) → FieldTrees → Kinds → Limit → ℕ → AnyArray → Type 0
 IsColumnAt s vs fs ts limit j x = IsColumn s vs (kind_at ts j) (type_at fs j) (nodes_before ts j) (buffers_before s.extra ts j) limit (layout_of x)
 
--- the arrays are those of some columns, one by one
+-- The arrays are those of these columns, one by one.
 abbrev pub AreColumns : Entries → (Option ℤ → Layout) → FieldTrees → Kinds → Limit → List ℕ → List AnyArray → Type 0
 AreColumns s vs fs ts limit [] [] = Unit {0}
 AreColumns s vs fs ts limit (j ∷ js) (x ∷ xs) = IsColumnAt s vs fs ts limit j x × AreColumns s vs fs ts limit js xs
 AreColumns s vs fs ts limit _ _ = ⊥
 
--- how many bytes the buffers of some columns list together
+-- The encoded length of these columns' buffers.
 abbrev pub columns_listed : Entries → ℕ → Kinds → List ℕ → ℕ
 columns_listed s extra ts [] = 0
 columns_listed s extra ts (j ∷ js) = listed_in s extra (kind_at ts j) (buffers_before extra ts j) + columns_listed s extra ts js
 
--- column i stands at place m of a projection: each does where there is none
+-- Column i is at index m of a projection; any column is at any index without one.
 abbrev pub IsChosen : Option (List ℕ) → ℕ → ℕ → Type 0
 IsChosen None m i = Unit {0}
 IsChosen (Some js) m i = slice_get js m ≡ Some i

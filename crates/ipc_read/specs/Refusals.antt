@@ -1,4 +1,4 @@
--- Which faults of the input's reads of a batch can answer, and what has to be so where they do.
+-- The errors that reading a batch can return for its input, and what is true then.
 -- (Arrow columnar format, "RecordBatch message".)
 use Rattle.std.specs.Prelude.{◌≡◌, ◌⊎◌, ◌-◌, ◌<◌, ◌^◌, ℕ, Bool, List, [], ◌∷◌, length, min, Option, None, IsSome, IfSome, IsSomeAnd, Result, Ok, Err, IsOkAnd}
 use Rattle.lower.specs.Counts.{fields_nodes, fields_buffers}
@@ -19,7 +19,8 @@ use Rattle.ipc_model.specs.Kinds.{Kinds}
 use Rattle.ipc_flat_columns.specs.Refusals.{IsFaultOf, TellsEntries}
 use Rattle.ipc_read.specs.Sizes.{AreSizes, total_of, batch_listed}
 
--- of the entries of a batch: they are ill-made, absent, too few or compressed, or one has a length below 0
+-- The errors of a batch's entries: they are invalid, absent, too few or
+-- compressed, or one has a negative length.
 abbrev pub IsEntriesFault : Fault → Type 0
 IsEntriesFault (OutOfSpec NegativeFooterLength) = Unit {0}
 IsEntriesFault (OutOfSpec MissingMessageBuffers) = Unit {0}
@@ -31,45 +32,48 @@ IsEntriesFault (OutOfSpec (InvalidFlatbufferCompression e)) = Unit {0}
 IsEntriesFault (NotYetImplemented Compressed) = Unit {0}
 IsEntriesFault _ = ⊥
 
--- of what a batch lists: of its entries, or its buffers are together longer than its body
+-- The errors of a batch's lists: those of its entries, or the encoded
+-- lengths sum to more than the body.
 abbrev pub IsListFault : Fault → Type 0
 IsListFault (OutOfSpec (InvalidBuffersLength _ _)) = Unit {0}
 IsListFault e = IsEntriesFault e
 
--- of one of some columns
+-- The errors of one of these columns.
 abbrev pub IsFaultOfSome : Kinds → List ℕ → Fault → Type 0
 IsFaultOfSome ts [] e = ⊥
 IsFaultOfSome ts (j ∷ js) e = IsFaultOf (kind_at ts j) e ⊎ IsFaultOfSome ts js e
 
--- of a batch: of what it lists, of a column that is chosen, columns of unequal lengths
+-- The errors of a batch: of its lists, of a chosen column, or that columns have unequal lengths.
 abbrev pub IsFaultOfBatch : Kinds → List ℕ → Fault → Type 0
 IsFaultOfBatch ts js e = IsListFault e ⊎ (IsFaultOfSome ts js e ⊎ (e ≡ Argument UnequalRows))
 
--- ---- what has to be so
+-- ---- what is true with an error
 
--- so much is more than a body of this size, and both are told, the first as far as 64 bits can say it
+-- `total` is more than the size of the body; the error reports both, the first up to 2 ^ 64 - 1.
 abbrev pub TellsLonger : (total size : ℕ) → (n m : ℕ) → Type 0
 TellsLonger total size n m = (size < total) × (n ≡ min total (2 ^ 64 - 1)) × (m ≡ size)
 
--- Why the lengths of buffers are refused: one is below 0; or they are together longer than the body.
+-- By each error, why the encoded lengths of buffers are refused: one is negative, or
+-- they sum to more than the body.
 abbrev pub TellsLengths : List Buffer → (size : ℕ) → Fault → Type 0
 TellsLengths bs size (OutOfSpec NegativeFooterLength) = AreSizes bs → ⊥
 TellsLengths bs size (OutOfSpec (InvalidBuffersLength n m)) = TellsLonger (total_of bs) size n m
 TellsLengths bs size _ = ⊥
 
--- Why so many nodes and buffers are refused: more of either are needed.
+-- By each error, why so many nodes and buffers are refused: more of either are needed.
 abbrev pub TellsCounts : (nodes buffers needed_nodes needed_buffers : ℕ) → Fault → Type 0
 TellsCounts nodes buffers needed_nodes needed_buffers (OutOfSpec MissingMessageNodes) = nodes < needed_nodes
 TellsCounts nodes buffers needed_nodes needed_buffers (OutOfSpec ExpectedBuffer) = buffers < needed_buffers
 TellsCounts nodes buffers needed_nodes needed_buffers _ = ⊥
 
--- a list of a batch is there, and shorter than that
+-- A list of a batch is present, and has fewer than n elements.
 abbrev pub IsShorter : {X : Type 0} → Result (Option (List X)) TableFault → ℕ → Type 0
 IsShorter r n = IsOkAnd r (λ list. IsSomeAnd list (λ xs. length xs < n))
 
--- What a fault of the lists of a batch says of its table t, where the columns of all fields take so many nodes and buffers: that a slot is
--- ill-made, and how; that the buffers are compressed; that a list is absent, or shorter than that; or that the buffers are together longer
--- than the body. Of other faults it says nothing.
+-- What an error of a batch's lists says of its table t, if the columns of all fields take so
+-- many nodes and buffers. A field of the table is invalid, and how; the buffers are
+-- compressed; a list is absent or too short; or the encoded lengths sum to more than the body.
+-- It says nothing of other errors.
 abbrev pub TellsLists : (t : Spot) → (size nodes buffers : ℕ) → Fault → Type 0
 TellsLists t size nodes buffers (OutOfSpec (InvalidFlatbufferCompression e)) = record_batch_compression t ≡ Err e
 TellsLists t size nodes buffers (NotYetImplemented Compressed) = IsOkAnd (record_batch_compression t) (λ o. IsSome o)
@@ -81,14 +85,18 @@ TellsLists t size nodes buffers (OutOfSpec MissingMessageNodes) = (record_batch_
 TellsLists t size nodes buffers (OutOfSpec (InvalidBuffersLength n m)) = TellsLonger (batch_listed (lists_of t)) size n m
 TellsLists t size nodes buffers _ = Unit {0}
 
--- the same, whatever columns there are, and however long the body is
+-- What an error of a batch's lists says of its table, whatever columns there
+-- are, and however long the body is.
 pub record TellsTable (t : Spot) (e : Fault) : Type 0 where
   pub each : (size nodes buffers : ℕ) → TellsLists t size nodes buffers e
 
--- the same of a batch of these fields
+-- What an error of the lists of a batch of this schema says of its table t. A field of it is
+-- invalid, the buffers are compressed, or a list is absent or too short. Or the encoded
+-- lengths sum to more than the body.
 abbrev pub TellsBatch : Schema → (extra : ℕ) → Spot → (size : ℕ) → Fault → Type 0
 TellsBatch schema extra t size e = TellsLists t size (fields_nodes schema.fields) (fields_buffers extra schema.fields) e
 
--- What a fault says of the entries of a batch, where it lists them, and of the dictionaries that are known.
+-- What an error says of the entries of a batch, if it has both lists, and of
+-- the dictionaries that are known.
 abbrev pub TellsColumns : (known : Bool) → Endianness → (extra : ℕ) → Dictionaries → Body → Spot → Fault → Type 0
 TellsColumns known order extra ds b t e = IfSome (lists_of t) (λ lists. OwnFault e (TellsEntries known (entries_of lists b order extra ds) e))

@@ -1,4 +1,4 @@
--- A batch that was read in rising order, as it is asked for.
+-- A batch that was read in ascending order, in the requested order.
 use Rattle.std.proofs.Common.{◌≡◌, ℕ, List, length, Option, None, Some, IsSome, Ok, Err, refl, sym, ◌∙◌, subst}
 use Rattle.std.proofs.lemmas.List.{length-map}
 use Rattle.lower_arrays.specs.declared.array.AnyArray.{AnyArray}
@@ -14,7 +14,7 @@ use Rattle.ipc_projections.specs.ChosenColumns.{AreAsMany, AreOrdered, AreShuffl
 use Rattle.ipc_projections.specs.declared.read.chosen.ChosenColumns.{ChosenColumns}
 use Rattle.ipc_read.specs.Chunks.{GivesBatch, chunk_seen, column_seen}
 
--- what has no meaning in rising order has none as it is asked for
+-- What has no meaning in ascending order has none in the requested order.
 asked_none : (a : Asked) (o p : Option Chunk) → AreInAskedOrder a o p → (IsSome o → ⊥) → IsSome p → ⊥
 asked_none a None None h never some = never some
 asked_none a None (Some x) h never some = absurd h

@@ -38,7 +38,7 @@ use Rattle.ipc_views.specs.declared.schema.MetadataVersion.{MetadataVersion}
 abbrev pub bare : FieldTrees → IdTrees → Endianness → Schema
 bare fs is o = record { fields = fs; metadata = []; ids = is; order = o }
 
--- what is asked of a stream of a schema
+-- The request of a stream with this schema.
 abbrev pub asks : FieldTrees → Pairs → IdTrees → Endianness → MetadataVersion → Option (List ℕ) → Request
 asks fs ms is o version p = record { head = record { schema = record { fields = fs; metadata = ms; ids = is; order = o }; version = version }; projection = p }
 
@@ -62,7 +62,7 @@ same_dictionary fs ms is o version p ds b t = refl
 
 -- ---- batches
 
--- the body is there, and the batch has this meaning
+-- The body is present, and the batch has this meaning.
 record_body :
     (h : Request) (s : Known) (t : Spot) (n : ℕ) (xs : List ℕ) (o : Option Chunk) → n ≤ length xs
     → record_meaning h.head.schema (extra_of h.head.version) s.dictionaries (whole (take n xs)) t h.projection None ≡ o
@@ -85,7 +85,7 @@ body_is n xs bytes long e =
     let size : n ≡ length (take n xs) = omega (arith, long, length-take n xs) in
     λ i. record { source = e i; base = 0; size = size i }
 
--- what isn't there is none, and what is there is some
+-- An absent value is None, and one that is present is Some.
 none_there : {X : Type 0} (o : Option X) → (IsSome o → ⊥) → o ≡ None
 none_there None h = refl
 none_there (Some x) h = absurd (h refl)
@@ -98,7 +98,7 @@ some_there (Some ds) fs s h = record { known = ds; some = refl; alike = h }
 
 module _ (fs : FieldTrees) (ms : Pairs) (is : IdTrees) (o : Endianness) (version : MetadataVersion) (p : Option (List ℕ)) (k : Known) (t : Spot) (n : ℕ) (xs bytes : List ℕ)
     (long : n ≤ length xs) (e : bytes ≡ take n xs) (s : Known) (at : AreAt s k) where
-  -- what was read of the bytes is what the message means to whoever knows as much
+  -- What was read of the bytes is what the message means by the same dictionaries.
   record_is : record_meaning (asks fs ms is o version p).head.schema (extra_of version) s.dictionaries (whole (take n xs)) t p None ≡ record_meaning (bare fs is o) (extra_of version) k.dictionaries (first bytes n) t p None
   record_is =
       record_alike (asks fs ms is o version p).head.schema (extra_of version) s.dictionaries k.dictionaries (whole (take n xs)) t p at.alike
@@ -192,7 +192,7 @@ module _ (fs : FieldTrees) (ms : Pairs) (is : IdTrees) (o : Endianness) (version
       (no_dictionary_alike h.head.schema (extra_of version) s.dictionaries k.dictionaries (whole (take n xs)) t at.alike (read_of ∙ means))) none)
       (claims_through e' (BlamesDictionary (bare fs is o) t e') (BlamesBody h s (header 2 t n) xs e') (values_blame e' told named) blames)
 
--- what the answer of a record batch says, of a body with bytes behind it
+-- What the result of a record batch says, if there are bytes after the body.
 record_answer : (fs : FieldTrees) (ms : Pairs) (is : IdTrees) (o : Endianness) (version : MetadataVersion) (p : Option (List ℕ)) (k : Known) (t : Spot) (n : ℕ) (xs bytes : List ℕ)
     → n ≤ length xs → bytes ≡ take n xs → (r : Result (List AnyArray) Fault) (l : Known) → OnOk r ((l.dictionaries ≡ k.dictionaries) × (l.count ≡ 0))
     → IfErr r (λ e. OwnFault e (IsFaultOfBatch (kinds_of fs is) (chosen p (count (kinds_of fs is))) e)) → IfErr r (TellsBatch (bare fs is o) (extra_of version) t n)
@@ -224,7 +224,7 @@ dictionary_answer fs ms is o version p k t n xs bytes long e (Err e') l few next
           (claims_through e' (IsSome u → ⊥) (u ≡ None) (none_there u) read) l;
     }
 
--- of these bytes, whatever is ahead of them then
+-- Of these bytes, whatever is ahead of them then.
 held : (h : Request) (k : Known) (tag : ℕ) (t : Spot) (body : List ℕ) (r : Result (Option (List AnyArray)) Fault) (l : Known)
     → ((xs : List ℕ) → length body ≤ length xs → body ≡ take (length body) xs → GivesBody h k (header tag t (length body)) xs r l (drop (length body) xs))
     → GivesHeld h k tag t body r l
@@ -253,7 +253,7 @@ values_give fs ms is o version p k t body r l few next blames told named read =
     held (asks fs ms is o version p) k 2 t body (of_dictionary r) l
     (λ xs long e. dictionary_answer fs ms is o version p k t (length body) xs body long e r l few next blames told named read)
 
--- the faults of a batch are a stream's
+-- The errors of a batch are a stream's.
 pub batch_faults :
     (fs : FieldTrees) (ms : Pairs) (is : IdTrees) (o : Endianness) (version : MetadataVersion) (p : Option (List ℕ)) (e : Fault)
     → OwnFault e (IsFaultOfBatch (kinds_of fs is) (chosen p (count (kinds_of fs is))) e) → OwnFault e (IsStreamFault (asks fs ms is o version p) e)
@@ -273,14 +273,14 @@ outside m n denied = elim (cases_lt n m) [
   | inr p ↦ absurd (denied p)
 ]
 
--- an end says nothing of the lists
+-- An end says nothing of the lists.
 record_ended : (schema : Schema) (extra : ℕ) (t : Spot) (size : ℕ) (e : Fault) → e ≡ Faults.Ended → TellsBatch schema extra t size e
 record_ended schema extra t size e is = subst (TellsBatch schema extra t size) (sym is) tt
 
 dictionary_ended : (schema : Schema) (extra : ℕ) (t : Spot) (size : ℕ) (e : Fault) → e ≡ Faults.Ended → TellsValues schema extra t size e
 dictionary_ended schema extra t size e is = subst (TellsValues schema extra t size) (sym is) (any_tells schema extra t size Faults.Ended (λ v n k. tt))
 
--- a body that isn't there, of a record or a dictionary
+-- A missing body of a record or a dictionary.
 pub cut_body : (h : Request) (s : Known) (m : Header) (xs : List ℕ) (e : Fault) → (m.tag ≡ 3) ⊎ (m.tag ≡ 2) → OwnFault e ((e ≡ Faults.Ended) × (m.body ≤ length xs → ⊥))
     → OwnFault e ((chosen_body h s m xs ≡ done faulty) × BlamesBody h s m xs e)
 cut_body h s m xs e kind cut =

@@ -13,7 +13,7 @@ use Rattle.ipc_readers.specs.Streams.{BodyGave, GivesBody, GivesHeld, RefusesBod
 use Rattle.ipc_devices.specs.Gives.{going, stop_of, Follows, Gives, GivesInOrder, GivesNothing, StopsBefore}
 use Rattle.ipc_devices.proofs.Stops.{fault_stop, fault_going, answer_going}
 
--- the body was given
+-- The body was read.
 pub body_read : {S : Type 0} (gives : Gives S) (h : Request) (k : Known) (tag : ℕ) (t : Spot) (n : ℕ) (a b : S) (body : List ℕ) (r : Result (Option (List AnyArray)) Fault) (l : Known)
     → length body ≡ n → gives a body going b → OnIo r ⊥ → GivesHeld h k tag t body r l → BodyGave gives h k (header tag t n) a r l b
 body_read gives h k tag t n a b body r l size gave own held = record {
@@ -27,7 +27,7 @@ body_read gives h k tag t n a b body r l size gave own held = record {
   };
 }
 
--- a fault before the body was read
+-- An error before the body was read.
 pub body_stopped : {S : Type 0} (gives : Gives S) (h : Request) (k : Known) (m : Header) (a b : S) (e : Fault) (l : Known) → (m.tag ≡ 3) ⊎ (m.tag ≡ 2) → OwnFault e (e ≡ Ended)
     → StopsBefore gives a m.body e b → BodyGave gives h k m a (Err e) l b
 body_stopped gives h k m a b e l kind only s = record {
@@ -52,7 +52,7 @@ body_stopped gives h k m a b e l kind only s = record {
   };
 }
 
--- what is read behind a call that gave nothing
+-- What is read after a call that gave nothing.
 pub stopped_behind : {S : Type 0} (gives : Gives S) → GivesInOrder gives → (a b c : S) (n : ℕ) (e : Fault) → gives a [] going b → StopsBefore gives b n e c
     → StopsBefore gives a n e c
 stopped_behind gives law a b c n e none s = (s.0, s.1, law a [] b s.0 (stop_of e) c none s.2)

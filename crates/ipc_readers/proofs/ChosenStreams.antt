@@ -1,4 +1,5 @@
--- The meaning of a stream by a projection goes over its messages, and without a projection it is what the stream means.
+-- The meaning of a stream by a projection is found message by message, and without a
+-- projection it is what the stream means.
 use Rattle.std.proofs.Common.{◌≡◌, ℕ, zero, suc, ◌<◌, ◌≤◌, ◌==◌, nat_lt, List, [], length, Option, None, Some, option_to_list, refl, ap, ◌∙◌, length-drop, arith, inl, inr}
 use Rattle.ipc_model.proofs.Frames.{by_test, frame_shorter, frame_waits}
 use Rattle.ipc_model.proofs.Meanings.{chunk_never, chunk_rest, known_never, known_rest, same_from, waits_same}
@@ -9,7 +10,7 @@ use Rattle.ipc_readers.specs.ChosenStreams.{Request, chosen_body, chosen_message
 
 -- ---- one message
 
--- a message that gives more has all of its body
+-- A message that isn't the end has all of its body.
 body_shorter : (h : Request) (s : Known) (m : Header) (r : List ℕ) (c : Option Chunk) (t : Known) (rest : List ℕ) → chosen_body h s m r ≡ more c t rest → length rest ≤ length r
 unfolding chosen_body
 body_shorter h s m r c t rest e =
@@ -77,7 +78,7 @@ chosen_waits h s bytes t begun e = let w = frame_waiting h s (frame bytes) t beg
 
 -- ---- all messages
 
--- any number of messages that is enough gives the same
+-- Any sufficient number of messages gives the same.
 enough : (h : Request) (k j : ℕ) (s : Known) (bytes : List ℕ) → length bytes < k → length bytes < j → chosen_within h k s bytes ≡ chosen_within h j s bytes
 unfolding chosen_within
 enough h zero j s bytes a b = absurd (omega arith)
@@ -99,7 +100,7 @@ chosen_done h s bytes d e = chosen_is h s bytes ∙ ap (from_item (chosen_meanin
 
 -- ---- without a projection
 
--- all columns are asked for
+-- All columns are requested.
 abbrev all_of : Head → Request
 all_of h = record { head = h; projection = None }
 

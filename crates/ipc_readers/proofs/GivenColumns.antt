@@ -1,4 +1,4 @@
--- What was read of the columns of a body, as it is asked for.
+-- What was read of the columns of a body, in the requested order.
 use Rattle.std.proofs.Common.{true, ◌≡◌, ℕ, List, length, Option, None, Some, Ok, Err, refl, sym, subst}
 use Rattle.lower.specs.TypeTrees.{Pairs}
 use Rattle.lower.specs.TypeViews.{fields_view}
@@ -30,7 +30,7 @@ use Rattle.ipc_readers.specs.Refusals.{IsStreamFault}
 use Rattle.ipc_readers.specs.Streams.{GivesHeld, HoldsRecord}
 
 module _ (c : Option ChosenColumns) (ds : List Field) (ms : Pairs) (is : IdTrees) (o : Endianness) (version : MetadataVersion) (same : AreShuffled c) where
-  -- which faults the columns in rising order can have
+  -- The errors that the columns in ascending order can have.
   abbrev pub Blames : Fault → Type 0
   Blames e = OwnFault e (IsFaultOfBatch (kinds_of (fields_view ds) is) (chosen (rising_by c) (length ds)) e)
 
@@ -68,7 +68,7 @@ module _ (c : Option ChosenColumns) (ds : List Field) (ms : Pairs) (is : IdTrees
         columns_give (fields_view ds) ms is o version (asked_by c) k t body (Err e) k tt (asked_faults e only) told named tt
         (refused_in_order c (bare (fields_view ds) is o) (extra_of version) k.dictionaries (first body (length body)) t e same g)
 
--- a refusal of memory says nothing of the body
+-- An error of allocation says nothing of the body.
 pub no_memory : (h : Request) (k : Known) (tag : ℕ) (t : Spot) (body : List ℕ) (e : Fault) (l : Known) → e ≡ Memory → GivesHeld h k tag t body (Err e) l
 no_memory h k tag t body e l is =
     subst (λ (x : Fault). GivesHeld h k tag t body (Err x) l) (sym is) (record { each = λ ys. record { each = λ s at. tt } })

@@ -37,7 +37,7 @@ is_waiting (mark behind) m q rest h = absurd h
 is_waiting (waiting bytes) m q rest h = cc h
 is_waiting broken m q rest h = absurd h
 
--- nothing is begun behind a message, nor behind the mark
+-- There is no partial prefix after a message, nor after the mark.
 pub none_begun : (f : Frame) (m q rest : List ℕ) → IsFrame f frames.Message m q rest → q ≡ []
 none_begun (message m' behind) m q rest h = h.1
 none_begun (mark behind) m q rest h = absurd h
@@ -62,7 +62,7 @@ item_of h s xs f e = ap (chosen_frame h s) e
 body_of : (h : Request) (s : Known) (xs m rest : List ℕ) (d : Option Header) → frame xs ≡ message m rest → header_of m ≡ d → chosen_item h s xs ≡ chosen_message h s d rest
 body_of h s xs m rest d e f = item_of h s xs (message m rest) e ∙ ap (λ o. chosen_message h s o rest) f
 
--- an answer of a body as one of a message
+-- The result of a body as one of a message.
 abbrev pub as_found : Result (Option (List AnyArray)) Fault → Result Found Fault
 as_found (Ok (Some chunk)) = Ok (fronts.Chunk chunk)
 as_found (Ok None) = Ok fronts.Dictionary
@@ -134,7 +134,7 @@ module _ {S : Type 0} (gives : Gives S) where
         }) g;
   }
 
-  -- a message whose metadata mean none
+  -- A message whose metadata have no meaning.
   pub item_unopened : (h : Request) (k l : Known) (p q m : List ℕ) (a b : S) (e : Fault) → FaultStop e going → header_of m ≡ None → opened m ≡ Err e
       → FrameGave gives p a (Ok frames.Message) m q b → ItemGave gives h k p a (Err e) l q b
   item_unopened h k l p q m a b e own none opens g = record {

@@ -1,4 +1,4 @@
--- What the reader of a stream keeps of the values of dictionaries.
+-- The values of dictionaries that a stream reader retains.
 use Rattle.std.proofs.Common.{◌≡◌, ◌⊎◌, ℕ, ℤ, List, [], ◌++◌, length, Option, Some, None, Result, Ok, Err, refl, sym, ap, subst, ◌∙◌, inl, inr, append_assoc, append-nil}
 use Rattle.std.proofs.lemmas.Bool.{cases_Bool}
 use Rattle.std.proofs.lemmas.Bool.Decides.{Decides-int_eq}
@@ -29,7 +29,7 @@ use Rattle.ipc_readers.specs.declared.read.stream.reader.Found.TheVariants as fr
 pub same_arrays : {Z S : Type 0} (m n : HashMap ℤ (Rc AnyArray Z) S) → IsUnchanged m n → (id : ℤ) → array_under n (Some id) ≡ array_under m (Some id)
 same_arrays m n same id = ap (λ es. array_found (lookup (int_eq id) es)) same
 
--- a batch whose body was given
+-- A batch whose body was read.
 pub kept_of_body : {S : Type 0} (gives : Gives S) (h : Request) (m : Header) (a b : S) (body : List ℕ) (r : Result (Option (List AnyArray)) Fault) (before after : Option ℤ → Layout)
     → length body ≡ m.body → gives a body going b → KeptOfBatch h (record { tag = m.tag; table = m.table; body = length body }) r before after
     → KeptOfBody gives h m a r b before after
@@ -66,7 +66,7 @@ kept_of_item gives law h m p q metadata a b c before after opened framed kept =
 
 -- ---- some messages
 
--- more bytes are given before and behind
+-- More bytes are read before and after.
 wider : (h : Request) (front bytes behind all : List ℕ) (id : ℤ) (n : ℕ) → all ≡ front ++ (bytes ++ behind) → IsHeldBy h bytes id n → IsHeldBy h all id n
 wider h front bytes behind all id n is x = record {
   front = front ++ x.front;
@@ -85,7 +85,7 @@ wider h front bytes behind all id n is x = record {
   all_buffers = x.all_buffers;
 }
 
--- so more are where each id's array is from before, or within some bytes
+-- More bytes may be read if each id's array is from before, or within some bytes.
 widened : (h : Request) (bytes behind all : List ℕ) (id : ℤ) (first before after : Layout) → all ≡ bytes ++ behind → after ≡ before
     → (before ≡ first) ⊎ IsHeldBy h bytes id (held before) → (after ≡ first) ⊎ IsHeldBy h all id (held after)
 widened h bytes behind all id first before after is same x = elim x [
@@ -93,7 +93,7 @@ widened h bytes behind all id first before after is same x = elim x [
   | inr y ↦ inr (subst (λ (l : Layout). IsHeldBy h all id (held l)) (sym same) (wider h [] bytes behind all id (held before) is y))
 ]
 
--- what a dictionary message has put
+-- The array that a dictionary message has set.
 put_or_kept : {S : Type 0} (gives : Gives S) (h : Request) (p : List ℕ) (a b : S) (before after : Option ℤ → Layout) (x : PutsGiven gives h p a b before after) (id : ℤ)
     → (after (Some id) ≡ before (Some id)) ⊎ IsHeldBy h (p ++ x.bytes) id (held (after (Some id)))
 put_or_kept gives h p a b before after x id = elim (cases_Bool (int_eq x.puts.1.id id)) [
@@ -113,7 +113,8 @@ put_or_kept gives h p a b before after x id = elim (cases_Bool (int_eq x.puts.1.
   | inr e ↦ inl (x.puts.1.others id e)
 ]
 
--- From a to b dictionary messages were given behind the begun bytes p, and q is begun.
+-- From state a to b dictionary messages were read after the partial prefix p,
+-- and q is the partial prefix then.
 pub record KeptTo {S : Type 0} (gives : Gives S) (h : Request) (p : List ℕ) (a : S) (q : List ℕ) (b : S) (before after : Option ℤ → Layout) : Type 0 where
   pub bytes : List ℕ
   pub gave : gives a bytes going b

@@ -1,4 +1,4 @@
--- Who knows the same values at each id reads the same batches.
+-- Readers with the same values under each id read the same batches.
 use Rattle.std.proofs.Common.{◌≡◌, ℕ, List, Option, None, Some, refl, ap, ◌∙◌, subst}
 use Rattle.ipc_laws.proofs.Agreeing.{agree_chosen, alike_record_law}
 use Rattle.ipc_laws.proofs.Readers.{alike_dictionary_law}
@@ -22,7 +22,7 @@ pub record_alike : (schema : Schema) (extra : ℕ) (ds es : Dictionaries) (b : B
     → record_meaning schema extra ds b t p None ≡ record_meaning schema extra es b t p None
 record_alike schema extra ds es b t p a = alike_record_law schema extra ds es b t p None (agree_chosen (kinds schema) (chosen p (count (kinds schema))) ds es a)
 
--- the values that another knows after a dictionary batch
+-- The values that another reader has after a dictionary batch.
 pub record AlsoGives (o : Option Dictionaries) (fs : Dictionaries) : Type 0 where
   pub known : Dictionaries
   pub some : o ≡ Some known

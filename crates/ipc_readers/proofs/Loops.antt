@@ -1,4 +1,4 @@
--- Dictionary messages that were read one behind the other, and what stands behind them.
+-- Dictionary messages that were read, one after the other, and what comes after them.
 use Rattle.std.proofs.Common.{◌≡◌, ℕ, zero, suc, List, Option, OnErr, Result, Ok, refl, subst}
 use Rattle.ipc_devices.specs.Gives.{Gives}
 use Rattle.ipc_devices.specs.declared.fault.Fault.{Fault}
@@ -11,7 +11,8 @@ use Rattle.ipc_readers.specs.declared.read.stream.reader.Found.TheVariants as fr
 use Rattle.ipc_readers.specs.declared.read.stream.reader.StreamReader.{StreamReader}
 use Rattle.ipc_readers.specs.declared.read.stream.reader.StreamState.{StreamState}
 
--- from a to b dictionary messages were read: what is read from b on is what is read from a on
+-- From state a to b dictionary messages were read: what is read from b on is what is read from a
+-- on.
 pub record GoesOn {R : Type 0} (gives : Gives R) (a b : StreamReader R) : Type 0 where
   pub described : metadata_of b ≡ metadata_of a
   pub projected : chosen_of b ≡ chosen_of a
@@ -19,7 +20,7 @@ pub record GoesOn {R : Type 0} (gives : Gives R) (a b : StreamReader R) : Type 0
       → NextGave gives (request_of a) (known_of b) (begun_of b) (device_of b) r l q c
       → NextGave gives (request_of a) (known_of a) (begun_of a) (device_of a) r l q c
 
--- what is asked of a reader stays
+-- The request to a reader stays.
 pub same_request : {R : Type 0} (a b : StreamReader R) → metadata_of b ≡ metadata_of a → chosen_of b ≡ chosen_of a → request_of b ≡ request_of a
 same_request a b described projected = λ i. record { head = head_of (described i); projection = asked_by (projected i) }
 

@@ -1,4 +1,4 @@
--- What a fault says of the entries of a batch, whoever knows the same values.
+-- What an error says of the entries of a batch, for all readers with the same values.
 use Rattle.std.proofs.Common.{◌≡◌, ℤ, ℕ, Bool, Option, None, Some, IsSome, IfSome, option_map, sym, subst, inl, inr}
 use Rattle.lower_types.specs.declared.Endianness.{Endianness}
 use Rattle.ipc_devices.proofs.Claims.{claims_through}
@@ -67,7 +67,7 @@ everywhere : (schema : Schema) (P : Spot → Type 0) (o : Option (ℤ × Spot)) 
 everywhere schema P None each = tt
 everywhere schema P (Some x) each = everywhere_placed P x.1 (place_of (places schema.fields schema.ids) x.0) (each x.1)
 
--- a fault that says nothing of entries
+-- An error that says nothing of entries.
 pub none_named : (known : Bool) (schema : Schema) (extra : ℕ) (ds : Dictionaries) (b : Body) (t : Spot) (e : Fault) → ((s : Entries) → OwnFault e (TellsEntries known s e))
     → TellsOfValues known schema extra ds b t e
 none_named known schema extra ds b t e each =

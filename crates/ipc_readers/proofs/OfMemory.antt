@@ -1,4 +1,4 @@
--- Of memory: what was given stood ahead. Of any device: which calls failed.
+-- Of memory: the bytes that were read were ahead. Of any device: which calls failed.
 use Rattle.std.proofs.Common.{◌≡◌, ℕ, zero, suc, ◌≤◌, List, [], ◌++◌, length, Option, None, Result, Ok, Err, Bool, IsTrue, true, false, refl, arith, ap, sym, subst}
 use Rattle.ipc_devices.specs.Device.{Memory, Rises, after}
 use Rattle.ipc_devices.specs.Faults.{OnIo}
@@ -24,7 +24,7 @@ use Rattle.ipc_readers.specs.declared.read.stream.reader.Found.TheVariants as fr
 
 -- ---- messages
 
--- what an end leaves isn't asked of
+-- Nothing is claimed of what is left at an end.
 item_at_end : (h : Request) (s : Known) (xs : List ℕ) (l : Known) (q zs ys : List ℕ) (r : Result Found Fault) → ItemStop r ended → ReadsItem h s xs r l q zs → ReadsItem h s xs r l q ys
 item_at_end h s xs l q zs ys (Ok (fronts.Chunk chunk)) e g = absurd (cc e)
 item_at_end h s xs l q zs ys (Ok fronts.Dictionary) e g = absurd (cc e)
@@ -83,7 +83,7 @@ item_risen : (r : Result (Option StreamState) Fault) (s : Stop) (old new : ℕ) 
 item_risen (Ok x) s old new h f = tt
 item_risen (Err e) s old new h f = fault_risen (Option StreamState) e s old new h f
 
--- what fails behind a call that didn't
+-- A failure after a call that didn't fail.
 risen_behind : (r : Result (Option StreamState) Fault) (old mid new : ℕ) → mid ≡ old → OnIo r (Rises mid new) × (mid ≤ new) → OnIo r (Rises old new) × (old ≤ new)
 risen_behind r old mid new e h = subst (λ (n : ℕ). OnIo r (Rises n new) × (n ≤ new)) e h
 
@@ -114,13 +114,13 @@ pub next_fails : {R : Type 0} (gives : Gives R) (known : Bool) (memory : R → M
     → FailsLaw gives known memory failures a
 next_fails gives known memory failures fails a r b step = by_over gives known memory failures fails a r b step (is_over a) refl
 
--- a fault of metadata that is a device's: a call of it failed
+-- An error of metadata that is a device's: a call of it failed.
 pub metadata_fails : {S : Type 0} (gives : Gives S) (failures : S → ℕ) → GivesFails gives failures → (r : Result StreamMetadata Fault) (a b : S) → MetadataGave gives a r b
     → OnIo r (Rises (failures a) (failures b))
 metadata_fails gives failures fails r a b g =
     answer_risen StreamMetadata r g.stop (failures a) (failures b) g.stops (fails a g.run.bytes g.stop b g.run.gave)
 
--- ---- a device's fault, seen in another answer
+-- ---- a device's error, seen in another result
 
 pub other_answer : (X Y : Type 0) (e : Fault) (P : Type 0) → OnIo {X = X} (Err e) P → OnIo {X = Y} (Err e) P
 other_answer X Y (Faults.OutOfSpec k) P h = tt

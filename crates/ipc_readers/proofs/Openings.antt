@@ -44,7 +44,7 @@ gives (Err x) h o e f = rw (← e) at f
 pub gives_message : (metadata : List ℕ) (result : Result Message Fault) → answered_as header_seen result ≡ opened metadata → GivesMessage (header_of metadata) result
 gives_message metadata result e = gives result (header_of metadata) (opened metadata) e (found_header metadata)
 
--- a message that lacks its header is refused
+-- A message without a header is refused.
 lacks : (e : Fault) → LacksHeader e → IsMessageFault e
 lacks (OutOfSpec MissingMessageHeader) h = tt
 lacks (OutOfSpec (InvalidFlatbufferHeader x)) h = tt

@@ -1,4 +1,4 @@
--- A frame is its prefix, and then what that says.
+-- A frame is its prefix, and then what that states.
 use Rattle.std.proofs.Common.{◌≡◌, ◌≢◌, ℕ, ◌+◌, ◌<◌, ◌≤◌, List, [], ◌++◌, length, drop, Some, None, Result, Ok, Err, refl, sym, ap, ◌∙◌, subst, arith, length-append, append_assoc}
 use Rattle.std.proofs.lemmas.Bool.Decides.{nat_tests}
 use Rattle.std.proofs.lemmas.Bool.{le-ltb, lt-ltb, eq-eqb, ne_eqb}
@@ -45,7 +45,7 @@ pub four_due : (bytes : List ℕ) → 4 ≤ due bytes
 unfolding due
 four_due bytes = grind (arith, nat_tests)
 
--- ---- the fault of a broken frame
+-- ---- the error of a broken frame
 
 fault_older : (bytes : List ℕ) → word bytes ≢ 0xFFFF_FFFF → frame_fault bytes ≡ sized_fault (word bytes)
 unfolding frame_fault
@@ -64,7 +64,7 @@ unfolding marked_fault
 fault_alone bytes h = rw (lt-ltb (length bytes) 4 h) refl
 
 module _ {S : Type 0} (gives : Gives S) (law : GivesInOrder gives) where
-  -- 4 bytes, and then a frame as they say
+  -- 4 bytes, and then a frame as they state.
   prefix_then : (F f : List ℕ → Frame) (W w : List ℕ → Fault) (D d : List ℕ → ℕ) (n : ℕ)
       → ((bytes : List ℕ) → 4 ≤ length bytes → n ≡ word bytes → (F bytes ≡ f (drop 4 bytes)) × (W bytes ≡ w (drop 4 bytes)) × (D bytes ≡ 4 + d (drop 4 bytes)))
       → (p q m s : List ℕ) (r : Result read.Frame Fault) (a b : S) (e : Stop) (c : S)
@@ -92,7 +92,7 @@ module _ {S : Type 0} (gives : Gives S) (law : GivesInOrder gives) where
       subst (λ (x : Frame). GivesFrame x (W (p ++ all)) r m s rest) same (subst (λ (x : Fault). GivesFrame (f (q ++ mid)) x r m s rest) named h))
       before behind
 
-  -- what is read behind a prefix, with nothing begun
+  -- What is read after a prefix, without a partial prefix.
   sized_behind : (n : ℕ) (q m : List ℕ) (r : Result read.Frame Fault) (b : S) (e : Stop) (c : S) → q ≡ []
       → Gave gives (λ xs. length xs ≤ due_sized n) (λ all rest. GivesFrame (sized n all) (sized_fault n) r m [] rest) b e c
       → Gave gives (λ xs. length (q ++ xs) ≤ due_sized n) (λ all rest. GivesFrame (sized n (q ++ all)) (sized_fault n) r m q rest) b e c
@@ -128,14 +128,14 @@ module _ {S : Type 0} (gives : Gives S) (law : GivesInOrder gives) where
       (λ bytes h v. (frame_newer bytes h (sym v), fault_newer bytes (sym v), due_newer bytes h (sym v)))
       p q m s r a b (frame_stop r) c before behind
 
-  -- the marker, and the length behind it
+  -- The continuation marker, and the length after it.
   pub both_then : (n k : ℕ) → n ≡ 0xFFFF_FFFF → (p q s m : List ℕ) (r : Result read.Frame Fault) (a b c d : S)
       → WordGave {E = Error} gives p a (Ok (Some n)) q b → WordGave {E = Error} gives q b (Ok (Some k)) s c → SizedGave gives k c r m d
       → FrameGave gives p a r m s d
   both_then n k marker p q s m r a b c d first second behind =
       newer_then p q m s r a b d (subst (λ (x : ℕ). WordGave {E = Error} gives p a (Ok (Some x)) q b) marker first) (marked_then k q s m r b c d second behind)
 
-  -- less than 4 bytes behind the marker
+  -- Fewer than 4 bytes after the marker.
   pub marker_alone : (n : ℕ) → n ≡ 0xFFFF_FFFF → (p q s m : List ℕ) (a b c : S)
       → WordGave {E = Error} gives p a (Ok (Some n)) q b → WordGave {E = Error} gives q b (Ok None) s c → FrameGave gives p a (Err Ended) m s c
   marker_alone n marker p q s m a b c first second =
@@ -144,7 +144,7 @@ module _ {S : Type 0} (gives : Gives S) (law : GivesInOrder gives) where
       (λ all rest. GivesWord (q ++ all) None s rest) (λ all rest. GivesFrame (marked (q ++ all)) (marked_fault (q ++ all)) (Err Ended) m s rest) b ended c
       (λ xs v h. omega (arith, v, four_marked (q ++ xs))) (λ all rest g. (marked_broken (q ++ all) g.0, fault_alone (q ++ all) g.0)) second)
 
-  -- a device that failed behind the marker
+  -- A device that failed after the marker.
   pub marker_failed : (n : ℕ) → n ≡ 0xFFFF_FFFF → (e : Error) (p q s m : List ℕ) (a b c : S)
       → WordGave {E = Error} gives p a (Ok (Some n)) q b → WordGave gives q b (Err e) s c → FrameGave gives p a (Err (Io e)) m s c
   marker_failed n marker e p q s m a b c first second =

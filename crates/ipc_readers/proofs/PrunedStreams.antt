@@ -13,7 +13,8 @@ use Rattle.ipc_readers.specs.ChosenStreams.{Request, PrunedLaw, chosen_record, c
 
 -- ---- one message
 
--- What stands at the front by a projection is what stands there, with the chosen columns of its chunk. Of a fault nothing is said.
+-- What comes first by a projection is what comes first, with the chosen columns of its chunk.
+-- Of a fault nothing is claimed.
 abbrev Prunes : Option (List ℕ) → Item → Item → Type 0
 Prunes p (more c t rest) j = j ≡ more (option_map (pruned p None) c) t rest
 Prunes p (done faulty) j = Unit {0}

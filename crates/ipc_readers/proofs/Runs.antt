@@ -1,4 +1,4 @@
--- Calls of `next` give what the stream means.
+-- Calls of `next` return what the stream means.
 use Rattle.std.proofs.Common.{◌≡◌, ◌≢◌, List, [], ◌∷◌, None, Some, Ok, Err, Bool, true, false, IsTrue, sym, ap, subst, ◌∙◌}
 use Rattle.ipc_devices.proofs.Claims.{claims_through}
 use Rattle.ipc_devices.specs.Device.{Memory}
@@ -13,7 +13,7 @@ use Rattle.ipc_readers.specs.Streams.{Knows, ahead, request_of, begun_of, is_ove
 use Rattle.ipc_readers.specs.declared.read.stream.reader.StreamReader.{StreamReader}
 use Rattle.ipc_readers.specs.declared.read.stream.reader.StreamState.TheVariants as states
 
--- nothing comes of a reader that is over
+-- A reader that has ended returns None.
 over_none :
     {R : Type 0} (gives : Gives R) (known : Bool) (memory : R → Memory) (a : StreamReader R) (rs : List Answer) → is_over a ≡ true
     → Calls gives known memory a rs → AreNone rs
@@ -21,7 +21,7 @@ over_none gives known memory a [] over calls = tt
 over_none gives known memory a (None ∷ rs) over calls = over_none gives known memory calls.0 rs (calls.1.over over).1 calls.2
 over_none gives known memory a (Some r ∷ rs) over calls = let e = (calls.1.over over).0 in absurd cc
 
--- the first chunk, and those behind it
+-- The first chunk, and those after it.
 first_chunk : (c d : Chunk) (cs ds : List Chunk) → c ∷ cs ≡ d ∷ ds → (c ≡ d) × (cs ≡ ds)
 first_chunk c d cs ds e = (cc, cc)
 

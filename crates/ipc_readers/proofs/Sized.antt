@@ -1,4 +1,4 @@
--- What stands behind a prefix.
+-- The bytes after a prefix.
 use Rattle.std.proofs.Common.{◌≡◌, ℕ, ◌<◌, ◌≤◌, ◌^◌, List, [], ◌++◌, length, refl, ◌∙◌, arith, append-nil, length-append}
 use Rattle.std.proofs.lemmas.Bool.Decides.{nat_tests}
 use Rattle.std.proofs.lemmas.Bool.{le-ltb, lt-ltb}
@@ -16,7 +16,7 @@ pub sized_negative : (n : ℕ) (ys : List ℕ) → 2 ^ 31 ≤ n → sized n ys �
 unfolding sized
 sized_negative n ys h = grind (arith, nat_tests)
 
--- a length below 0 is told as such, another one as more than there is
+-- A negative length is reported as such, another one as more than there is.
 pub fault_negative : (n : ℕ) → 2 ^ 31 ≤ n → Faults.OutOfSpec NegativeFooterLength ≡ sized_fault n
 fault_negative n h = rw (le-ltb n (2 ^ 31) h) refl
 

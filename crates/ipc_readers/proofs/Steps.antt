@@ -15,7 +15,7 @@ use Rattle.ipc_readers.specs.declared.read.stream.reader.Found.TheVariants as fr
 use Rattle.ipc_readers.specs.declared.read.stream.reader.StreamState.{StreamState}
 use Rattle.ipc_readers.specs.declared.read.stream.reader.StreamState.TheVariants as states
 
--- the message at the front, and so the next of the stream
+-- The first message, and so the next of the stream.
 front_next : (h : Request) (s : Known) (xs : List ℕ) (r : Result (Option StreamState) Fault) (l : Known) (begun ys : List ℕ)
     → ReadsItem h s xs (last_found r) l begun ys → ReadsNext h s xs r l begun ys
 front_next h s xs (Ok (Some (states.Some chunk))) l begun ys g = (g.0, g.1, chosen_more h s xs (Some (chunk_seen chunk)) g.0 ys g.2)
@@ -25,7 +25,7 @@ front_next h s xs (Err e) l begun ys g =
     claims_through e ((chosen_item h s xs ≡ done faulty) × BlamesFront h s xs (frame xs) e) (chosen_meaning h s xs ≡ record { chunks = []; end = faulty })
     (λ f. chosen_done h s xs faulty f.0) g
 
--- a dictionary message at the front changes nothing of what comes
+-- A dictionary message that comes first changes nothing of what comes after it.
 passed_next : (h : Request) (s t : Known) (xs zs : List ℕ) (r : Result (Option StreamState) Fault) (l : Known) (begun ys : List ℕ)
     → chosen_meaning h s xs ≡ chosen_meaning h t zs → ReadsNext h t zs r l begun ys → ReadsNext h s xs r l begun ys
 passed_next h s t xs zs (Ok (Some (states.Some chunk))) l begun ys e g = (g.0, g.1, e ∙ g.2)

@@ -1,4 +1,4 @@
--- What waits is begun.
+-- A stream that waits, with its partial prefix.
 use Rattle.std.proofs.Common.{◌≡◌, ℕ, zero, suc, Bool, List, [], ◌++◌, Some, None, Ok, refl, subst, sym, ap, ◌∙◌, append-nil}
 use Rattle.ipc_laws.specs.Agreement.{AreAt}
 use Rattle.ipc_model.specs.Streams.{Known, more}
@@ -17,7 +17,7 @@ follows_end s e = subst (λ (x : Stop). Follows x []) (sym e) refl
 follows_going : (s : Stop) (ys : List ℕ) → s ≡ going → Follows s ys
 follows_going s ys e = subst (λ (x : Stop). Follows x ys) (sym e) tt
 
--- what was given before the device had no more
+-- The bytes that were read before the device had no more.
 pub record GaveAll {S : Type 0} (gives : Gives S) (h : Request) (k : Known) (p : List ℕ) (a : S) (l : Known) (q : List ℕ) (b : S) : Type 0 where
   pub bytes : List ℕ
   pub gave : gives a bytes ended b

@@ -1,4 +1,4 @@
--- Calls of `next`, one after the other, over bytes that are known.
+-- Calls of `next`, one after the other, on bytes that are known.
 -- (Arrow columnar format, "IPC Streaming Format".)
 use Rattle.std.specs.Prelude.{◌≡◌, ◌≢◌, ℕ, zero, suc, ◌≤◌, List, [], ◌∷◌, ◌++◌, length, Option, None, Some, Result, Ok, Err, Bool, false, IsTrue}
 use Rattle.ipc_devices.specs.Device.{Memory, Rises}
@@ -15,24 +15,25 @@ use Rattle.ipc_readers.specs.declared.read.stream.reader.StreamReader.{StreamRea
 use Rattle.ipc_readers.specs.declared.read.stream.reader.StreamState.{StreamState}
 use Rattle.ipc_readers.specs.declared.read.stream.reader.StreamState.TheVariants as states
 
--- an answer of `next`
+-- What a call of `next` returns.
 abbrev pub Answer : Type 0
 Answer = Option (Result StreamState Fault)
 
--- the answers of some calls, one after the other, from a reader on
+-- The answers of some calls of `next`, one after the other, that begin with this reader.
 abbrev pub Calls : {R : Type 0} → Gives R → Bool → (R → Memory) → StreamReader R → List Answer → Type 0
 Calls gives known memory a [] = Unit {0}
 Calls {R} gives known memory a (r ∷ rs) =
     (b : StreamReader R) × NextStep gives known memory a r b × Calls gives known memory b rs
 
+-- All answers are None.
 abbrev pub AreNone : List Answer → Type 0
 AreNone [] = Unit {0}
 AreNone (None ∷ rs) = AreNone rs
 AreNone (Some r ∷ rs) = ⊥
 
--- The answers are these chunks in order, and then what the end says: None from the mark on, or that the stream waits.
--- What is answered after a wait isn't said here: the device may have more then. A fault is memory's or a device's, and
--- nothing comes after it.
+-- The answers are these chunks in order, and then what the end says: None after the mark, or that
+-- the stream waits. Nothing is claimed of answers after a wait, since the device may have more
+-- bytes then. Any error is one of allocation or of the device, and only None comes after it.
 abbrev pub AreAnswers : List Chunk → End → List Answer → Type 0
 AreAnswers cs e [] = Unit {0}
 AreAnswers cs e (Some (Err f) ∷ rs) = OwnFault f ⊥ × AreNone rs
@@ -41,7 +42,8 @@ AreAnswers [] (waits known begun) (Some (Ok states.Waiting) ∷ rs) = Unit {0}
 AreAnswers [] marked (None ∷ rs) = AreNone rs
 AreAnswers _ _ _ = ⊥
 
--- A stream that doesn't end in a fault is read as what it means, by the columns that are asked for, to who knows as much as the reader.
+-- Theorem: a stream that doesn't end in a fault is read as what it means, by the requested columns
+-- and the dictionaries that the reader has.
 abbrev pub ReadLaw : {R : Type 0} → Gives R → Bool → (R → Memory) → StreamReader R → Type 0
 ReadLaw gives known memory a = (rs : List Answer) (s : Known) (cs : List Chunk) (e : End) → IsTrue known → is_over a ≡ false → Knows a s
     → e ≢ faulty → chosen_meaning (request_of a) s (ahead memory a) ≡ record { chunks = cs; end = e }
@@ -49,31 +51,35 @@ ReadLaw gives known memory a = (rs : List Answer) (s : Known) (cs : List Chunk) 
 
 -- ---- calls of any device
 
--- n dictionary messages stand one behind the other at the front of xs, and ys behind them, where t is known
+-- xs begins with n dictionary messages, and ys comes after them. `t` is known
+-- after them if `s` was known before.
 abbrev pub Passes : Request → ℕ → (s : Known) → (xs : List ℕ) → (t : Known) → (ys : List ℕ) → Type 0
 Passes h zero s xs t ys = (s ≡ t) × (xs ≡ ys)
 Passes h (suc n) s xs t ys = (u : Known) × (zs : List ℕ) × (chosen_item h s xs ≡ more None u zs) × Passes h n u zs t ys
 
--- Some dictionary messages stand at the front of xs, and ys behind them, where as much is known as l.
+-- xs begins with some dictionary messages, and ys comes after them; what is
+-- known after them agrees with l.
 pub record Passed (h : Request) (s : Known) (xs : List ℕ) (l : Known) (ys : List ℕ) : Type 0 where
   pub count : ℕ
   pub known : Known
   pub at : AreAt known l
   pub passes : Passes h count s xs known ys
 
--- What the device gave before it had no more, behind what stood begun, is dictionary messages, which the reader knows then, and behind
--- these what stands begun then: nothing is lost.
+-- A call that waits read some bytes. With the partial prefix from before they are dictionary
+-- messages, which the reader then knows, and the new partial prefix: nothing is lost.
 pub record Waits {R : Type 0} (gives : Gives R) (given : R → ℕ) (a b : StreamReader R) : Type 0 where
   pub bytes : List ℕ
   pub gave : gives (device_of a) bytes ended (device_of b)
   pub kept : (s : Known) → Knows a s → Passed (request_of a) s (begun_of a ++ bytes) (known_of b) (begun_of b)
   pub counted : Counts (given (device_of a)) (length bytes) (given (device_of b))
 
+-- Theorem: the bytes that were read before a wait are whole dictionary messages, which are known
+-- then, and after them the partial prefix.
 abbrev pub WaitsLaw : {R : Type 0} → Gives R → Bool → (R → Memory) → (R → ℕ) → StreamReader R → Type 0
 WaitsLaw {R} gives known memory given a = (b : StreamReader R) → is_over a ≡ false → NextStep gives known memory a (Some (Ok states.Waiting)) b
     → Waits gives given a b
 
--- Where a fault is a device's, a call of it failed; and the count of those never falls.
+-- Theorem: if an error is a device's, a call of it failed; the count of failures never falls.
 abbrev pub FailsLaw : {R : Type 0} → Gives R → Bool → (R → Memory) → (R → ℕ) → StreamReader R → Type 0
 FailsLaw {R} gives known memory failures a = (r : Answer) (b : StreamReader R) → NextStep gives known memory a r b
     → OnIo (next_result r) (Rises (failures (device_of a)) (failures (device_of b))) × (failures (device_of a) ≤ failures (device_of b))

@@ -39,7 +39,7 @@ unfolding chosen_stream_of
 chosen_whole p bytes xs rest x same h =
     chosen_at p bytes (frame bytes) rest x (subst (λ ys. GivesMetadata ys (frame ys) (Ok x) rest) same h)
 
--- a schema that hasn't the columns that are asked for, or of which one is named twice
+-- A schema that doesn't have the requested columns, or of which one is named twice.
 pub names_others : (js : List ℕ) (bytes xs rest : List ℕ) (x : StreamMetadata) → xs ≡ bytes → GivesMetadata xs (frame xs) (Ok x) rest
     → (IsProjection (Some js) (length x.schema.fields.items) → ⊥) → NamesOthers js bytes
 names_others js bytes xs rest x same h never = record {
@@ -78,7 +78,7 @@ refused_columns memory device p bytes xs x r e same h begins asked refused =
 
 -- ---- what was written
 
--- what a stream means by some columns: the chosen columns of its chunks
+-- What a stream means by some columns: the chosen columns of its chunks.
 abbrev by_columns : Option (List ℕ) → Stream → Stream
 by_columns p s = record { head = s.head; meant = record { chunks = map (pruned p None) s.meant.chunks; end = s.meant.end } }
 

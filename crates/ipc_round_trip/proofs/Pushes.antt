@@ -1,4 +1,4 @@
--- The next chunk of a stream goes to those that were read.
+-- The next chunk of a stream is appended to those that were read.
 use Rattle.std.proofs.Common.{◌≡◌, ℕ, List, [], ◌∷◌, ◌++◌, Option, None, Some, Ok, Err, Bool, true, false, refl, sym, ap, subst, ◌∙◌, append-nil, append_assoc}
 use Rattle.std.proofs.lemmas.List.{map-append}
 use Rattle.lower_arrays.specs.declared.array.AnyArray.{AnyArray}
@@ -19,11 +19,11 @@ use Rattle.ipc_readers.specs.declared.read.stream.reader.StreamState.{StreamStat
 use Rattle.ipc_readers.specs.declared.read.stream.reader.StreamState.TheVariants as states
 use Rattle.ipc_round_trip.specs.Reading.{EndsAs, EndsNow, GivesAll, MeansAhead, PushesNext, RefusesAhead, chunks_seen}
 
--- what was read and what is ahead is what it was before
+-- What was read and what is ahead is together what it was before.
 more_read : (xs : List (List AnyArray)) (chunk : List AnyArray) (m n : Meant) → m ≡ with_chunks (chunks_seen (chunk ∷ [])) n → with_chunks (chunks_seen xs) m ≡ with_chunks (chunks_seen (xs ++ chunk ∷ [])) n
 more_read xs chunk m n e = rw (e, map-append, append_assoc) refl
 
--- a claim of a fault that is made for each who knows as much
+-- A claim of an error that is made for all readers with the same dictionaries.
 for_each : (At P : Known → Type 0) (e : Fault) → ((s : Known) → At s → OwnFault e (P s)) → OwnFault e ((s : Known) → At s → P s)
 for_each At P faults.Memory h = tt
 for_each At P (faults.Io x) h = tt
@@ -73,7 +73,7 @@ refused_push gives known memory failures fails a b e xs ys step = record {
       (for_each (Knows a) (λ s. chosen_meaning (request_of a) s (ahead memory a) ≡ record { chunks = []; end = faulty }) e (step.next k going).each);
 }
 
--- a chunk for which there is no memory
+-- A chunk whose allocation failed.
 pub starved_push : {R : Type 0} (gives : Gives R) (known : Bool) (memory : R → Memory) (failures : R → ℕ) → GivesFails gives failures → (a b : StreamReader R) (chunk : List AnyArray) (xs ys : List (List AnyArray))
     → NextStep gives known memory a (Some (Ok (states.Some chunk))) b → PushesNext known failures memory a xs (Err faults.Memory) b ys
 starved_push gives known memory failures fails a b chunk xs ys step = record {
@@ -122,7 +122,7 @@ finished_push gives known memory failures fails a b xs step = record {
 
 -- ---- all chunks
 
--- One chunk more was read: what was read so far, and what is ahead, is still all.
+-- One more chunk was read: what was read so far, and what is ahead, is still all.
 pub goes_on : {R : Type 0} (memory : R → Memory) (first a b : StreamReader R) (xs ys : List (List AnyArray))
     → ((m : Meant) → MeansAhead memory first m → (n : Meant) × MeansAhead memory a n × (with_chunks (chunks_seen xs) n ≡ m))
     → ((m : Meant) → MeansAhead memory a m → (n : Meant) × MeansAhead memory b n × (with_chunks (chunks_seen xs) m ≡ with_chunks (chunks_seen ys) n))
@@ -132,7 +132,7 @@ goes_on memory first a b xs ys before next m ahead_first =
     let more = next so_far.0 so_far.1 in
     (more.0, more.1, sym more.2 ∙ so_far.2)
 
--- No chunk more came: what was read are all.
+-- No more chunk came: what was read is all.
 pub all_read : {R : Type 0} (memory : R → Memory) (first a b : StreamReader R) (xs : List (List AnyArray))
     → ((m : Meant) → MeansAhead memory first m → (n : Meant) × MeansAhead memory a n × (with_chunks (chunks_seen xs) n ≡ m))
     → ((n : Meant) → MeansAhead memory a n → EndsNow (is_over b) n) → GivesAll memory first xs b
@@ -148,7 +148,7 @@ all_read memory first a b xs before over = record {
       subst (λ (x : Meant). EndsAs (is_over b) x.end) so_far.2 now.1;
 }
 
--- A fault behind the chunks that were read so far is one of all that was ahead.
+-- An error after the chunks that were read so far is one of all that was ahead.
 pub refused_ahead : {R : Type 0} (memory : R → Memory) (first a : StreamReader R) (xs : List (List AnyArray)) (e : Fault)
     → ((m : Meant) → MeansAhead memory first m → (n : Meant) × MeansAhead memory a n × (with_chunks (chunks_seen xs) n ≡ m))
     → RefusesAhead memory a e → RefusesAhead memory first e

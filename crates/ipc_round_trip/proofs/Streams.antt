@@ -53,7 +53,7 @@ use Rattle.ipc_write.proofs.CallLists.{made_order, made_run}
 use Rattle.ipc_round_trip.specs.RoundTrip.{EndsStream, FinishedLaw, OpenLaw, OpenReadableLaw, ReadableLaw, RefusesEnd, RefusesRoundTrip, RunsOverMemory, RunsToStream, vector}
 use Rattle.ipc_round_trip.specs.declared.read.WholeStream.{WholeStream}
 
--- a stream that is there
+-- A stream that has a meaning.
 abbrev pub stream_or : Option Stream → Stream → Stream
 stream_or (Some s) other = s
 stream_or None other = other
@@ -132,18 +132,18 @@ unreadable bytes xs rest e same h =
     claims_through e _ _ (λ none readable. let there = sym none ∙ readable.stream in absurd cc)
     (no_stream bytes (frame bytes) e rest (subst (λ ys. GivesMetadata ys (frame ys) (Err e) rest) same h))
 
--- the fault of the front
+-- The error of the first message.
 pub blames_front : (bytes xs rest : List ℕ) (stream : Option Stream) (p : Option (List ℕ)) (e : Fault) → xs ≡ bytes → GivesMetadata xs (frame xs) (Err e) rest → OwnFault e (BlamesStream bytes stream p e)
 blames_front bytes xs rest stream p e same h =
     claimed e (BlamesStream bytes stream p e) (inl (rest, subst (λ ys. GivesMetadata ys (frame ys) (Err e) rest) same h))
 
 -- ---- a new reader
 
--- bytes in memory, from the place on that was reached
+-- Bytes in memory, from the offset on that was reached.
 abbrev pub slice_memory : MemFile (Bor (List ℕ)) → Memory
 slice_memory f = record { whole = f.inner.now; place = f.position }
 
--- what its reads give
+-- The bytes that its reads give.
 abbrev pub slice_gives : Gives (MemFile (Bor (List ℕ)))
 slice_gives a xs e b = MemoryGives (slice_memory a) a.given xs e (slice_memory b) b.given
 
@@ -151,7 +151,7 @@ pub slice_metadata : (r : Result StreamMetadata Fault) (a b : MemFile (Bor (List
     → GivesMetadata (after (slice_memory a)) (frame (after (slice_memory a))) r (after (slice_memory b))
 slice_metadata r a b g = metadata_ahead slice_gives true slice_memory (λ a xs e b k g. g.takes) refl r a b g
 
--- over memory no device's fault comes
+-- Reading from memory never returns a device's error.
 pub refuses_stream : (e : Fault) (P : Type 0) → OnIo {X = WholeStream} (Err e) ⊥ → OwnFault e P → RefusesStream e P
 refuses_stream faults.Memory P own h = tt
 refuses_stream (faults.Io e) P own h = own
@@ -179,12 +179,12 @@ new_rest memory device a r h =
     ap (λ xs. xs ++ after (memory (device_of r))) h.begun
     ∙ ap (λ d. after (memory d)) h.reader
 
--- what is asked of a new reader
+-- The request to a new reader.
 asked_new : {R : Type 0} (device : R) (a b : StreamMetadata) (r : StreamReader R) (p : Option (List ℕ)) → IsUnread device a r → head_of a ≡ head_of b → projection_of r ≡ p
     → request_of r ≡ record { head = head_of b; projection = p }
 asked_new device a b r p h e asked = let heads = ap head_of h.described ∙ e in λ i. record { head = heads i; projection = asked i }
 
--- the fault of a message behind it
+-- The error of a message after it.
 pub blames_message : {R : Type 0} (device : R) (bytes : List ℕ) (stream : Option Stream) (meant : Meant) (a b : StreamMetadata) (r : StreamReader R) (p : Option (List ℕ)) (e : Fault) → IsUnread device a r → head_of a ≡ head_of b
     → projection_of r ≡ p → stream ≡ Some (record { head = head_of b; meant = meant }) → OwnFault e (IsStreamFault (request_of r) e) → OwnFault e (BlamesStream bytes stream p e)
 blames_message device bytes stream meant a b r p e begins heads asked is own =
@@ -195,7 +195,8 @@ blames_message device bytes stream meant a b r p e begins heads asked is own =
       kind = subst (λ (g : Request). IsStreamFault g e) (asked_new device a b r p begins heads asked) kind;
     })) own
 
--- what is ahead of a new reader is what stands behind the schema, to who knows nothing, by the columns that are asked for
+-- The bytes ahead of a new reader are those after the schema, by no
+-- dictionaries and the requested columns.
 pub chosen_ahead : {R : Type 0} (memory : R → Memory) (device : R) (a b : StreamMetadata) (r : StreamReader R) (p : Option (List ℕ)) → IsUnread device a r → head_of a ≡ head_of b
     → projection_of r ≡ p → MeansAhead memory r (chosen_meaning (record { head = head_of b; projection = p }) nothing_known (after (memory device)))
 chosen_ahead memory device a b r p h e asked = record {
@@ -278,7 +279,7 @@ whole_before xs n h = let none : n - length xs ≡ 0 = omega arith in rw (none, 
 pub vector_before : (v : Vec ℕ Global) → before (vector v) ≡ v.items
 vector_before v = whole_before v.items v.len (omega (arith, v.ok))
 
--- A writer that is finished holds the stream that it wrote.
+-- A writer that is finished has written its stream.
 pub ends_stream : (a b : WriterSeen (Vec ℕ Global)) (v : Vec ℕ Global) → Remains true vector a b → b.state ≡ Finished → v ≡ b.device → EndsStream a v.items
 ends_stream a b v remains over same = record {
   stream = λ head chunks agrees. held head chunks (remains.kept refl [] head chunks agrees);
@@ -311,7 +312,7 @@ runs_over_memory o a b fs es is calls answers state new ordered empty made left 
       (subst (λ (q : Endianness). IsRun (writer_in q (state_seen a.state)) (ended_as calls answers) (writer_in b.order (state_seen b.state))) ordered run)));
 }
 
--- a writer that was ended, or refused to be
+-- A writer that was finished, or refused to be.
 pub runs_to_stream : (o : Endianness) (a b : WriterSeen (Vec ℕ Global)) (fs : FieldTrees) (es : Pairs) (is : IdTrees) (calls : List StreamCall) (answers : List (Result (Unit {0}) Fault)) → a.state ≡ New → a.order ≡ o → a.device.items ≡ []
     → AreMade true true (λ v. 0) (λ v. vec_capacity v - vec_len v) vector fs es is a calls answers b → (b.state ≡ Started) ⊎ (b.state ≡ Finished) → RunsToStream o fs es is calls answers
 runs_to_stream o a b fs es is calls answers new ordered empty made (inl left) = inl (runs_over_memory o a b fs es is calls answers Started new ordered empty made left)
@@ -327,14 +328,14 @@ refused_end o a b fs es is calls answers _ new ordered empty made h = absurd h
 
 -- ---- why a stream isn't ended
 
--- an error of the device comes of a started writer alone
+-- An error of the device comes only from a started writer.
 started_first : (s : WriterState) (a b : WriterSeen (Vec ℕ Global)) (x : Error) → StateComesFirst (fault_unless_started s) a (Err (faults.Io x)) b → s ≡ Started
 started_first New a b x h = let other = h.0 in absurd cc
 started_first Started a b x h = refl
 started_first Finished a b x h = let other = h.0 in absurd cc
 started_first Failed a b x h = let other = h.0 in absurd cc
 
--- the state of a writer that refuses to end for its state
+-- The state of a writer that refuses to finish for its state.
 refuses_state : (s : WriterState) (x : StateFault) → (s ≡ Finished → ⊥) → fault_unless_started s ≡ Some x → ((s ≡ New) × (x ≡ NotStarted)) ⊎ ((s ≡ Failed) × (x ≡ StateFailed))
 refuses_state New x going e = inl (refl, let same : x ≡ NotStarted = cc in same)
 refuses_state Started x going e = absurd cc
@@ -352,7 +353,7 @@ refuses_end a b going _ first step only = absurd only
 
 -- ---- what is never refused
 
--- a stream that can be read is refused for want of memory, and for nothing else
+-- Reading a readable stream fails only if an allocation fails.
 pub never_refused : (o : Endianness) (fs : FieldTrees) (es : Pairs) (is : IdTrees) (calls : List StreamCall) (bytes : List ℕ) (e : Fault) → IsReadable bytes → ReadsStream bytes (Err e) → RefusesRoundTrip o fs es is calls e
 never_refused o fs es is calls bytes faults.Memory readable h = tt
 never_refused o fs es is calls bytes (faults.Io e) readable h = absurd h

@@ -1,4 +1,5 @@
--- Arrays that were written one behind the other mean their slots where a batch holds them, and are read.
+-- Arrays that were written one after the other mean their slots in a batch
+-- with their parts, and are read.
 use Rattle.std.proofs.Common.{arith, rules, ◌≡◌, ℕ, suc, pos, ◌+◌, ◌≤◌, List, [], ◌∷◌, ◌++◌, map, length, Option, None, Some, Result, Ok, Err, All, refl, sym, ap, ap₂, ◌∙◌, subst, append-nil, append_assoc, length-append}
 use Rattle.std.specs.Prelude.{IsSome}
 use Rattle.std.specs.Int.{next_multiple_of}
@@ -47,15 +48,15 @@ use Rattle.ipc_round_trip.specs.WrittenArrays.{AreJoined, AreWritten, ChosenArra
 
 -- ---- parts of a list
 
--- what was put behind, twice
+-- What was appended twice.
 both_behind : {A : Type 0} → (old new all b c : List A) → new ≡ old ++ b → all ≡ new ++ c → all ≡ old ++ (b ++ c)
 both_behind old new all b c e f = f ∙ ap (λ xs. xs ++ c) e ∙ append_assoc old b c
 
--- the first of it
+-- The first of it.
 between : {A : Type 0} → (old new all b c : List A) (k : ℕ) → new ≡ old ++ b → all ≡ new ++ c → length old ≡ k → Has all k b
 between old new all b c k e f g = record { before = old; behind = c; all_is = both_behind old new all b c e f; place_is = g }
 
--- the same of a list that stands in another one
+-- The same of a list that is part of another.
 within : {A : Type 0} → (source all old b c : List A) (k n : ℕ) → Has source k all → all ≡ old ++ (b ++ c) → n ≡ length old → Has source (k + n) b
 within source all old b c k n h e f = record {
   before = h.before ++ old;
@@ -67,7 +68,7 @@ within source all old b c k n h e f = record {
   place_is = omega (arith, length-append h.before old, h.place_is, f);
 }
 
--- ---- buffers that are listed one behind the other
+-- ---- buffers one after the other
 
 entry_count : (o : ℕ) (bs : List (List ℕ)) → length (entries_from o bs) ≡ length bs
 entry_count o [] = refl
@@ -84,7 +85,7 @@ entry_sizes o [] = All-nil HasSize
 entry_sizes o (x ∷ bs) =
     All-cons HasSize (entry (pos o) (length x)) (entries_from (o + next_multiple_of (length x) 64) bs) (search rules) (entry_sizes (o + next_multiple_of (length x) 64) bs)
 
--- they list no more than their bytes, each of which is padded
+-- The encoded lengths sum to at most their bytes, each padded.
 entry_total : (o : ℕ) (bs : List (List ℕ)) → sum_by size_of (entries_from o bs) ≤ length (body bs)
 entry_total o [] = omega arith
 entry_total o (x ∷ bs) =
@@ -157,7 +158,7 @@ added order (l ∷ ls) old last j =
       total = omega (arith, sum_by-append size_of es rest.buffers, entry_total (size old.offset) bs, rest.total, length-append (body bs) rest.bytes);
     }
 
--- each array at its address, behind those before it
+-- Each array at its position, after those before it.
 all_mean : (order : Endianness) (ls : List Layout) (old last : BatchParts) (at : Body) (known : Dictionaries) (is : IdTrees) (a b : ℕ) → AreJoined order ls old last → AreArrays (layouts ls)
     → Has at.source at.base last.bytes → size old.offset ≡ length old.bytes → length old.nodes ≡ a → length old.buffers ≡ b → AllMean (entries_of (written_lists last) at order 0 known) ls is a b
 all_mean order [] old last at known is a b j arrays stand begins na nb = tt
@@ -187,7 +188,7 @@ all_mean order (l ∷ ls) old last at known is a b j arrays stand begins na nb =
       all_mean order ls new last at known (other_ids is) (a + nodes t) (b + buffers 0 t) j.2 arrays.1 stand next_byte next_node next_buffer,
     )
 
--- ---- a batch that holds them
+-- ---- a batch with these parts
 
 written_batch : (schema : Schema) (known : Dictionaries) (at : Body) (p : BatchParts) (ls : List Layout) (k : ℕ) → AreJoined schema.order ls nothing_written p
     → Has at.source at.base p.bytes → length p.bytes ≤ at.size → AreArrays (layouts ls) → AreLike schema.fields (layouts ls) → HaveRows k ls
@@ -206,7 +207,7 @@ written_batch schema known at p ls k joined stand room arrays like have knows =
     (length-map p.buffers part ∙ ap (λ (rs : List Buffer). length rs) all.buffers_are ∙ all.buffer_count) arrays like have knows
     (all_mean schema.order ls nothing_written p at known schema.ids 0 0 joined arrays stand refl refl refl)
 
--- a table that lists some parts means what its entries do
+-- A table with the nodes and buffers of some parts means what its entries do.
 listed_meaning : (schema : Schema) (known : Dictionaries) (at : Body) (t : Spot) (p : BatchParts) (projection : Option (List ℕ)) (limit : Limit) (c : Chunk) → lists_of t ≡ Some (written_lists p)
     → batch (written_entries schema known at p) at.size schema projection limit ≡ Some c → record_meaning schema 0 known at t projection limit ≡ Some c
 unfolding record_meaning
@@ -237,7 +238,7 @@ written_array_law schema known at t p l joins holds array like knows =
 
 -- ---- what is read
 
--- an answer by a meaning
+-- A result, by the meaning.
 gives_just : (m : Option Chunk) (c : Chunk) (r : Result (List AnyArray) Fault) → m ≡ Some c → Answers r (IsSome m) (λ xs. m ≡ Some (chunk_seen xs)) → GivesJust c r
 gives_just m c (Ok xs) e g = let same : Some (chunk_seen xs) ≡ Some c = sym g.1 ∙ e in cc
 gives_just m c (Err x) e g = claims_through x (IsSome m → ⊥) ⊥ (λ none. none (subst (λ (o : Option Chunk). IsSome o) (sym e) refl)) g
@@ -254,7 +255,7 @@ chosen_arrays_law schema known at t ls projection limit r w is g =
     (listed_meaning schema known at t w.parts projection limit few w.holds.lists_are
     (prune_law (written_entries schema known at w.parts) at.size schema projection limit c is (batch_is schema known at t ls w))) g
 
--- columns of the types of some fields, where these are the arrays' own
+-- Columns of the types of some fields, if these are the arrays' own.
 named_same : (fs : FieldTrees) (xs : List AnyArray) → types_of fs ≡ map type_of (map layout_of xs) → chunk_named fs (map layout_of xs) ≡ chunk_seen xs
 named_same no_fields [] e = refl
 named_same no_fields (x ∷ xs) e = absurd cc

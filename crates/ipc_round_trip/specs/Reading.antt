@@ -19,37 +19,40 @@ use Rattle.ipc_readers.specs.Streams.{Knows, ahead, chosen_of, request_of, devic
 use Rattle.ipc_readers.specs.declared.read.stream.reader.StreamReader.{StreamReader}
 use Rattle.ipc_round_trip.specs.declared.read.WholeStream.{WholeStream}
 
--- the chunks that are seen, in order
+-- The chunks that some lists of arrays are, in order.
 abbrev pub chunks_seen : List (List AnyArray) → List Chunk
 chunks_seen xs = map chunk_seen xs
 
--- what is ahead of a reader means m, by the columns that are asked for, to someone who knows the same dictionaries
+-- The bytes ahead of a reader mean m, by the requested columns and the
+-- dictionaries that the reader has.
 pub record MeansAhead {R : Type 0} (memory : R → devices.Memory) (r : StreamReader R) (m : Meant) : Type 0 where
   pub known : Known
   pub knows : Knows r known
   pub means : chosen_meaning (request_of r) known (ahead memory r) ≡ m
 
--- a stream ends by its mark, or it waits for more
+-- A stream ends by its mark, or it waits for more.
 abbrev pub EndsAs : Bool → End → Type 0
 EndsAs true e = e ≡ marked
 EndsAs false (waits known begun) = Unit {0}
 EndsAs false _ = ⊥
 
--- a stream that ends here, or waits
+-- A stream without any more chunks ends, or waits.
 abbrev pub EndsNow : Bool → Meant → Type 0
 EndsNow over m = (m.chunks ≡ []) × EndsAs over m.end
 
--- a fault of the input's: what is ahead ends in a fault
+-- Unless the error is one of allocation or of the device, the bytes ahead end in a fault.
 abbrev pub RefusesAhead : {R : Type 0} → (R → devices.Memory) → StreamReader R → Fault → Type 0
 RefusesAhead memory r e = OwnFault e ((m : Meant) → MeansAhead memory r m → m.end ≡ faulty)
 
--- What was read so far, and what is ahead, is what it was before. Without a chunk more the stream ends, or waits.
+-- The chunks read so far and the meaning of the bytes ahead are together what they were before.
+-- Without one more chunk the stream ends, or waits.
 abbrev pub GivesPush : {R : Type 0} → (R → devices.Memory) → StreamReader R → List (List AnyArray) → Result Bool Fault → StreamReader R → List (List AnyArray) → Type 0
 GivesPush memory a xs (Ok true) b ys = (is_over b ≡ false)
     × ((m : Meant) → MeansAhead memory a m → (n : Meant) × MeansAhead memory b n × (with_chunks (chunks_seen xs) m ≡ with_chunks (chunks_seen ys) n))
 GivesPush memory a xs (Ok false) b ys = (ys ≡ xs) × ((m : Meant) → MeansAhead memory a m → EndsNow (is_over b) m)
 GivesPush memory a xs (Err e) b ys = RefusesAhead memory a e
 
+-- One call of `next` was made, and its chunk was appended to xs.
 pub record PushesNext {R : Type 0} (known : Bool) (failures : R → ℕ) (memory : R → devices.Memory) (a : StreamReader R) (xs : List (List AnyArray)) (r : Result Bool Fault) (b : StreamReader R) (ys : List (List AnyArray)) : Type 0 where
   pub described : metadata_of b ≡ metadata_of a
   pub projected : chosen_of b ≡ chosen_of a
@@ -58,14 +61,14 @@ pub record PushesNext {R : Type 0} (known : Bool) (failures : R → ℕ) (memory
   pub failed : OnIo r (Rises (failures (device_of a)) (failures (device_of b)))
   pub monotone : failures (device_of a) ≤ failures (device_of b)
 
--- All chunks were read up to where the stream ends, or waits.
+-- All chunks were read, up to the end of the stream or to a wait.
 pub record GivesAll {R : Type 0} (memory : R → devices.Memory) (a : StreamReader R) (xs : List (List AnyArray)) (b : StreamReader R) : Type 0 where
   pub chunks : (m : Meant) → MeansAhead memory a m → m.chunks ≡ chunks_seen xs
   pub end : (m : Meant) → MeansAhead memory a m → EndsAs (is_over b) m.end
 
 -- ---- whole streams
 
--- All of a stream was read: its schema, all its chunks, and how it ends.
+-- All of a stream was read: its schema, all its chunks, and its end.
 pub record IsWhole (bytes : List ℕ) (s : WholeStream) : Type 0 where
   pub meant : Meant
   pub stream : stream_of bytes ≡ Some (record { head = head_of s.metadata; meant = meant })
@@ -79,25 +82,25 @@ pub record IsReadable (bytes : List ℕ) : Type 0 where
   pub stream : stream_of bytes ≡ Some (record { head = head; meant = meant })
   pub sound : meant.end ≢ faulty
 
--- Memory was refused, or a fault of the input's: then P holds. A device's fault never comes.
+-- An allocation failed; or P holds of another error. A device's error never comes.
 abbrev pub RefusesStream : Fault → Type 0 → Type 0
 RefusesStream Memory P = Unit {0}
 RefusesStream (Io e) P = ⊥
 RefusesStream _ P = P
 
--- A message behind the schema message of this stream, of which these columns are asked for, can have this fault.
+-- A message after the schema message of this stream can have this error, by the requested columns.
 pub record BlamesMessages (stream : Option Stream) (p : Option (List ℕ)) (e : Fault) : Type 0 where
   pub head : Head
   pub meant : Meant
   pub is : stream ≡ Some (record { head = head; meant = meant })
   pub kind : IsStreamFault (record { head = head; projection = p }) e
 
--- Whose fault it is that bytes can't be read: that of their front, as the reader of the schema message tells it, or that of a message
--- behind it.
+-- Why bytes can't be read as a stream: an error of the schema message, as its reader
+-- returns it, or of a later message.
 abbrev pub BlamesStream : List ℕ → Option Stream → Option (List ℕ) → Fault → Type 0
 BlamesStream bytes stream p e = ((rest : List ℕ) × GivesMetadata bytes (frame bytes) (Err e) rest) ⊎ BlamesMessages stream p e
 
--- All of a stream was read, or, memory aside, it can't be read.
+-- All of a stream was read; or it can't be read, unless an allocation failed.
 abbrev pub ReadsStream : List ℕ → Result WholeStream Fault → Type 0
 ReadsStream bytes (Ok s) = IsWhole bytes s
 ReadsStream bytes (Err e) = RefusesStream e ((¬ (IsReadable bytes)) × BlamesStream bytes (stream_of bytes) None e)

@@ -1,4 +1,4 @@
--- What a writer of streams wrote is what a reader of streams reads.
+-- What a stream writer wrote is what a stream reader reads.
 -- (Arrow columnar format, "IPC Streaming Format".)
 use Rattle.std.specs.Prelude.{◌≡◌, ℕ, ◌-◌, ◌<◌, ◌⊎◌, List, [], Bool, true, false, Result, Vec, vec_capacity, vec_len}
 use Rattle.std.specs.declared.alloc.Global.{Global}
@@ -24,45 +24,47 @@ use Rattle.ipc_write.specs.declared.stream.WriterState.TheVariants as writer
 use Rattle.ipc_round_trip.specs.Reading.{IsReadable, IsWhole, chunks_seen}
 use Rattle.ipc_round_trip.specs.declared.read.WholeStream.{WholeStream}
 
--- What was read of a stream is a schema and chunks, and it ends by its mark, or waits for more.
+-- The stream that was read has this schema and these chunks, and has ended with its
+-- mark (`over`) or waits for more.
 pub record Reads (s : WholeStream) (head : Head) (chunks : List Chunk) (over : Bool) : Type 0 where
   pub schema : head_of s.metadata ≡ head
   pub same : chunks_seen s.chunks.items ≡ chunks
   pub ended : s.is_finished ≡ over
 
+-- The stream that was read has this schema and these chunks, and has ended with its mark.
 abbrev pub ComesBack : WholeStream → Head → List Chunk → Type 0
 ComesBack s head chunks = Reads s head chunks true
 
--- a stream that was written and ended reads back
+-- A finished stream that was written is read as its schema and its chunks.
 abbrev pub FinishedLaw : Type 0
 FinishedLaw = (bytes : List ℕ) (head : Head) (chunks : List Chunk) (s : WholeStream) → IsFinished bytes head chunks → IsWhole bytes s
     → Reads s head chunks true
 
--- and can be read
+-- A finished stream that was written can be read.
 abbrev pub ReadableLaw : Type 0
 ReadableLaw = (bytes : List ℕ) (head : Head) (chunks : List Chunk) → HasEnded bytes head chunks → IsReadable bytes
 
--- and so can one that was written and not ended, whatever is known at its end
+-- A stream that was written and not finished can be read, whatever is known at its end.
 abbrev pub OpenReadableLaw : Type 0
 OpenReadableLaw = (bytes : List ℕ) (head : Head) (known : Known) (chunks : List Chunk) → IsStarted bytes head known chunks → IsReadable bytes
 
--- one that was written and not ended reads back, whatever is known at its end, and waits
+-- A stream that was written and not finished is read as its schema and its chunks, and waits.
 abbrev pub OpenLaw : Type 0
 OpenLaw = (bytes : List ℕ) (head : Head) (known : Known) (chunks : List Chunk) (s : WholeStream) → IsStarted bytes head known chunks → IsWhole bytes s
     → Reads s head chunks false
 
--- bytes in memory, and the place behind the last of them
+-- The bytes of a vector, as memory that is written to at its end.
 abbrev pub vector : Vec ℕ Global → devices.Memory
 vector v = record { whole = v.items; place = vec_len v }
 
--- The bytes are an ended stream of what a writer over an empty memory wrote.
+-- The bytes are a finished stream of what a writer wrote, which began with empty memory.
 pub record EndsStream (w : WriterSeen (Vec ℕ Global)) (bytes : List ℕ) : Type 0 where
   pub stream : (head : Head) (chunks : List Chunk) → Agrees vector w [] head chunks → HasEnded bytes head chunks
 
 -- ---- the calls
 
--- Calls of a writer over an empty memory that writes in this order of bytes, each of the writer that the one before it left, with these
--- answers: they leave it in this state.
+-- Calls of a new writer to empty memory, with this byte order, have these results and leave the
+-- writer in this state. Each is made on the writer that the call before it left.
 pub record RunsOverMemory (order : Endianness) (fields : FieldTrees) (metadata : Pairs) (ids : IdTrees) (calls : List StreamCall) (answers : List (Result Unit Fault)) (state : WriterState) : Type 0 where
   pub first : WriterSeen (Vec ℕ Global)
   pub last : WriterSeen (Vec ℕ Global)
@@ -73,30 +75,32 @@ pub record RunsOverMemory (order : Endianness) (fields : FieldTrees) (metadata :
   pub left : last.state ≡ state
   pub run : IsRun (writer_in order new_writer) (ended_as calls answers) (writer_in order (state_seen state))
 
--- They leave a stream that is ended, or can be.
+-- The calls of a new stream writer leave a stream that is finished, or can be.
 abbrev pub RunsToStream : Endianness → FieldTrees → Pairs → IdTrees → List StreamCall → List (Result Unit Fault) → Type 0
 RunsToStream order fields metadata ids calls answers = RunsOverMemory order fields metadata ids calls answers writer.Started ⊎ RunsOverMemory order fields metadata ids calls answers writer.Finished
 
--- with some answers they leave a writer in this state, of which this holds
+-- With some results the calls of a new stream writer leave a writer in this state, of which P
+-- holds.
 pub record MayLeave (order : Endianness) (fields : FieldTrees) (metadata : Pairs) (ids : IdTrees) (calls : List StreamCall) (state : WriterState) (P : WriterSeen (Vec ℕ Global) → Type 0) : Type 0 where
   pub answers : List (Result Unit Fault)
   pub runs : RunsOverMemory order fields metadata ids calls answers state
   pub holds : P runs.last
 
--- a started writer whose vector has no room for the eight bytes of the mark
+-- A started writer whose vector has no room for the eight bytes of the mark.
 pub record HasNoRoomForMark (w : WriterSeen (Vec ℕ Global)) : Type 0 where
   pub started : w.state ≡ writer.Started
   pub full : vector_room w.device < 8
 
--- why a stream isn't ended
+-- Why a stream isn't finished.
 abbrev pub RefusesEnd : WriterSeen (Vec ℕ Global) → Fault → Type 0
 RefusesEnd w (State NotStarted) = w.state ≡ writer.New
 RefusesEnd w (State Failed) = w.state ≡ writer.Failed
 RefusesEnd w (Io e) = HasNoRoomForMark w
 RefusesEnd w _ = ⊥
 
--- Why a round trip is refused: memory, of which a device that is memory tells by its own fault, where it has no room for the mark; or a
--- writer that the calls left not started or failed. What was written is never refused where it is read.
+-- Why a round trip is refused: an allocation failed, or the memory had no room for the
+-- end-of-stream mark. Or the calls left a writer that isn't started or has failed. Reading
+-- what was written is never refused.
 abbrev pub RefusesRoundTrip : Endianness → FieldTrees → Pairs → IdTrees → List StreamCall → Fault → Type 0
 RefusesRoundTrip order fs es is calls Memory = Unit {0}
 RefusesRoundTrip order fs es is calls (Io e) = MayLeave order fs es is calls writer.Started HasNoRoomForMark

@@ -1,4 +1,4 @@
--- What is counted where a schema is refused.
+-- The visits that are counted if a schema is refused.
 use Rattle.std.proofs.Common.{◌≡◌, ℕ, ◌+◌, ◌<◌, ◌≤◌, Bool, true, false, cond, nat_le, List, length, take, drop, Option, Some, Result, Ok, Err, refl, arith}
 use Rattle.std.specs.Prelude.{IfSome}
 use Rattle.std.proofs.lemmas.Bool.{leb-true}
@@ -52,6 +52,6 @@ fields-long t v e =
     let (o, o_is) = slot-there (slot_at t.message t.place 1) (λ q. and_then (target_at t.message q) (vector_at 4 t.message)) v e in
     slot-long t.message t.place 1 o o_is
 
--- what was counted is what a refusal has to count
+-- The visits that were counted are those that a refusal must count.
 pub counts-refused : (e : Fault) (fields : Option Vector) (before after : ℕ) → before < after → CountsRefused e fields before after
 counts-refused e fields before after h = claimed e (IfSome fields (λ _. before < after)) (if-some fields (λ _. before < after) (λ v is. h))

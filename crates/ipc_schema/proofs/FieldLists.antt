@@ -1,4 +1,4 @@
--- Fields and ids in a `Vec`, with one more behind them.
+-- Fields and ids in a `Vec`, with one more after them.
 use Rattle.std.proofs.Common.{◌≡◌, List, [], ◌∷◌, ◌++◌, Option, Some, None, refl, ap}
 use Rattle.lower.specs.TypeTrees.{more_fields}
 use Rattle.lower.specs.TypeViews.{field_view, fields_view}

@@ -1,4 +1,4 @@
--- What a field's table means, by the slots that were read of it.
+-- What a field's table means, by the parts that were read of it.
 use Rattle.std.proofs.Common.{◌≡◌, ℕ, suc, ◌+◌, ◌-◌, ◌<◌, Bool, true, false, cond, nat_eq, List, Option, Some, None, Result, Ok, refl, ap, sym, ◌∙◌, arith}
 use Rattle.std.specs.Prelude.{IfSome}
 use Rattle.std.specs.Option.{option_map}
@@ -61,7 +61,7 @@ module _ (read : Spot → Option Read) (t : Spot) (name : List ℕ) (nullable : 
   field-is =
       rw (named, nulls) (with-pairs (λ es. after-pairs es) ∙ with-dictionary (λ e. after-dictionary es e) ∙ ap (λ o. given o (λ type_. option_map (field_with name nullable es enc) (type_of_field read t type_))) typed)
 
--- a dictionary that means nothing
+-- A dictionary encoding without a meaning.
 pub no-dictionary : (read : Spot → Option Read) (t : Spot) (name : List ℕ) (nullable : Bool) (es : Pairs) → present (field_name t) ≡ Some name → made (field_nullable t) ≡ Some nullable
     → given (made (field_custom_metadata t)) pairs_at ≡ Some es → given (made (field_dictionary t)) optional_encoding ≡ None → field_from read t ≡ None
 unfolding field_from
@@ -122,7 +122,7 @@ not-none : (b : Bool) (o : Option Read) (x : Read) → cond b None o ≡ Some x 
 not-none true o x e = cc
 not-none false o x e = e
 
--- the table of the first field: it is opened, or there is none, or no visit is left
+-- The table of the first field: it is opened, or there is none, or no visit is left.
 pub no-first : (o : Option Vector) (read : Spot → Option Read) (v : Vector) (most visits : ℕ) → o ≡ Some v → IfSome (made (table_in v 0)) (λ _. most < visits + 1)
     → IfSome (option_map with_one_id (given o (first_field read))) (λ y. most < visits + child_number y)
 no-first o read v most visits there none = if-some (option_map with_one_id (given o (first_field read))) (λ y. most < visits + child_number y) (λ y e.
@@ -134,7 +134,7 @@ no-first o read v most visits there none = if-some (option_map with_one_id (give
     let counted = one-and-below x.0 in
     omega (arith, here, same, counted))
 
--- the table at i, after the fields before it: it is opened, or there is none, or no visit is left
+-- The table at i, after the fields before it: it is opened, or there is none, or no visit is left.
 pub no-table : (read : Spot → Option Read) (v : Vector) (i n : ℕ) (before : ReadAll) (most old visits : ℕ)
     → fields_from read v 0 i ≡ Some before → i < n → visits ≡ old + fields_count before.0
     → IfSome (made (table_in v i)) (λ _. most < visits + 1) → IfSome (fields_from read v 0 n) (λ all. most < old + fields_count all.0)

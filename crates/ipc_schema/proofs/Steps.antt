@@ -1,4 +1,4 @@
--- Slots that were read.
+-- Fields of tables that were read.
 use Rattle.std.proofs.Common.{◌≡◌, Result, Ok, Err, refl}
 use Rattle.ipc_devices.specs.declared.fault.Fault.{Fault}
 use Rattle.ipc_devices.specs.declared.fault.Fault.TheVariants.{Schema}
@@ -9,7 +9,7 @@ use Rattle.ipc_schema.specs.Reading.{in_schema}
 use Rattle.ipc_schema.specs.declared.read.pairs.PairsFault.{PairsFault}
 use Rattle.ipc_schema.specs.declared.read.pairs.PairsFault.TheVariants.{Memory, Table as IllMade}
 
--- a slot that was read is well made
+-- A field that was read is valid.
 pub in_schema-ok : {A : Type 0} (r : Result A TableFault) (x : A) → Ok x ≡ in_schema r → r ≡ Ok x
 in_schema-ok (Ok y) x e = cc
 in_schema-ok (Err d) x e = cc

@@ -1,4 +1,4 @@
--- What types with children stand for.
+-- What types with children mean.
 use Rattle.std.proofs.Common.{◌≡◌, ℕ, ℤ, Bool, Option, Vec, Box, Global, ap, sym, ◌∙◌}
 use Rattle.lower.specs.TypeTrees.{TypeTree, FieldTree, single, list, large_list, fixed_list, entries, group, structure, choice}
 use Rattle.lower.specs.TypeViews.{type_step, field_step, type_view, field_view, fields_view, ids_of}

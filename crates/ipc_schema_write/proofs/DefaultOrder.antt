@@ -1,4 +1,4 @@
--- The default ids are in the order of the places.
+-- The default ids are in the order of the dictionary fields.
 use Rattle.std.proofs.Common.{◌≡◌, ℕ, ◌+◌, ℤ, pos, List, [], ◌∷◌, ◌++◌, length, Bool, true, false, cond, Option, Some, None, refl, subst, sym, ap, ◌∙◌, arith}
 use Rattle.lower.specs.Counts.{is_dictionary}
 use Rattle.lower.specs.TypeTrees.{TypeTree, plain, single, group, dictionary, extension, FieldTree, field, FieldTrees, no_fields, more_fields}
@@ -7,12 +7,12 @@ use Rattle.ipc_model.specs.Batches.{Place, field_places, own_place, inner_places
 use Rattle.ipc_schema_write.specs.DefaultIds.{count_field, default_children, default_ids, default_all, CountFrom, DefaultLaw}
 use Rattle.ipc_schema_write.proofs.PlaceCounts.{own-count, field-count}
 
--- the ids go on behind some places
+-- The ids continue after some dictionary fields.
 count_on : (n m : ℕ) (ps qs : List Place) → n + length ps ≡ m → CountFrom n ps → CountFrom m qs → CountFrom n (ps ++ qs)
 count_on n m [] qs e h r = let same : m ≡ n = omega (arith, e) in subst (λ (k : ℕ). CountFrom k qs) same r
 count_on n m (p ∷ ps) qs e h r = (h.0, count_on (n + 1) m ps qs (omega (arith, e)) h.1 r)
 
--- the place of a field itself has the id n, if it has one
+-- The dictionary field that a field itself is has the id n, if it has one.
 own_first : (n : ℕ) (t : TypeTree) (is : IdTrees) → CountFrom n (own_place t (Some (pos n)) is)
 own_first n (plain p) is = tt
 own_first n (single s f) is = tt

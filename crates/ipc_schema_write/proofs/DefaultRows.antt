@@ -1,9 +1,9 @@
--- Each row is computed.
+-- Each case is computed.
 use Rattle.std.proofs.Common.{◌≡◌, ℕ, ◌+◌, ℤ, pos, negsuc, Option, Some, None, refl, ap, arith}
 use Rattle.ipc_base.specs.IdTrees.{IdTree, ids, IdTrees, no_ids, more_ids}
 use Rattle.ipc_schema_write.specs.DefaultRows.{DefaultRows}
 
--- the id below the second field, and one more; 0 where there is none
+-- The id below the second field, and one more; 0 if there is none.
 abbrev number_of : Option ℤ → ℕ
 number_of None = 0
 number_of (Some (pos n)) = n + 1

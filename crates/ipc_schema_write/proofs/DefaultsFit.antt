@@ -1,4 +1,4 @@
--- The default ids fit, and there is one for each place.
+-- The default ids fit, and there is one for each dictionary field.
 use Rattle.std.proofs.Common.{◌≡◌, ℕ, ◌+◌, List, length, length-append, Bool, true, false, cond, refl, ◌∙◌, pos, Some, None}
 use Rattle.lower.specs.TypeTrees.{TypeTree, plain, single, group, dictionary, extension, FieldTree, field, FieldTrees, no_fields, more_fields}
 use Rattle.lower.specs.Counts.{is_dictionary, field_places, fields_places, inner_places, own_place}

@@ -43,7 +43,7 @@ texted : (name : List ℕ) (text : Option (List ℕ)) (es : Pairs) → value_und
 texted name None es none = under-other data_key name_key name es refl ∙ none
 texted name (Some text) es none = under-other data_key name_key name (with_pair data_key text es) refl ∙ under-with data_key text es
 
--- a type that is neither a dictionary nor an extension stands in its table as it is
+-- A type that is neither a dictionary nor an extension is in its table unchanged.
 bare : (t : TypeTree) → IsPlainStorage t → stored t ≡ t
 bare (plain p) h = refl
 bare (single k f) h = refl
@@ -102,7 +102,7 @@ pub given-both : {A B C : Type 0} (o : Option A) (f : A → Option B) (g : B →
 given-both None f g y e = cc
 given-both (Some x) f g y e = ap (λ o. given o g) e
 
--- what a field's table means, by its slots
+-- What a field's table means, by its parts.
 slots-read : (read : Spot → Option Read) (t : Spot) (name : List ℕ) (nullable : Bool) (es : Pairs) (e : Option Encoding) (type_ : ℕ × Spot)
     → present (field_name t) ≡ Some name → made (field_nullable t) ≡ Some nullable → given (made (field_custom_metadata t)) pairs_at ≡ Some es
     → given (made (field_dictionary t)) optional_encoding ≡ Some e → present (field_type t) ≡ Some type_
@@ -197,7 +197,7 @@ module _ (f : Field) (name : List ℕ) (x : TypeTree) (nullable : Bool) (es : Pa
         omega (arith, size, below, count);
   }
 
--- the same of a table that was put together
+-- The same of a table that was built.
 pub table-made : (f : Field-F Field) (name : List ℕ) (x : TypeTree) (nullable : Bool) (es : Pairs) (id : Option ℤ) (is : IdTrees)
     → string_bytes f.name ≡ name → f.nullable ≡ nullable → IsTypeTable f.type_ x → AreFieldTables f.children.items (children x) is → IsEncodingTable f.dictionary (encoding_of x id)
     → ArePairsOf f.custom_metadata.items (norm_pairs x es) → IsWritableType x → is_some id ≡ is_dictionary x → IsFieldTable (roll-Field f) (field name x nullable es) (ids id is)

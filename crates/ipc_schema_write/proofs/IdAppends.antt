@@ -1,4 +1,4 @@
--- Ids that are put together one by one.
+-- Ids that are appended one by one.
 use Rattle.std.proofs.Common.{◌≡◌, List, [], ◌∷◌, ◌++◌, refl, ap}
 use Rattle.ipc_base.specs.IdTrees.{IdTrees, no_ids, more_ids, ids_view, all_ids_view}
 use Rattle.ipc_base.specs.declared.ipc.IpcField.{IpcField}

@@ -1,4 +1,4 @@
--- Pairs that are written in order are read as they were, and name the extension that was put in.
+-- Pairs that are written in order are read unchanged, and name the extension that was added.
 use Rattle.std.proofs.Common.{◌≡◌, ℕ, ◌+◌, List, [], ◌∷◌, ◌++◌, length, append-nil, append_assoc, ◌||◌, Bool, true, false, cond, Ordering, Less, Equal, Greater, nat_cmp, is_eq, Option, Some, None, String, Global, string_bytes, refl, sym, ap, subst, ◌∙◌, arith}
 use Rattle.std.specs.Ordering.{match_ordering, ordering_reverse}
 use Rattle.std.specs.Cmp.Lexicographic.{slice_cmp}
@@ -24,7 +24,7 @@ above_from : (k : String Global) (es : List (String Global × String Global)) �
 above_from k [] h = tt
 above_from k (e ∷ es) h = (h.0, above_from k es h.1)
 
--- the entries of a map do
+-- The entries of a map are in order.
 pub ascend_from : (es : List (String Global × String Global)) → IsStrictlySortedBy string_cmp (keys_of es) → Ascend (pairs_of es)
 unfolding IsStrictlySortedBy
 ascend_from [] h = tt
@@ -67,7 +67,7 @@ pub put-append : (ps qs es : Pairs) → put_pairs (ps ++ qs) es ≡ put_pairs qs
 put-append [] qs es = refl
 put-append (p ∷ ps) qs es = put-append ps qs (with_pair p.0 p.1 es)
 
--- pairs in order are read as they are
+-- Pairs in order are read unchanged.
 pub put-ascending : (ps : Pairs) → Ascend ps → put_pairs ps [] ≡ ps
 put-ascending ps h = put_after [] ps h
 
@@ -115,11 +115,11 @@ no_name es = Lacks-without name_key (without data_key es)
 pub no_data : (es : Pairs) → Lacks data_key (without name_key (without data_key es))
 no_data es = Lacks-other data_key name_key (without data_key es) (Lacks-without data_key es)
 
--- the pairs as they stand in a map
+-- The pairs as they are in a map.
 pub are_pairs : (ps : List KeyValue) (es : Pairs) → Ascend es → pairs_in ps ≡ es → ArePairsOf ps es
 are_pairs ps es h is = record { means = ap (λ qs. put_pairs qs []) is ∙ put-ascending es h; weighs = ap pairs_weight is }
 
--- those of a field in its normal form
+-- The pairs of a field in its normal form.
 pub are_normal : (ps : List KeyValue) (es : Pairs) (x : Option (List ℕ × Option (List ℕ))) → Ascend es
     → pairs_in ps ≡ without name_key (without data_key es) ++ extension_pairs x → ArePairsOf ps (put_extension x (without name_key (without data_key es)))
 are_normal ps es x h is =

@@ -1,4 +1,4 @@
--- Places that are compared with the first of their id.
+-- Dictionary fields that are compared with the first of their id.
 use Rattle.std.proofs.Common.{◌≡◌, ℕ, ℤ, zero, suc, ◌+◌, ◌<◌, ◌≤◌, ◌⊎◌, inl, inr, ⊎_elim, List, [], ◌∷◌, length, map, get_or, Bool, true, false, cond, Option, Some, None, refl, ap, sym, subst, ◌∙◌, arith}
 use Rattle.std.specs.Prelude.{AllPairs}
 use Rattle.std.specs.Ordering.{int_eq}
@@ -17,7 +17,7 @@ get-any (x ∷ xs) (suc k) d e h = get-any xs k d e (omega (arith, h))
 some-same : (A : Type 0) (a b : A) → Some a ≡ Some b → a ≡ b
 some-same A a b e = cc
 
--- Where the first place of each id stands, of so many.
+-- The index of the first dictionary field of each id, among so many.
 pub record AreFirst (ps : List Place) (firsts : ℤ → Option ℕ) (k : ℕ) : Type 0 where
   pub stand : (q : ℤ) (i : ℕ) (d : Place) → firsts q ≡ Some i → (i < k) × ((get_or ps i d).id ≡ Some q)
   pub met : (j : ℕ) (d : Place) → j < k → (q : ℤ) × (i : ℕ) × ((get_or ps j d).id ≡ Some q) × (firsts q ≡ Some i) × HaveOneValueType (get_or ps i d) (get_or ps j d)
@@ -49,7 +49,7 @@ one-differs ps firsts k i q d first inside id there differ all =
     let pair = all i k d before inside in
     differ (pair.type (same ∙ sym id), pair.nested (same ∙ sym id))
 
--- what is known of one place that was met
+-- What is known of one dictionary field that was visited.
 abbrev pub IsMet : List Place → (ℤ → Option ℕ) → ℕ → Place → Type 0
 IsMet ps firsts j d = (q : ℤ) × (i : ℕ) × ((get_or ps j d).id ≡ Some q) × (firsts q ≡ Some i) × HaveOneValueType (get_or ps i d) (get_or ps j d)
 
@@ -66,7 +66,7 @@ met-next ps firsts k j d h before here = at (split-last j k h)
     at (inl b) = before b
     at (inr e) = subst (λ n. IsMet ps firsts n d) (sym e) here
 
--- one is like it
+-- One is like the first of its id.
 pub one-like : (ps : List Place) (firsts : ℤ → Option ℕ) (k i : ℕ) (q : ℤ) (c : Place) → AreFirst ps firsts k → k < length ps → (get_or ps k c).id ≡ Some q
     → firsts q ≡ Some i → HaveOneValueType (get_or ps i c) (get_or ps k c) → AreFirst ps firsts (k + 1)
 one-like ps firsts k i q c first inside id there like = record {
@@ -111,7 +111,7 @@ pub length-map : {A B : Type 0} (f : A → B) (xs : List A) → length (map f xs
 length-map f [] = refl
 length-map f (x ∷ xs) = omega (arith, length-map f xs)
 
--- ---- of the places of a writer
+-- ---- of the dictionary fields of a writer
 
 pub seen-all : (ps : List DictionaryPlace) (firsts : ℤ → Option ℕ) (k : ℕ) → length ps ≤ k → AreFirst (places_view ps) firsts k → AllPairs SameUnderId (places_view ps)
 seen-all ps firsts k past first = all-agree (places_view ps) firsts k (omega (arith, past, length-map place_view ps)) first
@@ -138,10 +138,10 @@ module _ (ps : List DictionaryPlace) (firsts : ℤ → Option ℕ) (k : ℕ) (p 
       first-is : get_or (places_view ps) i (place_view p) ≡ place_view f
       first-is = get-any (places_view ps) i (place_view p) (place_view f) (omega (arith, first-inside, length-map place_view ps)) ∙ get-map place_view ps i f ∙ ap place_view (sym f_is)
 
-      -- it isn't like the first of its id
+      -- It isn't like the first of its id.
       pub differs-seen : (HaveOneValueType (place_view f) (place_view p) → ⊥) → AllPairs SameUnderId (places_view ps) → ⊥
       differs-seen differ = one-differs (places_view ps) firsts k i p.id (place_view p) first in-view its-id there (λ (like : HaveOneValueType (get_or (places_view ps) i (place_view p)) (get_or (places_view ps) k (place_view p))). differ (subst (λ (q : Place). HaveOneValueType (place_view f) q) here (subst (λ (q : Place). HaveOneValueType q (get_or (places_view ps) k (place_view p))) first-is like)))
 
-      -- it is
+      -- It is like the first of its id.
       pub like-seen : HaveOneValueType (place_view f) (place_view p) → AreFirst (places_view ps) firsts (k + 1)
       like-seen like = one-like (places_view ps) firsts k i p.id (place_view p) first in-view its-id there (subst (λ (q : Place). HaveOneValueType q (get_or (places_view ps) k (place_view p))) (sym first-is) (subst (λ (q : Place). HaveOneValueType (place_view f) q) (sym here) like))

@@ -1,4 +1,4 @@
--- How many dictionary places there are, whatever their ids.
+-- How many dictionary fields there are, whatever their ids.
 use Rattle.std.proofs.Common.{◌≡◌, ℕ, ℤ, ◌<◌, ◌≤◌, ◌^◌, inl, inr, length, length-append, cond, Option, Result, Ok, Err, IfErr, refl, ◌∙◌, arith}
 use Rattle.std.proofs.lemmas.Bool.{cases_lt}
 use Rattle.lower.specs.Counts.{fields_places, is_dictionary}

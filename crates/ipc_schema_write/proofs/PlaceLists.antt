@@ -1,4 +1,4 @@
--- The places of fields, put together one field after another.
+-- The dictionary fields of fields, collected one field after another.
 use Rattle.std.proofs.Common.{◌≡◌, ℕ, zero, suc, ◌+◌, ◌<◌, ◌≤◌, ◌++◌, append-nil, append_assoc, drop, List, [], ◌∷◌, length, get_or, ℤ, Bool, Option, None, Result, Ok, Err, true≢false, refl, ap, sym, subst, ◌∙◌, arith}
 use Rattle.std.proofs.lemmas.List.{drop_more, drop_all}
 use Rattle.std.specs.Prelude.{is_some, OnOk}
@@ -12,7 +12,7 @@ use Rattle.ipc_base.specs.IdTrees.{ids, IdTrees, ids_view, all_ids_view}
 use Rattle.ipc_model.specs.Batches.{Place, field_places, inner_places, own_place, places}
 use Rattle.ipc_base.specs.declared.ipc.IpcField.{IpcField}
 
--- The places so far, with those of the fields that are left, are all.
+-- The dictionary fields so far, with those of the fields that are left, are all.
 pub record AreLeft (so_far : List Place) (fs : List Field) (is : List IpcField) (i : ℕ) (all : List Place) : Type 0 where
   pub left : so_far ++ places (fields_view (drop i fs)) (all_ids_view (drop i is)) ≡ all
   pub fit : AllFit (fields_view (drop i fs)) (all_ids_view (drop i is))
@@ -56,7 +56,7 @@ pub all-done : (so_far : List Place) (fs : List Field) (is : List IpcField) (i :
 all-done so_far fs is i all past l =
     sym (append-nil so_far) ∙ ap (λ (ys : List Field). so_far ++ places (fields_view ys) (all_ids_view (drop i is))) (sym (drop_all i fs past)) ∙ l.left
 
--- no id, and no place
+-- No id, and no dictionary field.
 pub none-own : (t : TypeTree) (id : Option ℤ) (is : IdTrees) (ps : List Place) → is_some id ≡ is_dictionary t → id ≡ None → ps ≡ ps ++ own_place t id is
 none-own (plain p) id is ps h e = sym (append-nil ps)
 none-own (single k f) id is ps h e = sym (append-nil ps)
@@ -64,7 +64,7 @@ none-own (group g fs) id is ps h e = sym (append-nil ps)
 none-own (dictionary keys t ordered) id is ps h e = absurd (true≢false (sym h ∙ ap is_some e))
 none-own (extension name t text) id is ps h e = none-own t id is ps h e
 
--- the place of a field, and those below it
+-- The dictionary field that a field is, and those below it.
 pub field-more : (name : List ℕ) (t : TypeTree) (nullable : Bool) (es : Pairs) (id : Option ℤ) (is : IdTrees) (before between : List Place) (r : Result (Unit {0}) AllocError) (after : List Place)
     → between ≡ before ++ own_place t id is → OnOk r (after ≡ between ++ inner_places t is) → OnOk r (after ≡ before ++ field_places (field name t nullable es) (ids id is))
 field-more name t nullable es id is before between (Ok x) after own inner = inner ∙ ap (λ ps. ps ++ inner_places t is) own ∙ append_assoc before (own_place t id is) (inner_places t is)

@@ -1,4 +1,4 @@
--- What equal ids say of the fields that hold them.
+-- What equal ids say of the fields that have them.
 use Rattle.std.proofs.Common.{◌≡◌, ℤ, suc, List, [], ◌∷◌, length, Option, refl, ap}
 use Rattle.ipc_base.specs.IdTrees.{IdTree, ids, IdTrees, no_ids, more_ids, all_ids_view}
 use Rattle.ipc_base.specs.declared.ipc.IpcField.{IpcField}

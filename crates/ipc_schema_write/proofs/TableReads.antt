@@ -1,4 +1,4 @@
--- The tables of fields that are to be written mean the fields.
+-- The tables of fields to be written mean the fields.
 use Rattle.std.proofs.Common.{◌≡◌, ℕ, suc, ◌+◌, ◌≤◌, false, cond, List, [], ◌∷◌, length, nat_eq, Option, Some, None, Result, Ok, refl, ap, sym, ◌∙◌, arith}
 use Rattle.std.proofs.lemmas.Bool.Decides.{nat_tests}
 use Rattle.std.specs.Prelude.{slice_get, string_bytes}
@@ -36,7 +36,7 @@ pairs-go v k (p ∷ ps) es each =
     (r.0, ap (table_in v) (sym same) ∙ r.1, r.2)) in
     rw (at_k, key, value) rest
 
--- a vector of pairs, none where there is no pair
+-- A vector of pairs; none if there is no pair.
 pub pairs-read : (r : Result (Option Vector) TableFault) (ps : List KeyValue) → ArePairTables r ps → given (made r) pairs_at ≡ Some (put_pairs (pairs_in ps) [])
 unfolding pairs_at
 pairs-read r [] is = rw is refl

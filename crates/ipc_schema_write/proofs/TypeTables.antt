@@ -80,7 +80,7 @@ date-table u = record { not_single = refl; not_group = refl; reads = λ s held. 
     weightless Day = refl
     weightless day_millisecond = refl
 
--- a time whose unit its width can hold
+-- A time whose unit its width allows.
 time-table : (u : UnitTag) (width : ℤ) (p : Plain) → time_of u (kept32 width) ≡ Some p → plain_weight p ≡ 0 → IsPlainTable (Time (record { unit = u; bit_width = width })) p
 unfolding plain_at
 time-table u width p h light = record { not_single = refl; not_group = refl; reads = λ s held. rw (held.0, held.1) h; weighs = sym light }

@@ -1,4 +1,5 @@
--- The message of a schema that was written begins a stream: its version is 5, and its length is a multiple of 8.
+-- The schema message that was written begins a stream: its version is 5, and
+-- its length is a multiple of 8.
 use Rattle.std.proofs.Common.{◌≡◌, ℕ, ◌+◌, ◌*◌, ◌%◌, List, length, Some, Ok, refl, ap, ◌∙◌, arith}
 use Rattle.ipc_parts.specs.Holds.{HoldsRoot, count_parts, count_slots, spot}
 use Rattle.ipc_parts.specs.Sizes.{message_size, parts_size, size_of, slots_size, whole}

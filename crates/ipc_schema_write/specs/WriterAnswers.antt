@@ -1,4 +1,5 @@
--- What writing a schema answers.
+-- The result of writing a schema.
+-- (Arrow columnar format, "Schema message"; Schema.fbs and Message.fbs.)
 use Rattle.std.specs.Prelude.{ℕ, pos, ◌≡◌, ◌%◌, ◌^◌, ◌≤◌, AllPairs, Bool, if◌then◌else◌, List, length, None, Some, Result, Ok, Err, Vec}
 use Rattle.std.specs.declared.alloc.Global.{Global}
 use Rattle.lower.specs.Counts.{fields_levels}
@@ -27,15 +28,15 @@ use Rattle.ipc_model.specs.Streams.{Head}
 use Rattle.ipc_model.specs.Writable.{AreWritable, IsWritable, SameUnderId, most_places, weight}
 use Rattle.ipc_views.specs.declared.schema.MetadataVersion.TheVariants.{V5}
 
--- the greatest weight of a schema that is written
+-- The greatest weight of a schema that can be written.
 abbrev pub max_weight : ℕ
 max_weight = 2 ^ 30
 
--- whether the numbers of bodies have their lowest byte first
+-- The byte order that a flag means: little-endian, or big-endian.
 abbrev pub byte_order : Bool → Endianness
 byte_order is_little_endian = if is_little_endian then Little else Big
 
--- fields that can be written with these ids, whatever their weight
+-- The fields can be written with these ids, whatever their weight.
 pub record AreWritableWith (fs : FieldTrees) (is : IdTrees) : Type 0 where
   pub fits : AllFit fs is
   pub types : AreWritable fs
@@ -43,51 +44,56 @@ pub record AreWritableWith (fs : FieldTrees) (is : IdTrees) : Type 0 where
   pub few_places : length (places fs is) ≤ most_places
   pub values : AllPairs SameUnderId (places fs is)
 
--- what refuses such fields: their ids are of another shape, or fit and yet they can't be written with these
+-- Why fields can't be written: their ids have another shape; or the ids fit, and the
+-- fields can't be written with them.
 abbrev pub RefusesFields : FieldTrees → IdTrees → Fault → Type 0
 RefusesFields fs is Memory = Unit {0}
 RefusesFields fs is (Argument FieldsShape) = AllFit fs is → ⊥
 RefusesFields fs is (Argument NotWritable) = AllFit fs is × (AreWritableWith fs is → ⊥)
 RefusesFields fs is _ = ⊥
 
--- what refuses a schema with these ids
+-- Why a schema can't be written with these ids, by each error.
 abbrev pub RefusesSchema : Fault → FieldTrees → Pairs → IdTrees → Type 0
 RefusesSchema Memory fs es is = Unit {0}
 RefusesSchema (Argument FieldsShape) fs es is = AllFit fs is → ⊥
 RefusesSchema (Argument NotWritable) fs es is = AllFit fs is × (IsWritable fs es is → ⊥)
 RefusesSchema _ _ _ _ = ⊥
 
--- what is written of it: its normal form and the ids, with the order of the bytes of bodies
+-- What is written of a schema: its normal form with the ids, and the byte order of its bodies.
 abbrev pub written_as : Endianness → FieldTrees → Pairs → IdTrees → Schema
 written_as order fs es is = record { fields = norm_fields fs; metadata = es; ids = is; order = order }
 
--- with the lowest byte of numbers first
+-- What is written of a schema whose bodies are little-endian.
 abbrev pub written : FieldTrees → Pairs → IdTrees → Schema
 written fs es is = written_as Little fs es is
 
--- wherever the table stands in a message it means the schema, and it weighs as much; it lists no features
+-- At any offset of a message the table means the schema, and it weighs as much; it has no features.
 pub record IsSchemaTable (order : Endianness) (s : SchemaTable) (fs : FieldTrees) (es : Pairs) (is : IdTrees) : Type 0 where
   pub reads : (m : List ℕ) (p : ℕ) → HoldsPart m p (table (schema_slots s)) → size_of (table (schema_slots s)) ≤ length m
       → schema_at (spot m p) ≡ Some (written_as order fs es is)
   pub weighs : schema_weight s ≡ weight fs es
   pub bare : s.features ≡ None
 
+-- The result is Ok exactly if the schema can be written, unless an allocation fails; its
+-- value is then the schema's table.
 abbrev pub WritesTable : Endianness → Result SchemaTable Fault → FieldTrees → Pairs → IdTrees → Type 0
 WritesTable order (Ok s) fs es is = IsWritable fs es is × IsSchemaTable order s fs es is
 WritesTable order (Err e) fs es is = RefusesSchema e fs es is
 
--- what a stream begins with whose first message this is: version 5 has no buffer in front of a union's own
+-- The schema message of a stream that is written: the schema in its normal form, and version 5.
 abbrev pub written_head_as : Endianness → FieldTrees → Pairs → IdTrees → Head
 written_head_as order fs es is = record { schema = written_as order fs es is; version = V5 }
 
--- the bytes are the message of the table of a schema that lists no features, with no body
+-- The bytes are a message of version V5 without a body, whose header is the
+-- table of a schema without features.
 pub record IsSchemaMessage (bytes : List ℕ) : Type 0 where
   pub table : SchemaTable
   pub bare : table.features ≡ None
   pub encoding : IsEncoding bytes (message_slots (record { version = V5; header = a_schema table; body_length = pos 0; custom_metadata = None }))
 
--- the bytes mean the schema, are no more than its weight, begin a stream, need no padding, and are a message as it is written,
--- whose schema lists no features
+-- The result is Ok exactly if the schema can be written, unless an allocation fails. The bytes mean
+-- the schema and begin a stream; they are at most as many as its weight, and a multiple of 8. They
+-- are laid out as messages are written, and the schema has no features.
 abbrev pub WritesSchema : Endianness → Result (Vec ℕ Global) Fault → FieldTrees → Pairs → IdTrees → Type 0
 WritesSchema order (Ok bytes) fs es is =
     IsWritable fs es is × (schema_of bytes.items ≡ Some (written_as order fs es is)) × (length bytes.items ≤ weight fs es)

@@ -34,18 +34,18 @@ use Rattle.ipc_sessions.specs.Sessions.{IsEndedFile}
 use Rattle.ipc_sessions.specs.Steps.{AreWritten, IsCreation, RefusesCreation, TakesChunks}
 use Rattle.ipc_sessions.proofs.Ends.{front_before}
 
--- all that a vector holds stands before its place
+-- All bytes of a vector are before its offset.
 vector-before : (v : Vec ℕ Global) → before (vector v) ≡ v.items
 vector-before v = front_before (vector v) (omega (arith, v.ok)) ∙ take_all v.len v.items (omega (arith, v.ok))
 
--- a writer that was started over an empty memory
+-- A writer that was started with empty memory.
 pub begun : (n p a : FileSeen (Vec ℕ Global)) → HasNothing vector n → n.device.items ≡ [] → Remains true vector n p → Remains true vector p a → Agrees vector a [] []
 begun n p a nothing empty pairs_kept start_kept =
     let none : before (vector n.device) ≡ [] = vector-before n.device ∙ empty in
     let first : Agrees vector n [] [] = subst (λ (xs : List ℕ). Agrees vector n xs []) none nothing.agrees in
     start_kept.kept refl true [] [] (pairs_kept.kept refl true [] [] first)
 
--- ---- what a writer has that was made, had pairs set, was started, took chunks and ended its file
+-- ---- a new writer, its pairs, its start, its chunks and its end
 
 module _ (n p a b c : FileSeen (Vec ℕ Global)) (v : Vec ℕ Global) (fs : FieldTrees) (es : Pairs) (is : IdTrees) (order : Endianness) (pairs : Pairs) (cs : List Chunk) (file : IsFileOf n fs es is order []) (nothing : HasNothing vector n)
     (empty : n.device.items ≡ []) (paired : TakesPairs n p pairs) (pairs_kept : Remains true vector n p) (started : IsSameFile p a) (starts : StartsWith p a) (start_kept : Remains true vector p a) (took : TakesChunks true vector a b cs)

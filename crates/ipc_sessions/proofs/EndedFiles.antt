@@ -1,4 +1,4 @@
--- What is read of a file that a session left, and that it may be gone on with.
+-- What is read of a file that a session left, and that it can be appended to.
 use Rattle.std.proofs.Common.{◌≡◌, ℕ, ◌+◌, ◌-◌, ◌<◌, ◌≤◌, max, Bool, true, List, [], ◌∷◌, ◌++◌, length, take, Some, refl, sym, ap, ap₂, ◌∙◌, subst, arith, length-append, length-take-le}
 use Rattle.std.proofs.lemmas.List.{length-map}
 use Rattle.std.proofs.Math.Seq.{take-append-add}
@@ -47,7 +47,7 @@ written_file bytes order fs es is pairs cs h =
     let read = ended_law true bytes (written_as order fs es is) pairs cs h in
     record { dictionaries = read.dictionaries; blocks = read.blocks; file = read.file; stream = read.stream refl }
 
--- ---- that it may be gone on with
+-- ---- that it can be appended to
 
 module _ (a : FileSeen (Unit {0})) (m : FileMetadata) (is_stream : Bool) (bytes : List ℕ) (cs : List Chunk) (is : metadata_of bytes ≡ Some m) (h : IsWholeFile is_stream a bytes cs) where
   metadata-is : file_so_far (head_of_file a).schema a.pairs a.dictionaries a.blocks (length bytes) ≡ m
@@ -70,7 +70,7 @@ module _ (a : FileSeen (Unit {0})) (m : FileMetadata) (is_stream : Bool) (bytes 
       let lengths : length a.blocks ≡ length cs = sym (length-map a.blocks _) ∙ ap length chunks ∙ length-map cs Some in
       absurd (omega (arith, lengths, ap length e, ap length empty))
 
-  -- its bytes before the place where writing goes on
+  -- The bytes before its append position.
   module _ (may : MayGoOn m) where
     open_front : IsOpenFile is_stream a h.front cs
     open_front = h.open_front

@@ -17,9 +17,9 @@ use Rattle.ipc_sessions.specs.Sessions.{IsEndedFile, taken_of}
 use Rattle.ipc_sessions.specs.Steps.{AreWritten, EndsSession, Leaves, TakesChunks}
 use Rattle.ipc_sessions.proofs.Writes.{done_all, no_more_step, onward_step, takes_all}
 
--- ---- nothing stands behind the end
+-- ---- there is nothing after the end
 
--- what stands before a place that is inside
+-- The bytes before an offset that is inside.
 pub front_before : (m : Memory) → m.place ≤ length m.whole → before m ≡ take m.place m.whole
 front_before m inside =
     let none : m.place - length m.whole ≡ 0 = omega (arith, inside) in
@@ -72,7 +72,7 @@ module _ {W : Type 0} (known grows : Bool) (failures room : W → ℕ) (memory :
   }
   session_leaves (Err e) sent ends reaches remains = record { onward = λ k inside. onward-all (Err e) sent k inside; ended = λ k. tt }
 
--- no call of a device failed, behind others that didn't
+-- No call of a device failed, after others that didn't.
 pub done_from : {W : Type 0} (failures : W → ℕ) (r : Result (Unit {0}) Fault) (left mid first : W) → OnOk r (failures left ≡ failures mid) → failures mid ≡ failures first → OnOk r (failures left ≡ failures first)
 done_from failures (Ok x) left mid first e f = e ∙ f
 done_from failures (Err x) left mid first e f = tt

@@ -1,4 +1,4 @@
--- What a session does that goes on with a file.
+-- What a session does that appends to a file.
 use Rattle.std.proofs.Common.{◌≡◌, ◌⊎◌, inl, inr, ℕ, ◌+◌, ◌≤◌, Bool, false, IsTrue, List, [], ◌∷◌, ◌++◌, drop, length, map, take, Some, None, Result, Ok, Err, OnOk, refl, sym, ap, ◌∙◌, subst, arith, append_assoc, append-nil, length-drop}
 use Rattle.std.proofs.lemmas.List.{take-append-drop}
 use Rattle.std.specs.Prelude.{Vec}
@@ -51,7 +51,7 @@ module _ {W : Type 0} (known : Bool) (memory : W → Memory) (m : FileMetadata) 
 
   module _ (ended : (is_stream : Bool) (before : List Chunk) → HoldsBytes is_stream (memory w.device) w [] before → (memory w.device).place ≤ length (memory w.device).whole → NoMore (memory w.device) w.size
       → IsEndedFile is_stream (memory c).whole (head_of_file w).schema w.pairs (before ++ cs)) where
-    -- behind a file that another session left
+    -- After a file that another session left.
     from-ended : GoesOnAgain known memory m device w → (is_stream : Bool) (schema : Schema) (pairs : Pairs) (before : List Chunk) → IsEndedFile is_stream (memory device).whole schema pairs before
         → IsEndedFile is_stream (memory c).whole schema pairs (before ++ cs)
     from-ended again is_stream schema pairs before h =
@@ -61,7 +61,7 @@ module _ {W : Type 0} (known : Bool) (memory : W → Memory) (m : FileMetadata) 
         ended-as is_stream (memory c).whole (head_of_file w).schema schema w.pairs pairs (before ++ cs) (before ++ cs) (ap (λ (x : Head). x.schema) (sym head) ∙ h.schema_is) same refl
         (ended is_stream before (again k is is_stream h.writer before h.whole) stands-inside no-more-there)
 
-    -- behind one of others
+    -- After a file that another program wrote.
     from-foreign : GoesOnWith known memory m device w → (schema : Schema) (pairs : Pairs) (before : List Chunk) → IsForeignFile false (memory device).whole schema pairs before
         → IsEndedFile false (memory c).whole schema pairs (before ++ cs)
     from-foreign gives schema pairs before h =
@@ -89,7 +89,7 @@ module _ {W : Type 0} (known : Bool) (memory : W → Memory) (m : FileMetadata) 
   adds_ok (Ok x) l again gives = one-more (l.ended k) again gives
   adds_ok (Err e) l again gives = tt
 
-  -- what stays whatever is answered
+  -- What stays, whatever the calls return.
   pub keeps_old : (r : Result (Unit {0}) Fault) → Leaves known memory w c r cs → KeepsOld m (memory device).whole (memory c).whole
   keeps_old r l =
       let p = goes_on m in
@@ -105,7 +105,7 @@ module _ {W : Type 0} (known : Bool) (memory : W → Memory) (m : FileMetadata) 
 
 -- ---- which are refused
 
--- nothing refuses one of itself that may be gone on with
+-- Unless an allocation or the device fails, a file that can be appended to isn't refused.
 refuses-not : (m : FileMetadata) (e : Fault) → OwnFault e (MayGoOn m → RefusesToGoOn m e → ⊥)
 refuses-not m (Argument NoRecordBlocks) = λ may h. may.some_blocks h
 refuses-not m (OutOfSpec UnexpectedNegativeInteger) = λ may h. may.natural h
@@ -158,7 +158,7 @@ as_read P old mid read m e f is h m' is' =
     let same : m ≡ m' = some-same m m' (sym there ∙ is') in
     subst (λ (x : FileMetadata). P x old) same (subst (λ (xs : List ℕ). P m xs) (f ∙ e) (h (ap metadata_of f ∙ is)))
 
--- what is refused of the bytes that were read is refused of those that were there
+-- What is refused of the bytes that were read is refused of those that were there.
 refuses-read : (known : Bool) (old read : List ℕ) (m : FileMetadata) (e : Fault) → (IsTrue known → read ≡ old) → RefusesFile known m read e → RefusesFile known m old e
 refuses-read known old read m e same =
     claims_through e (RefusesToGoOn m e ⊎ HasNoDictionaries known m read e) (RefusesToGoOn m e ⊎ HasNoDictionaries known m old e)
@@ -180,7 +180,7 @@ own-three NoMemory known P Q R S f p q r = tt
 own-three (Io x) known P Q R S f p q r = tt
 own-three _ known P Q R S f p q r = f p q r
 
--- a file that has none, for this reason
+-- A file that has no metadata, for this reason.
 pub refused_unread : (known : Bool) (old mid : List ℕ) (place : ℕ) (e : Fault) → (IsTrue known → mid ≡ old) → (IsTrue known → place ≡ 0) → OwnFault e (FileFault e) → (IsTrue known → OwnFault e (metadata_of mid ≡ None))
     → (IsTrue known → OwnFault e (FileReason place mid e)) → RefusesSession known old e
 refused_unread known old mid place e same at =
@@ -205,12 +205,12 @@ session_refuses_no_old known bytes e k refused m is =
     ])
     refused
 
--- a failure that an error of a device tells of
+-- The failure that a device's error reports.
 pub io_fails : (e : Fault) (P : Type 0) → OnIo {X = Unit {0}} (Err e) P → IsIo e → P
 io_fails (Io x) P h io = h
 io_fails _ P h io = absurd io
 
--- by the count that a device had before calls that counted none
+-- By the count that a device had before calls that didn't fail.
 pub fails_from : (e : Fault) (old mid new : ℕ) → mid ≡ old → OnIo {X = Unit {0}} (Err e) (Rises mid new) → OnIo {X = Unit {0}} (Err e) (Rises old new)
 fails_from (Io x) old mid new same h = subst (λ (n : ℕ). Rises n new) same h
 fails_from _ old mid new same h = tt
@@ -221,7 +221,7 @@ told_from _ old mid new same h = h ∙ same
 
 -- ---- one after the other
 
--- one of some sessions, those before it and those behind it
+-- One of some sessions, those before it and those after it.
 pub at_index : (sessions : List (Vec (List AnyArray) Global)) (i : ℕ) (x : Vec (List AnyArray) Global) → take (i + 1) sessions ≡ take i sessions ++ x ∷ [] → sessions ≡ take i sessions ++ x ∷ drop (i + 1) sessions
 at_index sessions i x next =
     let rest = drop (i + 1) sessions in

@@ -60,7 +60,7 @@ not-started : (s : WriterState) → s ≡ Failed → s ≡ Started → ⊥
 not-started s e f = let both : Failed ≡ Started = sym e ∙ f in absurd cc
 
 module _ {W : Type 0} (known grows : Bool) (failures room : W → ℕ) (memory : W → Memory) (a b : FileSeen W) (columns : List AnyArray) where
-  -- a chunk that was taken
+  -- A chunk that was written.
   takes-ok : (x : Unit {0}) → SendsColumns known grows failures room memory a (Ok x) b columns → Appends known memory a (Ok x) b (chunk_written columns) → TakesChunks known memory a b (chunk_written columns ∷ [])
   takes-ok x sends appends = record {
     same = sends.step.same;
@@ -71,7 +71,7 @@ module _ {W : Type 0} (known grows : Bool) (failures room : W → ℕ) (memory :
     holds = λ k is_stream base cs h. appends.appended k is_stream base cs h;
   }
 
-  -- one that was refused, or sent in part
+  -- A chunk that was refused, or sent in part.
   takes-err : (e : Fault) → SendsColumns known grows failures room memory a (Err e) b columns → Appends known memory a (Err e) b (chunk_written columns) → TakesChunks known memory a b []
   takes-err (Io x) sends appends = record {
     same = sends.step.same;
@@ -120,7 +120,7 @@ module _ {W : Type 0} (known : Bool) (failures : W → ℕ) (memory : W → Memo
   written_more a m b (d ∷ cs) [] c r h last = absurd h
   written_more a m b (d ∷ cs) (x ∷ rs) c r h last = (h.0, (h.1.0, written_more h.0 m b cs rs c r h.1.1 last))
 
-  -- what they took
+  -- The chunks that they wrote.
   pub takes_all : (a b : FileSeen W) (cs : List (List AnyArray)) (rs : List (Result (Unit {0}) Fault)) → AreWritten known failures memory a cs rs b → TakesChunks known memory a b (taken_of cs rs)
   takes_all a b [] [] h = subst (λ (w : FileSeen W). TakesChunks known memory a w []) (sym h) (takes_none known memory a)
   takes_all a b [] (x ∷ rs) h = absurd h
@@ -129,7 +129,7 @@ module _ {W : Type 0} (known : Bool) (failures : W → ℕ) (memory : W → Memo
       subst (λ (xs : List Chunk). TakesChunks known memory a b xs) (sym (taken_one c cs r rs))
       (takes_both known memory a h.0 b (taken_of (c ∷ []) (r ∷ [])) (taken_of cs rs) h.1.0.takes (takes_all h.0 b cs rs h.1.1))
 
-  -- no call of the device failed, where the writer is still started
+  -- No call of the device failed if the writer is still started.
   pub done_all : (a b : FileSeen W) (cs : List (List AnyArray)) (rs : List (Result (Unit {0}) Fault)) → AreWritten known failures memory a cs rs b → b.state ≡ Started → failures b.device ≡ failures a.device
   done_all a b [] [] h s = ap (λ (w : FileSeen W). failures w.device) h
   done_all a b [] (x ∷ rs) h s = absurd h

@@ -1,4 +1,5 @@
--- Sessions on a file: which chunks they took, which files one can begin with, and what they leave.
+-- Append sessions on a file: which chunks they wrote, with which files one
+-- can begin, and what they leave.
 -- (Arrow columnar format, "IPC File Format".)
 use Rattle.std.specs.Prelude.{◌≡◌, ◌⊎◌, ℕ, ◌^◌, ◌<◌, ◌≤◌, Bool, false, IsTrue, List, [], ◌∷◌, ◌++◌, length, map, take, None, Some, Result, Vec, is_ok}
 use Rattle.std.specs.declared.alloc.Global.{Global}
@@ -20,34 +21,35 @@ use Rattle.ipc_files.specs.Files.{FileFault, FileReason}
 use Rattle.ipc_file_write.specs.Appends.{MayGoOn, RefusesFile}
 use Rattle.ipc_file_write.specs.FileWriters.{FileSeen, IsWholeFile, head_of_file}
 
--- ---- what was taken
+-- ---- chunks that were written
 
--- the writes of some chunks, each with whether it was Ok
+-- The writes of some chunks, each with whether it returned Ok.
 abbrev pub writes_of : List (List AnyArray) → List (Result Unit Fault) → List (Call × Bool)
 writes_of (c ∷ cs) (r ∷ rs) = (write_call (chunk_written c), is_ok r) ∷ writes_of cs rs
 writes_of _ _ = []
 
--- the chunks that a session took, where its writes answered this
+-- The chunks that a session wrote: those whose `write` returned Ok.
 abbrev pub taken_of : List (List AnyArray) → List (Result Unit Fault) → List Chunk
 taken_of cs rs = taken (writes_of cs rs)
 
--- those of some sessions, one after the other
+-- The chunks that some sessions wrote, in order.
 abbrev pub all_taken_of : List (Vec (List AnyArray) Global) → List (Vec (Result Unit Fault) Global) → List Chunk
 all_taken_of (cs ∷ rest) (rs ∷ answers) = taken_of cs.items rs.items ++ all_taken_of rest answers
 all_taken_of _ _ = []
 
 -- ---- files
 
--- A file that a session left: a writer ended it, with this schema in its normal form, these pairs and these chunks. Where it is a stream
--- too, it is one of the same without its first eight bytes.
+-- The bytes are a file that a writer finished, with this schema in its normal form, these pairs and
+-- these chunks. If `is_stream`, it is a stream of the same without its first eight bytes.
 pub record IsEndedFile (is_stream : Bool) (bytes : List ℕ) (schema : Schema) (pairs : Pairs) (cs : List Chunk) : Type 0 where
   pub writer : FileSeen (Unit {0})
   pub whole : IsWholeFile is_stream writer bytes cs
   pub schema_is : (head_of_file writer).schema ≡ schema
   pub pairs_are : writer.pairs ≡ pairs
 
--- One that others wrote: its dictionaries and its blocks have a meaning, and need no byte behind the place where writing goes on. Its schema
--- and its chunks are seen in their normal form, and it is taken for no stream.
+-- The bytes are a file that another program wrote: its dictionaries and its blocks have a meaning,
+-- and need no byte after the append position. Its schema and its chunks are in their normal form,
+-- and it isn't taken for a stream.
 pub record IsForeignFile (is_stream : Bool) (bytes : List ℕ) (schema : Schema) (pairs : Pairs) (cs : List Chunk) : Type 0 where
   pub no_stream : is_stream ≡ false
   pub metadata : FileMetadata
@@ -59,70 +61,80 @@ pub record IsForeignFile (is_stream : Bool) (bytes : List ℕ) (schema : Schema)
   pub pairs_are : metadata.pairs ≡ pairs
   pub chunks_are : map normal_chunk chunks ≡ cs
 
--- a file that a session can begin with
+-- The bytes are a file that can be appended to, if the limits allow it: a writer finished
+-- it, or another program wrote it.
 abbrev pub IsOldFile : Bool → List ℕ → Schema → Pairs → List Chunk → Type 0
 IsOldFile is_stream bytes schema pairs cs = IsEndedFile is_stream bytes schema pairs cs ⊎ IsForeignFile is_stream bytes schema pairs cs
 
 -- ---- what sessions leave
 
--- An old file became one that has these chunks more, with its schema and its pairs; it is a stream where it was one.
+-- If the old bytes are a file that can be appended to (`IsOldFile`), the new ones are this
+-- file with these chunks more, finished by a writer. Its schema and its pairs stay, and it
+-- is still a stream if it was one.
 abbrev pub GainsChunks : List ℕ → List ℕ → List Chunk → Type 0
 GainsChunks old new cs =
     (is_stream : Bool) (schema : Schema) (pairs : Pairs) (before : List Chunk) → IsOldFile is_stream old schema pairs before → IsEndedFile is_stream new schema pairs (before ++ cs)
 
--- This many sessions did so, one after the other; without one the file is as it was.
+-- So many sessions, one after the other, appended these chunks to a file. After at
+-- least one session the file is one that a writer finished; without a session it
+-- is the kind of file that it was.
 pub record AddsInTurn (count : ℕ) (old new : List ℕ) (cs : List Chunk) : Type 0 where
   pub some : 0 < count → GainsChunks old new cs
   pub any : (is_stream : Bool) (schema : Schema) (pairs : Pairs) (before : List Chunk) → IsOldFile is_stream old schema pairs before → IsOldFile is_stream new schema pairs (before ++ cs)
   pub ended : (is_stream : Bool) (schema : Schema) (pairs : Pairs) (before : List Chunk) → IsEndedFile is_stream old schema pairs before → IsEndedFile is_stream new schema pairs (before ++ cs)
 
--- What stays of a file with these metadata, whatever the calls of a session answer: it is no shorter, nothing before the place where writing
--- went on was changed, and these metadata give the dictionaries and the chunks that they gave.
+-- What stays of a file with this metadata, whatever the calls of a session return. The file is no
+-- shorter, and no byte before the append position changed. The old metadata still give the
+-- dictionaries and the chunks, if their blocks need no byte after that position.
 pub record KeepsOld (m : FileMetadata) (old new : List ℕ) : Type 0 where
   pub longer : length old ≤ length new
   pub kept : take (goes_on m) new ≡ take (goes_on m) old
   pub gives : (known : Dictionaries) (cs : List Chunk) → MeansBefore m old known cs → BlocksMean m (all_of new) known cs
 
--- Memory and devices aside, no old file is refused that may be appended to.
+-- If a file that can be appended to is refused, the error is one of allocation or of the device.
 abbrev pub RefusesNoOld : FileMetadata → List ℕ → Fault → Type 0
 RefusesNoOld m old e =
     OwnFault e (MayGoOn m → (is_stream : Bool) (schema : Schema) (pairs : Pairs) (before : List Chunk) → IsOldFile is_stream old schema pairs before → ⊥)
 
--- the metadata of a file are refused
+-- The file has metadata, and can't be appended to.
 pub record CantGoOn (known : Bool) (bytes : List ℕ) (e : Fault) : Type 0 where
   pub metadata : FileMetadata
   pub is : IsTrue known → metadata_of bytes ≡ Some metadata
   pub refused : RefusesFile known metadata bytes e
 
--- the file has no metadata, for this reason
+-- The file has no metadata, for this reason.
 pub record HasNoMetadata (known : Bool) (bytes : List ℕ) (e : Fault) : Type 0 where
   pub kind : FileFault e
   pub none : IsTrue known → metadata_of bytes ≡ None
   pub reason : IsTrue known → FileReason 0 bytes e
 
--- Why a session is refused on a file of these bytes: it has no metadata, or they are refused. Memory and the devices tell nothing.
+-- Why a session can't begin on a file of these bytes: it has no metadata, or can't be appended to.
+-- Nothing is claimed of errors of allocation and of the device.
 abbrev pub RefusesSession : Bool → List ℕ → Fault → Type 0
 RefusesSession known bytes e = OwnFault e (HasNoMetadata known bytes e ⊎ CantGoOn known bytes e)
 
--- ---- what is read of a file that a session left
+-- ---- reading a file that a session left
 
--- Its metadata are this schema, these pairs and its blocks, which mean these chunks; without its first eight bytes a stream means them too,
--- where it is one.
+-- The file is read as this schema, these pairs and these chunks, which its blocks have. If
+-- `is_stream`, a stream without the first eight bytes means the same.
 pub record ReadsAs (is_stream : Bool) (bytes : List ℕ) (schema : Schema) (pairs : Pairs) (cs : List Chunk) : Type 0 where
   pub dictionaries : List Block
   pub blocks : List Block
   pub file : IsFile bytes (file_so_far schema pairs dictionaries blocks (length bytes)) cs
   pub stream : IsTrue is_stream → EndsStreamBehind bytes (record { schema = schema; version = V5 }) cs
 
+-- Theorem: a file that a writer finished is read as its schema, its pairs and its chunks.
 abbrev pub EndedLaw : Type 0
 EndedLaw = (is_stream : Bool) (bytes : List ℕ) (schema : Schema) (pairs : Pairs) (cs : List Chunk) → IsEndedFile is_stream bytes schema pairs cs → ReadsAs is_stream bytes schema pairs cs
 
--- One that has a chunk, and is no longer than a signed number of 64 bits can say, may be appended to.
+-- Theorem: a file that a writer finished, which has a chunk and is shorter than
+-- 2 ^ 63 bytes, can be appended to.
 abbrev pub MayLaw : Type 0
 MayLaw = (is_stream : Bool) (bytes : List ℕ) (schema : Schema) (pairs : Pairs) (c : Chunk) (cs : List Chunk) (m : FileMetadata) → IsEndedFile is_stream bytes schema pairs (c ∷ cs)
     → metadata_of bytes ≡ Some m → length bytes < 2 ^ 63 → MayGoOn m
 
--- Then its chunks need no byte behind the place where writing goes on.
+-- Theorem: the chunks of a file that a writer finished, and that can be appended to, need no
+-- byte after the append position.
 abbrev pub BeforeLaw : Type 0
 BeforeLaw = (is_stream : Bool) (bytes : List ℕ) (schema : Schema) (pairs : Pairs) (cs : List Chunk) (m : FileMetadata) → IsEndedFile is_stream bytes schema pairs cs → metadata_of bytes ≡ Some m
     → MayGoOn m → (known : Dictionaries) × MeansBefore m bytes known cs

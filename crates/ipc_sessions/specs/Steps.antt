@@ -1,4 +1,5 @@
--- The calls of a session: what its writes do, what its end leaves, and which calls are made of which writers.
+-- The calls of an append session: what its writes do, what its end leaves, and
+-- on which writers they are made.
 -- (Arrow columnar format, "IPC File Format".)
 use Rattle.std.specs.Prelude.{◌≡◌, ◌⊎◌, ℕ, ◌-◌, ◌≤◌, Bool, IsTrue, true, List, [], ◌∷◌, ◌++◌, length, Some, None, Result, Ok, Err, IfErr, OnOk, Vec, vec_capacity}
 use Rattle.std.specs.declared.alloc.Global.{Global}
@@ -32,9 +33,10 @@ use Rattle.ipc_file_write.specs.Writes.{NamesOne, WritesExactly}
 use Rattle.ipc_file_write.specs.WrittenFiles.{HasTooMany}
 use Rattle.ipc_sessions.specs.Sessions.{CantGoOn, HasNoMetadata, IsEndedFile, taken_of}
 
--- ---- what they do
+-- ---- what the calls do
 
--- Some writes took these chunks, one behind the other: the file has just these more, and nothing before the place changed.
+-- Some writes appended exactly these chunks to the file, in order, and changed no byte
+-- before the offset where they began.
 pub record TakesChunks {W : Type 0} (known : Bool) (memory : W → Memory) (a b : FileSeen W) (cs : List Chunk) : Type 0 where
   pub same : IsSameFile a b
   pub was : b.state ≡ Started → a.state ≡ Started
@@ -44,8 +46,9 @@ pub record TakesChunks {W : Type 0} (known : Bool) (memory : W → Memory) (a b 
   pub holds : IsTrue known → (is_stream : Bool) (base : List ℕ) (before : List Chunk) → HoldsBytes is_stream (memory a.device) a base before
       → HoldsBytes is_stream (memory b.device) b base (before ++ cs)
 
--- A writer took these chunks more, and then its `finish` answered this: nothing before its place changed. Where it was Ok, and no more stood
--- behind the place than the file has that is appended to, all of the device is a file that a session left.
+-- A writer wrote these chunks, and then `finish` returned `end`: no byte before its offset changed.
+-- If `end` is Ok, the device is a whole file with these chunks more. This needs that after the
+-- offset there were no more bytes than the file to append to has there.
 pub record Leaves {W : Type 0} (known : Bool) (memory : W → Memory) (a : FileSeen W) (device : W) (end : Result Unit Fault) (cs : List Chunk) : Type 0 where
   pub onward : IsTrue known → (memory a.device).place ≤ length (memory a.device).whole → Onward (memory a.device) (memory device)
   pub ended : IsTrue known → OnOk end ((is_stream : Bool) (before : List Chunk) → HoldsBytes is_stream (memory a.device) a [] before
@@ -54,10 +57,10 @@ pub record Leaves {W : Type 0} (known : Bool) (memory : W → Memory) (a : FileS
 
 -- ---- which calls are made
 
--- A write of these columns answers this: it is Ok exactly where the writer may take them, memory and
--- devices aside; a dictionary that it names is one that is refused. The writer fails where its device
--- did, and is started as before where it was refused. While it is started, no call of its device
--- failed.
+-- The result of `write` of these columns. It is Ok exactly if the writer accepts them, unless an
+-- allocation or the device fails. If an error names a dictionary, that one is refused. The
+-- writer is failed after an error of its device, and still started after a refusal. While it is
+-- started, no call of its device failed.
 pub record WritesNext {W : Type 0} (known : Bool) (failures : W → ℕ) (memory : W → Memory) (a : FileSeen W) (columns : List AnyArray) (r : Result Unit Fault) (b : FileSeen W) : Type 0 where
   pub exact : WritesExactly a columns None r
   pub named : IfErr r (NamesOne a columns)
@@ -65,14 +68,14 @@ pub record WritesNext {W : Type 0} (known : Bool) (failures : W → ℕ) (memory
   pub done : b.state ≡ Started → failures b.device ≡ failures a.device
   pub takes : TakesChunks known memory a b (taken_of (columns ∷ []) (r ∷ []))
 
--- writes one after the other, each of the writer that the one before it left
+-- Writes one after the other, each made on the writer that the one before it left.
 abbrev pub AreWritten : {W : Type 0} → Bool → (failures : W → ℕ) → (W → Memory) → FileSeen W → List (List AnyArray) → List (Result Unit Fault) → FileSeen W → Type 0
 AreWritten known failures memory a [] [] b = b ≡ a
 AreWritten {W = W} known failures memory a (c ∷ cs) (r ∷ rs) b = (m : FileSeen W) × (WritesNext known failures memory a c r m × AreWritten known failures memory m cs rs b)
 AreWritten known failures memory a _ _ b = ⊥
 
--- A session that creates a file in memory: its writer was started over an empty memory, with this schema, these ids and these pairs, and
--- each chunk was written.
+-- A session that creates a file in memory: its writer is started with empty memory, this schema,
+-- these ids and these pairs, and each chunk is written.
 pub record IsCreation (fields : FieldTrees) (metadata : Pairs) (ids : IdTrees) (order : Endianness) (pairs : Pairs) (chunks : List (List AnyArray)) (answers : List (Result Unit Fault)) : Type 0 where
   pub opened : FileSeen (Vec ℕ Global)
   pub started : opened.state ≡ Started
@@ -81,21 +84,21 @@ pub record IsCreation (fields : FieldTrees) (metadata : Pairs) (ids : IdTrees) (
   pub last : FileSeen (Vec ℕ Global)
   pub writes : AreWritten true (λ v. 0) vector opened chunks answers last
 
--- with some answers one leaves a writer of which this holds
+-- With some results, such a session leaves a writer of which P holds.
 pub record MayCreate (fields : FieldTrees) (metadata : Pairs) (ids : IdTrees) (order : Endianness) (pairs : Pairs) (chunks : List (List AnyArray)) (P : FileSeen (Vec ℕ Global) → Type 0) : Type 0 where
   pub answers : List (Result Unit Fault)
   pub creation : IsCreation fields metadata ids order pairs chunks answers
   pub holds : P creation.last
 
--- the vector of a new writer has none for what its file begins with
+-- The vector of a new writer has no room for the beginning of its file.
 pub record BeginsFull (fields : FieldTrees) (metadata : Pairs) (ids : IdTrees) (order : Endianness) (pairs : Pairs) : Type 0 where
   pub new : FileSeen (Vec ℕ Global)
   pub file : IsFileOf new fields metadata ids order pairs
   pub full : HasNoRoom new.device (IsBeginning new)
 
--- Why a file isn't created: memory, of which a device that is memory tells by its own fault, where it has no room for the beginning or the end;
--- ids that don't fit the schema, one that can't be written, or one that is too heavy with the pairs; or a writer that the writes left failed,
--- or with too many blocks.
+-- Why a file isn't created: an allocation failed, or the memory had no room for the beginning or
+-- the end. The ids don't fit the schema, or it can't be written or is too heavy with the pairs. Or
+-- the writes left a writer that has failed, or has too many blocks.
 abbrev pub RefusesCreation : FieldTrees → Pairs → IdTrees → Endianness → Pairs → List (List AnyArray) → Fault → Type 0
 RefusesCreation fs es is order ps chunks NoMemory = Unit {0}
 RefusesCreation fs es is order ps chunks (Io e) = BeginsFull fs es is order ps ⊎ MayCreate fs es is order ps chunks (λ w. HasNoRoom w.device (IsEnding w))
@@ -105,8 +108,8 @@ RefusesCreation fs es is order ps chunks (Argument TooLarge) = (¬ (file_weight 
 RefusesCreation fs es is order ps chunks (State faults.Failed) = MayCreate fs es is order ps chunks (λ w. w.state ≡ Failed)
 RefusesCreation fs es is order ps chunks _ = ⊥
 
--- The calls of a started writer: each chunk is written, and `finish` is called last, which answers
--- `end`. The device is what that call left. If the end is Ok, no call of the device failed.
+-- The calls of a started writer: each chunk is written, and `finish` is called last and returns
+-- `end`. `left` is the device after that. If the end is Ok, no call of the device failed.
 pub record EndsSession {W : Type 0} (known grows : Bool) (failures room : W → ℕ) (memory : W → Memory) (opened : FileSeen W) (chunks : List (List AnyArray)) (answers : List (Result Unit Fault)) (end : Result Unit Fault) (left : W) : Type 0 where
   pub last : FileSeen W
   pub writes : AreWritten known failures memory opened chunks answers last
@@ -116,15 +119,16 @@ pub record EndsSession {W : Type 0} (known grows : Bool) (failures room : W → 
   pub leaves : Leaves known memory opened left end (taken_of chunks answers)
   pub done : OnOk end (failures left ≡ failures opened.device)
 
--- A session by metadata that were read before: a writer goes on with the file, and these are its
--- calls. If the end is Ok, no call of the device failed.
+-- A session by metadata that were read before: a writer appends to the file, with these calls. If
+-- the end is Ok, no call of the device failed.
 pub record IsSession {W : Type 0} (known grows : Bool) (failures room : W → ℕ) (memory : W → Memory) (m : FileMetadata) (device : W) (chunks : List (List AnyArray)) (answers : List (Result Unit Fault)) (end : Result Unit Fault) (left : W) : Type 0 where
   pub opened : FileSeen W
   pub goes_on : GoesOn known memory m device opened
   pub calls : EndsSession known grows failures room memory opened chunks answers end left
   pub done : OnOk end (failures left ≡ failures device)
 
--- one by the metadata that the file has
+-- A session on a file: its metadata are read, a writer appends to it by these, with these calls,
+-- and `end` is the result of the last.
 pub record IsSessionOn {W : Type 0} (known grows : Bool) (failures room : W → ℕ) (memory : W → Memory) (device : W) (chunks : List (List AnyArray)) (answers : List (Result Unit Fault)) (end : Result Unit Fault) (left : W) : Type 0 where
   pub read : W
   pub same : IsTrue known → (memory read).whole ≡ (memory device).whole
@@ -133,7 +137,7 @@ pub record IsSessionOn {W : Type 0} (known grows : Bool) (failures room : W → 
   pub session : IsSession known grows failures room memory metadata read chunks answers end left
   pub done : OnOk end (failures left ≡ failures device)
 
--- A writer goes on with the file that begins where this device does, by the metadata that the file
+-- A writer appends to the file that begins where this device begins, by the metadata that the file
 -- has. No call of the device failed since these were read.
 pub record ResumesFile {W : Type 0} (known : Bool) (failures : W → ℕ) (memory : W → Memory) (device : W) (w : FileSeen W) : Type 0 where
   pub read : W
@@ -142,32 +146,34 @@ pub record ResumesFile {W : Type 0} (known : Bool) (failures : W → ℕ) (memor
   pub metadata_is : IsTrue known → metadata_of (memory device).whole ≡ Some metadata
   pub opens : OpensFile known failures memory metadata read w
 
--- the bytes of a file in memory, and the place in it
+-- The bytes and the offset of a file in memory.
 abbrev pub in_memory : MemFile (Vec ℕ Global) → Memory
 in_memory f = record { whole = f.inner.items; place = f.position }
 
--- how much it has room for behind that
+-- How many bytes after its offset a file in memory has room for.
 abbrev pub room_behind : MemFile (Vec ℕ Global) → ℕ
 room_behind f = vec_capacity f.inner - f.position
 
--- sessions one after the other, each on the file that the one before it ended
+-- Sessions one after the other, each on the file that the one before it ended.
 abbrev pub AreSessions : {W : Type 0} → (known grows : Bool) (failures room : W → ℕ) (memory : W → Memory) → W → List (Vec (List AnyArray) Global) → List (Vec (Result Unit Fault) Global) → W → Type 0
 AreSessions known grows failures room memory device [] [] left = left ≡ device
 AreSessions {W = W} known grows failures room memory device (cs ∷ rest) (rs ∷ answers) left =
     (next : W) × (IsSessionOn known grows failures room memory device cs.items rs.items (Ok tt) next × AreSessions known grows failures room memory next rest answers left)
 AreSessions known grows failures room memory device _ _ left = ⊥
 
--- Why one session is refused: the file has no metadata, or can't be appended to; or this is what its end answered, behind its writes.
+-- A session began on the file and its end returned this error.
 pub record EndsRefused {W : Type 0} (known grows : Bool) (failures room : W → ℕ) (memory : W → Memory) (device : W) (chunks : List (List AnyArray)) (e : Fault) : Type 0 where
   pub answers : List (Result Unit Fault)
   pub left : W
   pub session : IsSessionOn known grows failures room memory device chunks answers (Err e) left
 
+-- Why one append session is refused: the file has no metadata, can't be appended to,
+-- or its end returned this error.
 abbrev pub RefusesWhole : {W : Type 0} → (known grows : Bool) (failures room : W → ℕ) (memory : W → Memory) → W → List (List AnyArray) → Fault → Type 0
 RefusesWhole known grows failures room memory device chunks e =
     (HasNoMetadata known (memory device).whole e ⊎ CantGoOn known (memory device).whole e) ⊎ EndsRefused known grows failures room memory device chunks e
 
--- Of some sessions, those in front of one of them ended their file, and on what they left that one doesn't, for this reason.
+-- One of some sessions stops, for this reason; each session before it ended its file.
 pub record StopsInTurn {W : Type 0} (known grows : Bool) (failures room : W → ℕ) (memory : W → Memory) (device : W) (sessions : List (Vec (List AnyArray) Global)) (reason : W → List (List AnyArray) → Type 0) : Type 0 where
   pub done : List (Vec (List AnyArray) Global)
   pub refused : Vec (List AnyArray) Global
@@ -178,21 +184,24 @@ pub record StopsInTurn {W : Type 0} (known grows : Bool) (failures room : W → 
   pub made : AreSessions known grows failures room memory device done answers left
   pub why : reason left refused.items
 
--- why some sessions are refused: one of them is
+-- Why append sessions are refused: one of them is, on the file that those before it left.
 abbrev pub RefusesInTurn : {W : Type 0} → (known grows : Bool) (failures room : W → ℕ) (memory : W → Memory) → W → List (Vec (List AnyArray) Global) → Fault → Type 0
 RefusesInTurn known grows failures room memory device sessions e =
     StopsInTurn known grows failures room memory device sessions (λ left chunks. RefusesWhole known grows failures room memory left chunks e)
 
--- Why one session answers `Io`: a call failed that reads its device, or this is what its end answered, behind its writes.
+-- Why one append session returns a device's error: a call that reads its device failed,
+-- or its end returned this error.
 abbrev pub FailsWhole : {W : Type 0} → (known grows : Bool) (failures room : W → ℕ) (memory : W → Memory) → W → List (List AnyArray) → Fault → Type 0
 FailsWhole known grows failures room memory device chunks e = DeviceFails failures device ⊎ EndsRefused known grows failures room memory device chunks e
 
--- why some sessions do: one of them does
+-- Why append sessions return a device's error: one of them does, on the
+-- file that those before it left.
 abbrev pub FailsInTurn : {W : Type 0} → (known grows : Bool) (failures room : W → ℕ) (memory : W → Memory) → W → List (Vec (List AnyArray) Global) → Fault → Type 0
 FailsInTurn known grows failures room memory device sessions e =
     StopsInTurn known grows failures room memory device sessions (λ left chunks. FailsWhole known grows failures room memory left chunks e)
 
--- All sessions on a file in memory: the first created it, and each later one went on with it; these bytes are what the last one left.
+-- All sessions on a file in memory: the first created it, and each later one appended to it;
+-- `bytes` are what the last one left.
 pub record AreAllSessions (fields : FieldTrees) (metadata : Pairs) (ids : IdTrees) (order : Endianness) (pairs : Pairs) (first : List (List AnyArray)) (answers : List (Result Unit Fault))
     (later : List (Vec (List AnyArray) Global)) (others : List (Vec (Result Unit Fault) Global)) (bytes : List ℕ) : Type 0 where
   pub creation : IsCreation fields metadata ids order pairs first answers
@@ -202,7 +211,7 @@ pub record AreAllSessions (fields : FieldTrees) (metadata : Pairs) (ids : IdTree
   pub sessions : AreSessions true true (λ f. 0) room_behind in_memory created later others left
   pub bytes_are : left.inner.items ≡ bytes
 
--- The first session created the file, and of what that left this holds.
+-- The first session created the file, and P holds of it.
 pub record IsCreatedThen (fields : FieldTrees) (metadata : Pairs) (ids : IdTrees) (order : Endianness) (pairs : Pairs) (first : List (List AnyArray)) (P : MemFile (Vec ℕ Global) → Type 0) : Type 0 where
   pub answers : List (Result Unit Fault)
   pub creation : IsCreation fields metadata ids order pairs first answers
@@ -210,20 +219,22 @@ pub record IsCreatedThen (fields : FieldTrees) (metadata : Pairs) (ids : IdTrees
   pub file : IsEndedFile true created.inner.items (written_as order fields metadata ids) pairs (taken_of first answers)
   pub refused : P created
 
--- why a later one is refused
+-- Why a later session is refused, on the file that the first one created.
 abbrev pub RefusesLater : FieldTrees → Pairs → IdTrees → Endianness → Pairs → List (List AnyArray) → List (Vec (List AnyArray) Global) → Fault → Type 0
 RefusesLater fs es is order ps first later e =
     IsCreatedThen fs es is order ps first (λ created. RefusesInTurn true true (λ f. 0) room_behind in_memory created later e)
 
--- why a later one answers `Io`
+-- Why a later session returns a device's error, on the file that the first one created.
 abbrev pub FailsLater : FieldTrees → Pairs → IdTrees → Endianness → Pairs → List (List AnyArray) → List (Vec (List AnyArray) Global) → Fault → Type 0
 FailsLater fs es is order ps first later e =
     IsCreatedThen fs es is order ps first (λ created. FailsInTurn true true (λ f. 0) room_behind in_memory created later e)
 
--- Why they are refused, memory aside: the file isn't created, or a later one is refused.
+-- Why sessions on a file in memory are refused: the file isn't created, or a later session is
+-- refused. Nothing is claimed of errors of allocation and of the device.
 abbrev pub RefusesSessions : FieldTrees → Pairs → IdTrees → Endianness → Pairs → List (List AnyArray) → List (Vec (List AnyArray) Global) → Fault → Type 0
 RefusesSessions fs es is order ps first later e = OwnFault e (RefusesCreation fs es is order ps first e ⊎ RefusesLater fs es is order ps first later e)
 
--- why one of them answers `Io`: the memory has no room for what creates the file, or a later one does
+-- Why sessions on a file in memory return a device's error: the memory has no room for the file
+-- that is created, or a later session returns one.
 abbrev pub FailsSessions : FieldTrees → Pairs → IdTrees → Endianness → Pairs → List (List AnyArray) → List (Vec (List AnyArray) Global) → Fault → Type 0
 FailsSessions fs es is order ps first later e = RefusesCreation fs es is order ps first e ⊎ FailsLater fs es is order ps first later e

@@ -37,7 +37,7 @@ AreBuilt-next f ys vs i y v d h e are is =
     subst (AreBuilt (ys ++ y ∷ [])) (sym (ap (map f) split ∙ map-snoc f (take i vs) v))
     (AreBuilt-more ys (map f (take i vs)) y (f v) are is)
 
--- a field's part is the table of its slots
+-- A field's part is the table of the field.
 pub field_part-out : (f : Field) → field_part f ≡ table (field_slots f (map field_part (out-Field f).children.items))
 unfolding field_part
 field_part-out f = fold_out-Field Part field_step f

@@ -1,4 +1,4 @@
--- A number of 32 or 64 bits is kept as it is.
+-- A number of 32 or 64 bits stays the same.
 use Rattle.std.proofs.Common.{◌≡◌, ℤ, zero, suc, ◌^◌, ◌<◌, List, [], ◌∷◌, map, SFits, refl, sym, ap, ◌∙◌, arith}
 use Rattle.std.specs.Int.{w32, w64, cast_signed}
 use Rattle.std.specs.List.{All}
@@ -51,7 +51,7 @@ kept_buffer-is b (f, g) =
     ap (λ (z : ℤ). record { offset = z; length = kept_bytes64 b.length }) (kept_bytes64-is b.offset f)
     ∙ ap (λ (z : ℤ). record { offset = b.offset; length = z }) (kept_bytes64-is b.length g)
 
--- a list each of whose elements is kept
+-- A list each of whose elements stays the same.
 kept-all : {S : Type 0} (kept : S → S) (fits : S → Type 0) → ((s : S) → fits s → kept s ≡ s) → (ss : List S) → All fits ss → map kept ss ≡ ss
 kept-all kept fits one [] ok = refl
 kept-all kept fits one (s ∷ ss) ok =

@@ -36,7 +36,7 @@ use Rattle.ipc_tables.specs.Schemas.{endianness_number, version_number}
 use Rattle.ipc_tables.specs.Slots.{bit, bits32, bits64, kept32, kept64, kept_bytes32, kept_bytes64}
 use Rattle.ipc_tables.specs.Types.{date_unit_number, interval_unit_number, precision_number, time_unit_number, union_mode_number}
 
--- Numbers in slots.
+-- Numbers in fields.
 
 pub signed-read : (d : ℕ) (m : List ℕ) (p i q : ℕ) (z : ℤ) → slot_at m p i ≡ Ok (Some q) → number_at 4 m q ≡ Ok (bits32 z) → map_ok (cast_signed w32) (number_slot 4 d m p i) ≡ Ok (kept32 z)
 signed-read d m p i q z e f = ap (map_ok (cast_signed w32)) (number-read 4 d m p i q (bits32 z) e f)
@@ -51,7 +51,7 @@ flag-bit false = refl
 pub flag-read : (m : List ℕ) (p i q : ℕ) (b : Bool) → slot_at m p i ≡ Ok (Some q) → number_at 1 m q ≡ Ok (bit b) → map_ok flag (number_slot 1 0 m p i) ≡ Ok b
 flag-read m p i q b e f = ap (map_ok flag) (number-read 1 0 m p i q (bit b) e f) ∙ ap (λ c. Ok c) (flag-bit b)
 
--- an enumeration whose numbers give it back
+-- An enumeration that is read back from its numbers.
 pub unit-read : {E : Type 0} (number_of : E → ℕ) (of_number : ℕ → Result E TableFault) → ((e : E) → of_number (number_of e) ≡ Ok e)
     → (d : ℕ) (m : List ℕ) (p i q : ℕ) (e : E) → slot_at m p i ≡ Ok (Some q) → number_at 2 m q ≡ Ok (number_of e) → and_then (number_slot 2 d m p i) of_number ≡ Ok e
 unit-read number_of of_number back d m p i q e s f = ap (λ r. and_then r of_number) (number-read 2 d m p i q (number_of e) s f) ∙ back e

@@ -58,7 +58,7 @@ IsDictionary-holds : (m : List ℕ) (p : ℕ) (d : Option DictionaryEncoding) �
 IsDictionary-holds m p None e = absent-read m p 4 _ e
 IsDictionary-holds m p (Some d) (q, t, e, f, h) = (spot m t, table-read m p 4 q t (dictionary_slots d) e f h, IsEncodedBy-holds m t d h)
 
--- a field's table, with children that are held
+-- A field's table, with children that the message has.
 pub IsFieldHead-holds : (m : List ℕ) (p : ℕ) (f : Field) (kids : List Part) → HoldsPart m p (table (field_slots f kids))
     → IsFieldHead (spot m p) f × ((q : ℕ) × (t : ℕ) × (slot_at m p 5 ≡ Ok (Some q)) × (target_at m q ≡ Ok t) × HoldsPart m t (tables (parts_of kids)))
 IsFieldHead-holds m p f kids (v, size, a, b, ((q0, t0, e0, f0, g0, h0), ((q1, e1, f1, g1), ((q2, e2, f2, g2), ((q3, t3, e3, f3, g3, h3), rest))))) =
@@ -81,7 +81,7 @@ IsFieldHead-holds m p f kids (v, size, a, b, ((q0, t0, e0, f0, g0, h0), ((q1, e1
       (children.0, children.1, children.2, children.3, children.5),
     )
 
--- a field reads as it is, down to any level
+-- A field reads unchanged, down to any level.
 pub IsField-holds : (levels : ℕ) (m : List ℕ) (p : ℕ) (f : Field) → HoldsPart m p (field_part f) → IsField levels (spot m p) f
 IsField-holds zero m p f h = tt
 IsField-holds (suc levels) m p f h =

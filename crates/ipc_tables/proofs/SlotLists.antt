@@ -1,4 +1,4 @@
--- The slots of a table, one by one.
+-- The fields of a table, one by one.
 use Rattle.std.proofs.Common.{◌≡◌, ℕ, ◌^◌, ◌<◌, List, ◌∷◌, Option, None, Some, refl, arith}
 use Rattle.ipc_parts.specs.declared.build.Slot.{Slot}
 use Rattle.ipc_parts.specs.declared.build.Slot.TheVariants.{Absent, Number, Offset}

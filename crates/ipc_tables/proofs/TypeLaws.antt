@@ -48,7 +48,7 @@ tag-low LargeBinary = (omega arith, omega arith)
 tag-low LargeUtf8 = (omega arith, omega arith)
 tag-low LargeList = (omega arith, omega arith)
 
--- the ids of a union, where there are any
+-- The type ids of a union, if it has any.
 ids-optional : (m : List ℕ) (p i : ℕ) (ids : Option (Vec ℤ Global)) → HoldsOptional m p i (option_map (λ v. ids_part v.items) ids)
     → structs_slot signed32 4 m p i ≡ Ok (option_map (λ v. map kept_bytes32 v.items) ids)
 ids-optional m p i None e = absent-read m p i _ e

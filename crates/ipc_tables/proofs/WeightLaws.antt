@@ -131,7 +131,7 @@ length-map-part : (fs : List Field) → length (map field_part fs) ≡ length fs
 length-map-part [] = refl
 length-map-part (f ∷ fs) = omega (arith, length-map-part fs)
 
--- y is x with a proof beside each child
+-- y is x with a proof for each child.
 pub field-weighs : (f : Field) → IsWithinWeight f
 field-weighs = ind-Field IsWithinWeight (λ x y is.
     let kids = subst (λ z. AreWithinWeight z.children.items) is (within-weight y.children.items) in

@@ -1,4 +1,5 @@
 -- How many bytes a struct or a number of a vector takes.
+-- (Flatbuffers, "Internals": structs and vectors.)
 use Rattle.std.proofs.Common.{arith, ◌≡◌, ℕ, ℤ, ◌<◌, ◌++◌, length, length-append}
 use Rattle.byteorder.specs.Numbers.{length-bytes_low_first}
 use Rattle.ipc_parts.specs.Pads.{le}

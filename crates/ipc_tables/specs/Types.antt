@@ -1,4 +1,4 @@
--- The tables of Schema.fbs that describe a type: which slot is to hold what.
+-- The tables of Schema.fbs that describe a type: what each field of a table must have.
 use Rattle.std.specs.Prelude.{ℕ, ℤ, List, option_map, string_bytes}
 use Rattle.ipc_parts.specs.Pads.{le}
 use Rattle.ipc_parts.specs.Tree.{Part, Slots, no_slots, number, text}
@@ -23,61 +23,68 @@ use Rattle.ipc_tables.specs.declared.types.FieldType.TheVariants.{Null, Int, Flo
 use Rattle.ipc_tables.specs.Elements.{elements_of}
 use Rattle.ipc_tables.specs.Slots.{bit, bits32, number_slots, optional}
 
+-- The number of a precision in Precision.
 abbrev pub precision_number : Precision → ℕ
 precision_number Half = 0
 precision_number Single = 1
 precision_number Double = 2
 
+-- The number of a unit in DateUnit.
 abbrev pub date_unit_number : DateUnit → ℕ
 date_unit_number Day = 0
 date_unit_number day_millisecond = 1
 
+-- The number of a unit in TimeUnit.
 abbrev pub time_unit_number : TimeUnit → ℕ
 time_unit_number Second = 0
 time_unit_number Millisecond = 1
 time_unit_number Microsecond = 2
 time_unit_number Nanosecond = 3
 
+-- The number of a unit in IntervalUnit.
 abbrev pub interval_unit_number : IntervalUnit → ℕ
 interval_unit_number YearMonth = 0
 interval_unit_number DayTime = 1
 interval_unit_number MonthDayNano = 2
 
+-- The number of a mode in UnionMode.
 abbrev pub union_mode_number : UnionMode → ℕ
 union_mode_number Sparse = 0
 union_mode_number Dense = 1
 
--- Int: bitWidth, is_signed
+-- Int: bitWidth, is_signed.
 abbrev pub int_slots : int_table → Slots
 int_slots i = number 4 (bits32 i.bit_width) (number 1 (bit i.is_signed) no_slots)
 
--- Decimal: precision, scale, bitWidth
+-- Decimal: precision, scale, bitWidth.
 abbrev pub decimal_slots : decimal_table → Slots
 decimal_slots d = number 4 (bits32 d.precision) (number 4 (bits32 d.scale) (number 4 (bits32 d.bit_width) no_slots))
 
--- Time: unit, bitWidth
+-- Time: unit, bitWidth.
 abbrev pub time_slots : time_table → Slots
 time_slots t = number 2 (time_unit_number t.unit) (number 4 (bits32 t.bit_width) no_slots)
 
--- Timestamp: unit, timezone
+-- Timestamp: unit, timezone.
 abbrev pub timestamp_slots : timestamp_table → Slots
 timestamp_slots t = number 2 (time_unit_number t.unit) (optional (option_map (λ s. text (string_bytes s)) t.timezone) no_slots)
 
+-- The bytes of a type id.
 abbrev pub id_bytes : ℤ → List ℕ
 id_bytes id = le 4 (bits32 id)
 
+-- The vector of some type ids.
 abbrev pub ids_part : List ℤ → Part
 ids_part ids = elements_of 4 4 id_bytes ids
 
--- Union: mode, typeIds
+-- Union: mode, typeIds.
 abbrev pub union_slots : union_table → Slots
 union_slots u = number 2 (union_mode_number u.mode) (optional (option_map (λ v. ids_part v.items) u.type_ids) no_slots)
 
--- Map: keysSorted
+-- Map: keysSorted.
 abbrev pub map_slots : map_table → Slots
 map_slots m = number_slots 1 (bit m.keys_sorted)
 
--- the number of a type in the union Type
+-- The number of a type in the union Type.
 abbrev pub type_tag : FieldType → ℕ
 type_tag Null = 1
 type_tag (Int t) = 2
@@ -101,7 +108,7 @@ type_tag LargeBinary = 19
 type_tag LargeUtf8 = 20
 type_tag LargeList = 21
 
--- the table of a type
+-- The table of a type.
 abbrev pub type_slots : FieldType → Slots
 type_slots Null = no_slots
 type_slots (Int t) = int_slots t

@@ -6,8 +6,9 @@ use Rattle.ipc_views.specs.declared.schema.MetadataVersion.TheVariants.{V5}
 use Rattle.ipc_tables.specs.Messages.{message_slots}
 use Rattle.ipc_tables.specs.declared.message.Message.{Message}
 
--- The bytes are those of a message of version V5 without metadata of its own: they hold its slots and nothing else,
--- texts end in a zero byte, sizes in vtables are right, and the parts are aligned, inside and apart.
+-- The bytes are a message of version V5 without metadata of its own: its fields and
+-- nothing else. Texts end in a zero byte, sizes in vtables are right, and the parts
+-- are aligned and don't overlap.
 pub record IsWritten (bytes : List ℕ) : Type 0 where
   pub message : Message
   pub version : message.version ≡ V5

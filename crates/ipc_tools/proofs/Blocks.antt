@@ -12,7 +12,7 @@ use Rattle.ipc_file_round_trip.proofs.Pushes.{one_more}
 use Rattle.ipc_file_round_trip.specs.Steps.{GivesThenFails, answers_of}
 use Rattle.ipc_tools.specs.Shown.{GaveBlocks}
 
--- a block less is left
+-- One block fewer is left.
 one_less : (n i j : ℕ) → nat_le n i ≡ false → j ≡ i + 1 → n - j < n - i
 one_less n i j more next = let within : i < n = search (rules, tests, more) in omega (arith, within, next)
 
@@ -23,7 +23,7 @@ module _ {F : Type 0} (known still : Bool) (memory : F → Memory) (failures giv
   abbrev Step : FileReader F → Answer → FileReader F → Type 0
   Step a r b = NextStep known still memory failures given a r b
 
-  -- From a on these chunks were given, and then b stands.
+  -- From state a on these chunks were returned, and then the reader is in state b.
   pub record HasGiven (a b : FileReader F) : Type 0 where
     pub chunks : List (List AnyArray)
     pub before : (rs : List Answer) → Run b rs → Run a (answers_of chunks ++ rs)
@@ -43,7 +43,7 @@ module _ {F : Type 0} (known still : Bool) (memory : F → Memory) (failures giv
   pub then_nothing : (first a b : FileReader F) → HasGiven first a → Step a None b → GaveBlocks known still memory failures given first
   then_nothing first a b so_far step = record { chunks = so_far.chunks; all = record { calls = so_far.before (None ∷ []) (b, step, tt) } }
 
-  -- where a chunk was given, a block less is left
+  -- If a chunk was returned, one block fewer is left.
   pub fewer_left : (a b : FileReader F) (x : List AnyArray) → Step a (Some (Ok x)) b → blocks_left b < blocks_left a
   fewer_left a b x step = by (is_over a) refl
     where

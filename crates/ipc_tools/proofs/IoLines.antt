@@ -6,7 +6,7 @@ use Rattle.ipc_devices.specs.declared.fault.Fault.TheVariants.{OutOfSpec, Ended,
 use Rattle.ipc_plan.specs.Sending.{DeviceSeen, Sends}
 use Rattle.ipc_tools.specs.Lines.{Told, line_of}
 
--- of each fault of a device the line is the same
+-- The line is the same for each error of a device.
 io_line : (known grows : Bool) (d d' : DeviceSeen) (answer : Result (Unit {0}) Fault) (program : List ℕ) (fault : Fault) → IsIo fault → Sends known grows d d' answer (line_of program fault)
     → Sends known grows d d' answer (program ++ codes ": input or output failed\n")
 io_line known grows d d' answer program (Io e) io h = h
@@ -24,7 +24,7 @@ if_some : {P : Type 0} (o : Option P) (A B : P → Type 0) → ((p : P) → A p 
 if_some None A B f h = tt
 if_some (Some p) A B f h = f p h
 
--- It is told wherever the words ask for a file, that is missing, and a device's fault came of that.
+-- It is printed if the requested file is missing, and the device returned an error.
 pub unopened_line : {Asked Path : Type 0} (path_of : Asked → Option Path) (Missing : Path → Type 0) (asked : Option Asked) (form : Asked) (fault : Fault) (known grows : Bool) (d d' : DeviceSeen) (answer : Result (Unit {0}) Fault) (program : List ℕ)
     → Some form ≡ asked → IfSome (path_of form) (λ path. Missing path → IsIo fault) → Sends known grows d d' answer (line_of program fault)
     → IfSome (option_and_then path_of asked) (λ path. Missing path → Told known grows d d' (program ++ codes ": input or output failed\n"))

@@ -1,4 +1,4 @@
--- What is said of the devices that came back is said of those that were lent.
+-- What holds of the devices that came back holds of those that were lent.
 use Rattle.std.proofs.Common.{arith, ◌≡◌, ℕ, Bool, IsTrue, List, ◌∷◌, ◌++◌, inl, inr, sym, ap, ◌∙◌}
 use Rattle.lower.specs.TypeTrees.{Pairs}
 use Rattle.ipc_devices.specs.Device.{Memory, after, before}
@@ -19,7 +19,7 @@ use Rattle.ipc_tools.specs.declared.convert.lent.LentWriter.{LentWriter}
 pub before_named : (name : ℕ) (m : Memory) → before (named name m) ≡ name ∷ before m
 before_named name m = grind arith
 
--- bytes that stand behind those of before stand on the same device
+-- Bytes after those of before are on the same device.
 same_device : (n k : ℕ) (m m' : Memory) (bytes : List ℕ) → before (named k m') ≡ before (named n m) ++ bytes → (k ≡ n) × (before m' ≡ before m ++ bytes)
 same_device n k m m' bytes e =
     let both : k ∷ before m' ≡ n ∷ (before m ++ bytes) = sym (before_named k m') ∙ e ∙ ap (λ (xs : List ℕ). xs ++ bytes) (before_named n m) in
@@ -28,7 +28,8 @@ same_device n k m m' bytes e =
 abbrev pub lent_memory : {W : Type 0} → (W → Memory) → LentWriter W → Memory
 lent_memory memory w = named w.device.ghost_name (memory w.device.now)
 
--- From v to w something was written to a device that is lent: to the one that was `old`, and ends as `new`.
+-- From state v to w something was written to a device that is lent: to the one
+-- that was `old`, and ends as `new`.
 module _ {W : Type 0} (memory : W → Memory) (v w : LentWriter W) (old new : W) (was : v.device.now ≡ old)
     (ends : w.device.ghost_name ≡ v.device.ghost_name → new ≡ w.device.now) where
   behind : (bytes : List ℕ) → before (lent_memory memory w) ≡ before (lent_memory memory v) ++ bytes → before (memory new) ≡ before (memory old) ++ bytes
@@ -80,7 +81,8 @@ copies_file known memory file V W each h k at =
 abbrev pub lent_source : {R : Type 0} → (R → Memory) → LentReader R → Memory
 lent_source memory r = memory r.device.now
 
--- what holds of what a device gave that was lent, and another fact that follows of the same bytes
+-- What holds of the bytes that a lent device gave, and another fact
+-- that follows from the same bytes.
 holds_of_given : {R : Type 0} (gives : Gives R) (known : Bool) (memory : R → Memory) (a : LentReader R) (old : R) (P Q : List ℕ → Type 0) → a.device.now ≡ old → ((bytes : List ℕ) → P bytes → Q bytes)
     → HoldsOfGiven (lent_gives gives) known (lent_source memory) a P → HoldsOfGiven gives known memory old Q
 holds_of_given gives known memory a old P Q was follows h = record {
@@ -92,13 +94,13 @@ holds_of_given gives known memory a old P Q was follows h = record {
   ahead = λ k. rw (sym was) (follows (after (memory a.device.now)) (h.ahead k));
 }
 
--- the same of a fault that tells it
+-- The same of an error that reports it.
 pub given_refused : {R : Type 0} (gives : Gives R) (known : Bool) (memory : R → Memory) (a : LentReader R) (old : R) (e : Fault) (P Q : List ℕ → Type 0) → a.device.now ≡ old → ((bytes : List ℕ) → P bytes → Q bytes)
     → OwnFault e (HoldsOfGiven (lent_gives gives) known (lent_source memory) a P) → OwnFault e (HoldsOfGiven gives known memory old Q)
 given_refused gives known memory a old e P Q was follows h =
     own e (HoldsOfGiven gives known memory old Q) (λ it. holds_of_given gives known memory a old P Q was follows (it (HoldsOfGiven (lent_gives gives) known (lent_source memory) a P) h))
 
--- and of a fault of a file that stands at the beginning of a memory
+-- And of an error of a file at offset 0 of a memory.
 pub file_refused : (known : Bool) (m : Memory) (e : Fault) (P Q : Type 0) → (P → Q) → (IsTrue known → m.place ≡ 0 → OwnFault e P) → OwnFault e (IsTrue known → m.place ≡ 0 → Q)
 file_refused known m e P Q follows h = own e (IsTrue known → m.place ≡ 0 → Q) (λ it k at. follows (it P (h k at)))
 
@@ -112,7 +114,8 @@ refuses_appended known memory file gives fills source a old e was h = record {
   refused = holds_of_given gives fills source a old _ _ was (λ bytes why. why) h.refused;
 }
 
--- What can't be written of a stream, or of a file, for one reason can't be for another that follows from it.
+-- If a stream or a file can't be written for one reason, it can't be
+-- for another that follows from it.
 pub copies_no_stream : (V W : (List Chunk → Type 0) → Schema → Fault → Type 0) (bytes : List ℕ) (e : Fault) → ((first : List Chunk → Type 0) (schema : Schema) → V first schema e → W first schema e)
     → CopiesNoStream V bytes e → CopiesNoStream W bytes e
 copies_no_stream V W bytes e each (inl unread) = inl unread

@@ -1,4 +1,4 @@
--- What is said of the writer of a file over a device that is lent is said of one over the device itself.
+-- What holds of a file writer with a lent device holds of one with the device itself.
 use Rattle.std.proofs.Common.{arith, ◌≡◌, ℕ, ◌+◌, ◌≤◌, Bool, true, List, [], ◌∷◌, ◌++◌, length, take, None, Err, inl, inr, ap, subst, sym, ◌∙◌}
 use Rattle.lower_arrays.specs.declared.array.AnyArray.{AnyArray}
 use Rattle.ipc_devices.specs.Device.{Memory, after, before}
@@ -23,7 +23,7 @@ use Rattle.ipc_tools.proofs.Lending.{before_named, copies_no_file, copies_no_str
 
 -- ---- writers over another device
 
--- Of a writer over another device the same holds, where a device isn't asked.
+-- The same holds of a writer with another device, if no device is read.
 module _ {V W : Type 0} (w : FileSeen V) (device : W) where
   -- the file that its bytes are
   pub file_over : (is_stream : Bool) (state : WriterState) (bytes : List ℕ) (cs : List Chunk) → FileIs is_stream state w bytes cs → FileIs is_stream state (over device w) bytes cs
@@ -84,12 +84,12 @@ no_more_lent n m size h = let e = ap length (after_named n m) in omega (arith, e
 no_more_returned : (n : ℕ) (m : Memory) (size : ℕ) → NoMore (named n m) (size + 1) → NoMore m size
 no_more_returned n m size h = let e = ap length (after_named n m) in omega (arith, e, h)
 
--- bytes that stand behind the number of a device stand behind what it held
+-- Bytes after the number of a device are after its own bytes.
 stripped : (n k : ℕ) (m : Memory) (base bytes : List ℕ) → before (named k m) ≡ (n ∷ base) ++ bytes → before m ≡ base ++ bytes
 stripped n k m base bytes e = let both : k ∷ before m ≡ n ∷ (base ++ bytes) = sym (before_named k m) ∙ e in cc
 
 module _ {O : Type 0} (known : Bool) (memory : O → Memory) where
-  -- the same writer over the device that was lent
+  -- The same writer with the device that was lent.
   abbrev returned : FileSeen (LentWriter O) → FileSeen O
   returned w = over w.device.device.now w
 

@@ -1,4 +1,4 @@
--- Each row is computed.
+-- Each case is computed.
 use Rattle.std.proofs.Common.{Bool, codes, refl, subst}
 use Rattle.ipc_devices.specs.declared.fault.Fault.{Fault}
 use Rattle.ipc_plan.specs.Sending.{DeviceSeen, Sends}

@@ -1,4 +1,4 @@
--- Numbers that stand in words.
+-- Numbers in arguments.
 use Rattle.std.proofs.Common.{ℕ, ◌≡◌, ◌<◌, ◌^◌, zero, suc, rules, List, [], ◌∷◌, get_or, length, map, Bool, true, false, ◌&&◌, Result, Ok, Err, arith, subst, sym}
 use Rattle.std.specs.List.{AllByRecursion, list_all}
 use Rattle.std.specs.Char.{is_ascii_digit}
@@ -26,11 +26,11 @@ module _ (word : List ℕ) (decimal : is_decimal word ≡ true) where
   reads : (r : Result ℕ (Unit {0})) → Parsed r → OkIff r ((0 < length word) × (digits_value 10 word < 2 ^ 64)) (digits_value 10 word)
   reads r parsed = parse_digits digits 64 word r parsed (second _ _ decimal)
 
-  -- what `parse` reads in decimal digits is the number that they write
+  -- The number that `parse` reads in decimal digits is the one that they encode.
   pub number_read : (n : ℕ) → Parsed (Ok n) → (n ≡ digits_value 10 word) × (digits_value 10 word < 2 ^ 64)
   number_read n parsed = let gives = reads (Ok n) parsed in (gives.1, gives.0.1)
 
-  -- and it reads nothing only where that has more than 64 bits
+  -- It reads none only if the number has more than 64 bits.
   pub none_read : Parsed (Err tt) → ¬ (digits_value 10 word < 2 ^ 64)
   none_read parsed small = reads (Err tt) parsed (filled word decimal, small)
 

@@ -1,4 +1,4 @@
--- Each row is that of the list that a vector holds, or is computed.
+-- Each case is that of the list that a vector has, or is computed.
 use Rattle.std.proofs.Common.{rules, arith, ◌≡◌, ◌<◌, ℕ, List, [], ◌∷◌, Some, refl, sym, ap, ◌∙◌}
 use Rattle.std.specs.List.{IsDistinct}
 use Rattle.ipc_model.specs.Batches.{IsProjection}

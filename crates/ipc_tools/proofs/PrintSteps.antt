@@ -17,7 +17,7 @@ use Rattle.ipc_tools.specs.declared.cat.printer.Printer.{Printer}
 abbrev without_room : DeviceSeen → DeviceSeen
 without_room d = record { failures = d.failures; room = 0; memory = d.memory }
 
--- the same to who doesn't see the room of a device
+-- The same without the room of a device.
 pub roomless : {X : Type 0} (known grows : Bool) (d d' : DeviceSeen) (r : Result X Fault) (bytes : List ℕ) → Sends known grows d d' r bytes
     → Sends known grows (without_room d) (without_room d') r bytes
 roomless known grows d d' (Ok x) bytes h = record { monotone = h.monotone; failed = tt; only = tt; done = h.done; memory = h.memory; part = h.part; room = omega arith }
@@ -31,11 +31,11 @@ roomless known grows d d' (Err e) bytes h = record {
   room = tt;
 }
 
--- all was sent, whatever the answer is, and whether the device grows or not
+-- All was sent, whatever the result is, and whether the device grows or not.
 sent_so : {X : Type 0} (known grows : Bool) (d d' : DeviceSeen) (x : X) (bytes : List ℕ) → Sends known grows d d' (Ok x) bytes → Sent known true d d' bytes
 sent_so known grows d d' x bytes h = record { monotone = h.monotone; failed = tt; only = tt; done = h.done; memory = h.memory; part = h.part; room = h.room }
 
--- a flush leaves what was sent, also where it fails
+-- A flush leaves what was sent, also if it fails.
 pub then_flushed : {X Y : Type 0} (known grows : Bool) (d d' d'' : DeviceSeen) (x : X) (y : Y) (bytes : List ℕ) → Sends known grows d d' (Ok x) bytes → d''.failures ≡ d'.failures
     → (IsTrue known → d''.memory ≡ d'.memory) → d'.room ≤ d''.room → Sends {X = Y} known grows d d'' (Ok y) bytes
 then_flushed known grows d d' d'' x y bytes h well same room = record {
@@ -63,7 +63,7 @@ then_unflushed known grows d d' d'' x e bytes h more rises io same = record {
 -- ---- one call
 
 module _ (known grows : Bool) where
-  -- many bytes at once, behind what was kept
+  -- Many bytes at once, after the buffered bytes.
   pub put_great : (a m b : PrinterSeen) (r : Result (Unit {0}) Fault) (bytes : List ℕ) → SendsSeen {X = Unit {0}} known grows a (Ok tt) m → b.name ≡ m.name
       → Sends known grows m.device b.device r bytes → OnOk r (b.device.failures ≡ m.device.failures) → b.kept ≡ m.kept → PutsSeen known grows a r b bytes
   put_great a m b (Ok x) bytes f same sends done kept =
@@ -81,12 +81,12 @@ module _ (known grows : Bool) where
     sends = sends_then known grows a.device m.device b.device (Err e) a.kept bytes f.sends sends;
   })
 
-  -- what was kept couldn't be sent
+  -- The buffered bytes couldn't be sent.
   pub put_unsent : (a b : PrinterSeen) (e : Fault) (bytes : List ℕ) → SendsSeen {X = Unit {0}} known grows a (Err e) b → PutsSeen {X = Unit {0}} known grows a (Err e) b bytes
   put_unsent a b e bytes f =
       inr (record { same = f.same; none = f.none; sends = sends_stop {X = Unit {0}} {Y = Unit {0}} known grows a.device b.device e a.kept bytes f.sends })
 
-  -- no memory
+  -- An allocation failed.
   pub put_refused : (a : PrinterSeen) (kept bytes : List ℕ) → kept ≡ a.kept → PutsSeen {X = Unit {0}} known grows a (Err faults.Memory) (record a { kept = kept }) bytes
   put_refused a kept bytes e = inl (
     refl,
@@ -99,7 +99,7 @@ module _ (known grows : Bool) where
     },
   )
 
-  -- they are kept
+  -- The bytes are buffered.
   pub put_kept : (a : PrinterSeen) (kept bytes : List ℕ) → kept ≡ a.kept ++ bytes → PutsSeen {X = Unit {0}} known grows a (Ok tt) (record a { kept = kept }) bytes
   put_kept a kept bytes e = record {
     same = refl;
@@ -109,7 +109,7 @@ module _ (known grows : Bool) where
     done = refl;
   }
 
-  -- they are kept, and all is sent
+  -- The bytes are buffered, and all are sent.
   pub put_filled : (a b : PrinterSeen) (kept bytes : List ℕ) (r : Result (Unit {0}) Fault) → kept ≡ a.kept ++ bytes → SendsSeen known grows (record a { kept = kept }) r b
       → PutsSeen known grows a r b bytes
   put_filled a b kept bytes (Ok x) e h = record {
@@ -138,7 +138,7 @@ bytes_then known a m b xs ys f g = record {
 }
 
 module _ {W : Type 0} (known : Bool) (failures : W → ℕ) (memory : W → Memory) where
-  -- what was kept couldn't be written
+  -- The buffered bytes couldn't be written.
   pub send_unwritten : (grows : Bool) (a b : Printer W) (bytes : List ℕ) (e : Fault) → bytes ≡ a.kept.items
       → WritesOutput {X = Unit {0}} known grows failures memory a.out (Err e) b.out bytes → b.kept.items ≡ [] → SendsKept {X = Unit {0}} known grows failures memory a (Err e) b
   send_unwritten grows a b bytes e same wrote none = record {
@@ -149,7 +149,7 @@ module _ {W : Type 0} (known : Bool) (failures : W → ℕ) (memory : W → Memo
     flushed = tt;
   }
 
-  -- it was written, and the flush failed
+  -- They were written, and the flush failed.
   pub send_unflushed : (grows : Bool) (a b : Printer W) (o : Output W) (bytes : List ℕ) (x : Unit {0}) (e : Fault) → bytes ≡ a.kept.items
       → WritesOutput {X = Unit {0}} known grows failures memory a.out (Ok x) o bytes → FlushesOutput {X = Unit {0}} known failures memory o (Err e) b.out → b.kept.items ≡ []
       → SendsKept {X = Unit {0}} known grows failures memory a (Err e) b
@@ -163,7 +163,7 @@ module _ {W : Type 0} (known : Bool) (failures : W → ℕ) (memory : W → Memo
     flushed = tt;
   }
 
-  -- it was written and flushed
+  -- They were written and flushed.
   pub send_flushed : (grows : Bool) (a b : Printer W) (o : Output W) (bytes : List ℕ) (x y : Unit {0}) → bytes ≡ a.kept.items
       → WritesOutput {X = Unit {0}} known grows failures memory a.out (Ok x) o bytes → FlushesOutput {X = Unit {0}} known failures memory o (Ok y) b.out → b.kept.items ≡ []
       → SendsKept {X = Unit {0}} known grows failures memory a (Ok tt) b
@@ -234,14 +234,14 @@ module _ {W : Type 0} {known : Bool} {failures : W → ℕ} {memory : W → Memo
   all_prints h = record { bytes = h.bytes; printed = h.printed }
 
 module _ {W : Type 0} (known : Bool) (failures : W → ℕ) (memory : W → Memory) where
-  -- all that was shown is sent, where that is Ok
+  -- All that was shown is sent if the result is Ok.
   pub shown_sent : {X : Type 0} (a m b : Printer W) (shown r : Result X Fault) → IfOk r (λ x. shown ≡ Ok x) → OnOk shown (Prints known failures memory a m)
       → OnOk r (PrintsAll known failures memory m b) → OnOk r (PrintsAll known failures memory a b)
   shown_sent a m b shown (Err e) same f g = tt
   shown_sent a m b (Ok y) (Ok x) same f g = all_last b (Ok x) f g
   shown_sent a m b (Err e) (Ok x) same f g = absurd cc
 
-  -- what a printer wrote to the device that was lent to it
+  -- What a printer wrote to the device that it borrowed.
   pub all_printed : {X : Type 0} (a b : Printer W) (old new : W) (r : Result X Fault) → a.out.device.now ≡ old → b.out.device.now ≡ new → OnOk r (PrintsAll known failures memory a b)
       → OnOk r (Printed known failures memory old new)
   all_printed a b old new (Ok x) first last h =

@@ -1,4 +1,4 @@
--- Why what was asked for isn't shown, call by call.
+-- Why what is requested isn't shown, call by call.
 use Rattle.std.proofs.Common.{◌≡◌, ◌≢◌, ◌⊎◌, ℕ, Bool, true, false, IsTrue, List, ◌++◌, length, Option, None, Some, Ok, Err, inl, inr, refl, sym, ap, subst, ◌∙◌, append_assoc, length-append, arith}
 use Rattle.ipc_base.specs.IdTrees.{all_ids_view}
 use Rattle.ipc_devices.specs.Device.{Memory}
@@ -40,9 +40,9 @@ use Rattle.ipc_convert.specs.declared.chunks.Ending.{Ending}
 use Rattle.ipc_tools.specs.CatRefusals.{FileHasOthers, HasTooMany, IsNoStream, OpensFile, OpensStream, ShowsNoFile, ShowsNoStream, StreamHasOthers}
 use Rattle.ipc_tools.specs.Shown.{GaveBlocks, GivesReadable, ReadsFile}
 
--- ---- faults
+-- ---- errors
 
--- a fault that is a device's, or memory's, claims nothing
+-- An error of a device or of allocation claims nothing.
 pub none_own : (e : Fault) (P : Type 0) → OwnFault e ⊥ → OwnFault e P
 none_own e P h = own e P (λ it. absurd (it ⊥ h))
 
@@ -69,7 +69,7 @@ module _ {R : Type 0} (gives : Gives R) (fills : Bool) (source : R → Memory) (
       let said : GivesMetadata bytes (frame bytes) (Err e) ys = front.run.holds ys f in
       inl (it (¬ IsReadableBy p bytes) (none_readable p bytes bytes ys e refl said), it (BlamesStream bytes (chosen_stream_of p bytes) p e) (blames_front bytes bytes ys (chosen_stream_of p bytes) p e refl said))))
 
--- A reader that read the schema message, and then gave some chunks.
+-- A reader that read the schema message, and then returned some chunks.
 module _ {R : Type 0} (gives : Gives R) (law : GivesInOrder gives) (input : R) (p : Option (List ℕ)) (r last : StreamReader R) (cs : List Chunk) (opens : OpensStream gives input p r) (came : StreamCame gives r cs last) where
   abbrev Told : Head
   Told = head_of opens.metadata
@@ -77,7 +77,7 @@ module _ {R : Type 0} (gives : Gives R) (law : GivesInOrder gives) (input : R) (
   abbrev One : GaveChunks gives r cs last
   One = came.gave opens.unread.unfinished
 
-  -- what was given up to the last of them
+  -- The bytes that were read up to the last of them.
   abbrev Front : List ℕ
   Front = opens.front.run.bytes ++ One.bytes
 
@@ -93,7 +93,7 @@ module _ {R : Type 0} (gives : Gives R) (law : GivesInOrder gives) (input : R) (
       subst (λ (x : R). gives input opens.front.run.bytes going x) (sym opens.unread.reader) (subst (λ (y : Stop). gives input opens.front.run.bytes y opens.device) opens.front.stops opens.front.run.gave) in
       law input opens.front.run.bytes (device_of r) One.bytes going (device_of last) first One.gave
 
-  -- what is given then means these chunks, and then what follows
+  -- The bytes that were read mean these chunks, and then what follows.
   record GoesOn (behind : List ℕ) : Type 0 where
     known : Known
     knows : Knows last known
@@ -125,7 +125,7 @@ module _ {R : Type 0} (gives : Gives R) (law : GivesInOrder gives) (input : R) (
         many = (many.0, let long = length-append cs rest in let most = many.1 in omega (arith, long, most));
       }
 
-  -- a fault behind them
+  -- An error after them.
   is_refused : (e : Fault) (fault : GaveFault gives last e) (ys : List ℕ) → Follows fault.stop ys → IsNoStream p e ((Front ++ fault.bytes) ++ ys)
   is_refused e fault ys f =
       let behind = fault.bytes ++ ys in
@@ -145,7 +145,7 @@ module _ {R : Type 0} (gives : Gives R) (law : GivesInOrder gives) (input : R) (
   stops_not_shown fills source ahead e (inr many) =
       given_so gives fills source ahead input (device_of last) going Front (IsNoStream p e) gave_front (λ ys f. inr (has_too_many e many ys))
 
-  -- nothing behind them
+  -- Nothing after them.
   end_shown : (c : StreamReader R) (ending : Ending) → StreamStopped gives last ending c → GivesReadable gives input p
   end_shown c ending stopped =
       let none = stopped.gave One.unfinished in
@@ -163,12 +163,12 @@ module _ {R : Type 0} (gives : Gives R) (law : GivesInOrder gives) (input : R) (
         };
       }
 
--- all chunks came, and were taken by something of which nothing is said
+-- All chunks were read, and taken by a sink of which nothing is known.
 pub chunks_shown : {R T : Type 0} (gives : Gives R) (law : GivesInOrder gives) (input : R) (p : Option (List ℕ)) (r c : StreamReader R) (took : Moved T) (v w : T) (ending : Ending) → OpensStream gives input p r
     → Copied (StreamCame gives) (StreamStopped gives) took r v ending c w → GivesReadable gives input p
 chunks_shown gives law input p r c took v w ending opens copied = end_shown gives law input p r copied.last copied.handed.chunks opens copied.handed.came_all c ending copied.stops
 
--- not all came
+-- Not all chunks were read.
 pub chunks_not_shown : {R T : Type 0} (gives : Gives R) (law : GivesInOrder gives) (input : R) (p : Option (List ℕ)) (r : StreamReader R) (took : Moved T) (v : T) (fills : Bool) (source : R → Memory) (ahead : GivesAhead fills gives source) (e : Fault)
     → OpensStream gives input p r → StopsCopy (StreamCame gives) (StreamBreaks gives) took (λ a columns x. ⊥) r v e → ShowsNoStream gives fills source input p e
 chunks_not_shown gives law input p r took v fills source ahead e opens stops =
@@ -179,7 +179,7 @@ chunks_not_shown gives law input p r took v fills source ahead e opens stops =
       | inr many ↦ shown (inr many)
     ]
 
--- a schema that doesn't have the columns that are asked for
+-- A schema that doesn't have the requested columns.
 module _ {R : Type 0} (gives : Gives R) (fills : Bool) (source : R → Memory) (ahead : GivesAhead fills gives source) (input device : R) (m : StreamMetadata) (front : MetadataGave gives input (Ok m) device) where
   pub stream_has_others : (p : Option (List ℕ)) → ¬ IsProjection p (length m.schema.fields.items) → StreamHasOthers gives fills source input p
   stream_has_others None others = others tt
@@ -202,7 +202,7 @@ module _ {F : Type 0} (held : Bool) (contents : F → Memory) (file : F) (p : Op
     it (ReadingReason p limit Bytes e) (files.metadata_reason p limit Bytes e (none there front) (subst (λ (n : ℕ). OwnFault e (FileReason n Bytes e)) front (reason there))),
   ))
 
-  -- a fault at a block
+  -- An error at a block.
   pub blocks_not_shown : (still : Bool) (failures given : F → ℕ) (stays : IsTrue held → IsTrue still) (r : FileReader F) (e : Fault) → OpensFile held contents file p limit r
       → OwnFault e (GivesThenFails held still contents failures given r e) → OwnFault e (ShowsNoFile held contents file p limit e)
   blocks_not_shown still failures given stays r e opens fails = own e (ShowsNoFile held contents file p limit e) (λ it. λ there front.
@@ -216,11 +216,11 @@ module _ {F : Type 0} (held : Bool) (contents : F → Memory) (file : F) (p : Op
             (files.chunks_reason p limit Bytes (file_seen m) e is (all_reason held still contents failures given stays there r opens.device m p limit Bytes opens.unread same e (inr off))),
       ))
 
--- columns are those of a schema where there are as many fields
+-- Columns are those of a schema if there are as many fields.
 columns_are : (p : Option (List ℕ)) (m : FileMetadata) → IsProjection p (length m.schema.fields.items) → IsProjection p (count (kinds (file_seen m).schema))
 columns_are p m is = subst (λ (n : ℕ). IsProjection p n) (sym (field_count m.schema.fields.items (all_ids_view m.ipc_schema.fields.items))) is
 
--- all blocks were given
+-- All blocks were returned.
 pub blocks_shown : {F : Type 0} (held still : Bool) (contents : F → Memory) (failures given : F → ℕ) (stays : IsTrue held → IsTrue still) (file : F) (p : Option (List ℕ)) (limit : Option ℕ) (r : FileReader F)
     → OpensFile held contents file p limit r → GaveBlocks held still contents failures given r → ReadsFile held contents file p limit
 blocks_shown held still contents failures given stays file p limit r opens gave = λ there front.
@@ -234,7 +234,7 @@ blocks_shown held still contents failures given stays file p limit r opens gave 
       columns = columns_are p m opens.columns;
     }
 
--- a schema that doesn't have the columns that are asked for
+-- A schema that doesn't have the requested columns.
 pub file_has_others : {F : Type 0} (held : Bool) (contents : F → Memory) (file : F) (p : Option (List ℕ)) (m : FileMetadata) → (IsTrue held → (contents file).place ≡ 0 → metadata_of (contents file).whole ≡ Some (file_seen m))
     → ¬ IsProjection p (length m.schema.fields.items) → FileHasOthers held contents file p
 file_has_others held contents file None m footer others = others tt

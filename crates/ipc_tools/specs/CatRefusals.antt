@@ -1,4 +1,5 @@
--- Why `ipcat` doesn't show what the words ask for: a fault names a condition that holds, or the columns aren't those of the schema.
+-- Why `ipcat` doesn't show what is requested: an error names a condition that holds, or the
+-- columns aren't those of the schema.
 -- (Arrow columnar format, "IPC Streaming Format" and "IPC File Format".)
 use Rattle.std.specs.Prelude.{◌≡◌, ◌⊎◌, ℕ, Bool, IsTrue, List, length, Option, None, Some, Ok}
 use Rattle.ipc_devices.specs.Device.{Memory}
@@ -25,7 +26,7 @@ use Rattle.ipc_tools.specs.CatWords.{Wanted, demo, stream, file}
 
 -- ---- a stream
 
--- A reader of the stream that an input gives stands behind its schema message, and reads the columns that are asked for.
+-- A stream reader of an input has read the schema message, and reads the requested columns.
 pub record OpensStream {R : Type 0} (gives : Gives R) (input : R) (asked : Option (List ℕ)) (reader : StreamReader R) : Type 0 where
   pub metadata : StreamMetadata
   pub device : R
@@ -33,29 +34,30 @@ pub record OpensStream {R : Type 0} (gives : Gives R) (input : R) (asked : Optio
   pub unread : IsUnread device metadata reader
   pub columns : projection_of reader ≡ asked
 
--- Bytes are a stream of more chunks than are shown.
+-- The bytes are a stream of more chunks than can be counted.
 pub record HasTooMany (asked : Option (List ℕ)) (e : Fault) (bytes : List ℕ) : Type 0 where
   pub stream : Stream
   pub is : chosen_stream_of asked bytes ≡ Some stream
   pub many : AreTooMany stream.meant.chunks e
 
--- bytes can't be read as a stream by the columns that are asked for, and the fault is one of them; or there are too many chunks
+-- The bytes can't be read as a stream by the requested columns, by an error in
+-- them; or there are too many chunks.
 abbrev pub IsNoStream : Option (List ℕ) → Fault → List ℕ → Type 0
 IsNoStream asked e bytes = ((¬ IsReadableBy asked bytes) × BlamesStream bytes (chosen_stream_of asked bytes) asked e) ⊎ HasTooMany asked e bytes
 
--- the stream that an input gives isn't shown, as what was given can't be read
+-- The stream of an input isn't shown, since the bytes that were read of it are no stream.
 abbrev pub ShowsNoStream : {R : Type 0} → Gives R → Bool → (R → Memory) → R → Option (List ℕ) → Fault → Type 0
 ShowsNoStream gives fills source input asked e = HoldsOfGiven gives fills source input (IsNoStream asked e)
 
--- the schema of what was given doesn't have these columns, or one of them is named twice
+-- The schema of the stream doesn't have these columns, or one of them is named twice.
 abbrev pub StreamHasOthers : {R : Type 0} → Gives R → Bool → (R → Memory) → R → Option (List ℕ) → Type 0
 StreamHasOthers gives fills source input None = ⊥
 StreamHasOthers gives fills source input (Some columns) = HoldsOfGiven gives fills source input (streams.NamesOthers columns)
 
 -- ---- a file
 
--- A reader of a file has read what the footer says, and stands before the first block. It reads the columns that are asked for, which the file
--- has, and so many rows.
+-- A file reader has read the footer, and is at the first block. It reads the requested columns,
+-- which the file has, and at most so many rows.
 pub record OpensFile {F : Type 0} (held : Bool) (contents : F → Memory) (file : F) (asked : Option (List ℕ)) (limit : Option ℕ) (reader : FileReader F) : Type 0 where
   pub metadata : FileMetadata
   pub device : F
@@ -64,29 +66,32 @@ pub record OpensFile {F : Type 0} (held : Bool) (contents : F → Memory) (file 
   pub footer : IsTrue held → (contents file).place ≡ 0 → metadata_of (contents file).whole ≡ Some (file_seen metadata)
   pub same : IsTrue held → (contents device).whole ≡ (contents file).whole
 
--- The file isn't shown that a device in memory has at its beginning: by the columns that are asked for, and up to the limit, it can't be read,
--- and the fault says why.
+-- The file at offset 0 of a device that is memory isn't shown. By the requested columns, and up to
+-- the limit, it can't be read, and the error says why.
 abbrev pub ShowsNoFile : {F : Type 0} → Bool → (F → Memory) → F → Option (List ℕ) → Option ℕ → Fault → Type 0
 ShowsNoFile held contents device asked limit e =
     IsTrue held → (contents device).place ≡ 0 → IsUnreadable asked limit (contents device).whole × ReadingReason asked limit (contents device).whole e
 
--- its schema doesn't have these columns, or one of them is named twice
+-- The schema of the file doesn't have these columns, or one of them is named twice.
 abbrev pub FileHasOthers : {F : Type 0} → Bool → (F → Memory) → F → Option (List ℕ) → Type 0
 FileHasOthers held contents device None = ⊥
 FileHasOthers held contents device (Some columns) = IsTrue held → (contents device).place ≡ 0 → NamesOthers (Some columns) (contents device).whole
 
--- ---- what the words ask for
+-- ---- what the arguments request
 
--- To who knows which bytes an input gives and has (`fills`), and which an opened file holds where it is memory (`held`):
+-- `fills` says whether the bytes of the input are known, `held` whether the opened file
+-- is memory whose bytes are known.
 module _ {R F : Type 0} (gives : Gives R) (fills : Bool) (source : R → Memory) (held : Bool) (contents : F → Memory) where
-  -- why it isn't shown; of the example, and where a file couldn't be opened, no fault but a device's, or a want of memory, tells it
+  -- Why what is requested isn't shown. The example, and a file that couldn't be opened, have no
+  -- other errors than those of a device or of allocation.
   abbrev pub ShowsNothing : Wanted → R → Option F → Fault → Type 0
   ShowsNothing demo input device e = ⊥
   ShowsNothing (stream asked) input device e = ShowsNoStream gives fills source input asked e
   ShowsNothing (file path asked limit) input (Some device) e = ShowsNoFile held contents device asked limit e
   ShowsNothing (file path asked limit) input None e = ⊥
 
-  -- why the words are wrong, whose form is right: of the example, and where all columns are asked for, they never are
+  -- Why arguments of a right form are wrong: they name columns that the schema doesn't have, or one
+  -- twice. The example, and all columns, are never wrong.
   abbrev pub AsksForOthers : Wanted → R → Option F → Type 0
   AsksForOthers demo input device = ⊥
   AsksForOthers (stream asked) input device = StreamHasOthers gives fills source input asked

@@ -1,4 +1,5 @@
--- Words of `ipcat` that are written out. Beside each form stand words that miss it by one word, or by one byte.
+-- Arguments of `ipcat`. Beside each form are arguments that differ from it
+-- by one argument, or by one byte.
 use Rattle.std.specs.Prelude.{◌≡◌, ℕ, ◌-◌, ◌^◌, eqb, true, false, List, [], ◌∷◌, codes, Option, Some, None}
 use Rattle.std.specs.Borrow.{Bor}
 use Rattle.std.specs.List.{slice_split}
@@ -6,7 +7,8 @@ use Rattle.ipc_tools.specs.declared.cat.forms.Columns.TheVariants.{All, At}
 use Rattle.ipc_tools.specs.declared.cat.forms.Form.TheVariants.{Demo, Stream, File}
 use Rattle.ipc_tools.specs.CatWords.{Wanted, demo, stream, file, asked, wanted_by, columns_by, columns_named, is_decimal, limit_named, opened_for, pieces, positions_named, AreNumbers, HasNumbers, NamesNumbers}
 
--- The first and the last digit, and the bytes next to them. No sign and no blank belongs to a number, and no digit of another script.
+-- The first and the last digit, and the bytes next to them. A number has no sign, no blank,
+-- and no digit of another script.
 pub record DecimalRows : Type 0 where
   pub first_digit : is_decimal (codes "0") ≡ true
   pub last_digit : is_decimal (codes "9") ≡ true
@@ -19,8 +21,9 @@ pub record DecimalRows : Type 0 where
   pub letter_inside : is_decimal (codes "1e3") ≡ false
   pub other_script : is_decimal (0xD9 ∷ 0xA3 ∷ []) ≡ false
 
--- Positions stay as they are named: whether they repeat, or are too great, is judged where the schema is known. What joins them is a comma, and neither of
--- the bytes next to it. `-` stands for all columns only where it stands alone.
+-- Positions stay as they are named; whether they repeat, or are too great, is checked
+-- by the schema. They are separated by commas, and by neither of the bytes next to
+-- that. `-` alone means all columns.
 pub record ColumnRows : Type 0 where
   pub one_piece : pieces (codes "10") ≡ codes "10" ∷ []
   pub two_pieces : pieces (codes "10,2") ≡ codes "10" ∷ codes "2" ∷ []
@@ -53,11 +56,11 @@ pub record LimitRows : Type 0 where
   pub plus_sign : limit_named (codes "+1") ≡ None
   pub two_numbers : limit_named (codes "1,2") ≡ None
 
--- what the words of a line ask for, one blank apart
+-- What the arguments of a line request, which are separated by one blank.
 abbrev pub asked_in : List ℕ → Option Wanted
 asked_in line = asked (slice_split (λ byte. eqb byte 32) line)
 
--- No word, and words next to those that name a form.
+-- No argument, and arguments next to those that name a form.
 pub record NameRows : Type 0 where
   pub no_words : asked [] ≡ None
   pub empty_word : asked ([] ∷ []) ≡ None
@@ -73,8 +76,8 @@ pub record NameRows : Type 0 where
   pub file_upper : asked_in (codes "File numbers.arrow") ≡ None
   pub name_behind : asked_in (codes "numbers.arrow file") ≡ None
 
--- The example takes no word, a stream at most its columns, and a file its path, then columns, then a limit. Any word can be a path, also one that has a meaning
--- elsewhere.
+-- The example takes no argument, a stream at most its columns, and a file its path, then columns,
+-- then a limit. Any argument can be a path, also one that has a meaning elsewhere.
 pub record FormRows : Type 0 where
   pub demo_alone : asked_in (codes "demo") ≡ Some demo
   pub demo_and_word : asked_in (codes "demo -") ≡ None
@@ -103,7 +106,7 @@ pub record FormRows : Type 0 where
   pub path_name : asked_in (codes "file demo") ≡ Some (file (codes "demo") None None)
   pub path_empty : asked (codes "file" ∷ [] ∷ []) ≡ Some (file [] None None)
 
--- Whatever the words are that a form holds.
+-- Whatever the arguments of a form are.
 pub record HeldRows : Type 0 where
   pub columns_all : columns_by All ≡ None
   pub columns_at : (word : Bor (List ℕ)) → columns_by (At word) ≡ Some (positions_named word.now)
@@ -119,7 +122,7 @@ pub record HeldRows : Type 0 where
   pub has_of_file : (path word : Bor (List ℕ)) → HasNumbers (File (record { path = path; columns = At word; limit = None })) → AreNumbers word.now
   pub of_file : (path word : Bor (List ℕ)) → wanted_by (File (record { path = path; columns = At word; limit = Some 5 })) ≡ file path.now (Some (positions_named word.now)) (Some 5)
 
--- Only a file has to be opened, also one that is called as what stands for the input elsewhere.
+-- Only a file has to be opened, also one whose name means the input elsewhere.
 pub record OpenedRows : Type 0 where
   pub for_demo : opened_for demo ≡ None
   pub for_stream : opened_for (stream None) ≡ None

@@ -1,4 +1,4 @@
--- The class of each kind of fault.
+-- The class of each kind of error.
 use Rattle.std.specs.Prelude.{◌≡◌, codes}
 use Rattle.ipc_devices.specs.declared.fault.ArgFault.{ArgFault}
 use Rattle.ipc_devices.specs.declared.fault.Fault.TheVariants.{OutOfSpec, Ended, NotYetImplemented, Schema, Argument, State, TooManyDictionaries, Io, Memory, Lower}
@@ -8,7 +8,7 @@ use Rattle.ipc_devices.specs.declared.fault.SchemaFault.{SchemaFault}
 use Rattle.ipc_devices.specs.declared.fault.StateFault.{StateFault}
 use Rattle.ipc_tools.specs.Classes.{class}
 
--- A row for each kind, over all that a fault of it can hold: so no detail moves a fault into another class.
+-- A case for each kind of error, for all details that it can have: so no detail changes the class.
 pub record ClassRows : Type 0 where
   pub out_of_spec : (kind : OutOfSpecKind) → class (OutOfSpec kind) ≡ codes "out of spec"
   pub ended : class Ended ≡ codes "input ended"

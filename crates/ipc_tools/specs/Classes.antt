@@ -1,8 +1,9 @@
--- The classes of faults, as the programs tell them.
+-- The classes of errors that the programs report.
 use Rattle.std.specs.Prelude.{ℕ, List, codes}
 use Rattle.ipc_devices.specs.declared.fault.Fault.{Fault}
 use Rattle.ipc_devices.specs.declared.fault.Fault.TheVariants.{OutOfSpec, Ended, NotYetImplemented, Schema, Argument, State, TooManyDictionaries, Io, Memory, Lower}
 
+-- The class of an error, as the programs print it.
 abbrev pub class : Fault → List ℕ
 class (OutOfSpec kind) = codes "out of spec"
 class Ended = codes "input ended"

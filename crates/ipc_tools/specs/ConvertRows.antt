@@ -1,4 +1,5 @@
--- Words of `ipconvert` that are written out. Beside each form stand words that miss it by one word, or by one byte.
+-- Arguments of `ipconvert`. Beside each form are arguments that differ from it
+-- by one argument, or by one byte.
 use Rattle.std.specs.Prelude.{◌≡◌, ℕ, eqb, true, false, List, [], ◌∷◌, codes, Option, Some, None}
 use Rattle.std.specs.Borrow.{Bor}
 use Rattle.std.specs.List.{slice_split}
@@ -14,7 +15,7 @@ little = record { big_endian = false }
 abbrev pub big : WriteOptions
 big = record { big_endian = true }
 
--- Only `-` alone is the input: any other word, also an empty one, is a path.
+-- Only `-` is the input: any other argument, also an empty one, is a path.
 pub record SourceRows : Type 0 where
   pub dash : source_named (codes "-") ≡ None
   pub two_dashes : source_named (codes "--") ≡ Some (codes "--")
@@ -22,7 +23,7 @@ pub record SourceRows : Type 0 where
   pub name_of_target : source_named (codes "stream") ≡ Some (codes "stream")
   pub empty_word : source_named [] ≡ Some []
 
--- Both names, and what is next to them. The word for the input names no target.
+-- Both names of targets, and texts next to them. The argument for the input names no target.
 pub record TargetRows : Type 0 where
   pub a_stream : target_named (codes "stream") ≡ Some Stream
   pub stream_cut : target_named (codes "strea") ≡ None
@@ -33,7 +34,8 @@ pub record TargetRows : Type 0 where
   pub dash : target_named (codes "-") ≡ None
   pub empty_word : target_named [] ≡ None
 
--- Both orders, as they are spelled. No other word, and no empty one, stands for the order that is taken where none is named.
+-- Both byte orders, as they are spelled. No other argument, not even an
+-- empty one, means the default order.
 pub record OrderRows : Type 0 where
   pub little_word : options_named (codes "little") ≡ Some little
   pub little_cut : options_named (codes "littl") ≡ None
@@ -42,17 +44,18 @@ pub record OrderRows : Type 0 where
   pub big_upper : options_named (codes "BIG") ≡ None
   pub empty_word : options_named [] ≡ None
 
--- The options are handed on as they are, and a source of any name is one.
+-- The options stay as they are, and a source may have any name.
 pub record CopyRows : Type 0 where
   pub input_to_stream : copy_named (codes "-") (codes "stream") big ≡ Some (copy None Stream big)
   pub path_to_file : copy_named (codes "numbers.arrow") (codes "file") little ≡ Some (copy (Some (codes "numbers.arrow")) FileTarget little)
   pub no_target : copy_named (codes "-") (codes "-") little ≡ None
 
--- what the words of a line ask for, one blank apart
+-- What the arguments of a line request, which are separated by one blank.
 abbrev pub asked_in : List ℕ → Option Wanted
 asked_in line = asked (slice_split (λ byte. eqb byte 32) line)
 
--- A copy takes a source, a target and at most an order, in this order. It is little where none is named.
+-- A copy takes a source, a target and at most a byte order, in this order.
+-- The default byte order is little.
 pub record CopyFormRows : Type 0 where
   pub no_words : asked [] ≡ None
   pub source_alone : asked_in (codes "-") ≡ None
@@ -76,7 +79,8 @@ pub record CopyFormRows : Type 0 where
   pub path_as_target : asked_in (codes "stream file") ≡ Some (copy (Some (codes "stream")) FileTarget little)
   pub path_empty : asked ([] ∷ codes "file" ∷ []) ≡ Some (copy (Some []) FileTarget little)
 
--- A first word `append` always asks for appending, so a file of that name isn't copied. What stands behind it is a path, whatever it means elsewhere.
+-- A first argument `append` always requests appending, so a file of that name isn't copied. The
+-- argument after it is a path, whatever it means elsewhere.
 pub record AppendFormRows : Type 0 where
   pub append_alone : asked_in (codes "append") ≡ None
   pub append_path : asked_in (codes "append numbers.arrow") ≡ Some (append (codes "numbers.arrow"))
@@ -92,13 +96,14 @@ pub record AppendFormRows : Type 0 where
   pub append_longer : asked_in (codes "append/ stream") ≡ Some (copy (Some (codes "append/")) Stream little)
   pub append_upper : asked_in (codes "Append stream") ≡ Some (copy (Some (codes "Append")) Stream little)
 
--- Whatever the words are that a form holds.
+-- Whatever the arguments of a form are.
 pub record HeldRows : Type 0 where
   pub of_input : wanted_by (Convert Input Stream big) ≡ copy None Stream big
   pub of_file : (path : Bor (List ℕ)) → wanted_by (Convert (File path) FileTarget little) ≡ copy (Some path.now) FileTarget little
   pub of_append : (path : Bor (List ℕ)) → wanted_by (Append path) ≡ append path.now
 
--- What is copied is only read, and what is appended to is written to. No other file is opened.
+-- The source of a copy is only read, and the file to append to is
+-- written to. No other file is opened.
 pub record PlaceRows : Type 0 where
   pub for_input : place_for (copy None FileTarget big) ≡ None
   pub for_copy : place_for (copy (Some (codes "numbers.arrow")) FileTarget big) ≡ Some (codes "numbers.arrow", false)

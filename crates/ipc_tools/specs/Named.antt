@@ -1,7 +1,8 @@
--- Devices that are lent.
+-- Devices that are borrowed.
 use Rattle.std.specs.Prelude.{ℕ, ◌+◌, ◌∷◌}
 use Rattle.ipc_devices.specs.Device.{Memory}
 
--- what stands in a memory, behind a number that names the device: whatever is written behind that is written to the same one
+-- The bytes of a memory after a number that names the device, so that later writes are
+-- known to go to the same device.
 abbrev pub named : ℕ → Memory → Memory
 named name m = record { whole = name ∷ m.whole; place = m.place + 1 }

@@ -1,4 +1,4 @@
--- Positions that are written out, whatever vector holds them.
+-- Positions of columns, whatever vector has them.
 use Rattle.std.specs.Prelude.{◌≡◌, ℕ, List, [], ◌∷◌, None, Some, Vec, codes}
 use Rattle.std.specs.declared.alloc.Global.{Global}
 use Rattle.ipc_tools.specs.Positions.{ArePositions, IsChoice}
@@ -10,7 +10,7 @@ Taken n items = (positions : Vec ℕ Global) → positions.items ≡ items → I
 abbrev pub Refused : ℕ → List ℕ → Type 0
 Refused n items = IsChoice (Some items) n Others
 
--- All columns, or some of n in any order; but none that is too great, and none twice, wherever it stands.
+-- All columns, or some of n in any order; but no position that is too great, and none twice.
 pub record PositionRows : Type 0 where
   pub all_columns : IsChoice None 2 (Columns None)
   pub not_others : ¬ IsChoice None 2 Others

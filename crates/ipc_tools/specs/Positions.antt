@@ -8,12 +8,12 @@ use Rattle.ipc_tools.specs.CatWords.{positions_named}
 use Rattle.ipc_tools.specs.declared.cat.chosen.Chosen.{Chosen}
 use Rattle.ipc_tools.specs.declared.cat.chosen.Chosen.TheVariants.{Columns, Others}
 
--- the positions that a word names, or none where one of them is no number of 64 bits
+-- The positions that an argument names; none if one of them is no number of 64 bits.
 abbrev pub ArePositions : List ℕ → Option (Vec ℕ Global) → Type 0
 ArePositions word None = ¬ AllByRecursion (λ j. j < 2 ^ 64) (positions_named word)
 ArePositions word (Some positions) = positions.items ≡ positions_named word
 
--- Which of n columns are asked for: all, or each of some once; or others.
+-- Which of n columns are requested: all, or some, each once; else the request is wrong.
 abbrev pub IsChoice : Option (List ℕ) → ℕ → Chosen → Type 0
 IsChoice asked n (Columns projection) = (items_of projection ≡ asked) × IsProjection asked n
 IsChoice asked n Others = ¬ IsProjection asked n

@@ -1,5 +1,5 @@
--- What becomes of the bytes that are printed: they are sent in the order in which they came, and what
--- isn't sent yet is kept.
+-- What becomes of the bytes that are printed: they are sent in the order in which they came, and
+-- those that aren't sent yet are buffered.
 use Rattle.std.specs.Prelude.{◌≡◌, ◌⊎◌, ℕ, Bool, IsTrue, true, List, [], ◌++◌, Result, Ok, Err, OnOk}
 use Rattle.ipc_devices.specs.Device.{Memory, WritesOver}
 use Rattle.ipc_devices.specs.declared.fault.Fault.{Fault}
@@ -8,14 +8,15 @@ use Rattle.ipc_plan.specs.Sending.{DeviceSeen, Sends}
 use Rattle.ipc_tools.specs.Outputs.{device_seen}
 use Rattle.ipc_tools.specs.declared.cat.printer.Printer.{Printer}
 
--- what is seen of a printer: the name of the reference to its device, the device, whether that was
--- flushed since bytes were written to it, and the bytes that are kept
+-- What contracts know of a printer: the name of its reference to the device, the device, whether
+-- that was flushed since the last write, and the buffered bytes.
 pub record PrinterSeen : Type 0 where
   pub name : ℕ
   pub device : DeviceSeen
   pub is_flushed : Bool
   pub kept : List ℕ
 
+-- What contracts know of a printer.
 abbrev pub printer_seen : {W : Type 0} → (W → ℕ) → (W → Memory) → Printer W → PrinterSeen
 printer_seen failures memory printer = record {
   name = printer.out.device.ghost_name;
@@ -24,8 +25,8 @@ printer_seen failures memory printer = record {
   kept = printer.kept.items;
 }
 
--- These bytes were printed, and no call of the device failed: what was kept before and they, joined, are
--- what was sent in between and what is kept now, in order.
+-- These bytes were printed, and no call of the device failed: the bytes buffered before and these
+-- are those sent now and those still buffered, in order.
 pub record PrintsBytes (known : Bool) (a b : PrinterSeen) (bytes : List ℕ) : Type 0 where
   pub same : b.name ≡ a.name
   pub sent : List ℕ
@@ -33,19 +34,20 @@ pub record PrintsBytes (known : Bool) (a b : PrinterSeen) (bytes : List ℕ) : T
   pub sends : Sends {X = Unit {0}} known true a.device b.device (Ok tt) sent
   pub done : b.device.failures ≡ a.device.failures
 
--- The device failed while these bytes were printed. What was sent are the first of the bytes that were
--- kept and of these, in order, and nothing is kept, so that nothing is sent again.
+-- The device failed while these bytes were printed. A first part of the buffered bytes and of these
+-- was sent, in order. Nothing is buffered afterwards, so that nothing is sent twice.
 pub record StopsPrinting (known grows : Bool) (a b : PrinterSeen) (bytes : List ℕ) (e : Fault) : Type 0 where
   pub same : b.name ≡ a.name
   pub none : b.kept ≡ []
   pub sends : Sends {X = Unit {0}} known grows a.device b.device (Err e) (a.kept ++ bytes)
 
--- what a call does that prints these bytes: without memory for them it changes nothing
+-- A call that prints these bytes: if an allocation for them fails, it changes nothing.
 abbrev pub PutsSeen : {X : Type 0} → (known grows : Bool) → PrinterSeen → Result X Fault → PrinterSeen → List ℕ → Type 0
 PutsSeen known grows a (Ok x) b bytes = PrintsBytes known a b bytes
 PutsSeen known grows a (Err e) b bytes = ((e ≡ faults.Memory) × PrintsBytes known a b []) ⊎ StopsPrinting known grows a b bytes e
 
--- A call sends all that was kept, and flushes the device. Nothing is kept then, also where it failed.
+-- A call sends all buffered bytes, and flushes the device. Nothing is buffered
+-- afterwards, also if it failed.
 pub record SendsSeen {X : Type 0} (known grows : Bool) (a : PrinterSeen) (r : Result X Fault) (b : PrinterSeen) : Type 0 where
   pub same : b.name ≡ a.name
   pub none : b.kept ≡ []
@@ -59,21 +61,23 @@ module _ {W : Type 0} (known : Bool) (failures : W → ℕ) (memory : W → Memo
     pub bytes : List ℕ
     pub printed : PrintsBytes known (printer_seen failures memory a) (printer_seen failures memory b) bytes
 
-  -- Some bytes were printed, and all that was kept was sent and flushed.
+  -- Some bytes were printed, and all buffered bytes were sent and flushed.
   pub record PrintsAll (a b : Printer W) : Type 0 where
     pub bytes : List ℕ
     pub printed : PrintsBytes known (printer_seen failures memory a) (printer_seen failures memory b) bytes
     pub none : b.kept.items ≡ []
     pub flushed : b.out.is_flushed ≡ true
 
-  -- What was printed, by its end, was written to a device, and no call of it failed.
+  -- All bytes that were printed were written to a device, and no call of it failed.
   pub record Printed (a b : W) : Type 0 where
     pub bytes : List ℕ
     pub written : IsTrue known → WritesOver (memory a) (memory b) bytes
     pub done : failures b ≡ failures a
 
+-- A call of a printer that prints these bytes.
 abbrev pub Puts : {W X : Type 0} → (known grows : Bool) → (W → ℕ) → (W → Memory) → Printer W → Result X Fault → Printer W → List ℕ → Type 0
 Puts known grows failures memory a r b bytes = PutsSeen known grows (printer_seen failures memory a) r (printer_seen failures memory b) bytes
 
+-- A call of a printer that sends all buffered bytes.
 abbrev pub SendsKept : {W X : Type 0} → (known grows : Bool) → (W → ℕ) → (W → Memory) → Printer W → Result X Fault → Printer W → Type 0
 SendsKept known grows failures memory a r b = SendsSeen known grows (printer_seen failures memory a) r (printer_seen failures memory b)

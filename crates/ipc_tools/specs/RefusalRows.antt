@@ -1,4 +1,4 @@
--- Why `ipconvert` ends with a fault, for each form, whatever its devices are.
+-- Why `ipconvert` ends with an error, for each form, whatever its devices are.
 use Rattle.std.specs.Prelude.{◌⊎◌, ℕ, Bool, IsTrue, List, [], ◌≡◌, None, Some}
 use Rattle.ipc_devices.specs.Device.{Memory}
 use Rattle.ipc_devices.specs.Faults.{OwnFault}
@@ -12,8 +12,9 @@ use Rattle.ipc_tools.specs.ConvertRows.{big, little}
 use Rattle.ipc_tools.specs.ConvertWords.{append, copy}
 use Rattle.ipc_tools.specs.Refusals.{RefusesAsAsked}
 
--- Of the input where no path is named, and else of the file; by the target, with the pairs of a file, in the order that was named. Without its file nothing is broken
--- and nothing was asked wrongly: only a device tells that, or memory.
+-- The errors are those of the input if no path is named, and else of the file. They depend on the
+-- target, with the pairs of a file, and on the byte order that was named. If the file couldn't be
+-- opened, the only errors are those of a device or of allocation.
 pub record RefusalRows {R F A O : Type 0} (gives : Gives R) (fills : Bool) (source : R → Memory) (held : Bool) (contents : F → Memory) (kept : Bool) (bytes_of : A → Memory) (known : Bool) (memory : O → Memory) (input : R) (file : F) (target : A) (out : O) (path : List ℕ) (e : Fault) : Type 0 where
   pub input_to_stream : RefusesAsAsked gives fills source held contents kept bytes_of known memory (copy None Stream little) input (Some file) None out e
       → HoldsOfGiven gives fills source input (λ bytes. CopiesNoStream RefusesAsStream bytes e)

@@ -1,4 +1,4 @@
--- Why `ipconvert` doesn't do what the words ask for: a fault names a condition that holds.
+-- Why `ipconvert` doesn't do what is requested: an error names a condition that holds.
 use Rattle.std.specs.Prelude.{◌≡◌, ◌⊎◌, Bool, IsTrue, List, [], Option, None, Some}
 use Rattle.lower.specs.TypeTrees.{Pairs}
 use Rattle.ipc_devices.specs.Device.{Memory}
@@ -12,30 +12,34 @@ use Rattle.ipc_tools.specs.ConvertWords.{Wanted, copy, append}
 use Rattle.ipc_tools.specs.declared.convert.forms.Target.{Target}
 use Rattle.ipc_tools.specs.declared.convert.forms.Target.TheVariants.{Stream, File as FileTarget}
 
--- What can't be written to an output as a target says: of a stream the schema or a chunk, of a file these with the pairs, or its end.
+-- Why an output isn't written: for a stream the schema or a chunk can't be written; for a file
+-- these with its pairs, or its end.
 abbrev pub RefusesTarget : {O : Type 0} → Bool → (O → Memory) → O → Target → WriteOptions → (List Chunk → Type 0) → Schema → Pairs → Fault → Type 0
 RefusesTarget known memory out Stream options first schema pairs e = RefusesAsStream first schema e
 RefusesTarget known memory out FileTarget options first schema pairs e = RefusesAsFile known memory out (order_of options) pairs first schema e
 
--- Why the stream that an input gives isn't written as a target says: what was given can't be read, or what it means can't be written, without pairs.
+-- Why the stream of an input isn't written to the target: what was read can't be read as a stream,
+-- or what it means can't be written, without pairs.
 abbrev pub CopiesNoInput : {R O : Type 0} → Gives R → Bool → (R → Memory) → R → Bool → (O → Memory) → O → Target → WriteOptions → Fault → Type 0
 CopiesNoInput gives fills source input known memory out target options e =
     HoldsOfGiven gives fills source input (λ bytes. CopiesNoStream (λ first schema fault. RefusesTarget known memory out target options first schema [] fault) bytes e)
 
--- The same of the file that a device in memory has at its beginning, with its pairs.
+-- Why the file at offset 0 of a device that is memory isn't written to the target, with its pairs.
 abbrev pub CopiesNoOpened : {F O : Type 0} → Bool → (F → Memory) → F → Bool → (O → Memory) → O → Target → WriteOptions → Fault → Type 0
 CopiesNoOpened held contents file known memory out target options e =
     IsTrue held → (contents file).place ≡ 0 → CopiesNoFile (RefusesTarget known memory out target options) (contents file).whole e
 
--- Why the stream isn't written behind the chunks of such a file: that can't be appended to, or the stream is refused behind it.
+-- Why the stream isn't appended to such a file: that can't be appended to, or the stream is
+-- refused.
 abbrev pub AppendsNone : {R F : Type 0} → Gives R → Bool → (R → Memory) → R → Bool → (F → Memory) → F → Fault → Type 0
 AppendsNone gives fills source input held contents file e =
     IsTrue held → (contents file).place ≡ 0 → GoesOnWithNone held (contents file).whole e ⊎ RefusesAppended held contents file gives fills source input e
 
--- To who knows which bytes an input gives and has (`fills`), and which a file that is read (`held`), one
--- that is appended to (`kept`) and an output (`known`) hold where they are memory:
+-- `fills` says whether the bytes of the input are known. `held`, `kept` and `known` say it of the
+-- file to read, the file to append to, and the output, if they are memory.
 module _ {R F A O : Type 0} (gives : Gives R) (fills : Bool) (source : R → Memory) (held : Bool) (contents : F → Memory) (kept : Bool) (bytes : A → Memory) (known : Bool) (memory : O → Memory) where
-  -- why what was asked for isn't done; where its file couldn't be opened, no fault but a device's, or a want of memory, tells it
+  -- Why what is requested isn't done. If the file couldn't be opened, the only errors are
+  -- those of a device or of allocation.
   abbrev pub RefusesAsAsked : Wanted → R → Option F → Option A → O → Fault → Type 0
   RefusesAsAsked (copy None target options) input file appended out e = CopiesNoInput gives fills source input known memory out target options e
   RefusesAsAsked (copy (Some path) target options) input (Some device) appended out e = CopiesNoOpened held contents device known memory out target options e

@@ -1,4 +1,4 @@
--- That what `ipcat` showed can be read.
+-- What `ipcat` showed can be read.
 -- (Arrow columnar format, "IPC Streaming Format" and "IPC File Format".)
 use Rattle.std.specs.Prelude.{◌≡◌, ℕ, Bool, IsTrue, List, Option, None, Some}
 use Rattle.lower_arrays.specs.declared.array.AnyArray.{AnyArray}
@@ -17,7 +17,7 @@ use Rattle.ipc_file_round_trip.specs.Reading.{FileMeant, file_by}
 use Rattle.ipc_file_round_trip.specs.Steps.{GivesAll}
 use Rattle.ipc_tools.specs.CatWords.{Wanted, demo, stream, file}
 
--- What an input gave is a stream that can be read by the columns that are asked for.
+-- The bytes that were read of an input are a stream that can be read by the requested columns.
 pub record GivesReadable {R : Type 0} (gives : Gives R) (input : R) (asked : Option (List ℕ)) : Type 0 where
   pub bytes : List ℕ
   pub stop : Stop
@@ -25,44 +25,47 @@ pub record GivesReadable {R : Type 0} (gives : Gives R) (input : R) (asked : Opt
   pub gave : gives input bytes stop left
   pub readable : IsReadableBy asked bytes
 
--- Chunks that a reader gives go to something of which nothing is said: it takes them all.
+-- A sink of which nothing is known: it takes all chunks.
 abbrev pub anything : Moved (Unit {0})
 anything a chunks b = Unit {0}
 
+-- A sink that refuses no chunk.
 abbrev pub nothing_refused : RefusesAt (Unit {0})
 nothing_refused a columns e = ⊥
 
 module _ {R : Type 0} (gives : Gives R) where
-  -- the next chunk came from a reader, or none, and so it ended
+  -- A stream reader read the next chunk; or there is none, and the stream ended so.
   abbrev pub OneCame : StreamReader R → Option Ending → StreamReader R → Type 0
   OneCame a ending b = CopiedOne (StreamCame gives) (StreamStopped gives) anything a tt ending b tt
 
-  -- all chunks came, and so it ended
+  -- A stream reader read all chunks, and the stream ended so.
   abbrev pub AllCame : StreamReader R → Ending → StreamReader R → Type 0
   AllCame a ending b = Copied (StreamCame gives) (StreamStopped gives) anything a tt ending b tt
 
-  -- behind some of the chunks this fault comes, or there are too many
+  -- After some of the chunks this error comes, or there are too many.
   abbrev pub StopsComing : StreamReader R → Fault → Type 0
   StopsComing a e = StopsCopy (StreamCame gives) (StreamBreaks gives) anything nothing_refused a tt e
 
--- A file has a meaning by the columns that are asked for, which it has, and up to the limit.
+-- A file has a meaning by the requested columns, which it has, and up to the limit.
 pub record IsReadableFile (asked : Option (List ℕ)) (limit : Option ℕ) (bytes : List ℕ) : Type 0 where
   pub meant : FileMeant
   pub is : file_by asked limit bytes ≡ Some meant
   pub columns : IsProjection asked (count (kinds meant.metadata.schema))
 
--- so has the one that a device in memory has at its beginning
+-- The file at offset 0 of a device that is memory has a meaning by the requested columns,
+-- which it has, and up to the limit.
 abbrev pub ReadsFile : {F : Type 0} → Bool → (F → Memory) → F → Option (List ℕ) → Option ℕ → Type 0
 ReadsFile held contents device asked limit = IsTrue held → (contents device).place ≡ 0 → IsReadableFile asked limit (contents device).whole
 
--- A reader of a file gave some chunks, and then nothing.
+-- A file reader returned some chunks, and then None.
 pub record GaveBlocks {F : Type 0} (known still : Bool) (memory : F → Memory) (failures given : F → ℕ) (a : FileReader F) : Type 0 where
   pub chunks : List (List AnyArray)
   pub all : GivesAll known still memory failures given a chunks
 
--- To who knows which bytes an input gives, and which an opened file holds where it is memory (`held`), what the words ask for can be read:
--- where they ask for a file, one was opened.
+-- `gives` says which bytes the input gives, `held` whether the opened file
+-- is memory whose bytes are known.
 module _ {R F : Type 0} (gives : Gives R) (held : Bool) (contents : F → Memory) where
+  -- What was shown can be read, by what was requested; a requested file was opened.
   abbrev pub Shows : Wanted → R → Option F → Type 0
   Shows demo input device = Unit {0}
   Shows (stream asked) input device = GivesReadable gives input asked

@@ -1,4 +1,5 @@
--- Why `ipcat` ends with a fault, and when its words are wrong, for each form, whatever its devices are.
+-- Why `ipcat` ends with an error, and when its arguments are wrong, for each
+-- form, whatever its devices are.
 use Rattle.std.specs.Prelude.{◌≡◌, ◌⊎◌, ℕ, Bool, IsTrue, List, Option, None, Some}
 use Rattle.ipc_devices.specs.Device.{Memory}
 use Rattle.ipc_devices.specs.Faults.{OwnFault}
@@ -13,8 +14,9 @@ use Rattle.ipc_tools.specs.CatRefusals.{AsksForOthers, HasTooMany, IsNoStream, S
 use Rattle.ipc_tools.specs.CatWords.{demo, file, stream}
 use Rattle.ipc_tools.specs.Shown.{GivesReadable, IsReadableFile, Shows}
 
--- The example, and a file that couldn't be opened, are refused by a device, or for want of memory, alone. A stream is judged by the input, and not by a file, a
--- file by what stands in its device's memory, from the beginning on; and each by the columns that the words name, a file by their limit too.
+-- The example, and a file that couldn't be opened, have only errors of a device or of allocation.
+-- The errors of a stream depend on the input and not on a file; those of a file on the bytes of its
+-- device from offset 0 on. Both depend on the named columns, a file's also on its limit.
 pub record ShownRows {R F : Type 0} (gives : Gives R) (fills : Bool) (source : R → Memory) (held : Bool) (contents : F → Memory) (input : R) (device : F) (path : List ℕ) (asked : Option (List ℕ)) (limit : Option ℕ) (e : Fault) : Type 0 where
   pub example : ¬ OwnFault Ended (ShowsNothing gives fills source held contents demo input (Some device) Ended)
   pub no_file : (kind : _) → ¬ OwnFault (OutOfSpec kind) (ShowsNothing gives fills source held contents (file path asked limit) input None (OutOfSpec kind))
@@ -23,7 +25,8 @@ pub record ShownRows {R F : Type 0} (gives : Gives R) (fills : Bool) (source : R
   pub in_memory : ShowsNothing gives fills source held contents (file path asked limit) input (Some device) e → IsTrue held → (contents device).place ≡ 0
       → IsUnreadable asked limit (contents device).whole × ReadingReason asked limit (contents device).whole e
 
--- The words are wrong by columns alone that they name: of a stream by what the input gave, of a file in memory by what its footer says.
+-- Arguments are wrong only by the columns that they name: for a stream by its schema, for
+-- a file in memory by its footer.
 pub record OtherRows {R F : Type 0} (gives : Gives R) (fills : Bool) (source : R → Memory) (held : Bool) (contents : F → Memory) (input : R) (device : F) (path : List ℕ) (columns : List ℕ) (limit : Option ℕ) : Type 0 where
   pub example : ¬ AsksForOthers gives fills source held contents demo input (Some device)
   pub all_of_a_stream : ¬ AsksForOthers gives fills source held contents (stream None) input (Some device)
@@ -33,8 +36,8 @@ pub record OtherRows {R F : Type 0} (gives : Gives R) (fills : Bool) (source : R
   pub in_memory : AsksForOthers gives fills source held contents (file path (Some columns) limit) input (Some device) → IsTrue held → (contents device).place ≡ 0
       → NamesOthers (Some columns) (contents device).whole
 
--- What was shown can be read: of a stream what the input gave, of a file in memory what stands in it from the beginning on, each by the columns that are
--- asked for. A file that wasn't opened was not shown.
+-- What was shown can be read by the requested columns: of a stream the bytes that were read, of a
+-- file in memory its bytes from offset 0 on. A file that wasn't opened wasn't shown.
 pub record ReadableRows {R F : Type 0} (gives : Gives R) (held : Bool) (contents : F → Memory) (input : R) (device : F) (path : List ℕ) (asked : Option (List ℕ)) (limit : Option ℕ) : Type 0 where
   pub example : Shows gives held contents demo input (Some device)
   pub of_a_stream : Shows gives held contents (stream asked) input (Some device) → GivesReadable gives input asked

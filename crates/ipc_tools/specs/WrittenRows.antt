@@ -10,7 +10,8 @@ use Rattle.ipc_tools.specs.ConvertRows.{big, little}
 use Rattle.ipc_tools.specs.ConvertWords.{append, copy}
 use Rattle.ipc_tools.specs.Written.{Appended, CopiesAsAsked}
 
--- Of the input where no path is named, and else of the file; by the target; in the order that was named. Without its file neither a copy nor an append ends well.
+-- The copy is of the input if no path is named, and else of the file; by the target; in the byte
+-- order that was named. If the file couldn't be opened, neither a copy nor an append succeeds.
 pub record WrittenRows {R F : Type 0} (gives : Gives R) (known : Bool) (memory : F → Memory) (a b : R) (file : F) (old new : Memory) (path : List ℕ) : Type 0 where
   pub input_to_stream : CopiesAsAsked gives known memory (copy None Stream little) a b (Some file) old new → CopiesStream gives a b (WritesStream (order_of little) old new)
   pub input_to_file : CopiesAsAsked gives known memory (copy None FileTarget big) a b None old new

@@ -1,4 +1,4 @@
--- Columns and their ids, from one place on.
+-- Columns and their ids, from an index on.
 use Rattle.std.proofs.Common.{◌≡◌, ℕ, zero, suc, ℤ, Bool, ◌+◌, ◌<◌, ◌≤◌, List, [], ◌∷◌, ◌++◌, length, get_or, drop, map, Option, refl, sym, ap, ap₂, ◌∙◌, subst, arith, Result, Ok, Err, OnOk, IfErr}
 use Rattle.lower_arrays.specs.AnyLayouts.{layout_of}
 use Rattle.lower_arrays.specs.Layouts.{layouts}
@@ -30,14 +30,14 @@ others_are [] (suc i) = refl
 others_are (f ∷ fs) zero = refl
 others_are (f ∷ fs) (suc i) = others_are fs i
 
--- those in the columns from one place on, and in one column
+-- The dictionaries in the columns from an index on, and in one column.
 abbrev pub keyed_from : List AnyArray → List IpcField → ℕ → List Keyed
 keyed_from xs fs i = keyed_of (layouts (map layout_of (drop i xs))) (all_ids_view (drop i fs))
 
 abbrev pub keyed_in : AnyArray → Option ℤ → IdTrees → List Keyed
 keyed_in y id is = keyed_below (layout_of y) is ++ own_keyed (layout_of y) id
 
--- the one at a place, and those behind it
+-- The column at an index, and those after it.
 pub record IsColumn (xs : List AnyArray) (fs : List IpcField) (i : ℕ) (y : AnyArray) (id : Option ℤ) (is : IdTrees) : Type 0 where
   pub within : i < length xs
   pub array : y ≡ get_or xs i y
@@ -58,7 +58,7 @@ pub all_more : (m : Remembered) (fixed : Bool) (a b z : Seen) (xs : List AnyArra
 all_more m fixed a b z xs fs i y id is c here rest =
     subst (λ (ks : List Keyed). Listed m fixed a z ks) (keyed_are xs fs i y id is c) (listed_then m fixed a b z (keyed_in y id is) (keyed_from xs fs (i + 1)) here rest)
 
--- behind the last one
+-- After the last column.
 pub all_done : (m : Remembered) (fixed : Bool) (a : Seen) (xs : List AnyArray) (fs : List IpcField) (i : ℕ) → length xs ≤ i → Listed m fixed a a (keyed_from xs fs i)
 all_done m fixed a xs fs i h =
     subst (λ (ys : List AnyArray). Listed m fixed a a (keyed_of (layouts (map layout_of ys)) (all_ids_view (drop i fs)))) (sym (drop_none xs i h)) (listed_none m fixed a)

@@ -1,4 +1,4 @@
--- Arrays of keys, one after another: those that have ids are the places of a chunk.
+-- Arrays of keys, one after another: those that have ids are the dictionary fields of a chunk.
 use Rattle.std.proofs.Common.{◌≡◌, ℤ, Bool, List, [], ◌∷◌, ◌++◌, Option, Some, None, IsSome, Ok, Err, Result, refl, sym, ap, ◌∙◌, subst, inl, inr}
 use Rattle.std.proofs.lemmas.Grind.{flat_map-append}
 use Rattle.std.proofs.lemmas.Option.{none-some}
@@ -26,7 +26,7 @@ have_behind : (id : ℤ) (d : Dictionary) (ks js : List Keyed) → AllHave id d 
 have_behind id d ks js all =
     all_behind (λ p. p.id ≡ id → dictionary_of p.values ≡ d) (places_of ks) (places_of js) (subst (λ (ps : List FilledPlace). AllHave id d ps) (places_both ks js) all)
 
--- ---- arrays gone through
+-- ---- arrays that were visited
 
 pub listed_none : (m : Remembered) (fixed : Bool) (a : Seen) → Listed m fixed a a []
 listed_none m fixed a = record { have_ids = tt; goes = goes_none m fixed a }
@@ -80,7 +80,7 @@ refuses_asked m fixed a id l (Argument (DictionaryReplaced j)) h =
     (h.1, v.0, ap m h.0 ∙ v.1, λ all. v.2 (sym (all.0 (sym h.0))))
 refuses_asked m fixed a id l _ h = absurd h
 
--- the id and the values stand as they were handed on, which are the same
+-- The id and the values are those that were passed.
 pub refuses_changed : (m : Remembered) (fixed : Bool) (a : Seen) (id j : ℤ) (l k : Layout) (r : Result Bool Fault) (e : Fault) → j ≡ id → k ≡ l → r ≡ Err e → Asks m fixed j (dictionary_of k) r → Refuses m fixed a (one_keyed id l) e
 refuses_changed m fixed a id j l k r e same values was asks =
     refuses_asked m fixed a id l e

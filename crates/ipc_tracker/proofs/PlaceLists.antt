@@ -1,4 +1,4 @@
--- The dictionaries of a chunk, one place after another.
+-- The dictionaries of a chunk, one field after another.
 use Rattle.std.proofs.Common.{◌≡◌, ◌⊎◌, ◌≤◌, ℤ, cond, Bool, true, false, List, [], ◌∷◌, ◌++◌, length, Option, Some, None, IsTrue, Ok, refl, sym, ap, ◌∙◌, subst, append_assoc, append-nil, inl, inr, arith}
 use Rattle.std.specs.List.{AllByRecursion}
 use Rattle.std.specs.Option.{option_or}
@@ -66,7 +66,7 @@ ahead_met m a id d e = ap (λ (o : Option Dictionary). option_or o (m id)) e
 pub ahead_unmet : (m : Remembered) (a : Seen) (id : ℤ) → a.met id ≡ None → ahead m a id ≡ m id
 ahead_unmet m a id e = ap (λ (o : Option Dictionary). option_or o (m id)) e
 
--- ---- what is listed
+-- ---- the values to write
 
 pub remembering_both : (ws vs : List FilledPlace) (m : Remembered) → remembering_all (ws ++ vs) m ≡ remembering_all vs (remembering_all ws m)
 remembering_both [] vs m = refl
@@ -84,7 +84,7 @@ lists_then m (p ∷ ps) qs ws vs (inr s) t =
       lists_then (remembering p.id (dictionary_of p.values) m) ps qs s.1 vs s.3 (subst (λ (xs : List FilledPlace). ListsUnwritten (remembering_all xs m) qs vs) s.2 t),
     )
 
--- no more are listed than there are places
+-- No more values are listed than there are dictionary fields.
 pub lists_short : (m : Remembered) (ps ws : List FilledPlace) → ListsUnwritten m ps ws → length ws ≤ length ps
 lists_short m [] ws s = let e = ap (λ (xs : List FilledPlace). length xs) s in omega (arith, e)
 lists_short m (p ∷ ps) ws (inl s) = let n = lists_short m ps ws s.1 in omega (arith, n)
@@ -93,7 +93,7 @@ lists_short m (p ∷ ps) ws (inr s) =
     let n = lists_short (remembering p.id (dictionary_of p.values) m) ps s.1 s.3 in
     omega (arith, e, n)
 
--- ---- places gone through
+-- ---- dictionary fields that were visited
 
 found_still : (a b : Seen) (ps : List FilledPlace) → ((id : ℤ) (d : Dictionary) → a.met id ≡ Some d → b.met id ≡ Some d) → Finds a.met ps → Finds b.met ps
 found_still a b [] stays f = tt
@@ -132,9 +132,9 @@ goes_then m fixed a b c ps qs x y = record {
     older id d (inl e) = x.fresh id d e
     older id d (inr h) = inr h
 
--- ---- one place
+-- ---- one dictionary field
 
--- an id that was met, with the same values
+-- An id that had values, with the same values.
 pub goes_met : (m : Remembered) (fixed : Bool) (a : Seen) (p : FilledPlace) → a.met p.id ≡ Some (dictionary_of p.values) → Goes m fixed a a (p ∷ [])
 goes_met m fixed a p e = record {
   stays = λ id d f. f;
@@ -166,7 +166,7 @@ added_new m fixed false a b p none h x = record {
       ∙ remembered_still p.id (dictionary_of p.values) (ahead m a) (ahead_unmet m a p.id none ∙ h) id;
 }
 
--- an id that was not
+-- An id that had no values.
 pub goes_new : (m : Remembered) (fixed changed : Bool) (a b : Seen) (p : FilledPlace) → a.met p.id ≡ None → Asks m fixed p.id (dictionary_of p.values) (Ok changed) → Meets a b p changed → Goes m fixed a b (p ∷ [])
 goes_new m fixed changed a b p none h x = record {
   stays = λ id d e. elim (cases_Bool (int_eq p.id id)) [

@@ -29,7 +29,7 @@ one_with j p [] e s t = tt
 one_with j p (q ∷ qs) e s t =
     (λ f. ap₂ dictionary_with (sym (t.0 (e ∙ sym f))) (sym (s.0 (e ∙ sym f))), one_with j p qs e s.1 t.1)
 
--- places that share their values have some in common under each id
+-- Dictionary fields that share their values have the same values under each id.
 shared_of : (j : ℤ) (ps : List FilledPlace) → HaveOneType ps → AreShared (map brought ps) → (d : Dictionary) × AllHave j d ps
 shared_of j [] t s = (dictionary_with (plain null) [], tt)
 shared_of j (p ∷ ps) t s =

@@ -12,7 +12,7 @@ use Rattle.ipc_tracker.specs.Listings.{listed, remembering_all}
 use Rattle.ipc_tracker.specs.declared.tracker.NewDictionary.{NewDictionary}
 use Rattle.ipc_tracker.proofs.PlaceLists.{memory_is}
 
--- one of a list is remembered, and the others are to be
+-- One of a list is remembered, and the others will be.
 pub one_remembered : (whole m n : Remembered) (xs ys : List NewDictionary) (x : NewDictionary) → xs ≡ x ∷ ys → IsSameMemory (remembering x.id (dictionary_of (layout_of x.values.value)) m) n
     → IsSameMemory whole (remembering_all (map listed xs) m) → IsSameMemory whole (remembering_all (map listed ys) n)
 one_remembered whole m n xs ys x e step h = λ id.
@@ -20,7 +20,7 @@ one_remembered whole m n xs ys x e step h = λ id.
     ∙ ap (λ (zs : List NewDictionary). remembering_all (map listed zs) m id) (sym e)
     ∙ h id
 
--- the id stands as it was handed on, which is the same number
+-- The id is the one that was passed.
 asked : (m : Remembered) (fixed : Bool) (id j : ℤ) (b c : Bool) (r : Result Bool Fault) (l k : Layout) → j ≡ id → k ≡ l → r ≡ Ok b → b ≡ c → Asks m fixed j (dictionary_of k) r → Asks m fixed id (dictionary_of l) (Ok c)
 asked m fixed id j b c r l k i e was g asks =
     subst (λ (z : ℤ). Asks m fixed z (dictionary_of l) (Ok c)) i
@@ -35,19 +35,19 @@ inserted m after fixed id j b r l k n i e f was g asks same = record {
   memory = subst (λ (z : ℤ). IsSameMemory (remembering z (dictionary_of l) m) after) i (subst (λ (x : Layout). IsSameMemory (remembering j (dictionary_of x) m) after) f same);
 }
 
--- an allocation failed for values that are new, or others: nothing is remembered
+-- An allocation failed for new or changed values: nothing is remembered.
 pub refused : (m after : Remembered) (fixed : Bool) (id j : ℤ) (b : Bool) (r s : Result Bool Fault) (l k : Layout) → j ≡ id → k ≡ l → r ≡ Ok b → b ≡ true → Asks m fixed j (dictionary_of k) r
     → s ≡ Err Memory → IsSameMemory m after → Inserts m fixed id (dictionary_of l) s after
 refused m after fixed id j b r s l k i e was g asks failed same =
     let new = asked m fixed id j b true r l k i e was g asks in
     subst (λ (x : Result Bool Fault). Inserts m fixed id (dictionary_of l) x after) (sym failed) (record { asks = new.0; memory = same })
 
--- ---- what is told of values that have to stay
+-- ---- what is reported of values that must stay
 
 none_is : (o : Option Dictionary) → IsSome o → o ≡ None → ⊥
 none_is o some e = let none : is_some o ≡ false = ap is_some e in true≢false (sym some ∙ none)
 
--- nothing has to be told of values that are new, or those that are remembered
+-- No error is due for new values, or for those that are remembered.
 pub told_changed : (m : Remembered) (fixed : Bool) (id j : ℤ) (b : Bool) (r s : Result Bool Fault) (l k : Layout) → j ≡ id → k ≡ l → r ≡ Ok b → b ≡ true → Asks m fixed j (dictionary_of k) r → TellsReplaced m fixed id (dictionary_of l) s
 told_changed m fixed id j b r s l k i e was g asks =
     let new = asked m fixed id j b true r l k i e was g asks in

@@ -1,4 +1,4 @@
--- A chunk as a whole: what is listed of it, and why it is refused.
+-- A chunk as a whole: its values to write, and why it is refused.
 use Rattle.std.proofs.Common.{◌≡◌, ◌⊎◌, ℤ, Bool, true, false, cond, List, [], ◌∷◌, ◌++◌, map, Option, Some, None, IsTrue, refl, sym, ap, ap₂, ◌∙◌, subst, inl, inr}
 use Rattle.std.specs.List.{AllByRecursion}
 use Rattle.std.proofs.lemmas.Option.{none-some}
@@ -87,7 +87,7 @@ found_ahead : (m : Remembered) (b : Seen) (ps : List FilledPlace) → Finds b.me
 found_ahead m b [] f = tt
 found_ahead m b (p ∷ ps) f = (ahead_met m b p.id (dictionary_of p.values) f.0, found_ahead m b ps f.1)
 
--- ---- a chunk of which nothing was gone through
+-- ---- a chunk of which nothing was visited
 
 pub lists_all : (m : Remembered) (fixed : Bool) (a b : Seen) (columns : List Layout) (is : IdTrees) (ws : List FilledPlace) → ((id : ℤ) → a.met id ≡ None) → a.list ≡ [] → ws ≡ b.list
     → Listed m fixed a b (keyed_of (layouts columns) is) → ListsAll m fixed columns is ws

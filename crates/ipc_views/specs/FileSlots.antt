@@ -1,4 +1,4 @@
--- The table of File.fbs: which slot holds what.
+-- The table of File.fbs: what each field has.
 use Rattle.std.specs.Prelude.{List, Option, Result}
 use Rattle.ipc_devices.specs.declared.fault.TableFault.{TableFault}
 use Rattle.ipc_views.specs.declared.file.Block.{Block}
@@ -8,7 +8,7 @@ use Rattle.ipc_views.specs.Spot.{Spot, Vector}
 use Rattle.ipc_views.specs.Structs.{block_of, structs_slot}
 use Rattle.ipc_views.specs.Tables.{and_then, number_slot, table_slot, vector_slot}
 
--- Footer: version, schema, dictionaries, recordBatches, custom_metadata
+-- Footer: version, schema, dictionaries, recordBatches, custom_metadata.
 abbrev pub footer_version : Spot → Result MetadataVersion TableFault
 footer_version t = and_then (number_slot 2 0 t.message t.place 0) version_of
 

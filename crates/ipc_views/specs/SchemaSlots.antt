@@ -1,4 +1,4 @@
--- The tables of Schema.fbs that hold a schema and its fields: which slot holds what.
+-- The tables of Schema.fbs for a schema and its fields: what each field of a table has.
 use Rattle.std.specs.Prelude.{ℕ, ℤ, List, Option, Bool, Result}
 use Rattle.std.specs.Int.{w64, cast_signed}
 use Rattle.ipc_devices.specs.declared.fault.TableFault.{TableFault}
@@ -7,7 +7,7 @@ use Rattle.ipc_views.specs.Enumerations.{endianness_of}
 use Rattle.ipc_views.specs.Spot.{Spot, Vector}
 use Rattle.ipc_views.specs.Tables.{and_then, flag, map_ok, number_slot, table_slot, text_slot, union_slot, vector_slot}
 
--- Schema: endianness, fields, custom_metadata, features
+-- Schema: endianness, fields, custom_metadata, features.
 abbrev pub schema_endianness : Spot → Result Endianness TableFault
 schema_endianness t = and_then (number_slot 2 0 t.message t.place 0) endianness_of
 
@@ -17,7 +17,7 @@ schema_fields t = vector_slot 4 t.message t.place 1
 abbrev pub schema_custom_metadata : Spot → Result (Option Vector) TableFault
 schema_custom_metadata t = vector_slot 4 t.message t.place 2
 
--- Field: name, nullable, type (tag and table), dictionary, children, custom_metadata
+-- Field: name, nullable, type (tag and table), dictionary, children, custom_metadata.
 abbrev pub field_name : Spot → Result (Option (List ℕ)) TableFault
 field_name t = text_slot t.message t.place 0
 
@@ -36,14 +36,14 @@ field_children t = vector_slot 4 t.message t.place 5
 abbrev pub field_custom_metadata : Spot → Result (Option Vector) TableFault
 field_custom_metadata t = vector_slot 4 t.message t.place 6
 
--- KeyValue: key, value
+-- KeyValue: key, value.
 abbrev pub key_value_key : Spot → Result (Option (List ℕ)) TableFault
 key_value_key t = text_slot t.message t.place 0
 
 abbrev pub key_value_value : Spot → Result (Option (List ℕ)) TableFault
 key_value_value t = text_slot t.message t.place 1
 
--- DictionaryEncoding: id, indexType, isOrdered, dictionaryKind
+-- DictionaryEncoding: id, indexType, isOrdered, dictionaryKind.
 abbrev pub dictionary_encoding_id : Spot → Result ℤ TableFault
 dictionary_encoding_id t = map_ok (cast_signed w64) (number_slot 8 0 t.message t.place 0)
 

@@ -1,12 +1,12 @@
--- Places in a message. (Flatbuffers, "Internals".)
+-- Tables and vectors at offsets of a message. (Flatbuffers, "Internals".)
 use Rattle.std.specs.Prelude.{ℕ, List}
 
--- a place at which a table stands
+-- A table at an offset of a message.
 pub record Spot : Type 0 where
   pub message : List ℕ
   pub place : ℕ
 
--- the elements of a vector, from a place on
+-- The elements of a vector: the offset of the first, and how many there are.
 pub record Vector : Type 0 where
   pub message : List ℕ
   pub place : ℕ

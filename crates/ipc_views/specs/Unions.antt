@@ -1,4 +1,5 @@
--- A union's value by its tag and its table.
+-- The tag and the table of a union's value.
+-- (Message.fbs and Schema.fbs.)
 use Rattle.std.specs.Prelude.{ℕ}
 use Rattle.ipc_views.specs.Spot.{Spot}
 use Rattle.ipc_views.specs.declared.message.MessageHeaderRef.{MessageHeaderRef}
@@ -6,7 +7,7 @@ use Rattle.ipc_views.specs.declared.message.MessageHeaderRef.TheVariants.{Schema
 use Rattle.ipc_views.specs.declared.types.TypeRef.{TypeRef}
 use Rattle.ipc_views.specs.declared.types.TypeRef.TheVariants.{Null, Int, FloatingPoint, Binary, Utf8, Bool, Decimal, Date, Time, Timestamp, Interval, List, Struct, Union, FixedSizeBinary, FixedSizeList, Map, Duration, LargeBinary, LargeUtf8, LargeList}
 
--- MessageHeader of Message.fbs
+-- MessageHeader of Message.fbs.
 abbrev pub header_parts : MessageHeaderRef → ℕ × Spot
 header_parts (Schema t) = (1, t)
 header_parts (DictionaryBatch t) = (2, t)
@@ -14,7 +15,7 @@ header_parts (RecordBatch t) = (3, t)
 header_parts (Tensor t) = (4, t)
 header_parts (SparseTensor t) = (5, t)
 
--- Type of Schema.fbs
+-- Type of Schema.fbs.
 abbrev pub type_parts : TypeRef → ℕ × Spot
 type_parts (Null t) = (1, t)
 type_parts (Int t) = (2, t)

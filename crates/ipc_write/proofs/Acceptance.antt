@@ -1,4 +1,5 @@
--- Columns are accepted just where their types fit, one id has one list of values, and all lengths can be said.
+-- Columns are accepted exactly if their types fit, one id has one list
+-- of values, and all lengths fit.
 use Rattle.std.proofs.Common.{◌≡◌, ℕ, ◌<◌, arith, List, [], ◌∷◌, ◌+◌, length, map, All, drop, get_or, zero, suc, refl, sym, ap, ◌∙◌, subst}
 use Rattle.std.proofs.lemmas.List.{drop_more}
 use Rattle.lower.specs.Normal.{norm}
@@ -59,12 +60,12 @@ like_fields [] (more_fields (field name t nullable metadata) fs) h = absurd h
 like_fields (a ∷ columns) no_fields h = absurd h
 like_fields (a ∷ columns) (more_fields (field name t nullable metadata) fs) h = (h.0, like_fields columns fs h.1)
 
--- ---- the types from one place on
+-- ---- the types from an index on
 
 at_place : {A : Type 0} (xs : List A) (i : ℕ) (x : A) → i < length xs → x ≡ get_or xs i x → drop i xs ≡ x ∷ drop (i + 1) xs
 at_place {A = A} xs i x inside is = drop_more xs i x inside ∙ ap (λ (y : A). y ∷ drop (i + 1) xs) (sym is)
 
--- by what has each type, as a field
+-- By what each type has, as a field.
 pub types_more : {T : Type 0} (view : T → TypeTree) (xs : List AnyArray) (ts : List T) (i : ℕ) (x : AnyArray) (t : T) → i < length xs → length xs ≡ length ts → x ≡ get_or xs i x → t ≡ get_or ts i t → HasType x (view t)
     → HaveTypes (drop (i + 1) xs) (map view (drop (i + 1) ts)) → HaveTypes (drop i xs) (map view (drop i ts))
 types_more {T = T} view xs ts i x t inside same ix it has rest =

@@ -1,4 +1,4 @@
--- How each call of a stream's writer moves what its bytes mean.
+-- How each call of a stream writer changes what its bytes mean.
 use Rattle.std.proofs.Common.{arith, ◌≡◌, ℕ, pos, ◌%◌, ◌^◌, ◌<◌, ◌⊎◌, inl, inr, Bool, IsTrue, List, [], ◌∷◌, ◌++◌, map, length, take, Some, Option, Ok, Err, refl, sym, ap, ◌∙◌, subst, append_assoc, append-nil}
 use Rattle.lower.specs.TypeTrees.{FieldTrees, TypeTree}
 use Rattle.lower_types.specs.declared.Endianness.{Endianness}
@@ -52,7 +52,7 @@ stood_at Finished w bytes rest head chunks (inr e) h = absurd cc
 stood_at Failed w bytes rest head chunks (inl e) h = absurd cc
 stood_at Failed w bytes rest head chunks (inr e) h = absurd cc
 
--- a call that began to send in a new or a started writer, and failed
+-- A call that began to send in a new or a started writer, and failed.
 pub broken : {W : Type 0} (memory : W → Memory) (a b : WriterSeen W) (bytes base : List ℕ) (head : Head) (chunks : List Chunk) → (a.state ≡ New) ⊎ (a.state ≡ Started) → b.state ≡ Failed
     → WritesSome (memory a.device) (memory b.device) bytes → Agrees memory a base head chunks → Agrees memory b base head chunks
 broken memory a b bytes base head chunks at failed some h =
@@ -66,7 +66,7 @@ broken memory a b bytes base head chunks at failed some h =
 
 -- ---- what is kept
 
--- the same stream of a writer that has the same order, types, ids and dictionaries
+-- The same stream of a writer that has the same byte order, types, ids and dictionaries.
 has_same : (order order' : Endianness) (head : Head) (types types' : List TypeTree) (ids ids' : IdTrees) → order' ≡ order → types' ≡ types → ids' ≡ ids → HeadHas order head types ids → HeadHas order' head types' ids'
 has_same order order' head types types' ids ids' o t i h =
     subst (λ (q : Endianness). HeadHas q head types' ids') (sym o) (subst (λ (ts : List TypeTree). HeadHas order head ts ids') (sym t) (subst (λ (is : IdTrees). HeadHas order head types is) (sym i) h))
@@ -95,7 +95,7 @@ same_agrees memory a b base head chunks kept order h = record {
 
 -- ---- write
 
--- The messages of a chunk that the writer takes were sent, and are remembered.
+-- The messages of a chunk that the writer accepts were sent, and are remembered.
 appended : {W : Type 0} (known grows : Bool) (failures room : W → ℕ) (memory : W → Memory) (a b : WriterSeen W) (u : Unit {0}) (columns : List AnyArray) (ids : Option IdTrees) → a.state ≡ Started → b.state ≡ Started → b.types ≡ a.types → b.ids ≡ a.ids
     → ((fs : FieldTrees) → normal_types fs ≡ a.types → MayBeWritten a fs columns ids) → (s : SendsStep known grows failures room memory a (Ok u) b columns)
     → WritesOver (memory a.device) (memory b.device) (messages_bytes (s.dictionaries ++ s.own ∷ []))
@@ -214,7 +214,7 @@ sent_mark known memory a b was is over = record {
       };
 }
 
--- the mark was begun
+-- The mark was sent in part.
 pub begun_mark : {W : Type 0} (known : Bool) (memory : W → Memory) (a b : WriterSeen W) → a.state ≡ Started → b.state ≡ Failed → (IsTrue known → WritesSome (memory a.device) (memory b.device) (prefix_bytes (pos 0)))
     → Remains known memory a b
 begun_mark known memory a b was is some = record {

@@ -22,14 +22,15 @@ use Rattle.ipc_write.specs.declared.calls.StreamCall.TheVariants.{Start, Write, 
 use Rattle.ipc_write.specs.declared.stream.WriterState.{WriterState}
 use Rattle.ipc_write.specs.declared.stream.WriterState.TheVariants.{New, Started, Finished, Failed}
 
--- what holds whatever is answered
+-- What holds whatever the result is.
 pub on_err : {X E : Type 0} (r : Result X E) (P : Type 0) → P → OnErr r P
 on_err (Ok x) P p = tt
 on_err (Err e) P p = p
 
 -- ---- states
 
--- only a new writer's start reaches the device, and only a started one's chunk or end
+-- Only the `start` of a new writer reaches the device, and only the
+-- `write` or `finish` of a started one.
 was_new : {W : Type 0} (s : WriterState) (a b : WriterSeen W) (x : _) → StateComesFirst (fault_unless_new s) a (Err (Io x)) b → s ≡ New
 was_new New a b x h = refl
 was_new Started a b x h = let other = h.0 in absurd cc
@@ -52,13 +53,13 @@ module _ {W : Type 0} (known grows : Bool) (failures room : W → ℕ) (memory :
   abbrev head : Endianness → Head
   head o = written_head_as o fs es is
 
-  -- no call changes the order of bytes
+  -- No call changes the byte order.
   order_stays : (a b : WriterSeen W) (call : StreamCall) (r : Result (Unit {0}) Fault) → Made a call r b → b.order ≡ a.order
   order_stays a b Start r h = h.step.step.order
   order_stays a b (Write chunk) r h = h.step.step.order
   order_stays a b Finish r h = h.step.order
 
-  -- how a call moves the state
+  -- How a call changes the state.
   moves : (a b : WriterSeen W) (call : StreamCall) (r : Result (Unit {0}) Fault) → Made a call r b
       → MayEnd (call_seen call) (outcome r) (state_seen a.state) × (state_seen b.state ≡ state_after (call_seen call) (outcome r) (state_seen a.state))
   moves a b Start (Ok x) h = (ap state_seen h.ok.was, ap state_seen h.ok.is)
@@ -133,7 +134,7 @@ module _ {W : Type 0} (known grows : Bool) (failures room : W → ℕ) (memory :
   made_more a m b (c ∷ calls) [] call r h last = absurd h
   made_more a m b (c ∷ calls) (x ∷ rs) call r h last = (h.0, (h.1.0, made_more h.0 m b calls rs call r h.1.1 last))
 
--- a call with the ids that it was handed is one with those that are chosen
+-- A call with the ids that it was passed is one with those that are chosen.
 pub made_with : {W : Type 0} (known grows : Bool) (failures room : W → ℕ) (memory : W → Memory) (fs : FieldTrees) (es : Pairs) (all handed : Option (Vec IpcField Global)) (a b : WriterSeen W) (call : StreamCall)
     (r : Result (Unit {0}) Fault) → HandsIds call all handed → IsMade known grows failures room memory fs es (chosen_ids handed fs) a call r b → IsMade known grows failures room memory fs es (chosen_ids all fs) a call r b
 made_with known grows failures room memory fs es all handed a b Start r same h =

@@ -1,4 +1,4 @@
--- What is sent, and what a device has kept back.
+-- The bytes that are sent, and those that a device has kept back.
 use Rattle.std.proofs.Common.{◌≡◌, ℕ, Bool, IsTrue, List, subst, sym, ◌∙◌, arith, Result, Ok, Err}
 use Rattle.ipc_devices.specs.Device.{Memory, WritesOver}
 use Rattle.ipc_devices.specs.declared.fault.Fault.{Fault}
@@ -12,7 +12,7 @@ delivered known grows d d' r bytes h = record { monotone = h.monotone; failed = 
 pub stopped : {X Y : Type 0} (known grows : Bool) (d d' : DeviceSeen) (e : Fault) (bytes : List ℕ) → Sends {X = X} known grows d d' (Err e) bytes → Delivers {X = Y} known grows d d' (Err e) bytes
 stopped known grows d d' e bytes h = record { monotone = h.monotone; failed = h.failed; only = h.only; done = tt; memory = λ k. tt; part = h.part }
 
--- the same of a call that answers something else
+-- The same of a call with another result.
 pub delivered_as : {X Y : Type 0} (known grows : Bool) (d d' : DeviceSeen) (x : X) (y : Y) (bytes : List ℕ) → Delivers {X = X} known grows d d' (Ok x) bytes → Delivers {X = Y} known grows d d' (Ok y) bytes
 delivered_as known grows d d' x y bytes h = record { monotone = h.monotone; failed = tt; only = tt; done = h.done; memory = h.memory; part = h.part }
 

@@ -1,4 +1,4 @@
--- The messages of a chunk: how they stand in a stream, and what they mean.
+-- The messages of a chunk: how they are in a stream, and what they mean.
 use Rattle.std.proofs.Common.{◌≡◌, ℕ, ◌+◌, List, [], ◌∷◌, ◌++◌, map, refl, sym, ap, ◌∙◌, subst, append_assoc, append-nil}
 use Rattle.lower.specs.TypeTrees.{FieldTrees, Pairs}
 use Rattle.lower_types.specs.declared.Endianness.{Endianness}
@@ -28,7 +28,7 @@ use Rattle.ipc_chunks.specs.Messages.{AreAllValues, AreMessages, Message}
 
 -- ---- one message
 
--- as it stands in a stream
+-- A message as it is in a stream.
 pub in_stream : (kind : BatchKind) (order : Endianness) (ls : List Layout) (n : ℕ) (m : Message) → IsEncoded kind order ls n m.metadata m.body → message_bytes m.metadata m.body ≡ stream_bytes m.metadata m.body
 in_stream kind order ls n m h = message_whole m.metadata m.body (encoded_whole kind order ls n m.metadata m.body h) (encoded_ends kind order ls n m.metadata m.body h)
 

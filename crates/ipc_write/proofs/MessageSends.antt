@@ -27,14 +27,14 @@ use Rattle.ipc_write.proofs.Sends.{both_sent, or_sends}
 
 -- ---- one message
 
--- what stands before a body is a message without one
+-- The bytes before a body are a message without one.
 pub head_is_message : (metadata : List ℕ) → head_bytes metadata ≡ message_bytes metadata []
 head_is_message metadata = sym (append-nil (head_bytes metadata)) ∙ message_whole_body metadata [] refl
 
 too_short : (n : ℕ) → n < 2 ^ 31 → 2 ^ 31 ≤ n → ⊥
 too_short n h k = omega (arith, h, k)
 
--- what stands before its body wasn't sent whole
+-- The bytes before its body weren't sent whole.
 pub head_unsent : (X Y : Type 0) {W : Type 0} (known grows : Bool) (failures room : W → ℕ) (memory : W → Memory) (w : W) (e : Fault) (w' : W) (metadata body : List ℕ)
     → next_multiple_of (length metadata) 8 < 2 ^ 31 → length body % 64 ≡ 0
     → SendsOrRefuses {X = X} known grows failures room memory w (Err e) w' (head_bytes metadata) (2 ^ 31 ≤ next_multiple_of (length metadata) 8)
@@ -43,7 +43,7 @@ head_unsent X Y known grows failures room memory w e w' metadata body short whol
     subst (λ (bytes : List ℕ). Sends {X = Y} known grows (seen_by failures room memory w) (seen_by failures room memory w') (Err e) bytes) (message_whole_body metadata body whole)
     (sends_stop {X = X} {Y = Y} known grows _ _ e (head_bytes metadata) body (or_sends {X = X} known grows failures room memory w (Err e) w' (head_bytes metadata) _ h (too_short _ short)))
 
--- it was, and then the body
+-- They were, and then the body.
 pub body_after : (X Y : Type 0) {W : Type 0} (known grows : Bool) (failures room : W → ℕ) (memory : W → Memory) (w w' w'' : W) (x : X) (r : Result Y Fault) (metadata body : List ℕ)
     → next_multiple_of (length metadata) 8 < 2 ^ 31 → length body % 64 ≡ 0
     → SendsOrRefuses {X = X} known grows failures room memory w (Ok x) w' (head_bytes metadata) (2 ^ 31 ≤ next_multiple_of (length metadata) 8)
@@ -83,7 +83,7 @@ pub leaves_refused : (s : WriterState) (e : Fault) → IsOfMessage e → LeavesS
 leaves_refused s (Io x) h = absurd h
 leaves_refused s _ h = refl
 
--- what a device answered
+-- The result of a device.
 pub hands_sent : {W : Type 0} (known grows : Bool) (failures room : W → ℕ) (memory : W → Memory) (order : Endianness) (columns : List Layout) (list : List FilledPlace) (ds : List Message) (own : Message) (w w' : W) (r : Result (Unit {0}) Fault)
     → AreMessages order columns list ds own → Sends {X = Unit {0}} known grows (seen_by failures room memory w) (seen_by failures room memory w') r (messages_bytes (ds ++ own ∷ []))
     → HandsMessages known grows failures room memory order columns list w r w'
@@ -101,7 +101,7 @@ leaves_sent s s' (Ok x) only stays failed = stays
 leaves_sent s s' (Err (Io x)) only stays failed = failed
 leaves_sent s s' (Err _) only stays failed = absurd only
 
--- both orders of bytes
+-- both byte orders
 pub same_order : (b : Bool) → order_of b ≡ byte_order b
 same_order true = refl
 same_order false = refl

@@ -1,4 +1,4 @@
--- What a writer answers of a chunk, exactly.
+-- The exact result of `write` of a stream writer.
 use Rattle.std.proofs.Common.{◌≡◌, ℕ, arith, false, List, length, map, Option, None, Some, IfSome, IsSomeAnd, ◌⊎◌, inl, inr, Result, Ok, Err, sym, ap, ◌∙◌, subst}
 use Rattle.lower.specs.TypeTrees.{FieldTrees, Pairs, TypeTree}
 use Rattle.lower_arrays.specs.AnyLayouts.{layout_of}
@@ -83,7 +83,7 @@ module _ {W : Type 0} (w : WriterSeen W) (columns : List AnyArray) (ids : Option
   missed Memory h = tt
   missed _ h = absurd h
 
-  -- so it isn't taken
+  -- So the chunk isn't accepted.
   pub not_taken : (e : Fault) → MissesWrite w fs columns ids e → OwnFault e (¬ MayBeWritten w fs columns ids)
   not_taken (State x) h = λ t. h t.started
   not_taken (Argument FieldsDiffer) h = λ t. h t.same_ids
@@ -118,7 +118,7 @@ pub refused_chunk_write : {W : Type 0} (w : WriterSeen W) (columns : List AnyArr
 refused_chunk_write w columns ids (Io x) h = absurd h
 refused_chunk_write w columns ids _ h = h
 
--- What refuses a chunk is no device.
+-- What refuses a chunk is no error of a device.
 pub chunk_not_io : {W : Type 0} (w : WriterSeen W) (columns : List AnyArray) (ids : Option IdTrees) (e : Fault) → RefusesChunk w columns ids e → (P : Type 0) → OnIo {X = Unit {0}} (Err e) P
 chunk_not_io w columns ids (Io x) h P = absurd h
 chunk_not_io w columns ids _ h P = tt
@@ -138,7 +138,7 @@ refuses_types w columns ids (Argument ColumnCount) h = h
 refuses_types w columns ids (Argument ColumnType) h = h
 refuses_types w columns ids _ h = absurd h
 
--- faults of messages
+-- Errors of messages.
 of_batch : (columns : List Layout) (e : Fault) → RefusesBatch Record (row_count len_of columns) (levels_of columns) e → IsOfMessage e
 of_batch columns Memory h = tt
 of_batch columns (Argument TooLong) h = tt
@@ -186,7 +186,7 @@ refuses_messages w columns ids list e may (inl (inl h)) =
 refuses_messages w columns ids list e may (inl (inr h)) = subst (λ (f : Fault). RefusesChunk w columns ids f) (sym h) tt
 refuses_messages w columns ids list e may (inr h) = record_refuse w columns ids e may.fits h
 
--- messages that aren't handed to a device, or a device that failed
+-- Messages that aren't sent, or a device that failed.
 pub refuses_handing : {W : Type 0} (w : WriterSeen W) (columns : List AnyArray) (ids : Option IdTrees) (list : List FilledPlace) (e : Fault) → MayList w columns ids list
     → RefusesHanding list (map layout_of columns) e → RefusesWrite w columns ids e
 refuses_handing w columns ids list (Io x) may h = tt
@@ -206,7 +206,7 @@ may_be_written w columns ids list rows may said fs same = record {
   accepted = accepted fs w.ids columns w.dictionaries false list rows (subst (λ (types : List TypeTree). HaveTypes columns types) (sym same) may.fits.have) may.lists may.lengths said;
 }
 
--- memory that was refused
+-- An allocation that failed.
 pub memory_refused : {W : Type 0} (w : WriterSeen W) (columns : List AnyArray) (ids : Option IdTrees) (e : Fault) → e ≡ Memory → RefusesChunk w columns ids e
 memory_refused w columns ids e h = subst (λ (f : Fault). RefusesChunk w columns ids f) (sym h) tt
 

@@ -19,11 +19,11 @@ writes_none m = record {
 pub some_none : (m : Memory) (bytes : List ℕ) → WritesSome m m bytes
 some_none m bytes = record { count = 0; most = omega arith; over = writes_none m }
 
--- all was sent, whatever is answered
+-- All was sent, whatever the result is.
 pub sent_as : {X Y : Type 0} (known grows : Bool) (d d' : DeviceSeen) (x : X) (y : Y) (bytes : List ℕ) → Sends {X = X} known grows d d' (Ok x) bytes → Sends {X = Y} known grows d d' (Ok y) bytes
 sent_as known grows d d' x y bytes f = record { monotone = f.monotone; failed = tt; only = tt; done = f.done; memory = f.memory; part = f.part; room = f.room }
 
--- the same fault, of a call that answers something else
+-- The same error, of a call with another result.
 pub failed_as : {X Y : Type 0} (known grows : Bool) (d d' : DeviceSeen) (e : Fault) (bytes : List ℕ) → Sends {X = X} known grows d d' (Err e) bytes → Sends {X = Y} known grows d d' (Err e) bytes
 failed_as known grows d d' e bytes f = record { monotone = f.monotone; failed = f.failed; only = f.only; done = tt; memory = f.memory; part = f.part; room = f.room }
 
@@ -32,19 +32,19 @@ pub both_sent : {X Y : Type 0} (known grows : Bool) (d d' d'' : DeviceSeen) (x :
     → Sends {X = Y} known grows d d'' r (xs ++ ys)
 both_sent {X = X} known grows d d' d'' x r xs ys f g = sends_then known grows d d' d'' r xs ys (sent_as {X = X} {Y = Unit {0}} known grows d d' x tt xs f) g
 
--- a device's fault is no refusal
+-- A device's error is no refusal.
 pub sends_or : {X W : Type 0} (known grows : Bool) (failures room : W → ℕ) (memory : W → Memory) (w : W) (r : Result X Fault) (w' : W) (bytes : List ℕ) (reason : Type 0)
     → Sends known grows (seen_by failures room memory w) (seen_by failures room memory w') r bytes → SendsOrRefuses known grows failures room memory w r w' bytes reason
 sends_or known grows failures room memory w (Err (Argument TooLarge)) w' bytes reason h = absurd h.only
 sends_or known grows failures room memory w _ w' bytes reason h = h
 
--- what fails on the way, or is refused, before other bytes
+-- A failure on the way, or a refusal, before other bytes.
 pub or_stop : (X Y : Type 0) {W : Type 0} (known grows : Bool) (failures room : W → ℕ) (memory : W → Memory) (w : W) (e : Fault) (w' : W) (xs ys : List ℕ) (reason : Type 0)
     → SendsOrRefuses {X = X} known grows failures room memory w (Err e) w' xs reason → SendsOrRefuses {X = Y} known grows failures room memory w (Err e) w' (xs ++ ys) reason
 or_stop X Y known grows failures room memory w (Argument TooLarge) w' xs ys reason h = h
 or_stop X Y known grows failures room memory w _ w' xs ys reason h = sends_stop {X = X} {Y = Y} known grows _ _ _ xs ys h
 
--- the same fault or refusal, of a call that answers something else
+-- The same error or refusal, of a call with another result.
 pub or_fail : (X Y : Type 0) {W : Type 0} (known grows : Bool) (failures room : W → ℕ) (memory : W → Memory) (w : W) (e : Fault) (w' : W) (bytes : List ℕ) (reason : Type 0)
     → SendsOrRefuses {X = X} known grows failures room memory w (Err e) w' bytes reason → SendsOrRefuses {X = Y} known grows failures room memory w (Err e) w' bytes reason
 or_fail X Y known grows failures room memory w (Argument TooLarge) w' bytes reason h = h

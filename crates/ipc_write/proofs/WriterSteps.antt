@@ -28,7 +28,7 @@ use Rattle.ipc_write.specs.declared.stream.WriterState.TheVariants.{Failed}
 use Rattle.ipc_write.proofs.Deliveries.{delivered}
 use Rattle.ipc_write.proofs.Sends.{some_none}
 
--- What refuses a schema is no device.
+-- What refuses a schema is no error of a device.
 pub schema_not_io : (e : Fault) (fs : FieldTrees) (es : Pairs) (is : IdTrees) → RefusesSchema e fs es is → (P : Type 0) → OnIo {X = Unit {0}} (Err e) P
 schema_not_io (Io x) fs es is h P = absurd h
 schema_not_io _ fs es is h P = tt
@@ -45,12 +45,12 @@ pub state_not_io : (own : Option StateFault) (e : Fault) → RefusesState own e 
 state_not_io own (Io x) h P = absurd h
 state_not_io own _ h P = tt
 
--- A state's own fault is what is answered.
+-- A state's own error is returned.
 pub state_first : {W : Type 0} (own : Option StateFault) (a b : WriterSeen W) (e : Fault) → RefusesState own e → b ≡ a → StateComesFirst own a (Err e) b
 state_first own a b (State x) h same = rw h (refl, same)
 state_first own a b _ h same = absurd h
 
--- A state without one says nothing of the answer.
+-- A state without an error says nothing of the result.
 pub no_state_fault : {W : Type 0} (own : Option StateFault) (a b : WriterSeen W) (r : Result (Unit {0}) Fault) → own ≡ None → StateComesFirst own a r b
 no_state_fault own a b r h = rw h tt
 
@@ -105,7 +105,7 @@ refused_schema known grows failures room memory a b e head kept order not_io = r
 
 -- ---- what was sent
 
--- it is fuller than a device that has no room for the first of its bytes
+-- It is fuller than a device that has no room for the first of its bytes.
 fuller : (grows : Bool) (old new room n count : ℕ) → n ≤ count → Rises old new ⊎ (IsTrue grows × (room < n)) → FailsOrIsFull grows old new room count
 fuller grows old new room n count h (inl rises) = inl rises
 fuller grows old new room n count h (inr full) = inr (full.0, omega (arith, h, full.1))

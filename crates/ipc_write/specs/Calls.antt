@@ -1,4 +1,4 @@
--- What the calls of a writer of streams do, one and many, and what is seen of them in the words of `ipc_model`.
+-- What the calls of a stream writer do, one and many, by the definitions of `ipc_model`.
 -- (Arrow columnar format, "IPC Streaming Format".)
 use Rattle.std.specs.Prelude.{◌≡◌, ℕ, pos, Bool, List, [], ◌∷◌, take, Option, None, Result, Ok, Err, IfErr, OnOk, Vec}
 use Rattle.std.specs.declared.alloc.Global.{Global}
@@ -22,37 +22,39 @@ use Rattle.ipc_write.specs.declared.calls.StreamCall.TheVariants.{Start, Write, 
 use Rattle.ipc_write.specs.declared.stream.WriterState.{WriterState}
 use Rattle.ipc_write.specs.declared.stream.WriterState.TheVariants.{New, Started, Finished, Failed}
 
--- ---- what is seen of calls
+-- ---- what theorems know of calls
 
+-- A call as a call of `ipc_model`; a `write` has its chunk.
 abbrev pub call_seen : StreamCall → Call
 call_seen Start = start_call
 call_seen (Write chunk) = write_call (chunk_written chunk.now)
 call_seen Finish = finish_call
 
+-- The state of a writer as a state of `ipc_model`.
 abbrev pub state_seen : WriterState → State
 state_seen New = new_writer
 state_seen Started = started_writer
 state_seen Finished = finished_writer
 state_seen Failed = failed_writer
 
--- a writer of a stream in this state: it writes in this order of bytes, and a stream has no footer
+-- A stream writer in this state, with this byte order; a stream has no footer.
 abbrev pub writer_in : Endianness → State → Writer
 writer_in order s = record { state = s; order = order; pairs = [] }
 
--- how a call ended that answered this
+-- How a call ended, by its result.
 abbrev pub outcome : Result Unit Fault → Outcome
 outcome (Ok x) = is_taken
 outcome (Err (Io e)) = is_broken
 outcome (Err _) = is_refused
 
--- the calls, each with how it ended
+-- The calls, each with how it ended.
 abbrev pub ended_as : List StreamCall → List (Result Unit Fault) → List (Call × Outcome)
 ended_as (call ∷ calls) (r ∷ rs) = (call_seen call, outcome r) ∷ ended_as calls rs
 ended_as _ _ = []
 
 -- ---- one call
 
--- what `start` says of itself
+-- The contract of `start`.
 pub record DoesStart {W : Type 0} (known grows : Bool) (failures room : W → ℕ) (memory : W → Memory) (a : WriterSeen W) (fields : FieldTrees) (metadata : Pairs) (ids : IdTrees) (r : Result Unit Fault) (b : WriterSeen W) : Type 0 where
   pub first : StateComesFirst (fault_unless_new a.state) a r b
   pub step : SendsSchema known grows failures room memory a r b (written_head_as a.order fields metadata ids)
@@ -60,7 +62,7 @@ pub record DoesStart {W : Type 0} (known grows : Bool) (failures room : W → �
   pub only : IfErr r (RefusesStart a.state fields metadata ids)
   pub means : BeginsStream known memory a r b (written_head_as a.order fields metadata ids)
 
--- what `write` says of itself
+-- The contract of `write`.
 pub record DoesWrite {W : Type 0} (known grows : Bool) (failures room : W → ℕ) (memory : W → Memory) (a : WriterSeen W) (columns : List AnyArray) (ids : Option IdTrees) (r : Result Unit Fault) (b : WriterSeen W) : Type 0 where
   pub first : StateComesFirst (fault_unless_started a.state) a r b
   pub step : SendsStep known grows failures room memory a r b columns
@@ -69,7 +71,7 @@ pub record DoesWrite {W : Type 0} (known grows : Bool) (failures room : W → �
   pub exact : WritesExactly a columns ids r
   pub means : Appends known memory a r b (chunk_written columns)
 
--- what `finish` says of itself
+-- The contract of `finish`.
 pub record DoesFinish {W : Type 0} (known grows : Bool) (failures room : W → ℕ) (memory : W → Memory) (a : WriterSeen W) (r : Result Unit Fault) (b : WriterSeen W) : Type 0 where
   pub first : StateComesFirst (fault_unless_started a.state) a r b
   pub step : SendStep known grows failures room memory a r b (prefix_bytes (pos 0)) 8
@@ -77,20 +79,21 @@ pub record DoesFinish {W : Type 0} (known grows : Bool) (failures room : W → �
   pub only : IfErr r (RefusesFinish a.state)
   pub means : Remains known memory a b
 
--- A call of a writer is made and answers this: each `start` is of this schema, with these ids.
+-- A call returned r and left the writer b, by the call's contract. Each `start`
+-- has this schema and these ids.
 abbrev pub IsMade : {W : Type 0} → (known grows : Bool) (failures room : W → ℕ) (memory : W → Memory) (fields : FieldTrees) (metadata : Pairs) (ids : IdTrees) → WriterSeen W → StreamCall → Result Unit Fault → WriterSeen W → Type 0
 IsMade known grows failures room memory fs es is a Start r b = DoesStart known grows failures room memory a fs es is r b
 IsMade known grows failures room memory fs es is a (Write chunk) r b = DoesWrite known grows failures room memory a chunk.now None r b
 IsMade known grows failures room memory fs es is a Finish r b = DoesFinish known grows failures room memory a r b
 
--- What is handed to a call: to `start` the ids that are chosen for the fields, whatever these are.
+-- `start` is given ids that are those chosen for the fields, whatever these are.
 abbrev pub HandsIds : StreamCall → (all handed : Option (Vec IpcField Global)) → Type 0
 HandsIds Start all handed = (fs : FieldTrees) → chosen_ids handed fs ≡ chosen_ids all fs
 HandsIds _ all handed = Unit {0}
 
 -- ---- calls one after the other
 
--- Each call is made of the writer that the one before it left, and these are their answers.
+-- Each call is made on the writer that the call before it left, with these results.
 abbrev pub AreMade : {W : Type 0} → (known grows : Bool) (failures room : W → ℕ) (memory : W → Memory) (fields : FieldTrees) (metadata : Pairs) (ids : IdTrees) → WriterSeen W → List StreamCall → List (Result Unit Fault) → WriterSeen W → Type 0
 AreMade known grows failures room memory fs es is a [] [] b = b ≡ a
 AreMade {W = W} known grows failures room memory fs es is a (call ∷ calls) (r ∷ rs) b =

@@ -1,4 +1,4 @@
--- What columns that are written mean, in the words of `ipc_model`.
+-- What columns that are written mean, by the definitions of `ipc_model`.
 -- (Arrow columnar format, "RecordBatch message" and "Schema message".)
 use Rattle.std.specs.Prelude.{◌≡◌, List, [], ◌∷◌, map}
 use Rattle.lower.specs.Normal.{norm}
@@ -13,17 +13,17 @@ use Rattle.ipc_model.specs.Streams.{Head}
 use Rattle.ipc_model.specs.Writable.{IsWritable}
 use Rattle.ipc_schema_write.specs.WriterAnswers.{written_head_as}
 
--- a chunk of columns, as it is read back
+-- The columns as a chunk, as it is read back.
 abbrev pub chunk_written : List AnyArray → Chunk
 chunk_written columns = layouts_written (map layout_of columns)
 
--- the types of fields, in their normal form
+-- The types of fields, in their normal form.
 abbrev pub normal_types : FieldTrees → List TypeTree
 normal_types no_fields = []
 normal_types (more_fields (field name t nullable metadata) fields) = norm t ∷ normal_types fields
 
--- The schema that a stream begins with is one that can be written, in its normal form: its columns have these types, its dictionaries these
--- ids, and numbers have this order of their bytes.
+-- The schema of a stream is one that can be written, in its normal form. Its columns have these
+-- types, its dictionaries these ids, and its numbers this byte order.
 pub record HeadHas (order : Endianness) (head : Head) (types : List TypeTree) (ids : IdTrees) : Type 0 where
   pub fields : FieldTrees
   pub metadata : Pairs

@@ -1,4 +1,4 @@
--- The messages of a chunk, as they stand in a stream.
+-- The messages of a chunk, as they are in a stream.
 -- (Arrow columnar format, "Encapsulated message format".)
 use Rattle.std.specs.Prelude.{ℕ, List, [], ◌∷◌, ◌++◌}
 use Rattle.lower_arrays.specs.Layouts.{Layout}
@@ -9,16 +9,16 @@ use Rattle.ipc_devices.specs.declared.fault.Fault.TheVariants.{Io}
 use Rattle.ipc_model.specs.Offers.{FilledPlace}
 use Rattle.ipc_write.specs.Framing.{message_bytes}
 
--- the messages of a chunk, in their order
+-- The messages of a chunk, in their order.
 abbrev pub all_seen : Messages → List Message
 all_seen ms = dictionaries_seen ms ++ message_seen ms.record_batch ∷ []
 
--- messages as they stand in a stream, one behind the other
+-- Messages as they are in a stream, one after the other.
 abbrev pub messages_bytes : List Message → List ℕ
 messages_bytes [] = []
 messages_bytes (m ∷ ms) = message_bytes m.metadata m.body ++ messages_bytes ms
 
--- why they aren't handed to a device, or it fails
+-- Why the messages of a chunk aren't sent, or the device fails.
 abbrev pub RefusesHanding : List FilledPlace → List Layout → Fault → Type 0
 RefusesHanding list columns (Io e) = Unit {0}
 RefusesHanding list columns e = RefusesMessages list columns e

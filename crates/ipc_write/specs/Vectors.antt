@@ -1,12 +1,12 @@
--- A vector as the device of a writer: how much it has room for.
+-- A vector as the device of a writer: how many bytes it has room for.
 use Rattle.std.specs.Prelude.{ℕ, ◌-◌, ◌<◌, List, length, Vec, vec_capacity, vec_len}
 use Rattle.std.specs.declared.alloc.Global.{Global}
 
--- how many bytes a vector has room for behind what it holds
+-- How many bytes more a vector has room for.
 abbrev pub vector_room : Vec ℕ Global → ℕ
 vector_room v = vec_capacity v - vec_len v
 
--- a vector has no room for bytes that are to be sent, of which P holds
+-- A vector has no room for bytes that are to be sent, of which P holds.
 pub record HasNoRoom (v : Vec ℕ Global) (P : List ℕ → Type 0) : Type 0 where
   pub bytes : List ℕ
   pub are : P bytes

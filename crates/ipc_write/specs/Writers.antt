@@ -1,4 +1,5 @@
--- What the calls of a stream's writer do.
+-- What the calls of a stream writer do.
+-- (Arrow columnar format, "IPC Streaming Format".)
 use Rattle.std.specs.Prelude.{◌≡◌, ◌⊎◌, ℕ, ◌≤◌, Bool, false, if◌then◌else◌, IsTrue, List, [], ◌∷◌, ◌++◌, Vec, length, map, Option, Some, None, IfSome, IsSomeAnd, Result, Ok, Err, OnOk}
 use Rattle.std.specs.List.{AllByRecursion, AllZip}
 use Rattle.std.specs.Borrow.{Bor}
@@ -47,10 +48,11 @@ use Rattle.ipc_write.specs.declared.stream.writer.StreamWriter.{StreamWriter}
 use Rattle.ipc_write.specs.declared.stream.WriterState.{WriterState}
 use Rattle.ipc_write.specs.declared.stream.WriterState.TheVariants.{New, Started, Finished, Failed}
 
--- ---- what is seen of a writer
+-- ---- what contracts know of a writer
 
--- What a writer writes to, how far it is, the order of the bytes of its numbers, the types of the columns that it takes, in their normal
--- form, the ids that it was started with, and the dictionaries that it remembers.
+-- What contracts know of a stream writer: its device, its state, its byte order, and the types of
+-- the columns that it accepts, in their normal form. Then the ids that it was started with, and the
+-- dictionaries that it remembers.
 pub record WriterSeen (W : Type 0) : Type 0 where
   pub device : W
   pub state : WriterState
@@ -59,14 +61,15 @@ pub record WriterSeen (W : Type 0) : Type 0 where
   pub ids : IdTrees
   pub dictionaries : Remembered
 
--- the order of the bytes of numbers that is chosen
+-- The byte order that the options choose.
 abbrev pub order_of : WriteOptions → Endianness
 order_of options = if options.big_endian then Big else Little
 
--- a type in its normal form
+-- A type in its normal form.
 abbrev pub normal_view : DataType → TypeTree
 normal_view t = norm (type_view t)
 
+-- What contracts know of a stream writer.
 abbrev pub seen : {W : Type 0} → StreamWriter W → WriterSeen W
 seen w = record {
   device = w.writer;
@@ -79,15 +82,15 @@ seen w = record {
 
 -- ---- types
 
--- the column has this type, in its normal form
+-- A column has this type, in its normal form.
 abbrev pub HasType : AnyArray → TypeTree → Type 0
 HasType a t = norm (type_of (layout_of a)) ≡ t
 
--- the columns have these types, one each
+-- The columns have these types, one each.
 abbrev pub HaveTypes : List AnyArray → List TypeTree → Type 0
 HaveTypes columns types = AllZip HasType columns types
 
--- why columns are refused whose types are to be these
+-- By each error, why columns don't have these types.
 abbrev pub RefusesTypes : List AnyArray → List TypeTree → Fault → Type 0
 RefusesTypes columns types (Argument ColumnCount) = ¬ (length columns ≡ length types)
 RefusesTypes columns types (Argument ColumnType) = ¬ HaveTypes columns types
@@ -95,30 +98,31 @@ RefusesTypes columns types _ = ⊥
 
 -- ---- calls
 
--- the fault of a state in which a writer takes no chunk and no end
+-- The error of a state in which a writer accepts no chunk and no end.
 abbrev pub fault_unless_started : WriterState → Option StateFault
 fault_unless_started New = Some faults.NotStarted
 fault_unless_started Started = None
 fault_unless_started Finished = Some faults.Finished
 fault_unless_started Failed = Some faults.Failed
 
--- the fault of a state in which it takes no schema
+-- The error of a state in which a writer accepts no schema.
 abbrev pub fault_unless_new : WriterState → Option StateFault
 fault_unless_new New = None
 fault_unless_new Started = Some faults.AlreadyStarted
 fault_unless_new Finished = Some faults.Finished
 fault_unless_new Failed = Some faults.Failed
 
--- a state refuses with its own fault
+-- A state refuses with its own error.
 abbrev pub RefusesState : Option StateFault → Fault → Type 0
 RefusesState own (State e) = own ≡ Some e
 RefusesState own _ = ⊥
 
--- The state comes first: where it has a fault, a call answers that one, whatever it is called with, and does nothing.
+-- The state is checked first: if it has an error, a call returns this error, whatever
+-- its arguments, and does nothing.
 abbrev pub StateComesFirst : {W : Type 0} → Option StateFault → WriterSeen W → Result Unit Fault → WriterSeen W → Type 0
 StateComesFirst own a r b = IfSome own (λ e. (r ≡ Err (State e)) × (b ≡ a))
 
--- Nothing was sent, and the writer is as it was.
+-- Nothing was sent, and the writer is unchanged.
 pub record Kept {W : Type 0} (a b : WriterSeen W) : Type 0 where
   pub device : b.device ≡ a.device
   pub state : b.state ≡ a.state
@@ -126,7 +130,7 @@ pub record Kept {W : Type 0} (a b : WriterSeen W) : Type 0 where
   pub ids : b.ids ≡ a.ids
   pub dictionaries : IsSameMemory a.dictionaries b.dictionaries
 
--- What a call that sends these bytes does to its device, and what a refused one leaves. If it
+-- What a call that sends these bytes does to its device, and what a refused call leaves. If it
 -- returns Ok, no call of the device failed.
 pub record SendStep {W : Type 0} (known grows : Bool) (failures room : W → ℕ) (memory : W → Memory) (a : WriterSeen W) (r : Result Unit Fault) (b : WriterSeen W) (bytes : List ℕ) (count : ℕ) : Type 0 where
   pub monotone : failures a.device ≤ failures b.device
@@ -137,14 +141,15 @@ pub record SendStep {W : Type 0} (known grows : Bool) (failures room : W → ℕ
   pub all_sent : IsTrue known → OnOk r (WritesOver (memory a.device) (memory b.device) bytes)
   pub some_sent : IsTrue known → WritesSome (memory a.device) (memory b.device) bytes
 
--- where a call that sends left the writer
+-- The state in which a call that sends leaves the writer.
 abbrev pub LeavesState : Result Unit Fault → WriterState → WriterState → Type 0
 LeavesState (Ok x) s s' = s' ≡ s
 LeavesState (Err (Io e)) s s' = s' ≡ Failed
 LeavesState (Err _) s s' = s' ≡ s
 
--- A call that sends the messages of these columns where anything was sent: those of the dictionaries that are new or others than the writer
--- remembers, each behind those inside its values, and that of the columns. What was sent is remembered then.
+-- If a call sends anything, it sends the messages of these columns. They are those of the
+-- dictionaries that are new or differ from those remembered, inner before outer, and that of the
+-- columns. The dictionaries that were sent are remembered then.
 pub record SendsStep {W : Type 0} (known grows : Bool) (failures room : W → ℕ) (memory : W → Memory) (a : WriterSeen W) (r : Result Unit Fault) (b : WriterSeen W) (columns : List AnyArray) : Type 0 where
   pub list : List FilledPlace
   pub dictionaries : List Message
@@ -154,15 +159,15 @@ pub record SendsStep {W : Type 0} (known grows : Bool) (failures room : W → �
   pub remembers : OnOk r (IsSameMemory (remembering_all list a.dictionaries) b.dictionaries)
   pub step : SendStep known grows failures room memory a r b (messages_bytes (dictionaries ++ own ∷ [])) (length (messages_bytes (dictionaries ++ own ∷ [])))
 
--- A call that sends a schema's message: metadata without a body, which begin a stream with this head where anything was sent, and are laid out
--- as messages are written.
+-- A call that sends a schema message. If anything was sent, the metadata are those of a stream with
+-- this head, without a body, and laid out as messages are written.
 pub record SendsSchema {W : Type 0} (known grows : Bool) (failures room : W → ℕ) (memory : W → Memory) (a : WriterSeen W) (r : Result Unit Fault) (b : WriterSeen W) (head : Head) : Type 0 where
   pub metadata : List ℕ
   pub is : OnSent r (head_of metadata ≡ Some head)
   pub written : OnSent r (IsWritten metadata)
   pub step : SendStep known grows failures room memory a r b (message_bytes metadata []) (message_len metadata [])
 
--- columns, which are arrays, have the types that a writer takes
+-- The columns are arrays of the types that a writer accepts.
 pub record FitTypes {W : Type 0} (w : WriterSeen W) (columns : List AnyArray) : Type 0 where
   pub have : HaveTypes columns w.types
   pub arrays : AreArrays (layouts (map layout_of columns))
@@ -186,13 +191,14 @@ RefusesChunk w columns ids (Argument TooLarge) =
 RefusesChunk w columns ids NoMemory = Unit {0}
 RefusesChunk w columns ids _ = ⊥
 
--- why a writer refuses it, or its device does
+-- Why a writer refuses a chunk, or its device fails.
 abbrev pub RefusesWrite : {W : Type 0} → WriterSeen W → List AnyArray → Option IdTrees → Fault → Type 0
 RefusesWrite w columns ids (Io e) = Unit {0}
 RefusesWrite w columns ids e = RefusesChunk w columns ids e
 
--- A started writer may write columns but for the lengths of these: no ids are handed in, or those of the start, the types are those that it
--- takes, and these are the dictionaries that are to be written; a message of each of all dictionaries can say its lengths.
+-- A started writer may write the columns, apart from their lengths. No ids are passed, or those of
+-- the start; the types are those that it accepts, and `list` has the dictionaries to write. The
+-- lengths of all dictionaries fit in their messages.
 pub record MayList {W : Type 0} (w : WriterSeen W) (columns : List AnyArray) (ids : Option IdTrees) (list : List FilledPlace) : Type 0 where
   pub was : w.state ≡ Started
   pub ids_same : IfSome ids (λ given. given ≡ w.ids)
@@ -200,7 +206,7 @@ pub record MayList {W : Type 0} (w : WriterSeen W) (columns : List AnyArray) (id
   pub lists : ListsAll w.dictionaries false (map layout_of columns) w.ids list
   pub lengths : HaveLengths (values_of (layouts (map layout_of columns)) w.ids)
 
--- A chunk was taken.
+-- A chunk was written.
 pub record TakesChunk {W : Type 0} (a b : WriterSeen W) (columns : List AnyArray) (ids : Option IdTrees) : Type 0 where
   pub was : a.state ≡ Started
   pub is : b.state ≡ Started
@@ -209,14 +215,14 @@ pub record TakesChunk {W : Type 0} (a b : WriterSeen W) (columns : List AnyArray
   pub ids_same : IfSome ids (λ given. given ≡ a.ids)
   pub fits : HaveTypes columns a.types
 
--- A writer that was started with fields like these takes the columns with these ids: no ids are handed in, or those of the start, and the
--- columns are an accepted chunk.
+-- A writer that was started with fields like these accepts the columns with these ids: there are
+-- none, or those of the start, and the columns are an accepted chunk.
 pub record MayBeWritten {W : Type 0} (w : WriterSeen W) (fields : FieldTrees) (columns : List AnyArray) (ids : Option IdTrees) : Type 0 where
   pub started : w.state ≡ Started
   pub same_ids : IfSome ids (λ given. given ≡ w.ids)
   pub accepted : IsAcceptedChunk fields w.ids (map layout_of columns)
 
--- which of these conditions isn't met
+-- By each error of `write`, the condition that isn't met.
 abbrev pub MissesWrite : {W : Type 0} → WriterSeen W → FieldTrees → List AnyArray → Option IdTrees → Fault → Type 0
 MissesWrite w fs columns ids (State e) = ¬ (w.state ≡ Started)
 MissesWrite w fs columns ids (Argument FieldsDiffer) = ¬ IfSome ids (λ given. given ≡ w.ids)
@@ -229,27 +235,29 @@ MissesWrite w fs columns ids NoMemory = Unit {0}
 MissesWrite w fs columns ids (Io e) = Unit {0}
 MissesWrite w fs columns ids _ = ⊥
 
--- Columns are written just where the writer takes them, memory and devices aside; a refusal names a condition, and it isn't met.
+-- `write` returns Ok exactly if the writer accepts the columns, unless an allocation or the device
+-- fails. An error names a condition that isn't met.
 abbrev pub AnswersWrite : {W : Type 0} → WriterSeen W → FieldTrees → List AnyArray → Option IdTrees → Result Unit Fault → Type 0
 AnswersWrite w fs columns ids (Ok x) = MayBeWritten w fs columns ids
 AnswersWrite w fs columns ids (Err e) = MissesWrite w fs columns ids e × OwnFault e (¬ MayBeWritten w fs columns ids)
 
--- this of all schemas that can be written with the writer's ids, and whose types are those that the writer takes
+-- `AnswersWrite` holds for each schema that can be written with the writer's ids, and whose types
+-- are those that the writer accepts.
 pub record WritesExactly {W : Type 0} (w : WriterSeen W) (columns : List AnyArray) (ids : Option IdTrees) (r : Result Unit Fault) : Type 0 where
   pub exact : (fields : FieldTrees) (metadata : Pairs) → IsWritable fields metadata w.ids → normal_types fields ≡ w.types → AnswersWrite w fields columns ids r
 
--- the ids that are handed in, where any are
+-- The ids that are passed, if there are any.
 abbrev pub seen_ids : Option (Bor (List IpcField)) → Option IdTrees
 seen_ids None = None
 seen_ids (Some given) = Some (all_ids_view given.now)
 
--- why a writer refuses the end
+-- Why a writer refuses the end.
 abbrev pub RefusesFinish : WriterState → Fault → Type 0
 RefusesFinish s (State e) = fault_unless_started s ≡ Some e
 RefusesFinish s (Io e) = Unit {0}
 RefusesFinish s _ = ⊥
 
--- the ids that are handed in, or those that fields get by default
+-- The ids that are passed, or else the default ids of the fields.
 abbrev pub chosen_ids : Option (Vec IpcField Global) → FieldTrees → IdTrees
 chosen_ids None fs = default_all 0 fs
 chosen_ids (Some given) fs = all_ids_view given.items
@@ -263,7 +271,7 @@ pub record StartsWith {W : Type 0} (a b : WriterSeen W) (fields : FieldTrees) (m
   pub writable : IsWritable fields metadata ids
   pub dictionaries : IsSameMemory a.dictionaries b.dictionaries
 
--- why a writer refuses a schema with these ids
+-- Why a writer refuses a schema with these ids.
 abbrev pub RefusesStart : WriterState → FieldTrees → Pairs → IdTrees → Fault → Type 0
 RefusesStart s fs es is (State e) = fault_unless_new s ≡ Some e
 RefusesStart s fs es is (Argument e) = RefusesSchema (Argument e) fs es is

@@ -1,4 +1,4 @@
--- The bits of a part of some bytes, by their places in all of them.
+-- The bits of a part of some bytes, by their indices in all of them.
 use Rattle.std.proofs.Common.{arith, zero, suc, refl, lit<, ◌≡◌, ℕ, ◌+◌, ◌*◌, ◌/◌, ◌%◌, ◌≤◌, ◌<◌, List, ◌∷◌, take, drop, map, get_or, nat_eq, sym, ◌∙◌, ap, ap₂}
 use Rattle.std.specs.List.{range_with_len}
 use Rattle.std.specs.Int.{bit_at}
@@ -26,7 +26,7 @@ has_bit-part bytes from n k h =
     in
     ap₂ (λ b i. nat_eq (bit_at b i) 1) byte (sym bit)
 
--- the bits of the bytes from the one that holds the first bit on
+-- The bits of the bytes from the one with the first bit on.
 pub bits_of_part : (bytes : List ℕ) (offset len n : ℕ) → offset % 8 + len ≤ 8 * n
     → map (has_bit (take n (drop (offset / 8) bytes))) (range_with_len (offset % 8) len) ≡ map (has_bit bytes) (range_with_len offset len)
 bits_of_part bytes offset len n h =

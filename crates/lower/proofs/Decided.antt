@@ -1,4 +1,4 @@
--- `==` of two types tells whether they stand for the same.
+-- `==` of two types says whether they mean the same.
 use Rattle.std.proofs.Common.{◌≡◌, ℕ, ℤ, List as Items, [], ◌∷◌, Bool, true, false, ◌&&◌, nat_eq, Option, Some, None, option_map, String, Vec, Global, string_bytes, refl, sym, ap, ◌∙◌, Decides}
 use Rattle.std.proofs.lemmas.Bool.{and_parts}
 use Rattle.std.specs.Cmp.Lexicographic.{pointwise}
@@ -41,7 +41,7 @@ abbrev text_of : Option (String Global) → Option (Items ℕ)
 text_of s = option_map (λ x. string_bytes x) s
 
 abbrev mutual
-  -- what a type stands for, by recursion
+  -- What a type means, by recursion.
   direct : DataType → TypeTree
   direct Null = plain null
   direct Boolean = plain boolean
@@ -306,7 +306,7 @@ mutual
   bridge_row n end_of-Field = refl
   bridge_row n (more_of-Field i t o e fs) = λ x. more_fields (field_bridge (record { name = i; data_type = t; is_nullable = o; metadata = e }) (bridge t) x) (bridge_row _ fs x)
 
--- what `==` answers
+-- The result of `==`.
 pub eq_same : (a b : DataType) → eq_type a b ≡ same_type (type_view a) (type_view b)
 eq_same a b = eq_is a b ∙ rw (bridge a, bridge b)
 

@@ -30,7 +30,7 @@ mutual
   fields_nodes-norm no_fields = refl
   fields_nodes-norm (more_fields f fs) = rw (field_nodes-norm f, fields_nodes-norm fs)
 
--- no pair of the list is at the key
+-- No pair of the list has the key.
 abbrev pub Lacks : List ℕ → Pairs → Type 0
 Lacks k [] = Unit {0}
 Lacks k (e ∷ es) = (is_eq (slice_cmp nat_cmp k e.0) ≡ false) × Lacks k es
@@ -47,7 +47,7 @@ Lacks-other_at : (k : List ℕ) (b : Bool) (e : List ℕ × List ℕ) (es : Pair
 Lacks-other_at k true e es h rest = rest
 Lacks-other_at k false e es h rest = (h, rest)
 
--- taking pairs away leaves none at a key
+-- Removing pairs leaves none with a key.
 pub Lacks-other : (k j : List ℕ) (es : Pairs) → Lacks k es → Lacks k (without j es)
 Lacks-other k j [] h = tt
 Lacks-other k j (e ∷ es) h = Lacks-other_at k _ e (without j es) h.0 (Lacks-other k j es h.1)
@@ -58,7 +58,7 @@ Lacks-with_at k j v Less e es put apart h rest other = (apart, (h, rest))
 Lacks-with_at k j v Equal e es put apart h rest other = (h, rest)
 Lacks-with_at k j v Greater e es put apart h rest other = (h, other)
 
--- nor does a pair at another key add one
+-- Nor does a pair with another key add one.
 pub Lacks-with : (k j v : List ℕ) (es : Pairs) → is_eq (slice_cmp nat_cmp k j) ≡ false → Lacks k es → Lacks k (with_pair j v es)
 Lacks-with k j v [] apart h = (apart, tt)
 Lacks-with k j v (e ∷ es) apart h = Lacks-with_at k j v _ e es (with_pair j v es) apart h.0 h.1 (Lacks-with k j v es apart h.1)
@@ -73,7 +73,7 @@ without-with_at k v Less e es put is h rest ih = rw (tied_itself nat_list_cmp_to
 without-with_at k v Equal e es put is h rest ih = absurd (true≢false (sym (ap is_eq is) ∙ h))
 without-with_at k v Greater e es put is h rest ih = rw (h, ih)
 
--- a new pair can be taken away again
+-- A new pair can be removed again.
 pub without-with : (k v : List ℕ) (es : Pairs) → Lacks k es → without k (with_pair k v es) ≡ es
 without-with k v [] h = rw (tied_itself nat_list_cmp_total k)
 without-with k v (e ∷ es) h = without-with_at k v _ e es (with_pair k v es) refl h.0 (without-Lacks k es h.1) (without-with k v es h.1)
@@ -89,7 +89,7 @@ pub without-swap : (k j : List ℕ) (es : Pairs) → without k (without j es) �
 without-swap k j [] = refl
 without-swap k j (e ∷ es) = without-swap_at k j _ _ e (without j es) (without k es) refl refl (without-swap k j es)
 
--- what a field's extension puts in can be taken away again
+-- The pairs that a field's extension adds can be removed again.
 strip-put : (x : Option (List ℕ × Option (List ℕ))) (es : Pairs) → Lacks name_key es → Lacks data_key es → kept_pairs (put_extension x es) ≡ es
 strip-put None es n d = rw (without-Lacks data_key es d) (without-Lacks name_key es n)
 strip-put (Some e) es n d = at_text e.0 e.1

@@ -1,4 +1,4 @@
--- Offsets by the places that they name.
+-- Offsets as indices.
 use Rattle.std.proofs.Common.{arith, zero, suc, ◌≡◌, ℕ, ℤ, pos, negsuc, ◌+◌, ◌-◌, ◌<◌, ◌≤◌, List, [], ◌∷◌, length, take, drop, map, get_or, refl, sym, ap, ap₂, subst, ◌∙◌}
 use Rattle.std.specs.Prelude.{◌≤ℤ◌}
 use Rattle.std.proofs.lemmas.Int.{ints}
@@ -23,7 +23,7 @@ pos_places_by integer [] h = refl
 pos_places_by integer (o ∷ os) h =
     ap₂ (λ z zs. z ∷ zs) (pos-place (integer o) (h 0 o (omega arith))) (pos_places_by integer os (λ k d below. h (suc k) d (omega (arith, below))))
 
--- the places are the numbers
+-- The indices are the numbers.
 pub pos_places : {O : Type 0} (integer : O → ℤ) (offsets : List O) → AreOffsets integer offsets → map pos (places integer offsets) ≡ map integer offsets
 pos_places integer offsets h = pos_places_by integer offsets (from_first integer offsets h)
 
@@ -32,7 +32,7 @@ place_le (pos m) (pos n) low h = omega (arith, ints, h)
 place_le (pos m) (negsuc n) low h = absurd (omega (arith, ints, h))
 place_le (negsuc m) b low h = absurd (omega (arith, ints, low))
 
--- the places of offsets are offsets
+-- The indices of offsets are offsets.
 pub IsOffsets-places : {O : Type 0} (integer : O → ℤ) (offsets : List O) → AreOffsets integer offsets → IsOffsets (places integer offsets)
 IsOffsets-places {O = O} integer offsets h =
     let count : length (places integer offsets) ≡ length offsets = length-map offsets (λ o. place (integer o)) in
@@ -69,7 +69,7 @@ IsOffsets-part offsets from len h is =
           omega (arith, this, next, le);
     }
 
--- the rule of a buffer of offsets: their places are their numbers, and these are offsets
+-- The rule of a buffer of offsets: their indices are their numbers, and these are offsets.
 abbrev pub KeepsOffsets : {O : Type 0} → (O → ℤ) → List O → Type 0
 KeepsOffsets integer offsets = (map pos (places integer offsets) ≡ map integer offsets) × IsOffsets (places integer offsets)
 

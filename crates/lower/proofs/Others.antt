@@ -1,4 +1,5 @@
--- A type that none of the nested variants fits stands for a plain one: what a `_` arm after those knows.
+-- A type that none of the nested variants fits is one without children:
+-- what a `_` arm after those knows.
 use Rattle.std.proofs.Common.{◌≡◌, refl, sym, ap, ◌∙◌}
 use Rattle.lower.specs.TypeTrees.{Plain, null, boolean, int8, int16, int32, int64, uint8, uint16, uint32, uint64, float16, float32, float64, timestamp, date32, date64, time32, time64, duration, interval, binary, fixed_binary, large_binary, utf8, large_utf8, decimal, decimal256, TypeTree, plain, FieldTree}
 use Rattle.lower.specs.TypeViews.{type_step, field_step, type_view, field_view, text_of}

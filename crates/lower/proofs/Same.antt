@@ -89,7 +89,7 @@ same_bool-refl : (x : Bool) → same_bool x x ≡ true
 same_bool-refl true = refl
 same_bool-refl false = refl
 
--- a test of parts that is sound and holds of equal ones carries over
+-- A test of parts that is sound and passes for equal ones carries over.
 module _ {A : Type 0} (E : A → A → Bool) (sound : (x y : A) → E x y ≡ true → x ≡ y) (own : (x : A) → E x x ≡ true) where
   option-sound : (x y : Option A) → same_option E x y ≡ true → x ≡ y
   option-sound None None h = refl

@@ -10,11 +10,12 @@ use Rattle.lower.specs.declared.datatypes.Field.{Field}
 use Rattle.lower.proofs.Laws.{extension_of-norm, kept-norm}
 use Rattle.lower.proofs.Same.{type-sound, type-refl, pairs-sound, pairs-refl}
 
--- an answer that is the test's says exactly whether the types are one
+-- A result that is the test's says exactly whether the types are equal.
 pub same_exactly : (r : Bool) (t u : TypeTree) → r ≡ same_type t u → IsTrue r ↔ (t ≡ u)
 same_exactly r t u e = ((λ h. type-sound t u (sym e ∙ h)), λ p. e ∙ ap (same_type t) (sym p) ∙ type-refl t)
 
--- where two types have one normal form, so have two lists of pairs that are the same but for those of extensions, and no others
+-- If two types have one normal form, two lists of pairs have one if they are the same apart from
+-- extension keys, and only then.
 pub kept_same : (t u : TypeTree) (es fs : Pairs) → same_type (norm t) (norm u) ≡ true
     → same_pairs (kept_pairs es) (kept_pairs fs) ≡ same_pairs (norm_pairs t es) (norm_pairs u fs)
 kept_same t u es fs h =
@@ -37,7 +38,7 @@ fields_apart [] (g ∷ gs) h = refl
 fields_apart (f ∷ fs) [] h = refl
 fields_apart (f ∷ fs) (g ∷ gs) h = and_right _ _ (fields_apart fs gs (λ e. h (ap suc e)))
 
--- whether the fields from place i on have one normal form
+-- Whether the fields from index i on have one normal form.
 abbrev pub same_left : List Field → List Field → ℕ → Bool
 same_left fs gs i = same_fields (norm_fields (fields_view (drop i fs))) (norm_fields (fields_view (drop i gs)))
 

@@ -1,5 +1,5 @@
--- Which physical type a type has, and what it is without its extensions.
--- (Arrow columnar format, "Physical memory layout" and "Extension types".)
+-- The physical type of a type, and a type without its extensions.
+-- (Arrow columnar format, "Physical Memory Layout" and "Extension Types".)
 use Rattle.lower.specs.declared.datatypes.IntegerType.{IntegerType}
 use Rattle.lower.specs.declared.datatypes.IntegerType.TheVariants as Integers
 use Rattle.lower.specs.declared.datatypes.IntervalUnit.{IntervalUnit}
@@ -10,7 +10,7 @@ use Rattle.lower.specs.declared.datatypes.physical_type.PhysicalType.{PhysicalTy
 use Rattle.lower.specs.declared.datatypes.physical_type.PhysicalType.TheVariants as Physicals
 use Rattle.lower.specs.TypeTrees.{Plain, null, boolean, int8, int16, int32, int64, uint8, uint16, uint32, uint64, float16, float32, float64, timestamp, date32, date64, time32, time64, duration, interval, binary, fixed_binary, large_binary, utf8, large_utf8, decimal, decimal256, Single, list, large_list, fixed_list, entries, Group, structure, choice, TypeTree, plain, single, group, dictionary, extension}
 
--- the type without its extensions
+-- The type without its extensions.
 abbrev pub logical : TypeTree → TypeTree
 logical (plain p) = plain p
 logical (single s f) = single s f
@@ -18,7 +18,7 @@ logical (group g fs) = group g fs
 logical (dictionary keys t ordered) = dictionary keys t ordered
 logical (extension name t text) = logical t
 
--- the type of the integers of an integer type
+-- The integer type as a type of columns.
 abbrev pub integer : IntegerType → Plain
 integer Integers.Int8 = int8
 integer Integers.Int16 = int16
@@ -29,11 +29,13 @@ integer Integers.UInt16 = uint16
 integer Integers.UInt32 = uint32
 integer Integers.UInt64 = uint64
 
+-- The numbers that intervals of a unit are stored as.
 abbrev pub physical_interval : IntervalUnit → PrimitiveType
 physical_interval YearMonth = Primitives.Int32
 physical_interval DayTime = Primitives.DaysMs
 physical_interval MonthDayNano = Primitives.MonthDayNano
 
+-- The physical type of a type without children.
 abbrev pub physical_plain : Plain → PhysicalType
 physical_plain null = Physicals.Null
 physical_plain boolean = Physicals.Boolean
@@ -63,17 +65,19 @@ physical_plain large_utf8 = Physicals.LargeUtf8
 physical_plain (decimal precision scale) = Physicals.Primitive Primitives.Int128
 physical_plain (decimal256 precision scale) = Physicals.Primitive Primitives.Int256
 
+-- The physical type of a type with one child.
 abbrev pub physical_single : Single → PhysicalType
 physical_single list = Physicals.List
 physical_single large_list = Physicals.LargeList
 physical_single (fixed_list size) = Physicals.FixedSizeList
 physical_single (entries sorted) = Physicals.Map
 
+-- The physical type of a type with several children.
 abbrev pub physical_group : Group → PhysicalType
 physical_group structure = Physicals.Struct
 physical_group (choice ids mode) = Physicals.Union
 
--- the physical type; an extension has that of the type it is stored as
+-- The physical type of a type; an extension has that of the type it is stored as.
 abbrev pub physical : TypeTree → PhysicalType
 physical (plain p) = physical_plain p
 physical (single s f) = physical_single s
@@ -81,7 +85,7 @@ physical (group g fs) = physical_group g
 physical (dictionary keys t ordered) = Physicals.Dictionary keys
 physical (extension name t text) = physical t
 
--- the type of these numbers where no other is named: decimals have 32 digits, each after the point
+-- The default type of these numbers; decimals have 32 digits, all of them after the point.
 abbrev pub number_type : PrimitiveType → Plain
 number_type Primitives.Int8 = int8
 number_type Primitives.Int16 = int16

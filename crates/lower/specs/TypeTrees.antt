@@ -1,17 +1,17 @@
--- What the type of a column stands for: a tree with no pointers in it, so that two types are the
--- same exactly where their trees are equal.
--- (Arrow columnar format, "Data types".)
+-- The type of a column as a tree without pointers: two types are the same
+-- exactly if their trees are equal.
+-- (Arrow columnar format, "Data Types".)
 use Rattle.std.specs.Prelude.{ℕ, ℤ, Bool, List, Option}
 use Rattle.lower.specs.declared.datatypes.IntegerType.{IntegerType}
 use Rattle.lower.specs.declared.datatypes.TimeUnit.{TimeUnit}
 use Rattle.lower.specs.declared.datatypes.IntervalUnit.{IntervalUnit}
 use Rattle.lower.specs.declared.datatypes.UnionMode.{UnionMode}
 
--- metadata: pairs of texts, in the order of the first ones
+-- Metadata: pairs of texts, in the order of their keys.
 abbrev pub Pairs : Type 0
 Pairs = List (List ℕ × List ℕ)
 
--- a type with no field and no other type in it
+-- A type without fields and other types in it.
 pub data Plain : Type 0 where
   null : Plain
   boolean : Plain
@@ -41,20 +41,21 @@ pub data Plain : Type 0 where
   decimal : ℕ → ℕ → Plain
   decimal256 : ℕ → ℕ → Plain
 
--- a type of one child: a list, a large list, a list of so many slots, a map whose keys are sorted
--- or not
+-- A type of one child: a list, a large list, a list of so many slots, or a
+-- map whose keys are sorted or not.
 pub data Single : Type 0 where
   list : Single
   large_list : Single
   fixed_list : ℕ → Single
   entries : Bool → Single
 
--- a type of several children: a struct, a union with its ids and mode
+-- A type of several children: a struct, or a union with its type ids and mode.
 pub data Group : Type 0 where
   structure : Group
   choice : Option (List ℤ) → UnionMode → Group
 
 mutual
+  -- The type of a column.
   pub data TypeTree : Type 0 where
     plain : Plain → TypeTree
     single : Single → FieldTree → TypeTree
@@ -62,10 +63,11 @@ mutual
     dictionary : IntegerType → TypeTree → Bool → TypeTree
     extension : List ℕ → TypeTree → Option (List ℕ) → TypeTree
 
-  -- a field: name, type, whether it may be null, metadata
+  -- A field: its name, its type, whether it is nullable, and its metadata.
   pub data FieldTree : Type 0 where
     field : List ℕ → TypeTree → Bool → Pairs → FieldTree
 
+  -- The fields of a schema or of a type, in order.
   pub data FieldTrees : Type 0 where
     no_fields : FieldTrees
     more_fields : FieldTree → FieldTrees → FieldTrees

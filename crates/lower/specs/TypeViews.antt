@@ -1,4 +1,5 @@
--- The trees that a `DataType`, a `Field`, the fields of a `Vec` and a `Schema` stand for.
+-- The trees that a `DataType`, a `Field`, the fields of a `Vec` and a `Schema` mean.
+-- (Arrow columnar format, "Data Types".)
 use Rattle.std.specs.Prelude.{ℕ, ℤ, Option, List, [], ◌∷◌, map, option_map, String, Vec, string_bytes}
 use Rattle.std.specs.declared.alloc.Global.{Global}
 use Rattle.lower.specs.TypeTrees.{Pairs, null, boolean, int8, int16, int32, int64, uint8, uint16, uint32, uint64, float16, float32, float64, timestamp, date32, date64, time32, time64, duration, interval, binary, fixed_binary, large_binary, utf8, large_utf8, decimal, decimal256, list, large_list, fixed_list, entries, structure, choice, TypeTree, plain, single, group, dictionary, extension, FieldTree, field, FieldTrees, no_fields, more_fields}
@@ -7,24 +8,24 @@ use Rattle.lower.specs.declared.datatypes.Field.{Field, fold-Field}
 use Rattle.lower.specs.declared.datatypes.schema.Schema.{Schema}
 use Rattle.lower.specs.declared.datatypes.DataType.TheOpen.{DataType-F, Field-F}
 
--- some fields as a list of their own
+-- Some fields as one value.
 abbrev pub fields_of : List FieldTree → FieldTrees
 fields_of [] = no_fields
 fields_of (f ∷ fs) = more_fields f (fields_of fs)
 
--- an optional text
+-- A text that may be absent.
 abbrev pub text_of : Option (String Global) → Option (List ℕ)
 text_of s = option_map (λ x. string_bytes x) s
 
--- a union's type ids
+-- The type ids of a union.
 abbrev pub ids_of : Option (Vec ℤ Global) → Option (List ℤ)
 ids_of ids = option_map (λ v. v.items) ids
 
--- the texts of a map
+-- The pairs of a metadata map, as texts.
 abbrev pub pairs_of : List (String Global × String Global) → Pairs
 pairs_of es = map (λ e. (string_bytes e.0, string_bytes e.1)) es
 
--- one level, with the parts already seen
+-- One level of a type, given its children.
 abbrev pub type_step : DataType-F TypeTree FieldTree → TypeTree
 type_step DataType-F.Null = plain null
 type_step DataType-F.Boolean = plain boolean
@@ -62,19 +63,22 @@ type_step (DataType-F.Extension name t data_) = extension (string_bytes name) t.
 type_step (DataType-F.Decimal p s) = plain (decimal p s)
 type_step (DataType-F.Decimal256 p s) = plain (decimal256 p s)
 
+-- One level of a field, given its type.
 abbrev pub field_step : Field-F TypeTree FieldTree → FieldTree
 field_step f = field (string_bytes f.name) f.data_type f.is_nullable (pairs_of f.metadata.entries)
 
--- what a type, a field and some fields stand for
+-- The tree that a type means.
 abbrev pub type_view : DataType → TypeTree
 type_view = fold-DataType TypeTree FieldTree type_step field_step
 
+-- The tree that a field means.
 abbrev pub field_view : Field → FieldTree
 field_view = fold-Field TypeTree FieldTree type_step field_step
 
+-- The trees that some fields mean.
 abbrev pub fields_view : List Field → FieldTrees
 fields_view fs = fields_of (map field_view fs)
 
--- what a schema stands for
+-- The trees that a schema's fields mean, and its metadata.
 abbrev pub schema_view : Schema → FieldTrees × Pairs
 schema_view s = (fields_view s.fields.items, pairs_of s.metadata.entries)

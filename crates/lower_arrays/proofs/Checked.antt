@@ -1,4 +1,5 @@
--- Parts that were checked, and children that are arrays, are an array; a rule that the parts break is one of the array.
+-- Parts that were checked, with children that are arrays, are an array; a rule that the
+-- parts break is one of the array.
 use Rattle.std.proofs.Common.{arith, ◌≡◌, refl, ℕ, ℤ, ◌<◌, List, [], ◌∷◌, Option, get_or, subst, sym, ap, ◌∙◌, length, map}
 use Rattle.std.specs.List.{All}
 use Rattle.lower_types.specs.declared.PrimitiveType.{PrimitiveType}

@@ -1,4 +1,4 @@
--- The children of a union, by their numbers.
+-- The children of a union, by their indices.
 use Rattle.std.proofs.Common.{arith, ◌≡◌, refl, ℕ, zero, suc, ◌+◌, ◌<◌, ◌≤◌, List, [], ◌∷◌, length, map, get_or, sym, ap}
 use Rattle.lower_arrays.specs.Layouts.{Layouts, no_layouts, more_layouts, layouts, len_of, height, heights}
 use Rattle.lower_arrays.specs.Slots.{null_slot, each_at, slot_at, children_at}
@@ -13,7 +13,7 @@ child_is [] k y l q = let no : ⊥ = omega (arith, l) in absurd no
 child_is (x ∷ ys) zero y l q = ap layout_of (sym q)
 child_is (x ∷ ys) (suc k) y l q = child_is ys k y (omega (arith, l)) q
 
--- the slots of child k are those of number k among all
+-- The slots of child k are those at index k among all.
 pub child_slot : (cs : Layouts) (k i : ℕ) → get_or (each_at (children_at cs) i) k null_slot ≡ slot_at (child cs k) i
 child_slot no_layouts k i = refl
 child_slot (more_layouts c cs) zero i = refl

@@ -61,7 +61,7 @@ spans-cut os xs o n m h k =
       count = count-cut os xs o n k.offsets room;
     }
 
--- each key that is not null is still a place
+-- Each key that isn't null is still an index.
 valid-cut : (v : Validity) (o n i : ℕ) → i < n → is_valid (cut_validity o n v) i ≡ is_valid v (o + i)
 valid-cut None o n i h = refl
 valid-cut (Some bits) o n i h = get_or-part o n bits i false h
@@ -204,7 +204,7 @@ parts-cut h (fixed_bytes size xs) (more_layouts c cs) o n f k = absurd k
 parts-cut h (bytes p os xs) (more_layouts c cs) o n f k = absurd k
 parts-cut h (texts p os xs) (more_layouts c cs) o n f k = absurd k
 
--- so many slots of the children cs, where each has enough, keep the rules
+-- So many slots of the children cs, if each has enough, keep the rules.
 abbrev CutKeeps : Layouts → Type 0
 CutKeeps cs = (a b m : ℕ) → a + b ≤ m → AllHave m cs → AreArrays (cut_each a b cs)
 

@@ -1,4 +1,4 @@
--- Some slots of an array hold no more bytes than the array.
+-- Some slots of an array retain no more bytes than the array.
 use Rattle.std.proofs.Common.{arith, ℕ, ℤ, ◌+◌, ◌*◌, ◌≤◌, List, Option, Some, None, length}
 use Rattle.std.proofs.lemmas.List.{length-take, length-drop}
 use Rattle.std.proofs.lemmas.Nat.{mul-le}
@@ -51,7 +51,7 @@ parts-cut (choices ids ts os) o n =
     omega (arith, le, few)
 parts-cut (keys k ks) o n = fewer_items (width_in (physical (plain (integer k)))) o n ks
 
--- children that are cut hold no more
+-- Children that are cut retain no more.
 below-cut :
     (p : Parts) (cs : Layouts) (o n : ℕ) → ((a b : ℕ) → all_held (cut_each a b cs) ≤ all_held cs)
     → below_held (cut_parts o n p) (all_held (cut_below p o n (λ a b. cut_each a b cs) cs)) ≤ below_held p (all_held cs)

@@ -15,7 +15,7 @@ use Rattle.lower_arrays.specs.Maps.{MapSeen, map_layout, cut_map}
 use Rattle.lower_arrays.proofs.CutRules.{IsArray-cut}
 use Rattle.lower_arrays.proofs.Children.{layouts-cut}
 
--- as many slots as are asked
+-- As many slots as are requested.
 count-part : (o n : ℕ) (os : List ℕ) → 0 < length os → o + n ≤ span_count os → span_count (part o (n + 1) os) ≡ n
 count-part o n os some h = let count = length-part o (n + 1) os (omega (arith, some, h)) in omega (arith, count)
 

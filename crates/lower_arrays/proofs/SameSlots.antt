@@ -30,7 +30,7 @@ pub same_len : (l m : Layout) → slots l ≡ slots m → len_of l ≡ len_of m
 same_len l m e =
     sym (length-slots_from (slot_at l) 0 (len_of l)) ∙ ap length e ∙ length-slots_from (slot_at m) 0 (len_of m)
 
--- and the same at each place
+-- And the same at each index.
 pub same_slot : (l m : Layout) (i : ℕ) → i < len_of l → i < len_of m → slots l ≡ slots m → slot_at l i ≡ slot_at m i
 same_slot l m i h k e =
     let o : i ≡ 0 + i = omega arith in
@@ -55,7 +55,7 @@ primitive_slot p f a i x h =
     ap (λ n. slot_where (is_valid a.validity i) (number_slot n)) (get_or-map f a.values i x (whole (pos 0)) h)
 
 -- ---- lists
--- a row of slots, read back
+-- A list of slots, read back.
 abbrev row : Slots → List Slot
 row no_slots = []
 row (more_slots s r) = s ∷ row r

@@ -43,7 +43,7 @@ part_again k o n m xs h =
     ∙ take-take n (m - o) (drop o (drop k xs)) (omega arith)
     ∙ ap (λ l. take n l) (drop-drop o k xs)
 
--- the bytes of slot i of the n slots from place o on
+-- The bytes of slot i of the n slots from index o on.
 fixed-cut : (o n size : ℕ) (xs : List ℕ) (i : ℕ) → i < n → part (i * size) size (part (o * size) (n * size) xs) ≡ part ((o + i) * size) size xs
 fixed-cut o n size xs i h =
     let room : i * size + size ≤ n * size =
@@ -91,11 +91,11 @@ first_child-front : (fs : List (ℕ → Slot)) (i : ℕ) → first_child fs i �
 first_child-front [] i = refl
 first_child-front (f ∷ fs) i = refl
 
--- the children cs, cut, have the slots that stand there
+-- The children cs, cut, have the corresponding slots.
 abbrev CutTrue : Layouts → Type 0
 CutTrue cs = (a b k : ℕ) → k < b → each_at (children_at (cut_each a b cs)) k ≡ each_at (children_at cs) (a + k)
 
--- slot i of the lists of so many slots each
+-- Slot i of fixed-size lists.
 fixed_list-cut : (cs : Layouts) (size o n i : ℕ) → i < n → CutTrue cs → list_at (children_at (cut_each (o * size) (n * size) cs)) (i * size) size ≡ list_at (children_at cs) ((o + i) * size) size
 fixed_list-cut cs size o n i h e =
     let room : i * size + size ≤ n * size =
@@ -113,7 +113,7 @@ fixed_list-cut cs size o n i h e =
     ∙ sym (first_child-front (children_at cs) (o * size + (i * size + k)))
     ∙ ap (first_child (children_at cs)) at))
 
--- a slot of a union is of the same type, and stands at the same place of its child
+-- A slot of a union has the same type, and the same index in its child.
 variant-cut :
     (ids : TypeIds) (ts : List ℤ) (os : Option (List ℤ)) (cs : Layouts) (o n i : ℕ) → i < n → CutTrue cs
     → value_at (cut_parts o n (choices ids ts os)) (children_at (cut_below (choices ids ts os) o n (λ a b. cut_each a b cs) cs)) i
@@ -167,7 +167,7 @@ drop-slots_from f a (suc o) (suc m) h =
     let d : m - o ≡ suc m - suc o = omega arith in
     drop-slots_from f (a + 1) o m (omega arith) ∙ (λ j. slots_from f (e j) (d j))
 
--- the n slots from place o on are those of the part
+-- The n slots from index o on are those of the part.
 slots-cut : (l : Layout) (o n : ℕ) → o + n ≤ len_of l → slots (cut o n l) ≡ take n (drop o (slots l))
 slots-cut (layout h cs) o n fits =
     let l = layout h cs in
@@ -194,7 +194,7 @@ boolean_part o n a b l e d h =
 pub fixed_part : (o n : ℕ) (a b : FixedBinarySeen) (l : Layout) → b ≡ cut_fixed o n a → l ≡ fixed_layout a → fixed_layout b ≡ cut o n l
 fixed_part o n a b l e d = ap fixed_layout e ∙ ap (cut o n) (sym d)
 
--- as many slots as are asked
+-- As many slots as are requested.
 count-part : (o n : ℕ) (os : List ℕ) → 0 < length os → o + n ≤ span_count os → span_count (part o (n + 1) os) ≡ n
 count-part o n os some h = let count = length-part o (n + 1) os (omega (arith, some, h)) in omega (arith, count)
 

@@ -1,4 +1,4 @@
--- Some slots of a union, and where a slot of it stands.
+-- Some slots of a union, and the index of a slot in its child.
 use Rattle.std.proofs.Common.{arith, ℕ, ℤ, pos, ◌+◌, ◌<◌, ◌≤◌, List, Option, Some, None, length, get_or, subst, sym}
 use Rattle.lower.specs.TypeTrees.{TypeTree}
 use Rattle.lower_arrays.specs.Layouts.{Layout, Layouts, layouts, len_of}

@@ -1,4 +1,5 @@
--- What is seen of an array of any kind.
+-- The layout of an array of any kind.
+-- (Arrow columnar format, "Physical Memory Layout".)
 use Rattle.lower_types.specs.declared.PrimitiveType.TheVariants as Named
 use Rattle.lower_arrays.specs.Layouts.{Layout}
 use Rattle.lower_arrays.specs.Primitives.{numbers_layout}
@@ -14,11 +15,12 @@ use Rattle.lower_arrays.specs.FixedLists.{fixed_list_layout}
 use Rattle.lower_arrays.specs.Structs.{struct_layout}
 use Rattle.lower_arrays.specs.Maps.{map_layout}
 
+-- The layout of an array of numbers of any type.
 abbrev pub any_primitive_layout : AnyPrimitive → Layout
 any_primitive_layout a = numbers_layout (numbers_seen a)
 
--- List names offsets of 32 bits and LargeList offsets of 64 bits, whichever the array has; the
--- other large forms have offsets of 64 bits
+-- The layout of an array: its levels. The variant List names offsets of 32 bits and LargeList
+-- offsets of 64 bits, whichever the array has; the other large variants have offsets of 64 bits.
 abbrev pub layout_of : AnyArray → Layout
 layout_of (Null a) = null_layout a
 layout_of (Boolean a) = boolean_layout a

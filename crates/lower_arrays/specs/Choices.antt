@@ -1,4 +1,4 @@
--- The slots of a union: which child each is of, and where it stands there.
+-- The slots of a union: the child that each is in, and its index there.
 -- (Arrow columnar format, "Union Layout".)
 use Rattle.std.specs.Prelude.{◌≡◌, ℕ, ℤ, pos, ◌<◌, ◌≤◌, List, Option, Some, None, get_or, length}
 use Rattle.std.proofs.Common.{zero, suc}
@@ -11,21 +11,23 @@ use Rattle.lower_rules.specs.Keys.{place_of}
 use Rattle.lower_rules.specs.Ids.{TypeIds, union_ids, union_mode, IdsFit, AreNamed, OffsetsGiven}
 use Rattle.lower_rules.specs.Places.{PlacesFit}
 
--- a tree without slots, for what no child is
+-- An array without slots, for a child that doesn't exist.
 abbrev pub no_child : Layout
 no_child = layout (record { type = plain null; len = 0; validity = None; parts = nothing }) no_layouts
 
+-- Child k; an array without slots if there is none.
 abbrev pub child : Layouts → ℕ → Layout
 child no_layouts k = no_child
 child (more_layouts c cs) zero = c
 child (more_layouts c cs) (suc k) = child cs k
 
--- the place of slot i in its child
+-- The index of slot i in its child.
 abbrev pub place_in : Option (List ℤ) → ℕ → ℕ
 place_in None i = i
 place_in (Some os) i = place_of (get_or os i (pos 0))
 
--- what a union has to be: the type t, its children's ids, the slots' ids and offsets, the children
+-- The rules of a union of the type t: its type ids, the ids and the offsets
+-- of its slots, and its children.
 pub record ChoicesFit (t : TypeTree) (zs : TypeIds) (ts : List ℤ) (os : Option (List ℤ)) (cs : Layouts) : Type 0 where
   pub lies : physical t ≡ Union
   pub named : zs ≡ union_ids t

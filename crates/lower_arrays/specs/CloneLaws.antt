@@ -7,6 +7,6 @@ use Rattle.lower_arrays.specs.AnyLayouts.{layout_of}
 use Rattle.lower_arrays.specs.Slots.{column_of}
 use Rattle.lower_arrays.specs.declared.array.AnyArray.{AnyArray}
 
--- a clone has the layout of its source
+-- A clone with the layout of its source equals it.
 pub clone_equals : (a b : AnyArray) → layout_of b ≡ layout_of a → IsTrue (on (λ l. column_of (layout_of l)) same_column a b)
 clone_equals a b h = same_if_one (column_of (layout_of a)) (column_of (layout_of b)) (ap column_of h)

@@ -1,4 +1,4 @@
--- Trees of levels as ghost values, which a model that shows one asks for: what each is stored as, and back.
+-- Layouts as ghost values, which a model that shows one needs: how each is stored, and read back.
 use Rattle.std.specs.Prelude.{◌≡◌, refl, ℕ, ℤ, pos, Bool, List, [], ◌∷◌, get_or}
 use Rattle.std.specs.Coded.{Coded, code_by, coded_ℕ, coded_list, coded_bool, coded_option, coded×}
 use Rattle.std.proofs.Common.{ap, sym, subst}
@@ -65,7 +65,7 @@ number_to (wide high low) = tagged 1 (gcons (int_to high) (gnum low))
 number_to (day_time days time) = tagged 2 (gcons (int_to days) (int_to time))
 number_to (month_day_nano months days time) = tagged 3 (gcons (int_to months) (gcons (int_to days) (int_to time)))
 
--- a number of each form, with what g holds for it
+-- A number of each form, with what g has for it.
 abbrev pub numbers_in : Gv → List Number
 numbers_in g =
     whole (int_from g) ∷ wide (int_from (first g)) (number (second g)) ∷ day_time (int_from (first g)) (int_from (second g))
@@ -98,7 +98,7 @@ ints = stored_list stored_int
 abbrev pub numbers_of : Stored (List Number)
 numbers_of = stored_list stored_number
 
--- ---- what a level has beside its type, its length and its validity
+-- ---- the parts of a level
 abbrev pub parts_to : Parts → Gv
 parts_to nothing = tagged 0 gnil
 parts_to (truths xs) = tagged 1 (bools.to xs)
@@ -113,7 +113,7 @@ parts_to (fixed_lists size) = tagged 9 (gnum size)
 parts_to (maps os) = tagged 10 (nats.to os)
 parts_to records = tagged 11 gnil
 
--- parts of each kind, with what g holds for them
+-- Parts of each kind, with what g has for them.
 abbrev pub parts_in : Gv → List Parts
 parts_in g =
     nothing ∷ truths (bools.from g) ∷ numbers (primitive_from (first g)) (numbers_of.from (second g))
@@ -147,7 +147,7 @@ coded_integer = code_by Gv itself integer_to integer_from integer_back
 abbrev pub coded_parts : Coded Parts
 coded_parts = code_by Gv itself parts_to parts_from parts_back
 
--- ---- levels and trees of levels
+-- ---- levels and layouts
 abbrev pub coded_validity : Coded Validity
 coded_validity = coded_option (coded_list coded_bool)
 
@@ -169,8 +169,8 @@ abbrev mutual
   layouts_code no_layouts = gnil
   layouts_code (more_layouts c cs) = gcons (layout_code c) (layouts_code cs)
 
--- each tree has a code of its own
 mutual
+  -- Each layout has a code of its own.
   pub layout_inj : (x y : Layout) → layout_code x ≡ layout_code y → x ≡ y
   layout_inj (layout h cs) (layout k ds) p =
       λ i. layout (coded_level.inj h k (ap first p) i) (layouts_inj cs ds (ap second p) i)

@@ -1,4 +1,5 @@
--- The slots of an array, and the rules that its levels keep.
+-- The slots of an array, and the rules of its levels.
+-- (Arrow columnar format, "Physical Memory Layout".)
 use Rattle.std.specs.Prelude.{◌≡◌, ℕ, ℤ, pos, ◌+◌, ◌*◌, ◌<◌, List, [], ◌∷◌, Bool, true, false, None, get_or, length, map, ◌-◌, slice_index}
 use Rattle.std.proofs.Common.{zero, suc}
 use Rattle.lower_types.specs.NumberTypes.{Number, whole}
@@ -20,24 +21,24 @@ use Rattle.lower_rules.specs.ListTypes.{list_with, list_size, last_offset}
 pub use Rattle.lower_flat.specs.Validities.{Validity, is_valid, ValidityFits, part}
 pub use Rattle.lower_flat.specs.Columns.{Slot, null_slot, truth_slot, number_slot, bytes_slot, text_slot, list_slot, record_slot, variant_slot, Slots, no_slots, more_slots, slots_of, slot_where, slots_from, Column, column_by}
 
--- the slots of the first child
+-- The slots of the first child.
 abbrev pub first_child : List (ℕ → Slot) → ℕ → Slot
 first_child [] i = null_slot
 first_child (f ∷ fs) i = f i
 
--- a list of the first child's slots, n from place a on
+-- A list of n slots of the first child, from index a on.
 abbrev pub list_at : List (ℕ → Slot) → ℕ → ℕ → Slot
 list_at fs a n = list_slot (slots_of (slots_from (first_child fs) a n))
 
--- slot i of each child
+-- Slot i of each child.
 abbrev pub each_at : List (ℕ → Slot) → ℕ → List Slot
 each_at fs i = map (λ f. f i) fs
 
--- a slot of the type z: slot i of the child of that number
+-- A union's slot with the type id z: slot i of the child with this index.
 abbrev pub variant_at : List (ℕ → Slot) → ℤ → ℕ → ℕ → Slot
 variant_at fs z number i = variant_slot z (get_or (each_at fs i) number null_slot)
 
--- slot i of a level whose children have the slots fs, its validity aside
+-- Slot i of a level whose children have the slots fs, without its validity.
 abbrev pub value_at : Parts → List (ℕ → Slot) → ℕ → Slot
 value_at nothing fs i = null_slot
 value_at (truths xs) fs i = truth_slot (get_or xs i false)
@@ -52,43 +53,45 @@ value_at (fixed_lists size) fs i = list_at fs (i * size) size
 value_at (maps os) fs i = list_at fs (slice_index os i) (slice_index os (i + 1) - slice_index os i)
 value_at records fs i = record_slot (slots_of (each_at fs i))
 
--- slot i of an array
 abbrev mutual
+  -- Slot i of an array.
   pub slot_at : Layout → ℕ → Slot
   slot_at (layout h cs) i = slot_where (is_valid h.validity i) (value_at h.parts (children_at cs) i)
 
+  -- The slots of some arrays, by their indices.
   pub children_at : Layouts → List (ℕ → Slot)
   children_at no_layouts = []
   children_at (more_layouts c cs) = slot_at c ∷ children_at cs
 
--- all slots of an array
+-- All slots of an array.
 abbrev pub slots : Layout → List Slot
 slots l = slots_from (slot_at l) 0 (len_of l)
 
--- what an array stands for, however it lies in memory
+-- What an array means, however it is laid out: its type and its slots.
 abbrev pub column_of : Layout → Column
 column_of l = column_by (type_of l) (len_of l) (slot_at l)
 
--- offsets for so many slots, none past the bytes
+-- Offsets of n slots, none past the bytes.
 pub record SpansFit (os xs : List ℕ) (n : ℕ) : Type 0 where
   pub offsets : IsOffsets os
   pub within : EndsWithin os xs
   pub count : span_count os ≡ n
 
--- keys of a type, one for each slot, whose one child has the values that they name, of the type that is named once both are normal
+-- Keys of a type, one for each slot, whose one child has the values. The values have the type that
+-- the dictionary names, both in the normal form.
 abbrev pub DictionaryFits : Level → IntegerType → List ℤ → Layouts → Type 0
 DictionaryFits h k ks (more_layouts c no_layouts) =
     (physical h.type ≡ Physicals.Dictionary k) × (norm (type_of c) ≡ norm (values_type h.type)) × (length ks ≡ h.len)
     × KeysFit h.validity ks (len_of c)
 DictionaryFits h k ks _ = ⊥
 
--- offsets for so many slots, none past the children
+-- Offsets of n slots, none past the children.
 pub record ItemsFit (os : List ℕ) (n : ℕ) (cs : Layouts) : Type 0 where
   pub offsets : IsOffsets os
   pub within : AllReach (last_offset os) cs
   pub count : span_count os ≡ n
 
--- what the parts of a level have to be, with the children that it has
+-- The rules of a level's parts, with its children.
 abbrev pub PartsFit : Level → Parts → Layouts → Type 0
 PartsFit h nothing no_layouts = (physical h.type ≡ Physicals.Null) × (h.validity ≡ None)
 PartsFit h (truths xs) no_layouts = (physical h.type ≡ Physicals.Boolean) × (length xs ≡ h.len)
@@ -108,11 +111,12 @@ PartsFit h (maps os) cs =
 PartsFit h records cs = (physical h.type ≡ Physicals.Struct) × HasChild cs × ChildTypes (child_fields h.type) cs × AllHave h.len cs
 PartsFit h _ (more_layouts _ _) = ⊥
 
--- each level keeps the rules of its kind
 abbrev mutual
+  -- A layout is a valid array: each level keeps the rules of its kind.
   pub IsArray : Layout → Type 0
   IsArray (layout h cs) = ValidityFits h.validity h.len × PartsFit h h.parts cs × AreArrays cs
 
+  -- The layouts are valid arrays.
   pub AreArrays : Layouts → Type 0
   AreArrays no_layouts = Unit {0}
   AreArrays (more_layouts c cs) = IsArray c × AreArrays cs

@@ -1,4 +1,4 @@
--- What contracts see of an array of records.
+-- What contracts know of an array of structs.
 -- (Arrow columnar format, "Struct Layout".)
 use Rattle.std.specs.Prelude.{◌≡◌, ℕ, List, [], ◌∷◌, map, refl}
 use Rattle.std.specs.Coded.{Coded, code_by, coded_list, coded_ℕ, coded×}
@@ -15,22 +15,23 @@ use Rattle.lower_arrays.specs.LayoutCodes.{coded_validity, coded_layout}
 use Rattle.lower_arrays.specs.Children.{child_fields, field_count, child_count, ChildTypes, HasChild, AllHave}
 use Rattle.lower_arrays.specs.Cuts.{cut}
 
+-- The type, the length, the children and the validity of an array of structs.
 pub record StructSeen : Type 0 where
   pub type : TypeTree
   pub len : ℕ
   pub children : List Layout
   pub validity : Validity
 
--- how many slots the first child has
+-- How many slots the first child has.
 abbrev pub first_len : List Layout → ℕ
 first_len [] = 0
 first_len (c ∷ cs) = len_of c
 
--- as many slots as the first child has
+-- An array of structs with these children: as many slots as the first child has.
 abbrev pub struct_seen : TypeTree → List Layout → Validity → StructSeen
 struct_seen t cs v = record { type = t; len = first_len cs; children = cs; validity = v }
 
--- what a model stores
+-- How an array of structs is stored as a ghost value.
 abbrev pub coded_struct_seen : Coded StructSeen
 coded_struct_seen =
     code_by (TypeTree × (ℕ × (List Layout × Validity)))
@@ -38,11 +39,11 @@ coded_struct_seen =
     (λ a. (a.type, (a.len, (a.children, a.validity))))
     (λ p. record { type = p.0; len = p.1.0; children = p.1.1.0; validity = p.1.1.1 }) (λ _. refl)
 
--- slot i is a record of the children's slots i
+-- The layout of structs: slot i has slot i of each child.
 abbrev pub struct_layout : StructSeen → Layout
 struct_layout a = layout (record { type = a.type; len = a.len; validity = a.validity; parts = records }) (layouts a.children)
 
--- the rule that the error names is broken
+-- The array breaks the rule that the error names.
 abbrev pub BreaksStruct : StructSeen → Error → Type 0
 BreaksStruct a (OutOfSpec WrongType) = ¬ (physical a.type ≡ Struct)
 BreaksStruct a (OutOfSpec NoChild) = ¬ (HasChild (layouts a.children))
@@ -52,6 +53,6 @@ BreaksStruct a (OutOfSpec ChildLength) = ¬ (AllHave a.len (layouts a.children))
 BreaksStruct a (OutOfSpec ValidityLength) = ¬ (ValidityFits a.validity a.len)
 BreaksStruct a (OutOfSpec _) = ⊥
 
--- the n slots from place o on, of each child
+-- The n slots from index o on, of each child.
 abbrev pub cut_struct : ℕ → ℕ → StructSeen → StructSeen
 cut_struct o n a = record { type = a.type; len = n; children = map (cut o n) a.children; validity = cut_validity o n a.validity }

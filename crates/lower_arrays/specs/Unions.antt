@@ -1,4 +1,4 @@
--- What contracts see of an array whose slots are of several types.
+-- What contracts know of an array whose slots are of several types.
 -- (Arrow columnar format, "Union Layout".)
 use Rattle.std.specs.Prelude.{◌≡◌, ℕ, ℤ, List, Option, Some, None, option_map, map, length, refl}
 use Rattle.std.specs.Coded.{Coded, code_by, coded_list, coded_ℤ, coded_option, coded×}
@@ -20,17 +20,19 @@ use Rattle.lower_arrays.specs.Choices.{ChoicesFit}
 use Rattle.lower_arrays.specs.Slots.{AreArrays}
 use Rattle.lower_arrays.specs.Cuts.{cut}
 
--- the ids of the slots, their offsets where they are given, the children
+-- The type of a union array, the type ids of its slots, their offsets if
+-- it is dense, and its children.
 pub record UnionSeen : Type 0 where
   pub type : TypeTree
   pub types : List ℤ
   pub offsets : Option (List ℤ)
   pub children : List Layout
 
+-- What contracts know of a union array with these parts.
 abbrev pub union_seen : TypeTree → List ℤ → List Layout → Option (List ℤ) → UnionSeen
 union_seen t ts cs os = record { type = t; types = ts; offsets = os; children = cs }
 
--- what a model stores
+-- How a union array is stored as a ghost value.
 abbrev pub coded_union : Coded UnionSeen
 coded_union =
     code_by (TypeTree × (List ℤ × (Option (List ℤ) × List Layout)))
@@ -38,18 +40,19 @@ coded_union =
     (λ a. (a.type, (a.types, (a.offsets, a.children))))
     (λ p. record { type = p.0; types = p.1.0; offsets = p.1.1.0; children = p.1.1.1 }) (λ _. refl)
 
--- a union has no validity: a slot is null where that of its child is
+-- The layout of a union. It has no validity: a slot is null if that of its child is.
 abbrev pub union_layout : UnionSeen → Layout
 union_layout a =
     layout
     (record { type = a.type; len = length a.types; validity = None; parts = choices (union_ids a.type) a.types a.offsets })
     (layouts a.children)
 
+-- A union array keeps its rules, and its children are arrays.
 pub record IsUnion (a : UnionSeen) : Type 0 where
   pub fits : ChoicesFit a.type (union_ids a.type) a.types a.offsets (layouts a.children)
   pub arrays : AreArrays (layouts a.children)
 
--- the rule that the error names is broken
+-- The array breaks the rule that the error names.
 abbrev pub BreaksUnion : UnionSeen → Error → Type 0
 BreaksUnion a (OutOfSpec WrongType) = ¬ (physical a.type ≡ Union)
 BreaksUnion a (OutOfSpec UnionChildren) = ¬ (IsCount (child_count (layouts a.children)))
@@ -62,11 +65,13 @@ BreaksUnion a (OutOfSpec ChildLength) = ¬ (PlacesFit (union_ids a.type) a.types
 BreaksUnion a (OutOfSpec UnionOffset) = ¬ (PlacesFit (union_ids a.type) a.types a.offsets (lens_of (layouts a.children)))
 BreaksUnion a (OutOfSpec _) = ⊥
 
--- the n slots from place o on: of a sparse union those of each child, of a dense one their offsets, over the same children
+-- The children of n slots from index o on: for a sparse union their slots, for
+-- a dense one the same children.
 abbrev pub cut_fields : ℕ → ℕ → Option (List ℤ) → List Layout → List Layout
 cut_fields o n None cs = map (cut o n) cs
 cut_fields o n (Some os) cs = cs
 
+-- The n slots of a union from index o on.
 abbrev pub cut_union : ℕ → ℕ → UnionSeen → UnionSeen
 cut_union o n a = record {
   type = a.type;

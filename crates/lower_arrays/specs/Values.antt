@@ -1,4 +1,5 @@
--- What a value that was read at one place of an array stands for.
+-- What a value means that was read from one slot of an array.
+-- (Arrow columnar format, "Physical Memory Layout".)
 use Rattle.std.specs.Prelude.{ℕ, ℤ, ◌+◌, ◌<◌, ◌≤◌, List, [], ◌∷◌, map, length}
 use Rattle.lower_types.specs.NumberTypes.{Number, whole, wide, day_time, month_day_nano}
 use Rattle.lower_arrays.specs.Layouts.{layouts, heights}
@@ -13,6 +14,7 @@ use Rattle.lower_arrays.specs.declared.value.Nesting.TheVariants.{List as ListOf
 use Rattle.lower_arrays.specs.declared.value.Value.{Value}
 use Rattle.lower_arrays.specs.declared.value.Value.TheVariants.{Null, Truth, Number as NumberOf, Bytes, Text, Nested}
 
+-- The number that a scalar is.
 abbrev pub scalar_number : Scalar → Number
 scalar_number (Whole z) = whole z
 scalar_number (Wide x) = wide x.high x.low
@@ -21,44 +23,44 @@ scalar_number (MonthDayNano x) = month_day_nano x.months x.days x.nanoseconds
 
 -- ---- slots of children
 
--- how many slots of a child it takes
+-- How many slots of a child a nested value takes.
 abbrev pub span : Nesting → ℕ
 span (ListOf n) = n
 span _ = 1
 
--- it takes the first child alone
+-- A nested value takes the first child alone.
 abbrev pub IsOneChild : Nesting → Type 0
 IsOneChild Record = ⊥
 IsOneChild _ = Unit {0}
 
--- what slots of one child are together, which f gives
+-- The slot that a nested value of one child is; f gives the child's slots.
 abbrev pub child_slot : Nesting → (ℕ → Slot) → ℕ → Slot
 child_slot (ListOf n) f i = list_slot (slots_of (slots_from f i n))
 child_slot Record f i = null_slot
 child_slot (Variant id) f i = variant_slot id (f i)
 
--- slot i of each array
+-- Slot i of each array.
 abbrev pub record_slots : List AnyArray → ℕ → List Slot
 record_slots children i = map (λ c. slot_at (layout_of c) i) children
 
--- slot i of the first one
+-- Slot i of the first array.
 abbrev pub first_slot : List AnyArray → ℕ → Slot
 first_slot [] i = null_slot
 first_slot (c ∷ cs) i = slot_at (layout_of c) i
 
--- what slots of children are together
+-- The slot that a nested value is.
 abbrev pub nested_slot : Nesting → List AnyArray → ℕ → Slot
 nested_slot Record cs i = record_slot (slots_of (record_slots cs i))
 nested_slot k cs i = child_slot k (first_slot cs) i
 
--- its slots are within the children
+-- The slots of a nested value are within its children.
 abbrev pub NestedFits : Nesting → List AnyArray → ℕ → Type 0
 NestedFits Record cs i = AllReach (i + 1) (layouts (map layout_of cs))
 NestedFits k cs i = (0 < length cs) × AllReach (i + span k) (layouts (map layout_of cs))
 
 -- ---- values
 
--- the slot that it is
+-- The slot that a value is.
 abbrev pub value_slot : Value → Slot
 value_slot Null = null_slot
 value_slot (Truth b) = truth_slot b
@@ -67,12 +69,12 @@ value_slot (Bytes xs) = bytes_slot xs.now
 value_slot (Text xs) = text_slot xs.now
 value_slot (Nested k cs i) = nested_slot k cs.now i
 
--- its slots are within their arrays
+-- The slots of a value are within their arrays.
 abbrev pub ValueFits : Value → Type 0
 ValueFits (Nested k cs i) = NestedFits k cs.now i
 ValueFits _ = Unit {0}
 
--- how many levels stand below it
+-- How many levels are below a value.
 abbrev pub value_height : Value → ℕ
 value_height (Nested k cs i) = heights (layouts (map layout_of cs.now))
 value_height _ = 0

@@ -1,4 +1,4 @@
--- One slot more of an array that is gone over.
+-- One more slot of an array that is visited.
 use Rattle.std.proofs.Common.{arith, zero, suc, refl, ◌≡◌, ℕ, ◌+◌, ◌<◌, ◌≤◌, List, [], ◌∷◌, Bool, true, false, Option, length, drop, map, get_or, sym, ap, ap₂, subst, ◌∙◌}
 use Rattle.std.specs.Prelude.{Some, None, MatchOption}
 use Rattle.std.specs.List.{range_with_len}
@@ -30,12 +30,12 @@ option_step : {A : Type 0} (v : Validity) (xs : List A) (i : ℕ) (d : A) → i 
 option_step None xs i d h fits = all_step xs i d h
 option_step (Some bits) xs i d h fits = set_step bits xs i d h fits
 
--- the same of a slot with a value where none is told
+-- The same of a slot with a value, if none is known.
 pub option_told : {A : Type 0} (v : Validity) (xs : List A) (i : ℕ) (d : A) (r : Option A) → i < length xs → ValidityFits v (length xs)
     → r ≡ option_where (is_valid v i) (get_or xs i d) → drop i (options v xs) ≡ r ∷ drop (i + 1) (options v xs)
 option_told v xs i d r h fits e = option_step v xs i d h fits ∙ ap (λ x. x ∷ drop (i + 1) (options v xs)) (sym e)
 
--- the same of a slot that is told
+-- The same of a slot that is known.
 pub told_step : {A : Type 0} (v : Validity) (xs : List A) (i : ℕ) (r : Option A) → i < length xs → ValidityFits v (length xs)
     → MatchOption r (is_valid v i ≡ false) (λ x. (is_valid v i ≡ true) × (x ≡ get_or xs i x))
     → drop i (options v xs) ≡ r ∷ drop (i + 1) (options v xs)

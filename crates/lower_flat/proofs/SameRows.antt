@@ -1,4 +1,4 @@
--- Arrays without a null have the same slots where they have the same values.
+-- Arrays without a null have the same slots if they have the same values.
 use Rattle.std.proofs.Common.{arith, ◌≡◌, ◌↔◌, ℕ, zero, suc, ◌+◌, ◌-◌, ◌*◌, ◌<◌, ◌≤◌, List, [], ◌∷◌, ◌++◌, Bool, true, false, None, Some, not, cond, length, take, drop, get_or, refl, sym, ap, ap₂, ◌∙◌}
 use Rattle.std.specs.Prelude.{slice_index}
 use Rattle.std.specs.List.{count_by}
@@ -18,7 +18,7 @@ use Rattle.lower_flat.proofs.Cuts.{length-part}
 use Rattle.lower_flat.proofs.SpanPlaces.{offset_first, offset_last, offset_within, offset_next}
 use Rattle.lower_flat.proofs.SlotRows.{slots_from-same, same_place}
 
--- where no bit isn't set, each is
+-- If no bit is unset, each is set.
 each_set : (bits : List Bool) (i : ℕ) → count_by (λ bit. not bit) bits ≡ 0 → i < length bits → get_or bits i false ≡ true
 each_set [] i e h = let no : ⊥ = omega (arith, h) in absurd no
 each_set (false ∷ bits) i e h =
@@ -35,8 +35,8 @@ each_valid : (v : Validity) (n i : ℕ) → ValidityFits v n → null_count_of v
 each_valid None n i fits none h = refl
 each_valid (Some bits) n i fits none h = each_set bits i none (omega (arith, fits, h))
 
--- Two arrays without a null, of the slots that K makes of values: they have the same slots just where
--- they have the same values.
+-- Two arrays without a null, whose slots K makes of values: they have the same slots
+-- exactly if they have the same values.
 module _ {A : Type 0} (K : A → Slot) (one : (x y : A) → K x ≡ K y → x ≡ y) (v w : Validity) (n m : ℕ) (p q : ℕ → A) where
   pub slots_by_values : n ≡ m → ValidityFits v n → ValidityFits w m → null_count_of v ≡ 0 → null_count_of w ≡ 0
       → ((i : ℕ) → i < n → p i ≡ q i) ↔ (slots_from (λ i. slot_where (is_valid v i) (K (p i))) 0 n ≡ slots_from (λ i. slot_where (is_valid w i) (K (q i))) 0 m)
@@ -57,8 +57,8 @@ pub numbers_tell :
 numbers_tell f a b =
     slots_by_values number_slot (λ x y e. cc) a.validity b.validity (length a.values) (length b.values) (number_in f a.values) (number_in f b.values)
 
--- Two lists are cut into n pieces each at the same places c, the first of which is the front: where the
--- pieces are the same, all that is before the last place is.
+-- Two lists are cut into n pieces each at the same indices c, the first of which is the front. If
+-- the pieces are the same, all before the last index is.
 module _ (c : ℕ → ℕ) (xs ys : List ℕ) where
   pub fronts_by_pieces : (n : ℕ) → c 0 ≡ 0 → ((k : ℕ) → k < n → c k ≤ c (k + 1))
       → ((k : ℕ) → k < n → take (c (k + 1) - c k) (drop (c k) xs) ≡ take (c (k + 1) - c k) (drop (c k) ys)) → take (c n) xs ≡ take (c n) ys
@@ -95,7 +95,7 @@ module _ (os xs : List ℕ) (is : IsOffsets os) (ends : EndsWithin os xs) where
       let long = length-part (slice_index os i) (slice_index os (i + 1) - slice_index os i) xs (omega (arith, up, within)) in
       omega (arith, long, first, second)
 
-  -- a slot, where the bytes from the first slot on are told
+  -- A slot, if the bytes from the first slot on are known.
   span-after : (i : ℕ) → i < span_count os → span os xs i ≡ take (step os (i + 1) - step os i) (drop (step os i) (drop (slice_index os 0) xs))
   span-after i h =
       let first = step_of i (omega (arith, h)) in
@@ -103,7 +103,7 @@ module _ (os xs : List ℕ) (is : IsOffsets os) (ends : EndsWithin os xs) where
       let count : slice_index os (i + 1) - slice_index os i ≡ step os (i + 1) - step os i = omega (arith, first, second) in
       ap₂ (λ d ys. take d ys) count (sym (drop-drop (step os i) (slice_index os 0) xs ∙ ap (λ k. drop k xs) first))
 
-  -- and where those up to the last slot are
+  -- A slot, if the bytes up to the last slot are known.
   span-held : (i : ℕ) → i < span_count os → span os xs i ≡ take (step os (i + 1) - step os i) (drop (step os i) (held os xs))
   span-held i h =
       let last = length os - 1 in
@@ -118,8 +118,8 @@ module _ (os xs : List ℕ) (is : IsOffsets os) (ends : EndsWithin os xs) where
       ∙ sym (take-take d m (drop (step os i) ys) short)
       ∙ ap (take d) (sym (drop-take (step os i) m ys) ∙ ap (λ k. drop (step os i) (take k ys)) all)
 
--- slots of any length have the same bytes where their offsets are as far from the first and the bytes
--- from the first slot to the last are the same
+-- Slots of any length have the same bytes if their offsets are as far from the first and the bytes
+-- from the first slot to the last are the same.
 pub spans_tell :
     (os xs ps ys : List ℕ) → IsOffsets os → IsOffsets ps → length os ≡ length ps → EndsWithin os xs → EndsWithin ps ys
     → (HasSameSteps os ps (length os) × (held os xs ≡ held ps ys)) ↔ HasSameSpans os xs ps ys
@@ -176,7 +176,7 @@ pub texts_tell :
 texts_tell a b =
     slots_by_values text_slot (λ x y e. cc) a.validity b.validity (span_count a.offsets) (span_count b.offsets) (span a.offsets a.values) (span b.offsets b.values)
 
--- n pieces of as many bytes each are the same just where all their bytes are
+-- n pieces of equally many bytes are the same exactly if all their bytes are.
 one_more : (k size : ℕ) → (k + 1) * size ≡ k * size + size
 one_more k size =
     let both : (k + 1) * size ≡ k * size + 1 * size = add-mul k 1 size in

@@ -31,7 +31,7 @@ get_or-slots_from f a (suc n) (suc i) h =
 pub same_count : (f g : ℕ → Slot) (n m : ℕ) → slots_from f 0 n ≡ slots_from g 0 m → n ≡ m
 same_count f g n m e = sym (length-slots_from f 0 n) ∙ ap length e ∙ length-slots_from g 0 m
 
--- and the same at each place
+-- And the same at each index.
 pub same_place : (f g : ℕ → Slot) (n m i : ℕ) → i < n → i < m → slots_from f 0 n ≡ slots_from g 0 m → f i ≡ g i
 same_place f g n m i h k e =
     let o : i ≡ 0 + i = omega arith in

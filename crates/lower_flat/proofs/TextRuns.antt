@@ -1,4 +1,4 @@
--- One test of all the bytes stands for a test of each text.
+-- One test of all the bytes replaces a test of each text.
 use Rattle.std.proofs.Common.{◌≡◌, ℕ, zero, suc, ◌+◌, ◌-◌, ◌<◌, ◌≤◌, List, length, take, drop, get_or, sym, ap, subst, ◌∙◌, arith}
 use Rattle.std.specs.Prelude.{slice_index}
 use Rattle.std.proofs.lemmas.List.{take-append-drop, get_or-drop, drop-drop, length-drop, length-take-le, drop-take, take-take}
@@ -9,7 +9,7 @@ use Rattle.lower.specs.Offsets.{IsOffsets}
 use Rattle.lower_flat.specs.Spans.{span, EndsWithin, AreTexts, AreCut}
 use Rattle.lower_flat.proofs.SpanPlaces.{offset_first, offset_last, offset_within}
 
--- a place where the bytes may be cut is one in what is left of them
+-- An offset where the bytes may be cut is one in what is left of them.
 boundary-in_rest : (bs : List ℕ) (i j : ℕ) → i ≤ j → IsCharBoundary bs j → IsCharBoundary (drop i bs) (j - i)
 boundary-in_rest bs i j le b =
     let long = length-drop i bs in

@@ -71,7 +71,7 @@ unset-split f a (suc m) n =
     let last : unset_along f (a + 1 + m) n ≡ unset_along f (a + suc m) n = ap (λ b. unset_along f b n) d in
     ap (unset_along f a) e ∙ omega (arith, whole, first, rest, last)
 
--- two functions that tell the same
+-- Two functions that agree.
 unset-same : (f g : ℕ → Bool) (a b n : ℕ) → ((k : ℕ) → k < n → f (a + k) ≡ g (b + k)) → unset_along f a n ≡ unset_along g b n
 unset-same f g a b zero h = refl
 unset-same f g a b (suc n) h =

@@ -15,7 +15,7 @@ use Rattle.lower_flat.proofs.Unset.{one_more, unset-split, bits_after, bits_of_f
 abbrev zeros_in : ℕ → ℕ → ℕ
 zeros_in k n = count_ones (2 ^ k - 1 - n)
 
--- the m digits of a stand above the k digits of r
+-- The m digits of a are above the k digits of r.
 zeros_cat : (m k a r : ℕ) → a < 2 ^ m → r < 2 ^ k → zeros_in (m + k) (a * 2 ^ k + r) ≡ zeros_in m a + zeros_in k r
 zeros_cat m k a r high low =
     let d = 2 ^ m - 1 - a in

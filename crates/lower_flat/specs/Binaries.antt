@@ -13,19 +13,20 @@ use Rattle.lower.specs.declared.error.Rule.TheVariants.{ValidityLength, OffsetsP
 use Rattle.lower_flat.specs.Validities.{ValidityFits}
 use Rattle.lower_flat.specs.Spans.{SpansSeen, span_count, EndsWithin}
 
--- how bytes with offsets of the type p lie in memory: the large form has offsets of 64 bits
+-- The physical type of bytes with offsets of the type p: the large form has offsets of 64 bits.
 abbrev pub bytes_with : PrimitiveType → PhysicalType
 bytes_with Int64 = LargeBinary
 bytes_with _ = Binary
 
--- the type lies in memory as bytes with these offsets do, the last offset is within the bytes, and a validity has a bit for each slot
+-- A valid array of bytes: its type is one of bytes with such offsets, the last offset is within the
+-- bytes, and a validity has a bit for each slot.
 pub record IsBinary (p : PrimitiveType) (a : SpansSeen) : Type 0 where
   pub lies : physical a.type ≡ bytes_with p
   pub offsets : IsOffsets a.offsets
   pub within : EndsWithin a.offsets a.values
   pub fits : ValidityFits a.validity (span_count a.offsets)
 
--- the rule that the error names is broken
+-- The array breaks the rule that the error names.
 abbrev pub BreaksBinary : PrimitiveType → SpansSeen → Error → Type 0
 BreaksBinary p a (OutOfSpec WrongType) = ¬ (physical a.type ≡ bytes_with p)
 BreaksBinary p a (OutOfSpec OffsetsPastValues) = ¬ (EndsWithin a.offsets a.values)

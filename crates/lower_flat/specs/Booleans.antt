@@ -1,4 +1,4 @@
--- What contracts see of an array of truth values.
+-- What contracts know of an array of booleans.
 -- (Arrow columnar format, "Fixed-size Primitive Layout": a bit for each slot.)
 use Rattle.std.specs.Prelude.{◌≡◌, ℕ, List, Bool, length, refl}
 use Rattle.std.specs.Coded.{Coded, code_by, coded_list, coded_bool, coded_option, coded×}
@@ -11,15 +11,17 @@ use Rattle.lower.specs.declared.error.Rule.TheVariants.{ValidityLength, Physical
 use Rattle.lower_flat.specs.TypeCodes.{coded_type}
 use Rattle.lower_flat.specs.Validities.{Validity, ValidityFits, part, cut_validity}
 
+-- The type, the values and the validity of an array of booleans.
 pub record BooleanSeen : Type 0 where
   pub type : TypeTree
   pub values : List Bool
   pub validity : Validity
 
+-- What contracts know of an array of booleans with these parts.
 abbrev pub boolean_seen : TypeTree → List Bool → Validity → BooleanSeen
 boolean_seen t xs v = record { type = t; values = xs; validity = v }
 
--- what a model stores
+-- How an array of booleans is stored as a ghost value.
 abbrev pub coded_boolean : Coded BooleanSeen
 coded_boolean =
     code_by (TypeTree × (List Bool × Validity))
@@ -27,17 +29,17 @@ coded_boolean =
     (λ a. (a.type, (a.values, a.validity)))
     (λ p. record { type = p.0; values = p.1.0; validity = p.1.1 }) (λ _. refl)
 
--- its rules: the type has a bit for each slot, and a validity has one too
+-- A valid array of booleans: its type has a bit for each slot, and so has a validity.
 pub record IsBoolean (a : BooleanSeen) : Type 0 where
   pub lies : physical a.type ≡ Boolean
   pub fits : ValidityFits a.validity (length a.values)
 
--- the rule that the error names is broken
+-- The array breaks the rule that the error names.
 abbrev pub BreaksBoolean : BooleanSeen → Error → Type 0
 BreaksBoolean a (OutOfSpec WrongType) = ¬ (physical a.type ≡ Boolean)
 BreaksBoolean a (OutOfSpec ValidityLength) = ¬ (ValidityFits a.validity (length a.values))
 BreaksBoolean a (OutOfSpec _) = ⊥
 
--- the n slots from place o on
+-- The n slots from index o on.
 abbrev pub cut_boolean : ℕ → ℕ → BooleanSeen → BooleanSeen
 cut_boolean o n a = record { type = a.type; values = part o n a.values; validity = cut_validity o n a.validity }

@@ -6,25 +6,25 @@ use Rattle.lower_flat.specs.Validities.{Validity, part}
 use Rattle.lower_flat.specs.FixedBinaries.{FixedBinarySeen}
 use Rattle.lower_flat.specs.Spans.{SpansSeen, span, span_count}
 
--- the value of a slot that is valid, nothing of one that is null
+-- The value of a valid slot; none for a null.
 abbrev pub option_where : {A : Type 0} → Bool → A → Option A
 option_where true x = Some x
 option_where false x = None
 
--- each value whose bit is set, and nothing in place of the others
+-- The values whose bit is set, and None for the others.
 abbrev pub where_set : {A : Type 0} → List Bool → List A → List (Option A)
 where_set (b ∷ bs) (x ∷ xs) = option_where b x ∷ where_set bs xs
 where_set _ _ = []
 
--- all slots of some values
+-- All slots of some values, by their validity.
 abbrev pub options : {A : Type 0} → Validity → List A → List (Option A)
 options None xs = map Some xs
 options (Some bits) xs = where_set bits xs
 
--- the bytes of each slot, where each has bytes of its own length
+-- The bytes of each slot, which may have different lengths.
 abbrev pub spans : SpansSeen → List (List ℕ)
 spans a = map (span a.offsets a.values) (range_with_len 0 (span_count a.offsets))
 
--- the same, where each has as many
+-- The bytes of each slot, which have equal lengths.
 abbrev pub pieces : FixedBinarySeen → List (List ℕ)
 pieces a = map (λ i. part (i * a.size) a.size a.values) (range_with_len 0 a.len)

@@ -13,13 +13,13 @@ use Rattle.lower.specs.declared.error.Rule.TheVariants.{ValidityLength, OffsetsP
 use Rattle.lower_flat.specs.Validities.{ValidityFits}
 use Rattle.lower_flat.specs.Spans.{SpansSeen, span_count, EndsWithin, AreTexts}
 
--- how texts with offsets of the type p lie in memory: the large form has offsets of 64 bits
+-- The physical type of texts with offsets of the type p: the large form has offsets of 64 bits.
 abbrev pub texts_with : PrimitiveType → PhysicalType
 texts_with Int64 = LargeUtf8
 texts_with _ = Utf8
 
--- the type lies in memory as texts with these offsets do, the last offset is within the bytes, each slot, null or not, is UTF-8, and a
--- validity has a bit for each slot
+-- A valid array of texts: its type is one of texts with such offsets, and the last offset is within
+-- the bytes. Each slot, null or not, is UTF-8, and a validity has a bit for each slot.
 pub record IsText (p : PrimitiveType) (a : SpansSeen) : Type 0 where
   pub lies : physical a.type ≡ texts_with p
   pub offsets : IsOffsets a.offsets
@@ -27,7 +27,7 @@ pub record IsText (p : PrimitiveType) (a : SpansSeen) : Type 0 where
   pub texts : AreTexts a.offsets a.values
   pub fits : ValidityFits a.validity (span_count a.offsets)
 
--- the rule that the error names is broken
+-- The array breaks the rule that the error names.
 abbrev pub BreaksText : PrimitiveType → SpansSeen → Error → Type 0
 BreaksText p a (OutOfSpec WrongType) = ¬ (physical a.type ≡ texts_with p)
 BreaksText p a (OutOfSpec OffsetsPastValues) = ¬ (EndsWithin a.offsets a.values)

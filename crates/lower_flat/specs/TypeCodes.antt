@@ -1,4 +1,4 @@
--- Type trees as ghost values, which a model that shows one asks for: what each is stored as, and back.
+-- Types as ghost values, which a model that shows one needs: how each is stored, and read back.
 use Rattle.std.specs.Prelude.{◌≡◌, ℕ, ℤ, pos, negsuc, refl, Bool, true, false, List, [], ◌∷◌, Option, Some, None, get_or}
 use Rattle.std.specs.Coded.{Coded, code_by}
 use Rattle.std.proofs.Common.{zero, suc}
@@ -14,7 +14,7 @@ use Rattle.lower.specs.declared.datatypes.UnionMode.{UnionMode}
 use Rattle.lower.specs.declared.datatypes.UnionMode.TheVariants.{Dense, Sparse}
 use Rattle.lower.specs.TypeTrees.{Pairs, Plain, null, boolean, int8, int16, int32, int64, uint8, uint16, uint32, uint64, float16, float32, float64, timestamp, date32, date64, time32, time64, duration, interval, binary, fixed_binary, large_binary, utf8, large_utf8, decimal, decimal256, Single, list, large_list, fixed_list, entries, Group, structure, choice, TypeTree, plain, single, group, dictionary, extension, FieldTree, field, FieldTrees, no_fields, more_fields}
 
--- how a value is stored, and read back from that
+-- How a value is stored as a ghost value, and read back from that.
 pub record Stored (A : Type 0) : Type 0 where
   pub to : A → Gv
   pub from : Gv → A
@@ -32,7 +32,7 @@ abbrev pub number : Gv → ℕ
 number (gnum n) = n
 number _ = 0
 
--- a value with the tag n
+-- A value with the tag n.
 abbrev pub tagged : ℕ → Gv → Gv
 tagged n g = gcons (gnum n) g
 
@@ -119,7 +119,7 @@ stored_note = stored_option stored_text
 abbrev pub stored_ids : Stored (Option (List ℤ))
 stored_ids = stored_option (stored_list stored_int)
 
--- ---- the small enumerations, by their places in a list of all
+-- ---- the small enumerations, by their indices in a list of all
 abbrev pub integer_to : IntegerType → Gv
 integer_to Int8 = gnum 0
 integer_to Int16 = gnum 1
@@ -212,7 +212,7 @@ plain_to large_utf8 = tagged 24 gnil
 plain_to (decimal p s) = tagged 25 (gcons (gnum p) (gnum s))
 plain_to (decimal256 p s) = tagged 26 (gcons (gnum p) (gnum s))
 
--- the types without children, each with the parameters that g holds for it
+-- The types without children, each with the parameters that g has for it.
 abbrev pub plains : Gv → List Plain
 plains g =
     null ∷ boolean ∷ int8 ∷ int16 ∷ int32 ∷ int64 ∷ uint8 ∷ uint16 ∷ uint32 ∷ uint64 ∷ float16 ∷ float32 ∷ float64

@@ -1,4 +1,4 @@
--- The numbers that ids name, and the places that a union has to have.
+-- The indices that type ids name, and the indices that a union must have.
 use Rattle.std.proofs.Common.{ℕ, ℤ, pos, negsuc, ◌<◌, List, Option, Some, None}
 use Rattle.lower.specs.declared.datatypes.UnionMode.{UnionMode}
 use Rattle.lower.specs.declared.datatypes.UnionMode.TheVariants.{Dense, Sparse}
@@ -6,7 +6,7 @@ use Rattle.lower_rules.specs.Keys.{place_of, KeyFits}
 use Rattle.lower_rules.specs.Ids.{TypeIds, child_number, NamesChild, OffsetsGiven}
 use Rattle.lower_rules.specs.Places.{PlacesGiven}
 
--- an id that names a child has its number
+-- A type id that names a child has its index.
 pub number_fits : (z : ℤ) (n : ℕ) → KeyFits z n → place_of z < n
 number_fits (pos k) n h = h
 number_fits (negsuc k) n h = absurd h

@@ -1,4 +1,4 @@
--- Children one by one, as the code goes over them.
+-- Children one by one, as the code visits them.
 use Rattle.std.proofs.Common.{arith, ◌≡◌, refl, ℕ, zero, suc, ◌+◌, ◌<◌, List, [], ◌∷◌, ◌++◌, length, take, map, get_or, subst, sym, ap, ◌∙◌}
 use Rattle.std.proofs.lemmas.List.{length-map, map_more}
 use Rattle.lower.specs.TypeTrees.{TypeTree, FieldTree}

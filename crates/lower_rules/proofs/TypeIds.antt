@@ -1,4 +1,4 @@
--- The places of ids, and distinct ids.
+-- The indices of type ids, and distinct ids.
 use Rattle.std.proofs.Common.{arith, ◌≡◌, ◌≢◌, refl, ℕ, ℤ, pos, zero, suc, ◌+◌, ◌<◌, ◌≤◌, List, [], ◌∷◌, Bool, true, false, length, get_or, cond, ap, ◌∙◌, ◌⊎◌, inl, inr, ⊎_elim}
 use Rattle.std.specs.Ordering.{int_eq}
 use Rattle.std.proofs.lemmas.Bool.Decides.{Decides-int_eq}
@@ -15,7 +15,7 @@ place_here z x xs e = ap (λ b. cond b 0 (place_among z xs + 1)) e
 place_later : (z x : ℤ) (xs : List ℤ) → int_eq x z ≡ false → place_among z (x ∷ xs) ≡ suc (place_among z xs)
 place_later z x xs e = ap (λ b. cond b 0 (place_among z xs + 1)) e ∙ omega arith
 
--- no z stands before its place
+-- No z is before its index.
 pub place_first : (z : ℤ) (xs : List ℤ) (k : ℕ) → k < length xs → get_or xs k (pos 0) ≡ z → place_among z xs ≤ k
 place_first z [] k l e = let no : ⊥ = omega (arith, l) in absurd no
 place_first z (x ∷ xs) zero l e =
@@ -25,7 +25,7 @@ place_first z (x ∷ xs) (suc k) l e =
     ⊎_elim (λ t. let p = place_here z x xs t in omega (arith, p)) (λ f. let p = place_later z x xs f in omega (arith, p, below))
     (tested (int_eq x z))
 
--- and z stands there
+-- And z is at its index.
 pub place_has : (z : ℤ) (xs : List ℤ) → place_among z xs < length xs → get_or xs (place_among z xs) (pos 0) ≡ z
 place_has z [] l = let no : ⊥ = omega (arith, l) in absurd no
 place_has z (x ∷ xs) l =
@@ -39,7 +39,7 @@ apart a zero = inr (omega arith)
 apart zero (suc b) = inl (omega arith)
 apart (suc a) (suc b) = ⊎_elim (λ l. inl (omega (arith, l))) (λ l. inr (omega (arith, l))) (apart a b)
 
--- the place of an item that none before it is the same as
+-- The index of an item that differs from all before it.
 pub place_is :
     (z : ℤ) (xs : List ℤ) (i : ℕ) → i < length xs → get_or xs i (pos 0) ≡ z
     → ((k : ℕ) → k < i → get_or xs k (pos 0) ≢ z) → place_among z xs ≡ i
@@ -48,7 +48,7 @@ place_is z xs i l e h =
     let has = place_has z xs (omega (arith, l, first)) in
     ⊎_elim (λ lt. absurd (h (place_among z xs) lt has)) (λ le. omega (arith, first, le)) (apart (place_among z xs) i)
 
--- where there is none
+-- If there is none.
 pub place_none :
     (z : ℤ) (xs : List ℤ) → ((k : ℕ) → k < length xs → get_or xs k (pos 0) ≢ z) → place_among z xs ≡ length xs
 place_none z [] h = refl
@@ -56,7 +56,7 @@ place_none z (x ∷ xs) h =
     let rest = place_none z xs (λ k l. h (suc k) (omega (arith, l))) in
     ⊎_elim (λ t. absurd (h 0 (omega arith) ((Decides-int_eq x z).0 t))) (λ f. place_later z x xs f ∙ ap suc rest) (tested (int_eq x z))
 
--- distinct ids are those that each stand first at their own place
+-- Distinct ids are those whose own index is that of their first occurrence.
 pub ids_place : (ids : List ℤ) (n i : ℕ) → AreIds ids n → i < length ids → place_among (get_or ids i (pos 0)) ids ≡ i
 ids_place ids n i h l = place_is (get_or ids i (pos 0)) ids i l refl (λ k lt. h.distinct k i lt l)
 

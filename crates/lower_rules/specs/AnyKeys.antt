@@ -1,10 +1,12 @@
--- What contracts see of the keys of a dictionary.
+-- What contracts know of the keys of a dictionary.
+-- (Arrow columnar format, "Dictionary-encoded Layout".)
 use Rattle.std.specs.Prelude.{pos}
 use Rattle.lower.specs.declared.datatypes.IntegerType.TheVariants as Integers
 use Rattle.lower_rules.specs.Keys.{KeysSeen, keys_in}
 use Rattle.lower_rules.specs.declared.keys.DictionaryKeys.{DictionaryKeys}
 use Rattle.lower_rules.specs.declared.keys.DictionaryKeys.TheVariants.{Int8, Int16, Int32, Int64, UInt8, UInt16, UInt32, UInt64}
 
+-- What contracts know of the keys of a dictionary, whatever their type.
 abbrev pub keys_seen : DictionaryKeys → KeysSeen
 keys_seen (Int8 a) = keys_in Integers.Int8 (λ x. x) a
 keys_seen (Int16 a) = keys_in Integers.Int16 (λ x. x) a

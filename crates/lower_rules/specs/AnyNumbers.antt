@@ -1,4 +1,5 @@
--- What contracts see of an array of numbers of any type.
+-- What contracts know of an array of numbers of any type.
+-- (Arrow columnar format, "Fixed-size Primitive Layout".)
 use Rattle.std.specs.Prelude.{pos}
 use Rattle.lower_types.specs.NumberTypes.{whole, wide, day_time, month_day_nano}
 use Rattle.lower_types.specs.declared.PrimitiveType.TheVariants as Named
@@ -6,6 +7,7 @@ use Rattle.lower_rules.specs.Numbers.{NumbersSeen, numbers_in}
 use Rattle.lower_rules.specs.declared.numbers.AnyPrimitive.{AnyPrimitive}
 use Rattle.lower_rules.specs.declared.numbers.AnyPrimitive.TheVariants.{Int8, Int16, Int32, Int64, Int128, Int256, UInt8, UInt16, UInt32, UInt64, DaysMs, MonthDayNano}
 
+-- What contracts know of an array of numbers, whatever their type.
 abbrev pub numbers_seen : AnyPrimitive → NumbersSeen
 numbers_seen (Int8 a) = numbers_in Named.Int8 (λ x. whole x) a
 numbers_seen (Int16 a) = numbers_in Named.Int16 (λ x. whole x) a

@@ -1,4 +1,4 @@
--- How lists lie in memory.
+-- How lists are laid out.
 -- (Arrow columnar format, "Variable-size List Layout" and "Fixed-Size List Layout".)
 use Rattle.std.specs.Prelude.{ℕ, ◌-◌, List, length, slice_index}
 use Rattle.lower.specs.TypeTrees.{fixed_list, TypeTree, single}
@@ -8,20 +8,21 @@ use Rattle.lower_types.specs.declared.PrimitiveType.TheVariants.{Int64}
 use Rattle.lower.specs.declared.datatypes.physical_type.PhysicalType.{PhysicalType}
 use Rattle.lower.specs.declared.datatypes.physical_type.PhysicalType.TheVariants as Physicals
 
--- lists with offsets of the type p: the large form has offsets of 64 bits
+-- The physical type of lists with offsets of the type p: the large form has offsets of 64 bits.
 abbrev pub list_with : PrimitiveType → PhysicalType
 list_with Int64 = Physicals.LargeList
 list_with _ = Physicals.List
 
--- where the last slot ends
+-- The offset where the last slot ends.
 abbrev pub last_offset : List ℕ → ℕ
 last_offset os = slice_index os (length os - 1)
 
--- how many slots the type gives each list; 0 where it isn't one of lists of a fixed size
+-- How many slots the type gives each list; 0 if it isn't one of fixed-size lists.
 abbrev pub named_list_size : TypeTree → ℕ
 named_list_size (single (fixed_list n) _) = n
 named_list_size _ = 0
 
--- without its extensions
+-- How many slots a type, without its extensions, gives each list; 0 if it
+-- isn't one of fixed-size lists.
 abbrev pub list_size : TypeTree → ℕ
 list_size t = named_list_size (logical t)

@@ -1,4 +1,4 @@
--- What contracts see of numbers of any type.
+-- What contracts know of numbers of any type.
 -- (Arrow columnar format, "Fixed-size Primitive Layout".)
 use Rattle.std.specs.Prelude.{◌≡◌, ℕ, pos, List, length, map, get_or}
 use Rattle.lower_types.specs.NumberTypes.{Number, whole}
@@ -10,7 +10,8 @@ use Rattle.lower_flat.specs.Validities.{Validity, is_valid, ValidityFits, part, 
 use Rattle.lower_flat.specs.Primitives.{PrimitiveSeen}
 use Rattle.lower_flat.specs.Columns.{Slot, number_slot, slot_where, Column, column_by}
 
--- the type of numbers that they are, the type of their array, how many there are, the numbers, and which of them are null
+-- An array of numbers: their type, the type of the array, how many there are,
+-- the numbers, and their validity.
 pub record NumbersSeen : Type 0 where
   pub number : PrimitiveType
   pub type : TypeTree
@@ -18,17 +19,17 @@ pub record NumbersSeen : Type 0 where
   pub numbers : List Number
   pub validity : Validity
 
--- an array of numbers, each as the number that it is
+-- What contracts know of an array of numbers; f gives the number of each value.
 abbrev pub numbers_in : {T : Type 0} → PrimitiveType → (T → Number) → PrimitiveSeen T → NumbersSeen
 numbers_in p f a = record { number = p; type = a.type; len = length a.values; numbers = map f a.values; validity = a.validity }
 
--- the rules of an array of numbers, whatever their type
+-- A valid array of numbers, whatever their type.
 pub record IsNumbers (a : NumbersSeen) : Type 0 where
   pub lies : physical a.type ≡ Primitive a.number
   pub fits : ValidityFits a.validity a.len
   pub count : length a.numbers ≡ a.len
 
--- the n slots from place o on
+-- The n slots from index o on.
 abbrev pub cut_numbers : ℕ → ℕ → NumbersSeen → NumbersSeen
 cut_numbers o n a = record {
   number = a.number;
@@ -38,10 +39,10 @@ cut_numbers o n a = record {
   validity = cut_validity o n a.validity;
 }
 
--- the slot at a place
+-- Slot i of an array of numbers.
 abbrev pub numbers_at : NumbersSeen → ℕ → Slot
 numbers_at a i = slot_where (is_valid a.validity i) (number_slot (get_or a.numbers i (whole (pos 0))))
 
--- what the array stands for
+-- What the array means.
 abbrev pub numbers_column : NumbersSeen → Column
 numbers_column a = column_by a.type a.len (numbers_at a)

@@ -1,5 +1,5 @@
--- What the parts of an array with children have to be, its children by their types and their lengths.
--- (Arrow columnar format, "Physical memory layout".)
+-- The rules of the parts of an array with children, of which only the types and the lengths count.
+-- (Arrow columnar format, "Physical Memory Layout".)
 use Rattle.std.specs.Prelude.{◌≡◌, ℕ, ℤ, ◌*◌, ◌/◌, ◌<◌, ◌≤◌, List, [], ◌∷◌, Option, get_or, length}
 use Rattle.lower_types.specs.declared.PrimitiveType.{PrimitiveType}
 use Rattle.lower.specs.TypeTrees.{TypeTree, plain}
@@ -18,7 +18,7 @@ use Rattle.lower_rules.specs.Keys.{values_type, KeysFit, KeysSeen, IsKeys}
 use Rattle.lower_rules.specs.Places.{AllAre, PlacesFit}
 use Rattle.lower_rules.specs.Ids.{union_ids, union_mode, IdsFit, AreNamed, OffsetsGiven}
 
--- lists of the type t: their offsets os, of the type p, and a child of the type c with n slots
+-- Lists of the type t: their offsets os, of the type p, and a child of the type c with n slots.
 pub record ListRules (t : TypeTree) (p : PrimitiveType) (os : List ℕ) (c : TypeTree) (n : ℕ) (v : Validity) : Type 0 where
   pub lies : physical t ≡ list_with p
   pub child : FieldTypes (child_fields t) (c ∷ [])
@@ -26,7 +26,7 @@ pub record ListRules (t : TypeTree) (p : PrimitiveType) (os : List ℕ) (c : Typ
   pub within : last_offset os ≤ n
   pub fits : ValidityFits v (span_count os)
 
--- the rule that the error names is broken
+-- The lists break the rule that the error names.
 abbrev pub BreaksListRules : TypeTree → PrimitiveType → List ℕ → TypeTree → ℕ → Validity → Error → Type 0
 BreaksListRules t p os c n v (OutOfSpec WrongType) = ¬ (physical t ≡ list_with p)
 BreaksListRules t p os c n v (OutOfSpec ChildType) = ¬ (FieldTypes (child_fields t) (c ∷ []))
@@ -34,7 +34,7 @@ BreaksListRules t p os c n v (OutOfSpec OffsetsPastValues) = ¬ (last_offset os 
 BreaksListRules t p os c n v (OutOfSpec ValidityLength) = ¬ (ValidityFits v (span_count os))
 BreaksListRules t p os c n v (OutOfSpec _) = ⊥
 
--- lists of one size, so many as the n slots of a child of the type c make
+-- Lists of one size, as many as the n slots of a child of the type c make.
 pub record FixedListRules (t c : TypeTree) (n : ℕ) (v : Validity) : Type 0 where
   pub lies : physical t ≡ Physicals.FixedSizeList
   pub some : 0 < list_size t
@@ -42,6 +42,7 @@ pub record FixedListRules (t c : TypeTree) (n : ℕ) (v : Validity) : Type 0 whe
   pub whole : n ≡ (n / list_size t) * list_size t
   pub fits : ValidityFits v (n / list_size t)
 
+-- The fixed-size lists break the rule that the error names.
 abbrev pub BreaksFixedListRules : TypeTree → TypeTree → ℕ → Validity → Error → Type 0
 BreaksFixedListRules t c n v (OutOfSpec WrongType) = ¬ (physical t ≡ Physicals.FixedSizeList)
 BreaksFixedListRules t c n v (OutOfSpec ZeroSize) = list_size t ≡ 0
@@ -50,7 +51,7 @@ BreaksFixedListRules t c n v (OutOfSpec ChildType) = ¬ (FieldTypes (child_field
 BreaksFixedListRules t c n v (OutOfSpec ValidityLength) = ¬ (ValidityFits v (n / list_size t))
 BreaksFixedListRules t c n v (OutOfSpec _) = ⊥
 
--- maps: lists of pairs
+-- Maps: lists of pairs.
 pub record MapRules (t : TypeTree) (os : List ℕ) (c : TypeTree) (n : ℕ) (v : Validity) : Type 0 where
   pub lies : physical t ≡ Physicals.Map
   pub pairs : IsPair c
@@ -59,6 +60,7 @@ pub record MapRules (t : TypeTree) (os : List ℕ) (c : TypeTree) (n : ℕ) (v :
   pub within : last_offset os ≤ n
   pub fits : ValidityFits v (span_count os)
 
+-- The maps break the rule that the error names.
 abbrev pub BreaksMapRules : TypeTree → List ℕ → TypeTree → ℕ → Validity → Error → Type 0
 BreaksMapRules t os c n v (OutOfSpec WrongType) = ¬ (physical t ≡ Physicals.Map)
 BreaksMapRules t os c n v (OutOfSpec MapChild) = ¬ (IsPair c)
@@ -67,20 +69,22 @@ BreaksMapRules t os c n v (OutOfSpec OffsetsPastValues) = ¬ (last_offset os ≤
 BreaksMapRules t os c n v (OutOfSpec ValidityLength) = ¬ (ValidityFits v (span_count os))
 BreaksMapRules t os c n v (OutOfSpec _) = ⊥
 
--- keys ks that are places among n values of the type c, whose normal form is that of the type that t names
+-- Keys that are indices of n values of the type c, whose normal form
+-- is that of the value type of t.
 pub record DictionaryRules (t : TypeTree) (ks : KeysSeen) (c : TypeTree) (n : ℕ) : Type 0 where
   pub lies : physical t ≡ Physicals.Dictionary ks.key
   pub keys : IsKeys ks
   pub named : norm c ≡ norm (values_type t)
   pub places : KeysFit ks.validity ks.integers n
 
+-- The keys and their values break the rule that the error names.
 abbrev pub BreaksDictionaryRules : TypeTree → KeysSeen → TypeTree → ℕ → Error → Type 0
 BreaksDictionaryRules t ks c n (OutOfSpec WrongType) = ¬ ((physical t ≡ Physicals.Dictionary ks.key) × (ks.type ≡ plain (integer ks.key)))
 BreaksDictionaryRules t ks c n (OutOfSpec DictionaryValues) = ¬ (norm c ≡ norm (values_type t))
 BreaksDictionaryRules t ks c n (OutOfSpec DictionaryKey) = ¬ (KeysFit ks.validity ks.integers n)
 BreaksDictionaryRules t ks c n (OutOfSpec _) = ⊥
 
--- structs of children of the types cs with so many slots ns: each has as many as the first
+-- Structs whose children have the types cs and the lengths ns: each has as many slots as the first.
 pub record StructRules (t : TypeTree) (cs : List TypeTree) (ns : List ℕ) (v : Validity) : Type 0 where
   pub lies : physical t ≡ Physicals.Struct
   pub some : 0 < length ns
@@ -88,6 +92,7 @@ pub record StructRules (t : TypeTree) (cs : List TypeTree) (ns : List ℕ) (v : 
   pub lens : AllAre (get_or ns 0 0) ns
   pub fits : ValidityFits v (get_or ns 0 0)
 
+-- The structs break the rule that the error names.
 abbrev pub BreaksStructRules : TypeTree → List TypeTree → List ℕ → Validity → Error → Type 0
 BreaksStructRules t cs ns v (OutOfSpec WrongType) = ¬ (physical t ≡ Physicals.Struct)
 BreaksStructRules t cs ns v (OutOfSpec NoChild) = ¬ (0 < length ns)
@@ -97,11 +102,11 @@ BreaksStructRules t cs ns v (OutOfSpec ChildLength) = ¬ (AllAre (get_or ns 0 0)
 BreaksStructRules t cs ns v (OutOfSpec ValidityLength) = ¬ (ValidityFits v (get_or ns 0 0))
 BreaksStructRules t cs ns v (OutOfSpec _) = ⊥
 
--- there are 1 to 127 children
+-- There are 1 to 127 children.
 abbrev pub IsCount : ℕ → Type 0
 IsCount n = (0 < n) × (n ≤ 127)
 
--- a union of k children: the ids ts of its slots, and their offsets where they are given
+-- A union of k children: the type ids ts of its slots, and their offsets if it is dense.
 pub record IdRules (t : TypeTree) (ts : List ℤ) (os : Option (List ℤ)) (k : ℕ) : Type 0 where
   pub lies : physical t ≡ Physicals.Union
   pub some : 0 < k
@@ -111,6 +116,7 @@ pub record IdRules (t : TypeTree) (ts : List ℤ) (os : Option (List ℤ)) (k : 
   pub names : AreNamed (union_ids t) ts k
   pub given : OffsetsGiven (union_mode t) os (length ts)
 
+-- The type ids of a union break the rule that the error names.
 abbrev pub BreaksIdRules : TypeTree → List ℤ → Option (List ℤ) → ℕ → Error → Type 0
 BreaksIdRules t ts os k (OutOfSpec WrongType) = ¬ (physical t ≡ Physicals.Union)
 BreaksIdRules t ts os k (OutOfSpec UnionChildren) = ¬ (IsCount k)
@@ -120,12 +126,13 @@ BreaksIdRules t ts os k (OutOfSpec UnionType) = ¬ (AreNamed (union_ids t) ts k)
 BreaksIdRules t ts os k (OutOfSpec UnionOffsets) = ¬ (OffsetsGiven (union_mode t) os (length ts))
 BreaksIdRules t ts os k (OutOfSpec _) = ⊥
 
--- a union of children of the types cs with so many slots ns
+-- A union whose children have the types cs and the lengths ns.
 pub record UnionRules (t : TypeTree) (ts : List ℤ) (os : Option (List ℤ)) (cs : List TypeTree) (ns : List ℕ) : Type 0 where
   pub ids : IdRules t ts os (length ns)
   pub types : FieldTypes (child_fields t) cs
   pub places : PlacesFit (union_ids t) ts os ns
 
+-- The union breaks the rule that the error names.
 abbrev pub BreaksUnionRules : TypeTree → List ℤ → Option (List ℤ) → List TypeTree → List ℕ → Error → Type 0
 BreaksUnionRules t ts os cs ns (OutOfSpec ChildType) = ¬ (FieldTypes (child_fields t) cs)
 BreaksUnionRules t ts os cs ns (OutOfSpec ChildLength) = ¬ (PlacesFit (union_ids t) ts os ns)

@@ -62,7 +62,7 @@ first_chunks-one : (bytes : List ℕ) → map (λ piece. slice_index piece 0) (f
 first_chunks-one [] = refl
 first_chunks-one (b ∷ bytes) = ap (λ rest. b ∷ rest) (first_chunks-one bytes)
 
--- bytes as they stand
+-- Bytes unchanged.
 pub values_of-bytes : (order : Endianness) (bytes : List ℕ) → values_of (byte_in order) 1 bytes ≡ bytes
 values_of-bytes order bytes = ap (λ n. map (byte_in order) (first_chunks 1 n bytes)) (div-one (length bytes)) ∙ first_chunks-one bytes
 

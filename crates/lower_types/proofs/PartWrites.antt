@@ -3,7 +3,7 @@ use Rattle.std.proofs.Common.{arith, ◌≡◌, ℕ, ◌+◌, ◌-◌, ◌≤◌
 use Rattle.std.proofs.lemmas.List.{append-nil, append_assoc, take_at, drop_at, drop_all, take_all, drop-drop, length-drop}
 use borrow.Rule.Slice.PartMut.{put_mid}
 
--- the part after `a` bytes, over what the first part left
+-- The part after `a` bytes, in what the first part left.
 pub second_write : (a n : ℕ) (to first second buf ys : List ℕ) → a + n ≤ length to → length first ≡ a → buf ≡ first ++ drop a to
     → ys ≡ second ++ drop n (take (length buf - a) (drop a buf))
     → put_mid a (length buf - a) buf ys ≡ (first ++ second) ++ drop (a + n) to

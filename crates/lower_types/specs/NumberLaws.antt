@@ -1,4 +1,5 @@
--- Numbers read back from their own bytes, and from no more bytes than they have.
+-- Numbers are read back from their own bytes, and from no more bytes than they have.
+-- (Arrow columnar format, "Byte Order (Endianness)".)
 use Rattle.std.proofs.Common.{arith, ◌≡◌, ℕ, ℤ, ◌+◌, ◌-◌, ◌^◌, ◌<◌, ◌≤◌, ◌++◌, List, [], length, take, drop, sym, ap, ◌∙◌}
 use mir.Val.{bits}
 use Rattle.std.specs.Int.{Width, w8, byte_len, cast_signed, cast_unsigned, bytes_low_first, bytes_high_first}
@@ -43,7 +44,7 @@ signed_byte_in-first order bytes = ap (cast_signed w8) (byte_in-first order byte
 pub signed_byte_in-signed_byte_of : (order : Endianness) (z : ℤ) → FitsSigned w8 z → signed_byte_in order (signed_byte_of order z) ≡ z
 signed_byte_in-signed_byte_of order z h = to_z-of_z h
 
--- no byte past its own counts
+-- No byte after its own counts.
 pub unsigned_in-take : (n m : ℕ) (order : Endianness) (bytes : List ℕ) → n ≤ m → unsigned_in n order (take m bytes) ≡ unsigned_in n order bytes
 unsigned_in-take n m Little bytes h = little_from-take 0 n m bytes (omega (arith, h))
 unsigned_in-take n m Big bytes h = big_from-take 0 n m bytes (omega (arith, h))
@@ -52,7 +53,7 @@ pub unsigned_in-append : (n : ℕ) (order : Endianness) (xs ys : List ℕ) → n
 unsigned_in-append n Little xs ys h = little_from-append n xs ys h
 unsigned_in-append n Big xs ys h = big_from-append n xs ys h
 
--- a number in the first bytes, and one in the last
+-- A number in the first bytes, and one in the last.
 pub first_part : (n : ℕ) (order : Endianness) (x : ℕ) (ys : List ℕ) → x < 256 ^ n → unsigned_in n order (unsigned_bytes n order x ++ ys) ≡ x
 first_part n order x ys h =
     let len = length-unsigned_bytes n order x in

@@ -1,4 +1,6 @@
--- Numbers of several parts read back from their own bytes, and from no more bytes than they have.
+-- Numbers of several parts are read back from their own bytes, and
+-- from no more bytes than they have.
+-- (Arrow columnar format, "Byte Order (Endianness)".)
 use Rattle.std.proofs.Common.{arith, ◌≡◌, ℕ, ℤ, ◌+◌, ◌^◌, ◌<◌, ◌++◌, List, length, take, drop, refl, sym, ap, ap₂, ◌∙◌, length-append}
 use mir.Val.{bits}
 use Rattle.std.specs.Int.{Width, w32, w64, w128, byte_len, cast_signed, cast_unsigned}
@@ -16,7 +18,7 @@ use Rattle.lower_types.specs.declared.PrimitiveType.TheVariants.{DaysMs, MonthDa
 use Rattle.lower_types.specs.NumberTypes.{number_in, wide, day_time, month_day_nano}
 use Rattle.lower_types.specs.PartNumbers.{days_ms_spelt, months_days_ns_spelt, low_first_spelt, high_first_spelt, days_ms_in, days_ms_bytes, months_days_ns_in, months_days_ns_bytes, i256_in, i256_bytes}
 
--- a signed number within its width, by its bits
+-- The bits of a signed number of a width fit in the width's bytes.
 below : (w : Width) → 2 ^ bits w ≡ 256 ^ byte_len w → (z : ℤ) → FitsSigned w z → cast_unsigned w z < 256 ^ byte_len w
 below w powers z h = let fits = (Fits-of_z h).fits in omega (arith, fits, powers)
 

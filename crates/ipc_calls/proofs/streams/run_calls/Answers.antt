@@ -32,7 +32,7 @@ returns-in_err-push-clause-refused g c =
           (take i calls) c.loop-call.answers.items call c.in_ok-answer.answer c.loop-call.invariant c.in_ok-answer.ensures.made);
     })
 
--- The call that got no memory did nothing.
+-- The call whose allocation failed did nothing.
 pub returns-in_err-answer-clause-refused : goal.returns-in_err-answer-clause-refused
 returns-in_err-answer-clause-refused g c =
     on_err c.from_residual.result _

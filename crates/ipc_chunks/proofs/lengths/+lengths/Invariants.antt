@@ -13,7 +13,7 @@ decreases-check_lengths l = 2 * heights (layouts (map layout_of l.columns.now))
 abbrev pub decreases-check_column : goal.decreases-check_column
 decreases-check_column l = 2 * height (layout_of l.column.now) + 1
 
--- What is said of the dictionaries that are left is said of all.
+-- The result for the dictionaries that are left is that for all.
 abbrev pub invariant-check_lengths-loop-column : goal.invariant-check_lengths-loop-column
 invariant-check_lengths-loop-column l =
     (AllByRecursion HasLengths (left_from l.columns l.column-index) → AllByRecursion HasLengths (dictionaries_in (layouts (map layout_of l.columns))))

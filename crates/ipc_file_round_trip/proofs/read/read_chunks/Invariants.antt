@@ -4,7 +4,7 @@ use Rattle.ipc_file_readers.specs.Runs.{Calls}
 use Rattle.ipc_file_round_trip.specs.Steps.{answers_of}
 use Rattle.ipc_file_round_trip.proofs.read.read_chunks.Given as goal
 
--- Whatever calls answer from now on comes behind the chunks that were read.
+-- Whatever calls return from now on comes after the chunks that were read.
 abbrev pub invariant-loop-chunks : goal.invariant-loop-chunks
 invariant-loop-chunks g l = record {
   monotone : g.R.Failures.failures (device_of l.fn.reader) ≤ g.R.Failures.failures (device_of l.reader);

@@ -5,7 +5,7 @@ use Rattle.ipc_write.specs.Writers.{HaveTypes}
 use Rattle.ipc_file_write.specs.Writes.{field_normal}
 use Rattle.ipc_file_write.proofs.writer.check_types.Given as goal
 
--- Whether all columns have their types is told by those that are left; those so far are arrays.
+-- Whether all columns have their types depends on those that are left; those so far are arrays.
 abbrev pub invariant-loop-i : goal.invariant-loop-i
 invariant-loop-i l = record {
   left : HaveTypes (drop l.i l.columns) (map field_normal (drop l.i l.fields)) → HaveTypes l.columns (map field_normal l.fields);

@@ -5,7 +5,7 @@ use Rattle.ipc_plain.specs.PlainEntries.{entries_view}
 use Rattle.ipc_plain.specs.PlainKinds.{kinds_view}
 use Rattle.ipc_plain.proofs.well.+well.Given as goal
 
--- what is left says what all say
+-- The result for what is left is that for all.
 abbrev pub invariant-all_have_rows-loop-kind : goal.invariant-all_have_rows-loop-kind
 invariant-all_have_rows-loop-kind l = record {
   rest : Tests.all_have_rows (entries_view l.entries) (kinds_view (drop l.kind-index l.kinds)) l.node l.buffer l.limit l.rows

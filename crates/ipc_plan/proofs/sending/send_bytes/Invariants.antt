@@ -3,7 +3,7 @@ use Rattle.ipc_plan.specs.Sending.{seen_by}
 use Rattle.ipc_plan.proofs.Sends.{SentBefore}
 use Rattle.ipc_plan.proofs.sending.send_bytes.Given as goal
 
--- What stands before byte `at` was sent.
+-- The bytes before byte `at` were sent.
 abbrev pub invariant-loop-at : goal.invariant-loop-at
 invariant-loop-at g l = record {
   within : l.at ≤ length l.bytes;

@@ -7,7 +7,7 @@ use Rattle.ipc_plan.specs.Pieces.{less}
 use Rattle.ipc_plan.proofs.Sends.{SentBefore}
 use Rattle.ipc_plan.proofs.sending.send_large_offsets.Given as goal
 
--- What was sent, and the offsets that are left, are all offsets.
+-- The offsets that were sent and those that are left are all offsets.
 abbrev pub invariant-pieces : goal.invariant-pieces
 invariant-pieces g l = record {
   size : l.piece-iterator.size ≡ 512;

@@ -4,7 +4,7 @@ use Rattle.ipc_plan.specs.Sending.{seen_by}
 use Rattle.ipc_plan.proofs.Sends.{SentBefore}
 use Rattle.ipc_plan.proofs.sending.send_numbers.Given as goal
 
--- What was sent, and the numbers that are left, are all numbers.
+-- The numbers that were sent and those that are left are all numbers.
 abbrev pub invariant-pieces : goal.invariant-pieces
 invariant-pieces g l = record {
   size : g.T.NativeType.width * l.piece-iterator.size ≤ 4096;

@@ -4,7 +4,7 @@ use Rattle.ipc_plan.specs.Pieces.{pieces_bytes}
 use Rattle.ipc_plan.proofs.Sends.{SentBefore}
 use Rattle.ipc_plan.proofs.sending.send_pieces.Given as goal
 
--- What was sent, and the pieces that are left, are all pieces.
+-- The pieces that were sent and those that are left are all pieces.
 abbrev pub invariant-loop-piece : goal.invariant-loop-piece
 invariant-loop-piece g l = record {
   block : length l.block ≡ 4096;

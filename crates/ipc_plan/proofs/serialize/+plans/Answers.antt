@@ -33,7 +33,7 @@ use Rattle.ipc_plan.proofs.Growing.{on_ok, adds_then, adds_none, child_then, lis
 use Rattle.ipc_plan.proofs.Taking.{room, own_room, room-both, short-both, start_exit, level_exit, child_takes, levels_then, levels_exit, beside_rest, whole_rest, sparse_children, dense_children}
 use Rattle.ipc_plan.proofs.serialize.+plans.Goals as goal
 
--- lists are planned alike in either case of AnyArray
+-- Lists are planned alike in either variant of AnyArray.
 planned_list :
     (named : PrimitiveType) (p q r : Plan) (a : ListSeen) (o n first last : ℕ) (w : PrimitiveType) (os : List ℕ) (v : Validity) (l : Layout) (x : Result Unit Fault)
     → w ≡ a.width → os ≡ a.offsets → v ≡ a.validity → l ≡ a.child → first ≡ slice_index a.offsets o → last ≡ slice_index a.offsets (o + n)

@@ -3,7 +3,7 @@ use Rattle.ipc_sessions.specs.Sessions.{AddsInTurn, all_taken_of}
 use Rattle.ipc_sessions.specs.Steps.{AreSessions}
 use Rattle.ipc_sessions.proofs.sessions.run_sessions.Given as goal
 
--- The sessions so far were made, and ended their file.
+-- The sessions so far were made, and ended their files.
 abbrev pub invariant-loop-chunks : goal.invariant-loop-chunks
 invariant-loop-chunks g l =
     AreSessions g.W.Failures.known g.W.Writes.grows g.W.Failures.failures g.W.Writes.room g.W.Failures.memory l.fn.device (take l.chunks-index l.sessions) l.answers.items l.device

@@ -4,7 +4,7 @@ use Rattle.ipc_file_write.specs.FileWriters.{seen}
 use Rattle.ipc_sessions.specs.Steps.{AreWritten}
 use Rattle.ipc_sessions.proofs.sessions.write_chunks.Given as goal
 
--- The chunks so far were written, and there is room for all answers.
+-- The chunks so far were written, and there is room for all results.
 abbrev pub invariant-loop-chunk : goal.invariant-loop-chunk
 invariant-loop-chunk g l =
     AreWritten g.W.Failures.known g.W.Failures.failures g.W.Failures.memory (seen l.fn.writer) (take l.chunk-index l.chunks) l.answers.items (seen l.writer)

@@ -22,7 +22,7 @@ appended : {R F : Type 0} (gives : Gives R) (known : Bool) (memory : F → Memor
     → Appended gives known memory failures (wanted_by form) a b file
 appended gives known memory failures form path file device last a b e f same h = rw e (rw f (last, same, h))
 
--- where nothing was asked to be appended
+-- Appending wasn't requested.
 none_appended : {R A : Type 0} (gives : Gives R) (known : Bool) (memory : A → Memory) (failures : A → ℕ) (form : Form) (from : Source) (target : Target) (options : WriteOptions) (a b : R) (file : Option A) (result : Result (Unit {0}) Fault)
     → form ≡ Convert from target options → OnOk result (Appended gives known memory failures (wanted_by form) a b file)
 none_appended gives known memory failures form Input target options a b file (Ok x) is = rw is tt

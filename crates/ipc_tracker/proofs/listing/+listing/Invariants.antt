@@ -15,7 +15,8 @@ decreases-list_all l = 2 * heights (layouts (map layout_of l.arrays.now))
 abbrev pub decreases-list_field : goal.decreases-list_field
 decreases-list_field l = 2 * height (layout_of l.array.now) + 1
 
--- What is left, gone through from here on, is all that was to be gone through; and what refuses it refuses all.
+-- What is left, visited from here on, is all that had to be visited;
+-- and what refuses it refuses all.
 abbrev pub invariant-list_all-loop-i : goal.invariant-list_all-loop-i
 invariant-list_all-loop-i l =
     ((z : Seen) → Listed (remembered l.tracker) l.tracker.cannot_replace (seen l.listing) z (keyed_from l.arrays l.ids l.i)

@@ -5,7 +5,7 @@ use Rattle.ipc_write.specs.Messages.{messages_bytes}
 use Rattle.ipc_chunks.specs.Messages.{message_seen}
 use Rattle.ipc_write.proofs.common_sync.write_all_encoded.Given as goal
 
--- What was sent, and the messages that are left, are all messages.
+-- The messages that were sent and those that are left are all messages.
 abbrev pub invariant-loop-message : goal.invariant-loop-message
 invariant-loop-message g l =
     SentBefore g.W.Failures.known g.W.Writes.grows

@@ -4,7 +4,7 @@ use Rattle.lower_arrays.specs.Slots.{IsArray}
 use Rattle.ipc_write.specs.Writers.{HaveTypes, normal_view}
 use Rattle.ipc_write.proofs.stream.check_types.Given as goal
 
--- Whether all columns have their types is told by those that are left; those so far are arrays.
+-- Whether all columns have their types depends on those that are left; those so far are arrays.
 abbrev pub invariant-loop-i : goal.invariant-loop-i
 invariant-loop-i l = record {
   left : HaveTypes (drop l.i l.columns) (map normal_view (drop l.i l.types)) → HaveTypes l.columns (map normal_view l.types);

@@ -34,7 +34,7 @@ children::sliced_each-returns t c =
     all_cut c.args.offset c.args.len xs c.loop-i.children.items
     (subst (λ i. CutUpTo c.args.offset c.args.len i xs c.loop-i.children.items) e c.loop-i.invariant.cut)
 
--- the slots of the child that are asked are within it, and so below 2 ^ 64
+-- The requested slots of the child are within it, and so below 2 ^ 64.
 fixed_room :
     (a b : FixedListSeen) (o n k : ℕ) → b ≡ a → IsArray (fixed_list_layout b) → o + n ≤ a.len → k ≡ len_of b.child → k < 2 ^ 64
     → (o * b.size + n * b.size ≤ len_of b.child) × (o * b.size < 2 ^ 64) × (n * b.size < 2 ^ 64)

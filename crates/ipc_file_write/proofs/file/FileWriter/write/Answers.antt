@@ -16,7 +16,7 @@ use Rattle.ipc_file_write.proofs.Naming.{chunk_names, memory_names, room_names, 
 use Rattle.ipc_file_write.proofs.StartsAndEnds.{first_passed, first_refused}
 use Rattle.ipc_file_write.proofs.file.FileWriter.write.Goals as goal
 
--- ---- refused before anything was listed
+-- ---- refused before any dictionary was chosen
 
 pub returns-in_err-dictionaries-clause-first : goal.returns-in_err-dictionaries-clause-first
 returns-in_err-dictionaries-clause-first g c =
@@ -139,7 +139,7 @@ returns-in_err-make_room-2-clause-means g c =
     (room_kept g.W.Failures.known g.W.Writes.grows g.W.Failures.failures g.W.Writes.room g.W.Failures.memory (seen c.args.self.now) _ fault _ c.in_ok-dictionaries.ensures.ok.was
     (record { order = refl; fields = refl; metadata = refl; ids = refl; pairs = refl; remembers = c.make_room-2.ensures.same; dictionaries = c.make_room.ensures.same_dictionaries; blocks = c.make_room.ensures.same_records; size = refl }) refl refl refl)
 
--- ---- handed to the device
+-- ---- sent to the device
 
 pub returns-in_err-placed-clause-first : goal.returns-in_err-placed-clause-first
 returns-in_err-placed-clause-first g c = first_passed (seen c.args.self.now) _ _ c.in_ok-dictionaries.ensures.ok.was

@@ -4,7 +4,7 @@ use Rattle.ipc_tools.specs.Printing.{Prints}
 use Rattle.ipc_tools.specs.Shown.{anything}
 use Rattle.ipc_tools.proofs.cat.show.show_chunks.Given as goal
 
--- The chunks so far came, and were printed.
+-- The chunks so far were read and printed.
 abbrev pub invariant-loop : goal.invariant-loop
 invariant-loop g l = record {
   came : HandedMany (StreamCame g.R.Reads.gives) anything l.counter l.fn.reader tt l.reader tt;

@@ -5,7 +5,7 @@ use Rattle.ipc_tracker.specs.Trackers.{remembered, IsSameMemory}
 use Rattle.ipc_tracker.specs.Listings.{listed, remembering_all}
 use Rattle.ipc_tracker.proofs.tracker.DictionaryTracker.remember_all.Given as goal
 
--- what is left, remembered from here on, is all that was to be remembered
+-- What is left, remembered from here on, is all that had to be remembered.
 abbrev pub invariant-loop-dictionary : goal.invariant-loop-dictionary
 invariant-loop-dictionary l =
     (goal.iterator-loop-dictionary).can_next l.dictionary-iterator × (goal.iterator-loop-dictionary).is_finite l.dictionary-iterator

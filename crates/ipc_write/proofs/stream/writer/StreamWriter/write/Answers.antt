@@ -12,7 +12,7 @@ use Rattle.ipc_write.proofs.Refusals.{chunk_not_io, first_passed, first_refused,
 use Rattle.ipc_write.proofs.WriterSteps.{chunk_sent, chunk_unsent, refused_chunk}
 use Rattle.ipc_write.proofs.stream.writer.StreamWriter.write.Goals as goal
 
--- ---- refused before anything was listed
+-- ---- refused before any dictionary was chosen
 
 pub returns-in_err-dictionaries-clause-first : goal.returns-in_err-dictionaries-clause-first
 returns-in_err-dictionaries-clause-first g c =
@@ -88,7 +88,7 @@ returns-in_err-make_room-clause-means g c =
     let e : c.from_residual-in_err-make_room.result ≡ Err fault = search rules in
     rw e (chunk_refused _ _ _ _ fault c.args.columns.now (record { device = refl; state = refl; types = refl; ids = refl; dictionaries = c.make_room.ensures.same }) refl)
 
--- ---- handed to the device
+-- ---- sent to the device
 
 pub returns-in_err-send_chunk-clause-first : goal.returns-in_err-send_chunk-clause-first
 returns-in_err-send_chunk-clause-first g c = first_passed (seen c.args.self.now) _ _ c.in_ok-dictionaries.ensures.ok.was
