@@ -154,7 +154,8 @@ pub fn read_batch<R: Reads + Seeks>(
     ensures told { UnlessIo result (R.failures reader.new ≡ R.failures reader.old) }
     ensures given { let m = file_seen metadata.now in
         let js = chosen (option_copied projection.entry) (length metadata.now.schema.fields.items) in
-        BlockGiven R.known (needed_bytes (kinds m.schema) js) (R.memory reader.old).whole (slice_get metadata.now.blocks.items index)
+        BlockGiven R.known (needed_bytes (kinds m.schema) js) (R.memory reader.old).whole
+        (slice_get metadata.now.blocks.items index)
         message_scratch.new.items result (R.given reader.old) (R.given reader.new) }
     ensures held { let m = file_seen metadata.now in
         let js = chosen (option_copied projection.entry) (length metadata.now.schema.fields.items) in

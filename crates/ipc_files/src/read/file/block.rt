@@ -99,7 +99,8 @@ pub(super) fn read_metadata<R: Reads + Seeks>(
     ensures monotone { R.failures reader.old ≤ R.failures reader.new }
     ensures failed { OnIo result (Rises (R.failures reader.old) (R.failures reader.new)) }
     ensures told { UnlessIo result (R.failures reader.new ≡ R.failures reader.old) }
-    ensures given { MetadataGiven R.known (drop place (R.memory reader.old).whole) result metadata.new.items
+    ensures given { MetadataGiven R.known (drop place (R.memory reader.old).whole) result
+        metadata.new.items
         (R.given reader.old) (R.given reader.new) }
     ensures reason { IsTrue R.known → IfErr result (λ e. OwnFault e (e ≡ frame_fault negative (prefix_of (drop place (R.memory reader.old).whole)))) }
     ensures memory { IsTrue R.known → GivesPart (λ _. metadata.new.items) result

@@ -90,7 +90,8 @@ fn read_dictionary_block<R: Reads + Seeks>(
     ensures monotone { R.failures reader.old ≤ R.failures reader.new }
     ensures failed { OnIo result (Rises (R.failures reader.old) (R.failures reader.new)) }
     ensures told { UnlessIo result (R.failures reader.new ≡ R.failures reader.old) }
-    ensures given { BlockGiven R.known (needed_values (file_seen metadata.now).schema) (R.memory reader.old).whole (Some block.now)
+    ensures given { BlockGiven R.known (needed_values (file_seen metadata.now).schema)
+        (R.memory reader.old).whole (Some block.now)
         message_scratch.new.items result (R.given reader.old) (R.given reader.new) }
     ensures held { OnOk result (HoldsHeader metadata.now.size (file_seen metadata.now).schema (block_header message_scratch.new.items)
         (λ id. array_under dictionaries.old id) (λ id. array_under dictionaries.new id)) }
@@ -163,7 +164,8 @@ pub fn read_file_dictionaries<R: Reads + Seeks>(
     ensures monotone { R.failures reader.old ≤ R.failures reader.new }
     ensures failed { OnIo result (Rises (R.failures reader.old) (R.failures reader.new)) }
     ensures told { UnlessIo result (R.failures reader.new ≡ R.failures reader.old) }
-    ensures given { ValuesTaken R.known (file_seen metadata.now) (R.memory reader.old).whole result (R.given reader.old) (R.given reader.new) }
+    ensures given { ValuesTaken R.known (file_seen metadata.now) (R.memory reader.old).whole result
+        (R.given reader.old) (R.given reader.new) }
     ensures held { IfOk result (λ known. HoldListed R.known (file_seen metadata.now) (R.memory reader.old).whole (λ id. array_under known id)) }
     ensures none { (file_seen metadata.now).dictionaries ≡ [] → IsOk result }
     ensures reason { IsTrue R.known → let m = file_seen metadata.now in

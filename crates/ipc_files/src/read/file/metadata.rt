@@ -232,7 +232,8 @@ pub fn read_file_metadata<R: Reads + Seeks>(
     ensures told { UnlessIo result (R.failures reader.new ≡ R.failures reader.old) }
     ensures given { OnOk result (FooterGiven R.known (R.memory reader.old).whole (R.given reader.old) (R.given reader.new)) }
     ensures taken { (R.given reader.new ≤ R.given reader.old + 16)
-        ⊎ FooterGiven R.known (R.memory reader.old).whole (R.given reader.old) (R.given reader.new) }
+        ⊎ FooterGiven R.known (R.memory reader.old).whole
+        (R.given reader.old) (R.given reader.new) }
     ensures reason { IsTrue R.known → IfErr result (λ e. OwnFault e (FileReason (R.memory reader.old).place (R.memory reader.old).whole e)) }
     ensures anywhere { IsTrue R.known → GivesPart file_seen result (metadata_from (R.memory reader.old).place (R.memory reader.old).whole) }
     ensures memory { IsTrue R.known → (R.memory reader.old).place ≡ 0
