@@ -21,7 +21,7 @@ build:
 	@echo "the proved programs: crates/ipcat/out/ipcat, crates/ipconvert/out/ipconvert"
 
 # Judges mutations: wrong bodies, which the prover must refuse. Takes the crates that differ from
-# origin/main, or make mutations NAMES="lower_rules ipc_views".
+# origin/main, or make mutations NAMES="lower_validation ipc_table_views".
 mutations:
 	tools/mutations $(NAMES)
 

@@ -8,7 +8,7 @@ use ipc_encode::common::WriteOptions;
 use ipc_file_readers::read::reader::FileReader;
 use ipc_file_write::writer::FileWriter;
 use ipc_files::read::file::{FileMetadata, read_file_metadata};
-use ipc_views::Block;
+use ipc_table_views::Block;
 use std::alloc::Global;
 
 /// The file of the chunks `a`, `b`, `a`, `b` and `a`.

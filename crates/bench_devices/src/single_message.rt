@@ -6,7 +6,7 @@ use ipc_devices::{Fault, OutOfSpecKind, Reads, Seeks};
 use ipc_read::read::Dictionaries;
 use ipc_read::read::common::read_record_batch;
 use ipc_read::read::dictionaries::read_dictionary;
-use ipc_views::{
+use ipc_table_views::{
     DictionaryBatchRef, MessageHeaderRef, MessageRef, MetadataVersion, RecordBatchRef,
 };
 use lower::datatypes::Field;

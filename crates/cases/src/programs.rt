@@ -2,7 +2,7 @@
 
 use cases_notation::decoder::Decoder;
 use ipc_devices::{MemFile, Reads, Seeks, Writes};
-use ipc_tools::{cat, convert};
+use ipc_programs::{cat, convert};
 use serde_json::Value;
 use std::alloc::Global;
 

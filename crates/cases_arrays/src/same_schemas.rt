@@ -1,7 +1,7 @@
 //! Whether the reader and the plain program decode a message to the same schema.
 
 use ipc_base::ipc::IpcSchema;
-use ipc_plain_schema::types::{PlainField, PlainSchema, PlainType};
+use ipc_reference_schema::types::{PlainField, PlainSchema, PlainType};
 use lower::datatypes::{DataType, Field, IntegerType, Schema};
 use lower_types::Endianness;
 

@@ -14,7 +14,7 @@ use cases_notation::bytes::{bytes, put_part};
 use cases_notation::decoder::Decoder;
 use cases_notation::tables::footer;
 use cases_notation::text::Text;
-use ipc_views::Block;
+use ipc_table_views::Block;
 use serde_json::Value;
 
 /// The bytes of a file.

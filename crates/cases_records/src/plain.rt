@@ -1,13 +1,13 @@
-//! The plain program of columns, `ipc_plain`, and the text of what it returns.
+//! The plain program of columns, `ipc_reference`, and the text of what it returns.
 
 use cases_arrays::slots::put_whole;
 use cases_notation::decoder::Decoder;
 use cases_notation::text::Text;
-use ipc_plain::batch::is_projection;
-use ipc_plain::kinds::PlainKind;
-use ipc_plain::record::{PlainBody, plain_record};
-use ipc_plain::slots::PlainSlot;
-use ipc_views::RecordBatchRef;
+use ipc_reference::batch::is_projection;
+use ipc_reference::kinds::PlainKind;
+use ipc_reference::record::{PlainBody, plain_record};
+use ipc_reference::slots::PlainSlot;
+use ipc_table_views::RecordBatchRef;
 use lower::datatypes::{DataType, Field, IntegerType};
 use lower_types::Endianness;
 

@@ -5,11 +5,11 @@
 //! case.
 
 ghost use Rattle.std.specs.Prelude.{IfSome};
-ghost use Rattle.ipc_projections.specs.Projections.{IsPrepared};
+ghost use Rattle.ipc_projection.specs.Projections.{IsPrepared};
 
 use cases_notation::decoder::Decoder;
 use ipc_base::chunk::Chunk;
-use ipc_projections::read::projection::{
+use ipc_projection::read::projection::{
     apply_projection, is_prepared, is_projection, is_reordering,
 };
 use lower::datatypes::Field;

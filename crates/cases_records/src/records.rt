@@ -13,7 +13,7 @@
 
 ghost use Rattle.std.specs.Prelude.{IfSome, length};
 ghost use Rattle.std.specs.Option.{option_copied};
-ghost use Rattle.ipc_projections.specs.Projections.{IsPrepared};
+ghost use Rattle.ipc_projection.specs.Projections.{IsPrepared};
 ghost use Rattle.ipc_read.specs.Columns.{ArePrepared};
 
 use crate::plain::{PlainForm, all_columns, kinds_of};
@@ -31,7 +31,7 @@ use ipc_devices::fault::Fault;
 use ipc_read::read::Dictionaries;
 use ipc_read::read::common::read_record_batch;
 use ipc_read::read::dictionaries::read_dictionary;
-use ipc_views::{
+use ipc_table_views::{
     DictionaryBatchRef, MessageHeaderRef, MessageRef, MetadataVersion, RecordBatchRef,
 };
 use lower::datatypes::Field;

@@ -4,9 +4,9 @@ use cases_arrays::calls::plain_schemas::fields_of;
 use cases_notation::decoder::Decoder;
 use cases_records::plain::{PlainColumns, PlainForm, all_columns, kinds_of};
 use cases_records::records::batch_of;
-use ipc_plain_schema::schema::{PlainAnswer, plain_schema};
-use ipc_plain_schema::types::PlainSchema;
-use ipc_views::{MessageRef, MetadataVersion};
+use ipc_reference_schema::schema::{PlainAnswer, plain_schema};
+use ipc_reference_schema::types::PlainSchema;
+use ipc_table_views::{MessageRef, MetadataVersion};
 
 // What some bytes begin with.
 #[derive(Clone, Copy)]

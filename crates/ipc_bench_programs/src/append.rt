@@ -8,7 +8,7 @@ use bench_devices::failing_runs::{FailingRun, first_mismatch};
 use bench_devices::faulty::{Flaky, NEVER, OneByte, TestFile};
 use bench_devices::fixtures::{buffer_of, empty_buffer};
 use bench_devices::trace::{Alternatives, Answer, Call, Trace};
-use ipc_tools::convert::run;
+use ipc_programs::convert::run;
 use std::alloc::Global;
 
 const ON_DEVICE_FAILURE: &[&str] = &[

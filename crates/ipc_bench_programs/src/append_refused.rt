@@ -5,7 +5,7 @@ use arrow2_ipc::io::ipc::write::WriteOptions;
 use bench_devices::dictionary_chunks::make_dictionary_chunks;
 use bench_devices::dictionary_file::make_dictionary_file;
 use bench_devices::fixtures::{buffer_of, empty_buffer};
-use ipc_tools::convert::run;
+use ipc_programs::convert::run;
 use std::alloc::Global;
 
 fn make_file(alloc: Global) -> Result<Vec<u8>, Fault> {

@@ -3,7 +3,7 @@
 use arrow2_ipc::io::ipc::fault::{Fault, MemFile, Watched};
 use bench_devices::faulty::{Flaky, NEVER, TestFile};
 use bench_devices::fixtures::empty_buffer;
-use ipc_tools::{cat, convert};
+use ipc_programs::{cat, convert};
 use std::alloc::Global;
 use std::cell::Cell;
 use std::io;

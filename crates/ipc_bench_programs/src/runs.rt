@@ -5,7 +5,7 @@
 
 use arrow2_ipc::io::ipc::fault::{Fault, MemFile};
 use bench_devices::fixtures::empty_buffer;
-use ipc_tools::{cat, convert};
+use ipc_programs::{cat, convert};
 use std::alloc::Global;
 
 // These arguments.

@@ -10,10 +10,10 @@ use Rattle.lower_arrays.specs.Slots.{AreArrays, IsArray}
 use Rattle.ipc_base.specs.IdTrees.{IdTrees}
 use Rattle.ipc_encode.proofs.ShortMetadata.{short_metadata_law}
 use Rattle.ipc_encode.specs.ShortMetadata.{HasShortValues}
-use Rattle.ipc_laws.proofs.Fitting.{filled_law}
-use Rattle.ipc_laws.proofs.Placing.{placed_all}
-use Rattle.ipc_laws.specs.Places.{AllHaveIds, ArePlaced, HasIds, IsAmong, KeysHaveId}
-use Rattle.ipc_laws.specs.Remembered.{Filled, filled_below, filled_inside, filled_of, filled_place, own_filled}
+use Rattle.ipc_stream_lemmas.proofs.Fitting.{filled_law}
+use Rattle.ipc_stream_lemmas.proofs.Placing.{placed_all}
+use Rattle.ipc_stream_lemmas.specs.Places.{AllHaveIds, ArePlaced, HasIds, IsAmong, KeysHaveId}
+use Rattle.ipc_stream_lemmas.specs.Remembered.{Filled, filled_below, filled_inside, filled_of, filled_place, own_filled}
 use Rattle.ipc_model.specs.Batches.{Place, places}
 use Rattle.ipc_model.specs.Offers.{FilledPlace, inner_ids, is_keyed, own_id, values_of}
 use Rattle.ipc_model.specs.TypeKinds.{first_ids, other_ids}

@@ -6,12 +6,12 @@ use Rattle.ipc_base.specs.Chunks.{row_count}
 use Rattle.ipc_encode.specs.Encoding.{IsEncoded}
 use Rattle.ipc_encode.specs.declared.batches.BatchKind.TheVariants.{Record, Dictionary}
 use Rattle.ipc_encode.specs.declared.common.EncodedData.{EncodedData}
-use Rattle.ipc_laws.proofs.Bodies.{plan_law}
-use Rattle.ipc_laws.proofs.Chunks.{encoded_chunk_law, listed_law}
-use Rattle.ipc_laws.proofs.Fitting.{filled_law}
-use Rattle.ipc_laws.specs.Bodies.{ColumnsMessage, HoldColumns, ValuesMessage}
-use Rattle.ipc_laws.specs.Chunks.{HasMessages, ListsUnwritten as Sent}
-use Rattle.ipc_laws.specs.Remembered.{Filled, filled_of, filled_place}
+use Rattle.ipc_stream_lemmas.proofs.Bodies.{plan_law}
+use Rattle.ipc_stream_lemmas.proofs.Chunks.{encoded_chunk_law, listed_law}
+use Rattle.ipc_stream_lemmas.proofs.Fitting.{filled_law}
+use Rattle.ipc_stream_lemmas.specs.Bodies.{ColumnsMessage, HoldColumns, ValuesMessage}
+use Rattle.ipc_stream_lemmas.specs.Chunks.{HasMessages, ListsUnwritten as Sent}
+use Rattle.ipc_stream_lemmas.specs.Remembered.{Filled, filled_of, filled_place}
 use Rattle.ipc_model.specs.Offers.{FilledPlace}
 use Rattle.ipc_plan.specs.Batches.{HaveRows, lists_of_plan}
 use Rattle.ipc_tracker.specs.Listings.{ListsUnwritten, remembering_all}

@@ -12,9 +12,9 @@ use Rattle.ipc_devices.specs.declared.fault.ArgFault.TheVariants.{ColumnCount, D
 use Rattle.ipc_devices.specs.declared.fault.Fault.{Fault}
 use Rattle.ipc_devices.specs.declared.fault.Fault.TheVariants.{Argument, Memory}
 use Rattle.ipc_encode.specs.declared.common.EncodedData.{EncodedData}
-use Rattle.ipc_laws.specs.Chunks.{head_encoded}
-use Rattle.ipc_laws.specs.Messages.{chunk_written, message_bytes}
-use Rattle.ipc_laws.specs.Moves.{MeansChunk}
+use Rattle.ipc_stream_lemmas.specs.Chunks.{head_encoded}
+use Rattle.ipc_stream_lemmas.specs.Messages.{chunk_written, message_bytes}
+use Rattle.ipc_stream_lemmas.specs.Moves.{MeansChunk}
 use Rattle.ipc_model.specs.Accepted.{AreKept, AreShared, MayBeEncoded, IsSayable, body_length}
 use Rattle.ipc_model.specs.Offers.{offer_of}
 use Rattle.ipc_model.specs.Writable.{IsWritable}

@@ -9,12 +9,12 @@ use Rattle.ipc_devices.specs.Faults.{OwnFault}
 use Rattle.ipc_devices.specs.declared.fault.Fault.{Fault}
 use Rattle.ipc_base.specs.IdTrees.{all_ids_view}
 use Rattle.lower_arrays.specs.declared.array.AnyArray.{AnyArray}
-use Rattle.ipc_laws.specs.Agreement.{AreAlike, KnowAlike}
+use Rattle.ipc_stream_lemmas.specs.Agreement.{AreAlike, KnowAlike}
 use Rattle.ipc_model.specs.Batches.{Chunk, chosen, kinds}
 use Rattle.ipc_model.specs.Entries.{Dictionaries, Limit}
 use Rattle.ipc_model.specs.Files.{FileMetadata, all_of, chunk_at, chunks_at, file_chunk, file_dictionaries, metadata_of as metadata_in}
 use Rattle.ipc_model.specs.Kinds.{count}
-use Rattle.ipc_views.specs.declared.file.Block.{Block}
+use Rattle.ipc_table_views.specs.declared.file.Block.{Block}
 use Rattle.ipc_read.proofs.Fields.{field_count}
 use Rattle.ipc_read.specs.Chunks.{chunk_seen}
 use Rattle.ipc_files.specs.Batches.{RecordReason}

@@ -7,7 +7,7 @@ use Rattle.ipc_devices.specs.Gives.{Stop, going, ended, Follows, Gives, GivesInO
 use Rattle.ipc_devices.specs.declared.fault.Fault.{Fault}
 use Rattle.lower_arrays.specs.declared.array.AnyArray.{AnyArray}
 use Rattle.ipc_model.specs.Batches.{Chunk}
-use Rattle.ipc_laws.specs.Agreement.{AreAt}
+use Rattle.ipc_stream_lemmas.specs.Agreement.{AreAt}
 use Rattle.ipc_model.specs.Frame.{frame, mark}
 use Rattle.ipc_model.specs.Streams.{End, Known, Meant, faulty, marked, meaning, more, nothing_known, waits, with_chunks}
 use Rattle.ipc_model.specs.WholeStreams.{Stream, stream_of}

@@ -10,7 +10,7 @@ use Rattle.ipc_base.specs.IdTrees.{IdTrees}
 use Rattle.ipc_devices.specs.Device.{Memory, before}
 use Rattle.ipc_devices.specs.Faults.{OnRefused, OwnFault}
 use Rattle.ipc_devices.specs.declared.fault.Fault.{Fault}
-use Rattle.ipc_laws.specs.Messages.{column_written}
+use Rattle.ipc_stream_lemmas.specs.Messages.{column_written}
 use Rattle.ipc_model.specs.Batches.{Chunk, Schema}
 use Rattle.ipc_model.specs.Files.{FileMetadata}
 use Rattle.ipc_model.specs.Streams.{End, Head, faulty, marked, waits}
@@ -22,9 +22,9 @@ use Rattle.ipc_write.specs.Meaning.{chunk_written}
 use Rattle.ipc_write.specs.Writers.{RefusesWrite, SendsStep, TakesChunk, WriterSeen, WritesExactly}
 use Rattle.ipc_write.specs.declared.stream.WriterState.{WriterState}
 use Rattle.ipc_write.specs.declared.stream.WriterState.TheVariants.{Started, Finished}
-use Rattle.ipc_footers.specs.Footers.{file_written}
-use Rattle.ipc_file_laws.specs.Appending.{normal_chunk}
-use Rattle.ipc_file_laws.specs.FileBytes.{EndsStreamBehind, IsFile}
+use Rattle.ipc_footer_write.specs.Footers.{file_written}
+use Rattle.ipc_file_lemmas.specs.Appending.{normal_chunk}
+use Rattle.ipc_file_lemmas.specs.FileBytes.{EndsStreamBehind, IsFile}
 use Rattle.ipc_file_write.specs.Calls.{IsWrittenFile}
 use Rattle.ipc_file_write.specs.FileWriters as files
 use Rattle.ipc_file_write.specs.FileWriters.{FileIs, FileSeen, HoldsBytes, IsWholeFile}

@@ -16,7 +16,7 @@ use Rattle.ipc_model.specs.WholeStreams.{Stream, stream_of}
 use Rattle.ipc_model.specs.Writers.{IsFinished}
 use Rattle.ipc_schema_write.specs.WriterAnswers.{written_head_as}
 use Rattle.ipc_write.specs.Agreement.{WasStarted}
-use Rattle.ipc_file_laws.specs.Appending.{normal_chunk}
+use Rattle.ipc_file_lemmas.specs.Appending.{normal_chunk}
 use Rattle.ipc_file_write.specs.Calls.{IsWrittenFile}
 use Rattle.ipc_sessions.specs.Sessions.{GainsChunks, KeepsOld}
 

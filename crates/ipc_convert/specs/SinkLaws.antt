@@ -3,7 +3,7 @@ use Rattle.std.proofs.Common.{◌≡◌, Bool, List, ◌++◌, refl, sym, ap, su
 use Rattle.std.proofs.lemmas.List.{map-append}
 use Rattle.ipc_devices.specs.Device.{Memory}
 use Rattle.ipc_model.specs.Batches.{Chunk}
-use Rattle.ipc_file_laws.specs.Appending.{normal_chunk}
+use Rattle.ipc_file_lemmas.specs.Appending.{normal_chunk}
 use Rattle.ipc_write.specs.Agreement.{Agrees}
 use Rattle.ipc_write.specs.Writers.{WriterSeen, seen}
 use Rattle.ipc_file_write.specs.FileWriters as files

@@ -6,10 +6,10 @@ use Rattle.lower.specs.Normal.{data_key, name_key}
 use Rattle.lower.specs.TypeTrees.{Pairs, TypeTree, plain, single, group, dictionary, extension, Single, Group, FieldTree, field, FieldTrees, no_fields, more_fields}
 use Rattle.lower_types.specs.declared.Endianness.{Endianness}
 use Rattle.ipc_base.specs.IdTrees.{no_ids}
-use Rattle.ipc_views.specs.MessageSlots.{message_header}
-use Rattle.ipc_views.specs.SchemaSlots.{field_children, field_custom_metadata, field_dictionary, field_name, field_nullable, field_type, schema_custom_metadata, schema_endianness, schema_fields}
-use Rattle.ipc_views.specs.Spot.{Spot, Vector}
-use Rattle.ipc_views.specs.Tables.{root_at, table_in}
+use Rattle.ipc_table_views.specs.MessageSlots.{message_header}
+use Rattle.ipc_table_views.specs.SchemaSlots.{field_children, field_custom_metadata, field_dictionary, field_name, field_nullable, field_type, schema_custom_metadata, schema_endianness, schema_fields}
+use Rattle.ipc_table_views.specs.Spot.{Spot, Vector}
+use Rattle.ipc_table_views.specs.Tables.{root_at, table_in}
 use Rattle.ipc_model.proofs.Given.{given-some, if-some, made-some, map-some}
 use Rattle.ipc_model.specs.Batches.{Schema}
 use Rattle.ipc_model.specs.Schemas.{Encoding, Read, ReadAll, ReadType, encoded, extended, field_at, field_count, field_from, field_with, fields_count, fields_from, first_field, given, group_at, group_with, inner_count, is_group_tag, is_single_tag, made, most_levels, optional_encoding, order_of, pairs_at, plain_at, present, schema_at, schema_of, schema_with, single_at, single_with, some_fields, type_of_field, value_under}

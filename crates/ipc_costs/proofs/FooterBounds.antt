@@ -1,8 +1,8 @@
 -- The metadata of a file are no larger than its footer costs.
 use Rattle.std.proofs.Common.{◌≡◌, ℕ, ◌≤◌, List, Option, Some, ap, arith}
-use Rattle.ipc_views.specs.FileSlots.{footer_custom_metadata, footer_dictionaries, footer_record_batches, footer_schema}
-use Rattle.ipc_views.specs.Spot.{Spot, Vector}
-use Rattle.ipc_views.specs.Tables.{root_at}
+use Rattle.ipc_table_views.specs.FileSlots.{footer_custom_metadata, footer_dictionaries, footer_record_batches, footer_schema}
+use Rattle.ipc_table_views.specs.Spot.{Spot, Vector}
+use Rattle.ipc_table_views.specs.Tables.{root_at}
 use Rattle.ipc_model.proofs.Given.{given-some, if-some, some-same}
 use Rattle.ipc_model.specs.Files.{FileMetadata, footer_at}
 use Rattle.ipc_model.specs.Schemas.{given, made, pairs_at, present, schema_at}

@@ -9,9 +9,9 @@ use Rattle.std.specs.declared.cmp.Ordering.TheVariants.{Less, Equal, Greater}
 use Rattle.lower.specs.Normal.{data_key, is_extension_key, name_key, with_pair}
 use Rattle.lower.specs.TypeTrees.{Pairs}
 use Rattle.ipc_devices.specs.declared.fault.TableFault.{TableFault}
-use Rattle.ipc_views.specs.SchemaSlots.{key_value_key, key_value_value}
-use Rattle.ipc_views.specs.Spot.{Spot, Vector}
-use Rattle.ipc_views.specs.Tables.{table_in}
+use Rattle.ipc_table_views.specs.SchemaSlots.{key_value_key, key_value_value}
+use Rattle.ipc_table_views.specs.Spot.{Spot, Vector}
+use Rattle.ipc_table_views.specs.Tables.{table_in}
 use Rattle.ipc_model.proofs.Given.{given-some, made-some, some-same}
 use Rattle.ipc_model.specs.Schemas.{made, pairs_at, pairs_from, present, value_under, with_key_value, with_read}
 use Rattle.ipc_costs.specs.Costs.{pair_cost, pair_texts, table_cost, tables_cost, vector_cost}

@@ -1,8 +1,8 @@
 -- The costs of the tables of a vector, one after another, and of a field, level by level.
 use Rattle.std.proofs.Common.{◌≡◌, ℕ, zero, suc, ◌+◌, ◌-◌, ◌<◌, ◌≤◌, refl, ap, ◌∙◌, arith}
-use Rattle.ipc_views.specs.Spot.{Spot, Vector}
-use Rattle.ipc_views.specs.SchemaSlots.{field_type}
-use Rattle.ipc_views.specs.Tables.{table_in}
+use Rattle.ipc_table_views.specs.Spot.{Spot, Vector}
+use Rattle.ipc_table_views.specs.SchemaSlots.{field_type}
+use Rattle.ipc_table_views.specs.Tables.{table_in}
 use Rattle.ipc_model.specs.Schemas.{present}
 use Rattle.ipc_costs.specs.Costs.{field_cost, own_cost, table_cost, tables_cost, typed_cost}
 

@@ -8,14 +8,14 @@ use Rattle.lower.specs.TypeTrees.{Plain, null, boolean, binary, utf8, large_bina
 use Rattle.lower.specs.declared.datatypes.IntegerType.{IntegerType}
 use Rattle.lower.specs.declared.datatypes.IntegerType.TheVariants.{Int8, Int16, Int32, Int64, UInt8, UInt16, UInt32, UInt64}
 use Rattle.lower.specs.declared.datatypes.TimeUnit.TheVariants as units
-use Rattle.ipc_views.specs.Spot.{Spot}
-use Rattle.ipc_views.specs.TypeSlots.{date_unit, decimal_bit_width, decimal_precision, decimal_scale, duration_unit, fixed_size_binary_byte_width, floating_point_precision, interval_unit, time_bit_width, time_unit, timestamp_timezone, timestamp_unit, union_mode, union_type_ids}
-use Rattle.ipc_views.specs.declared.types.DateUnit.{DateUnit}
-use Rattle.ipc_views.specs.declared.types.DateUnit.TheVariants as dates
-use Rattle.ipc_views.specs.declared.types.Precision.{Precision}
-use Rattle.ipc_views.specs.declared.types.Precision.TheVariants as precisions
-use Rattle.ipc_views.specs.declared.types.TimeUnit.{TimeUnit}
-use Rattle.ipc_views.specs.declared.types.TimeUnit.TheVariants as times
+use Rattle.ipc_table_views.specs.Spot.{Spot}
+use Rattle.ipc_table_views.specs.TypeSlots.{date_unit, decimal_bit_width, decimal_precision, decimal_scale, duration_unit, fixed_size_binary_byte_width, floating_point_precision, interval_unit, time_bit_width, time_unit, timestamp_timezone, timestamp_unit, union_mode, union_type_ids}
+use Rattle.ipc_table_views.specs.declared.types.DateUnit.{DateUnit}
+use Rattle.ipc_table_views.specs.declared.types.DateUnit.TheVariants as dates
+use Rattle.ipc_table_views.specs.declared.types.Precision.{Precision}
+use Rattle.ipc_table_views.specs.declared.types.Precision.TheVariants as precisions
+use Rattle.ipc_table_views.specs.declared.types.TimeUnit.{TimeUnit}
+use Rattle.ipc_table_views.specs.declared.types.TimeUnit.TheVariants as times
 use Rattle.ipc_model.proofs.Given.{given-some, map-some, some-same}
 use Rattle.ipc_model.specs.Schemas.{date_of, decimal_at, float_of, given, group_at, integer_at, integers, interval_of, made, mode_of, plain_at, present, size_of, time_of, unit_of}
 use Rattle.ipc_costs.specs.Costs.{type_cost}

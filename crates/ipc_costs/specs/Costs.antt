@@ -6,12 +6,12 @@
 use Rattle.std.specs.Prelude.{◌≡◌, ℕ, zero, suc, ◌+◌, ◌<◌, ◌≤◌, nat_eq, Bool, false, if◌then◌else◌, List, Option, Some, None, Result, Ok, Err}
 use Rattle.lower.specs.Normal.{is_extension_key}
 use Rattle.ipc_devices.specs.declared.fault.TableFault.{TableFault}
-use Rattle.ipc_views.specs.Spot.{Spot, Vector}
-use Rattle.ipc_views.specs.Tables.{root_at, table_in}
-use Rattle.ipc_views.specs.FileSlots.{footer_custom_metadata, footer_schema}
-use Rattle.ipc_views.specs.MessageSlots.{message_header}
-use Rattle.ipc_views.specs.SchemaSlots.{field_children, field_custom_metadata, field_name, field_type, key_value_key, key_value_value, schema_custom_metadata, schema_fields}
-use Rattle.ipc_views.specs.TypeSlots.{timestamp_timezone, union_type_ids}
+use Rattle.ipc_table_views.specs.Spot.{Spot, Vector}
+use Rattle.ipc_table_views.specs.Tables.{root_at, table_in}
+use Rattle.ipc_table_views.specs.FileSlots.{footer_custom_metadata, footer_schema}
+use Rattle.ipc_table_views.specs.MessageSlots.{message_header}
+use Rattle.ipc_table_views.specs.SchemaSlots.{field_children, field_custom_metadata, field_name, field_type, key_value_key, key_value_value, schema_custom_metadata, schema_fields}
+use Rattle.ipc_table_views.specs.TypeSlots.{timestamp_timezone, union_type_ids}
 use Rattle.ipc_model.specs.Schemas.{given, is_group_tag, is_single_tag, made, most_levels, present}
 use Rattle.ipc_costs.specs.Sizes.{ids_size, text_size}
 

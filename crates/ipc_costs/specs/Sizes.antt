@@ -2,7 +2,7 @@
 -- and the bytes of its texts. The metadata of a file have their own pairs in addition.
 use Rattle.std.specs.Prelude.{ℕ, ◌+◌, ℤ, List, [], ◌∷◌, length, Option, Some, None, IfSome}
 use Rattle.lower.specs.TypeTrees.{Pairs, Plain, timestamp, Group, structure, choice, TypeTree, plain, single, group, dictionary, extension, FieldTree, field, FieldTrees, no_fields, more_fields}
-use Rattle.ipc_views.specs.Tables.{root_at}
+use Rattle.ipc_table_views.specs.Tables.{root_at}
 use Rattle.ipc_model.specs.Batches.{Schema}
 use Rattle.ipc_model.specs.Files.{FileMetadata, footer_at}
 use Rattle.ipc_model.specs.Schemas.{given, made}

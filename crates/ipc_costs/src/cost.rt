@@ -5,16 +5,16 @@
 //! footer.
 ghost use Rattle.std.specs.Prelude.{◌≡◌, ◌<◌, ◌≤◌, IfSome, Some};
 ghost use Rattle.lower.specs.Normal.{is_extension_key};
-ghost use Rattle.ipc_views.specs.SchemaSlots.{key_value_key};
-ghost use Rattle.ipc_views.specs.Tables.{table_in, texts};
-ghost use Rattle.ipc_views.specs.Unions.{type_parts};
+ghost use Rattle.ipc_table_views.specs.SchemaSlots.{key_value_key};
+ghost use Rattle.ipc_table_views.specs.Tables.{table_in, texts};
+ghost use Rattle.ipc_table_views.specs.Unions.{type_parts};
 ghost use Rattle.ipc_model.specs.Schemas.{present, schema_of};
 ghost use Rattle.ipc_model.specs.Visits.{visits};
 ghost use Rattle.ipc_costs.specs.Costs.{IsCostWithin, Leaves, children_read, field_cost, footer_cost, footer_table_cost, is_extension, own_cost, pair_cost, schema_cost, schema_table_cost, table_cost, tables_cost, type_cost, typed_cost, vector_cost};
 ghost use Rattle.ipc_costs.specs.Sizes.{OfMetadata, metadata_size, schema_size, text_size};
 
 use ipc_devices::fault::TableFault;
-use ipc_views::{
+use ipc_table_views::{
     FieldRef, FieldTable, FooterRef, KeyValueRef, KeyValueTable, MessageHeaderRef, MessageRef,
     SchemaRef, Tables, TypeRef, UnionRef,
 };

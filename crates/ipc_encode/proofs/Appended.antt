@@ -4,8 +4,8 @@ use Rattle.std.proofs.lemmas.List.{length-map, map-append}
 use Rattle.lower_types.specs.declared.Endianness.{Endianness}
 use Rattle.lower_arrays.specs.Layouts.{Layout, Level}
 use Rattle.lower_arrays.specs.Slots.{IsArray}
-use Rattle.ipc_views.specs.declared.message.FieldNode.{FieldNode}
-use Rattle.ipc_views.specs.declared.schema.Buffer.{Buffer}
+use Rattle.ipc_table_views.specs.declared.message.FieldNode.{FieldNode}
+use Rattle.ipc_table_views.specs.declared.schema.Buffer.{Buffer}
 use Rattle.ipc_model.specs.Batches.{entries_of}
 use Rattle.ipc_model.specs.Entries.{part_at, size}
 use Rattle.ipc_model.specs.Offers.{whole_levels}

@@ -8,16 +8,16 @@ use Rattle.lower_arrays.specs.Slots.{AreArrays}
 use Rattle.ipc_devices.specs.declared.fault.ArgFault.TheVariants.{TooLarge}
 use Rattle.ipc_devices.specs.declared.fault.Fault.{Fault}
 use Rattle.ipc_devices.specs.declared.fault.Fault.TheVariants.{Argument, Memory}
-use Rattle.ipc_parts.specs.Encodes.{IsEncoding}
-use Rattle.ipc_parts.specs.Sizes.{message_size}
+use Rattle.ipc_table_bytes.specs.Encodes.{IsEncoding}
+use Rattle.ipc_table_bytes.specs.Sizes.{message_size}
 use Rattle.ipc_tables.specs.Messages.{message_slots}
 use Rattle.ipc_tables.specs.Reads.{HaveRoot, IsMessage}
 use Rattle.ipc_tables.specs.declared.message.Message.{Message}
 use Rattle.ipc_tables.specs.declared.message.MessageHeader.{MessageHeader}
-use Rattle.ipc_views.specs.declared.schema.MetadataVersion.TheVariants.{V5}
+use Rattle.ipc_table_views.specs.declared.schema.MetadataVersion.TheVariants.{V5}
 use Rattle.ipc_tables.proofs.Kept.{BufferFits, NodeFits}
-use Rattle.ipc_views.specs.declared.message.FieldNode.{FieldNode}
-use Rattle.ipc_views.specs.declared.schema.Buffer.{Buffer}
+use Rattle.ipc_table_views.specs.declared.message.FieldNode.{FieldNode}
+use Rattle.ipc_table_views.specs.declared.schema.Buffer.{Buffer}
 use Rattle.ipc_model.specs.Accepted.{body_length}
 use Rattle.ipc_model.specs.Offers.{body_lengths}
 use Rattle.ipc_plan.specs.Batches.{body_of_plan, lists_of_plan}

@@ -7,8 +7,8 @@ use Rattle.lower_arrays.specs.Layouts.{Parts, keys, Layout, layout, Layouts, no_
 use Rattle.lower_arrays.specs.Slots.{AreArrays, slots}
 use Rattle.ipc_base.specs.IdTrees.{IdTrees}
 use Rattle.ipc_devices.specs.declared.fault.TableFault.{TableFault}
-use Rattle.ipc_views.specs.MessageSlots.{dictionary_batch_data, dictionary_batch_id, dictionary_batch_is_delta}
-use Rattle.ipc_views.specs.Spot.{Spot}
+use Rattle.ipc_table_views.specs.MessageSlots.{dictionary_batch_data, dictionary_batch_id, dictionary_batch_is_delta}
+use Rattle.ipc_table_views.specs.Spot.{Spot}
 use Rattle.ipc_model.specs.Batches.{Place, Schema, batch, batch_meaning, dictionary_meaning, entries_of, place_of, places, record_meaning, values_meaning, values_schema, with_values, extra_of}
 use Rattle.ipc_model.specs.Columns.{slots_in}
 use Rattle.ipc_model.specs.Entries.{Dictionaries, Entries, dictionary_at}

@@ -6,7 +6,7 @@ use Rattle.std.proofs.lemmas.List.Elements.{All-cons, All-nil}
 use Rattle.std.proofs.lemmas.List.Sums.{count_by-le-length}
 use Rattle.std.specs.Int.{w64, next_multiple_of}
 use Rattle.std.specs.List.{AllByRecursion}
-use Rattle.lower_flat.specs.Validities.{Validity, cut_validity, null_count_of, part}
+use Rattle.lower_flat_arrays.specs.Validities.{Validity, cut_validity, null_count_of, part}
 use Rattle.lower_arrays.specs.Cuts.{cut_parts}
 use Rattle.lower_arrays.specs.Layouts.{Parts, nothing, Level, Layout, layout, Layouts, no_layouts, more_layouts, len_of, nulls_among}
 use Rattle.ipc_tables.proofs.Kept.{BufferFits, NodeFits}

@@ -2,10 +2,10 @@
 use Rattle.std.proofs.Common.{arith, ◌≡◌, ℕ, ℤ, pos, ◌+◌, ◌*◌, ◌^◌, ◌<◌, List, length, map, Some, None, Ok, Option, All, SFits, refl, sym, ap, ap₂, ◌∙◌, subst}
 use Rattle.std.specs.Int.{w64}
 use Rattle.std.specs.Prelude.{option_map}
-use Rattle.ipc_parts.specs.Encodes.{IsEncoding}
-use Rattle.ipc_parts.specs.Readers.{optional}
-use Rattle.ipc_parts.specs.Sizes.{message_size, size_of}
-use Rattle.ipc_parts.specs.Tree.{no_slots, number, offset, table}
+use Rattle.ipc_table_bytes.specs.Encodes.{IsEncoding}
+use Rattle.ipc_table_bytes.specs.Readers.{optional}
+use Rattle.ipc_table_bytes.specs.Sizes.{message_size, size_of}
+use Rattle.ipc_table_bytes.specs.Tree.{no_slots, number, offset, table}
 use Rattle.ipc_tables.specs.ElementLaws.{length-buffer, length-node}
 use Rattle.ipc_tables.specs.Elements.{elements_of}
 use Rattle.ipc_tables.specs.Messages.{buffer_bytes, buffers_part, compression_slots, header_tag, message_slots, node_bytes, nodes_part, record_batch_slots}
@@ -16,8 +16,8 @@ use Rattle.ipc_tables.specs.declared.message.Message.{Message}
 use Rattle.ipc_tables.specs.declared.message.RecordBatch.{RecordBatch}
 use Rattle.ipc_tables.proofs.Kept.{BufferFits, NodeFits, kept-buffers, kept-nodes, kept64-is}
 use Rattle.ipc_tables.proofs.Lengths.{length-elements}
-use Rattle.ipc_views.specs.Spot.{Spot}
-use Rattle.ipc_views.specs.declared.schema.MetadataVersion.TheVariants.{V5}
+use Rattle.ipc_table_views.specs.Spot.{Spot}
+use Rattle.ipc_table_views.specs.declared.schema.MetadataVersion.TheVariants.{V5}
 use Rattle.ipc_model.specs.Batches.{Lists, lists_of}
 use Rattle.ipc_model.specs.Streams.{header_of}
 use Rattle.ipc_encode.specs.Encoding.{IdFits, IsBatchMetadata, SaysBatch, SaysKind, header_in, metadata_length}

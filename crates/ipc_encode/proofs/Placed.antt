@@ -2,7 +2,7 @@
 use Rattle.std.proofs.Common.{arith, ◌≡◌, ℕ, pos, ◌+◌, ◌-◌, List, [], ◌∷◌, ◌++◌, map, length, take, drop, replicate, get_or, refl, sym, ap, ◌∙◌, subst, length-append, append_assoc, rules}
 use Rattle.std.specs.Int.{next_multiple_of}
 use Rattle.std.proofs.lemmas.List.{take_at, drop_at, length-replicate}
-use Rattle.ipc_views.specs.declared.message.FieldNode.{FieldNode}
+use Rattle.ipc_table_views.specs.declared.message.FieldNode.{FieldNode}
 use Rattle.ipc_model.specs.Entries.{Entries, Part, part_at, buffer}
 use Rattle.ipc_model.specs.WrittenBatches.{padded, entry}
 use Rattle.ipc_plan.specs.Meaning.{IsBufferOf, NodesStand, PartsStand}

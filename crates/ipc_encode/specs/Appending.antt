@@ -7,8 +7,8 @@ use Rattle.lower_arrays.specs.Layouts.{Level, Layout, type_of}
 use Rattle.lower_arrays.specs.Slots.{Slot, slots}
 use Rattle.ipc_base.specs.IdTrees.{IdTrees}
 use Rattle.ipc_devices.specs.declared.fault.Fault.{Fault}
-use Rattle.ipc_views.specs.declared.message.FieldNode.{FieldNode}
-use Rattle.ipc_views.specs.declared.schema.Buffer.{Buffer}
+use Rattle.ipc_table_views.specs.declared.message.FieldNode.{FieldNode}
+use Rattle.ipc_table_views.specs.declared.schema.Buffer.{Buffer}
 use Rattle.ipc_model.specs.Accepted.{IsSayable, body_length}
 use Rattle.ipc_model.specs.Batches.{Body, Lists, entries_of}
 use Rattle.ipc_model.specs.Columns.{IsWell, column}

@@ -15,10 +15,10 @@ use Rattle.ipc_tables.specs.declared.message.Message.{Message}
 use Rattle.ipc_tables.specs.declared.message.MessageHeader.{MessageHeader}
 use Rattle.ipc_tables.specs.declared.message.MessageHeader.TheVariants.{DictionaryBatch as a_dictionary_batch, RecordBatch as a_record_batch}
 use Rattle.ipc_tables.specs.declared.message.RecordBatch.{RecordBatch}
-use Rattle.ipc_views.specs.declared.schema.MetadataVersion.TheVariants.{V5}
-use Rattle.ipc_views.specs.MessageSlots.{dictionary_batch_data, dictionary_batch_id, dictionary_batch_is_delta, message_custom_metadata, message_version, record_batch_length}
-use Rattle.ipc_views.specs.Spot.{Spot}
-use Rattle.ipc_views.specs.Tables.{root_at}
+use Rattle.ipc_table_views.specs.declared.schema.MetadataVersion.TheVariants.{V5}
+use Rattle.ipc_table_views.specs.MessageSlots.{dictionary_batch_data, dictionary_batch_id, dictionary_batch_is_delta, message_custom_metadata, message_version, record_batch_length}
+use Rattle.ipc_table_views.specs.Spot.{Spot}
+use Rattle.ipc_table_views.specs.Tables.{root_at}
 use Rattle.ipc_model.specs.Accepted.{IsSayable, body_length}
 use Rattle.ipc_model.specs.Batches.{Lists, lists_of}
 use Rattle.ipc_model.specs.Offers.{body_lengths, whole_levels}

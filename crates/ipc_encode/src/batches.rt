@@ -13,7 +13,7 @@ use ipc_devices::{ArgFault, Fault};
 use ipc_plan::plan::Plan;
 use ipc_plan::serialize::plan_columns;
 use ipc_tables::message::{DictionaryBatch, Message, MessageHeader, RecordBatch};
-use ipc_views::MetadataVersion;
+use ipc_table_views::MetadataVersion;
 use lower_arrays::array::AnyArray;
 use std::alloc::Global;
 use std::mem::replace;

@@ -12,7 +12,7 @@ use ipc_devices::Fault;
 use ipc_plan::plan::Plan;
 use ipc_plan::sending::send_pieces;
 use ipc_plan::serialize::plan_array;
-use ipc_views::{Buffer, FieldNode};
+use ipc_table_views::{Buffer, FieldNode};
 use lower::types::Endianness;
 use lower_arrays::array::AnyArray;
 use std::alloc::Global;

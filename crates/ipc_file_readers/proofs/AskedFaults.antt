@@ -7,12 +7,12 @@ use Rattle.std.proofs.lemmas.List.Sorted.{IsPermutation-sym, length_permutation}
 use Rattle.lower_arrays.specs.declared.array.AnyArray.{AnyArray}
 use Rattle.ipc_devices.specs.declared.fault.Fault.{Fault}
 use Rattle.ipc_devices.specs.declared.fault.OutOfSpecKind.TheVariants.{NegativeFooterLength, UnexpectedNegativeInteger}
-use Rattle.ipc_views.specs.declared.file.Block.{Block}
+use Rattle.ipc_table_views.specs.declared.file.Block.{Block}
 use Rattle.ipc_model.specs.Batches.{chosen, kinds, lists_of}
 use Rattle.ipc_model.specs.Files.{BlockHeader, FileMetadata, block_header}
 use Rattle.ipc_model.specs.Kinds.{Kinds}
-use Rattle.ipc_projections.specs.ChosenColumns.{AreAsMany, AreOrdered, AreShuffled, asked_by, rising_by}
-use Rattle.ipc_projections.specs.declared.read.chosen.ChosenColumns.{ChosenColumns}
+use Rattle.ipc_projection.specs.ChosenColumns.{AreAsMany, AreOrdered, AreShuffled, asked_by, rising_by}
+use Rattle.ipc_projection.specs.declared.read.chosen.ChosenColumns.{ChosenColumns}
 use Rattle.ipc_read.proofs.AskedColumns.{batch_fault}
 use Rattle.ipc_read.proofs.AskedSums.{held_in_order, listed_same}
 use Rattle.ipc_files.specs.Batches.{BlamesRecord, HoldBatch, HeaderHolds, IsRecordFault, RecordReason, header_lists, needed_bytes}

@@ -8,18 +8,18 @@ use Rattle.lower_arrays.specs.declared.array.AnyArray.{AnyArray}
 use Rattle.ipc_devices.proofs.Claims.{claims_through}
 use Rattle.ipc_devices.specs.Faults.{OwnFault}
 use Rattle.ipc_devices.specs.declared.fault.Fault.{Fault}
-use Rattle.ipc_views.specs.declared.file.Block.{Block}
+use Rattle.ipc_table_views.specs.declared.file.Block.{Block}
 use Rattle.ipc_model.specs.Batches.{Body, Chunk, kinds, chosen}
 use Rattle.ipc_model.specs.Entries.{Dictionaries, Limit}
 use Rattle.ipc_model.specs.Files.{FileMetadata, BlockHeader, placed, metadata_at, block_header, body_at, record_with, chunk_at, file_chunk}
 use Rattle.ipc_model.specs.Kinds.{count}
 use Rattle.ipc_model.specs.Schemas.{given}
-use Rattle.ipc_laws.specs.Agreement.{KnowAlike}
-use Rattle.ipc_laws.proofs.Agreeing.{agree_chosen, alike_record_law}
-use Rattle.ipc_projections.specs.AskedOrder.{Asked, AreInAskedOrder}
-use Rattle.ipc_projections.specs.ChosenColumns.{AreAsMany, AreOrdered, AreShuffled, asked_by, rising_by}
-use Rattle.ipc_projections.specs.declared.read.chosen.ChosenColumns.{ChosenColumns}
-use Rattle.ipc_projections.proofs.AskedOrder.{asked_images, asked_record_law, given_as_asked, then_asked}
+use Rattle.ipc_stream_lemmas.specs.Agreement.{KnowAlike}
+use Rattle.ipc_stream_lemmas.proofs.Agreeing.{agree_chosen, alike_record_law}
+use Rattle.ipc_projection.specs.AskedOrder.{Asked, AreInAskedOrder}
+use Rattle.ipc_projection.specs.ChosenColumns.{AreAsMany, AreOrdered, AreShuffled, asked_by, rising_by}
+use Rattle.ipc_projection.specs.declared.read.chosen.ChosenColumns.{ChosenColumns}
+use Rattle.ipc_projection.proofs.AskedOrder.{asked_images, asked_record_law, given_as_asked, then_asked}
 use Rattle.ipc_read.specs.Chunks.{chunk_seen, column_seen}
 use Rattle.ipc_files.specs.Footers.{GivesPart}
 

@@ -12,7 +12,7 @@ use Rattle.lower_arrays.specs.AnyLayouts.{layout_of}
 use Rattle.lower_arrays.specs.Layouts.{len_of}
 use Rattle.lower_arrays.specs.Slots.{Slot}
 use Rattle.lower_arrays.specs.declared.array.AnyArray.{AnyArray}
-use Rattle.ipc_views.specs.declared.file.Block.{Block}
+use Rattle.ipc_table_views.specs.declared.file.Block.{Block}
 use Rattle.ipc_model.proofs.Pruned.{batch_some, projection_decides, prune_law}
 use Rattle.ipc_model.specs.BatchLaws.{column_at, cut, pruned}
 use Rattle.ipc_model.specs.Batches.{Body, Chunk, Column, IsProjection, AllRead, Schema, batch, chosen, chunk_of, entries_of, first_rows, kinds, lists_of, record_meaning, rows_at}

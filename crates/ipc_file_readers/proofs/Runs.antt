@@ -8,7 +8,7 @@ use Rattle.ipc_devices.specs.Device.{Memory}
 use Rattle.ipc_devices.specs.declared.fault.Fault.{Fault}
 use Rattle.ipc_model.specs.Entries.{Dictionaries, Limit}
 use Rattle.ipc_model.specs.Files.{FileMetadata as Meaning, file_dictionaries}
-use Rattle.ipc_laws.specs.Agreement.{AreAlike, KnowAlike}
+use Rattle.ipc_stream_lemmas.specs.Agreement.{AreAlike, KnowAlike}
 use Rattle.ipc_files.specs.Footers.{file_seen}
 use Rattle.ipc_file_readers.specs.Readers.{Answer, AreKnown, NextStep, WasNext, WereRefused, asked_of, block_of, blocks_left, device_of, file_of, is_over, known_of, metadata_of, remaining_of}
 use Rattle.ipc_file_readers.specs.Runs.{AreItems, AreNone, Calls, HoldsDictionaries, IsToldOnce, ItemsLaw, OverLaw, ToldOnceLaw}

@@ -17,9 +17,9 @@ use Rattle.ipc_model.specs.Entries.{Dictionaries, Limit}
 use Rattle.ipc_model.specs.Files.{FileMetadata as Meaning, file_dictionaries, file_chunk}
 use Rattle.ipc_model.specs.ReadChunks.{HaveMeaning}
 use Rattle.ipc_base.specs.IdTrees.{all_ids_view}
-use Rattle.ipc_laws.specs.Agreement.{AreAlike, KnowAlike}
-use Rattle.ipc_flat_columns.specs.Bodies.{array_under, known_dictionaries, no_values}
-use Rattle.ipc_projections.specs.ChosenColumns.{ShowsColumns, asked_by, shown_by}
+use Rattle.ipc_stream_lemmas.specs.Agreement.{AreAlike, KnowAlike}
+use Rattle.ipc_read_flat.specs.Bodies.{array_under, known_dictionaries, no_values}
+use Rattle.ipc_projection.specs.ChosenColumns.{ShowsColumns, asked_by, shown_by}
 use Rattle.ipc_read.specs.Chunks.{chunk_seen}
 use Rattle.ipc_files.specs.Batches.{HoldBatch, IsRecordFault, RecordReason, block_metadata, needed_bytes}
 use Rattle.ipc_files.specs.Dictionaries.{DictionariesReason, HoldListed, IsDictionaryBlockFault, RefusedValues, ValuesGiven}

@@ -5,7 +5,7 @@ use Rattle.ipc_devices.specs.Device.{Memory}
 use Rattle.ipc_devices.specs.Faults.{OwnFault}
 use Rattle.ipc_model.specs.Entries.{Dictionaries, Limit}
 use Rattle.ipc_model.specs.Files.{FileMetadata as Meaning, file_dictionaries, file_chunk}
-use Rattle.ipc_laws.specs.Agreement.{KnowAlike}
+use Rattle.ipc_stream_lemmas.specs.Agreement.{KnowAlike}
 use Rattle.ipc_read.specs.Chunks.{chunk_seen}
 use Rattle.ipc_files.specs.Footers.{GivesPart}
 use Rattle.ipc_file_readers.specs.Readers.{Answer, NextStep, asked_of, block_of, blocks_left, device_of, file_of, is_over, known_of, less, remaining_of, rows_given}

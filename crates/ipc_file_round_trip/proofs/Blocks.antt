@@ -9,7 +9,7 @@ use Rattle.lower_arrays.specs.declared.array.AnyArray.{AnyArray}
 use Rattle.ipc_devices.proofs.Claims.{claims_through}
 use Rattle.ipc_devices.specs.Faults.{OwnFault}
 use Rattle.ipc_devices.specs.declared.fault.Fault.{Fault}
-use Rattle.ipc_views.specs.declared.file.Block.{Block}
+use Rattle.ipc_table_views.specs.declared.file.Block.{Block}
 use Rattle.ipc_model.specs.BatchLaws.{pruned}
 use Rattle.ipc_model.specs.Batches.{Chunk, IsProjection, kinds}
 use Rattle.ipc_model.specs.Entries.{Dictionaries, Limit}

@@ -3,16 +3,16 @@ use Rattle.std.proofs.Common.{◌≡◌, ℕ, List, [], ◌∷◌, ◌++◌, len
 use Rattle.lower.specs.TypeTrees.{FieldTrees, Pairs}
 use Rattle.lower_types.specs.declared.Endianness.{Endianness}
 use Rattle.ipc_base.specs.IdTrees.{IdTrees}
-use Rattle.ipc_views.specs.declared.file.Block.{Block}
+use Rattle.ipc_table_views.specs.declared.file.Block.{Block}
 use Rattle.ipc_model.specs.Batches.{Chunk}
 use Rattle.ipc_model.specs.Entries.{Dictionaries, Limit}
 use Rattle.ipc_model.specs.Files.{FileMetadata as Meaning, file_chunk, file_dictionaries}
 use Rattle.ipc_model.specs.Schemas.{given}
 use Rattle.ipc_model.specs.Writers.{IsFinished}
-use Rattle.ipc_laws.specs.Agreement.{AreAlike, KnowAlike}
+use Rattle.ipc_stream_lemmas.specs.Agreement.{AreAlike, KnowAlike}
 use Rattle.ipc_schema_write.specs.WriterAnswers.{written_head_as}
-use Rattle.ipc_footers.specs.Footers.{file_written}
-use Rattle.ipc_file_laws.specs.FileBytes.{file_head}
+use Rattle.ipc_footer_write.specs.Footers.{file_written}
+use Rattle.ipc_file_lemmas.specs.FileBytes.{file_head}
 use Rattle.ipc_file_readers.proofs.Chunks.{chunk_alike}
 use Rattle.ipc_file_readers.proofs.Rows.{chunk_pruned}
 use Rattle.ipc_file_write.specs.Calls.{IsWrittenFile}

@@ -8,7 +8,7 @@ use Rattle.ipc_base.specs.IdTrees.{all_ids_view}
 use Rattle.ipc_devices.specs.Device.{Memory}
 use Rattle.ipc_devices.specs.Faults.{OwnFault}
 use Rattle.ipc_devices.specs.declared.fault.Fault.{Fault}
-use Rattle.ipc_views.specs.declared.file.Block.{Block}
+use Rattle.ipc_table_views.specs.declared.file.Block.{Block}
 use Rattle.ipc_model.specs.Batches.{Chunk, chosen, kinds}
 use Rattle.ipc_model.specs.Entries.{Dictionaries, Limit}
 use Rattle.ipc_model.specs.Files.{FileMetadata as Meaning, all_of, chunk_at, chunks_at, file_chunk, file_dictionaries}

@@ -7,12 +7,12 @@ use Rattle.ipc_base.specs.IdTrees.{all_ids_view}
 use Rattle.ipc_devices.specs.Device.{Memory}
 use Rattle.ipc_devices.specs.Faults.{OwnFault}
 use Rattle.ipc_devices.specs.declared.fault.Fault.{Fault}
-use Rattle.ipc_views.specs.declared.file.Block.{Block}
+use Rattle.ipc_table_views.specs.declared.file.Block.{Block}
 use Rattle.ipc_model.specs.Batches.{Chunk, chosen, kinds}
 use Rattle.ipc_model.specs.Entries.{Dictionaries, Limit}
 use Rattle.ipc_model.specs.Files.{FileMetadata as Meaning, chunk_at, file_dictionaries}
 use Rattle.ipc_model.specs.Kinds.{count}
-use Rattle.ipc_laws.specs.Agreement.{AreAlike, KnowAlike}
+use Rattle.ipc_stream_lemmas.specs.Agreement.{AreAlike, KnowAlike}
 use Rattle.ipc_read.proofs.Fields.{field_count}
 use Rattle.ipc_read.specs.Chunks.{chunk_seen}
 use Rattle.ipc_files.specs.Batches.{RecordReason}

@@ -6,18 +6,18 @@ use Rattle.lower_arrays.specs.declared.array.AnyArray.{AnyArray}
 use Rattle.lower_types.specs.declared.Endianness.{Endianness}
 use Rattle.ipc_base.specs.IdTrees.{IdTrees}
 use Rattle.ipc_devices.specs.declared.fault.Fault.{Fault}
-use Rattle.ipc_views.specs.declared.file.Block.{Block}
+use Rattle.ipc_table_views.specs.declared.file.Block.{Block}
 use Rattle.ipc_model.specs.BatchLaws.{pruned}
 use Rattle.ipc_model.specs.Batches.{Chunk, IsProjection, kinds}
 use Rattle.ipc_model.specs.Entries.{Dictionaries, Limit}
 use Rattle.ipc_model.specs.FileLaws.{FilesAgree}
 use Rattle.ipc_model.specs.Files.{FileMetadata as Meaning, file_chunk, file_dictionaries}
 use Rattle.ipc_model.specs.Kinds.{count}
-use Rattle.ipc_laws.specs.Agreement.{AreAlike}
+use Rattle.ipc_stream_lemmas.specs.Agreement.{AreAlike}
 use Rattle.ipc_schema_write.specs.WriterAnswers.{written_head_as}
 use Rattle.ipc_read.specs.Chunks.{chunk_seen}
 use Rattle.ipc_files.specs.Footers.{GivesPart}
-use Rattle.ipc_file_laws.specs.FileBytes.{IsFile}
+use Rattle.ipc_file_lemmas.specs.FileBytes.{IsFile}
 use Rattle.ipc_file_write.specs.Calls.{IsWrittenFile}
 use Rattle.ipc_round_trip.specs.Reading.{IsReadable, IsWhole}
 use Rattle.ipc_round_trip.specs.RoundTrip.{Reads}

@@ -6,7 +6,7 @@ ghost use Rattle.ipc_model.specs.Batches.{IsProjection};
 ghost use Rattle.ipc_model.specs.Files.{metadata_of};
 ghost use Rattle.ipc_files.specs.Files.{FileReason};
 ghost use Rattle.ipc_files.specs.Footers.{GivesPart, file_seen};
-ghost use Rattle.ipc_projections.specs.ChosenColumns.{items_of};
+ghost use Rattle.ipc_projection.specs.ChosenColumns.{items_of};
 ghost use Rattle.ipc_file_readers.specs.Readers.{device_of};
 ghost use Rattle.ipc_file_round_trip.specs.Reading.{ChunksReason, HasFirstRows, HaveFirstRows, ReadingReason, ReadsColumns, chunks_of, file_by, file_chunks, file_read};
 ghost use Rattle.ipc_file_round_trip.specs.Steps.{GivesAll, PushesNext, RefusesBlocks};
@@ -15,7 +15,7 @@ use ipc_base::chunk::Chunk;
 use ipc_devices::{Fault, MemFile, Reads, Seeks};
 use ipc_file_readers::read::reader::FileReader;
 use ipc_files::read::file::{FileMetadata, read_file_metadata};
-use ipc_projections::read::projection::is_projection;
+use ipc_projection::read::projection::is_projection;
 use lower_arrays::array::AnyArray;
 use std::alloc::Global;
 

@@ -6,11 +6,11 @@ use Rattle.ipc_devices.specs.Faults.{OnIo, OwnFault, UnlessIo}
 use Rattle.ipc_devices.specs.declared.fault.Fault.{Fault}
 use Rattle.ipc_devices.specs.declared.fault.Fault.TheVariants.{Io, Memory as NoMemory, OutOfSpec}
 use Rattle.ipc_devices.specs.declared.fault.OutOfSpecKind.TheVariants.{UnexpectedNegativeInteger}
-use Rattle.ipc_views.specs.declared.file.Block.{Block}
+use Rattle.ipc_table_views.specs.declared.file.Block.{Block}
 use Rattle.ipc_model.specs.Files.{FileMetadata, file_dictionaries}
 use Rattle.ipc_files.specs.Dictionaries.{DictionariesReason, IsDictionaryBlockFault}
-use Rattle.ipc_file_laws.proofs.Ends.{back-has, ends-both, front-has, none_has}
-use Rattle.ipc_file_laws.specs.Appending.{HasNegative, HaveNegative, end_of, goes_on, greatest_end}
+use Rattle.ipc_file_lemmas.proofs.Ends.{back-has, ends-both, front-has, none_has}
+use Rattle.ipc_file_lemmas.specs.Appending.{HasNegative, HaveNegative, end_of, goes_on, greatest_end}
 use Rattle.ipc_file_write.specs.Appends.{CanBeWritten, DeviceFails, MayGoOn, RefusesFile, RefusesToGoOn}
 
 -- ---- block after block

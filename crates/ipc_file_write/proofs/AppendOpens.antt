@@ -7,14 +7,14 @@ use Rattle.std.specs.declared.rc.Rc.{Rc}
 use Rattle.ipc_devices.specs.Device.{GoesTo, Memory}
 use Rattle.lower_arrays.specs.AnyLayouts.{layout_of}
 use Rattle.lower_arrays.specs.declared.array.AnyArray.{AnyArray}
-use Rattle.ipc_flat_columns.proofs.KnownValues.{dictionary_found}
-use Rattle.ipc_flat_columns.specs.Bodies.{known_dictionaries}
+use Rattle.ipc_read_flat.proofs.KnownValues.{dictionary_found}
+use Rattle.ipc_read_flat.specs.Bodies.{known_dictionaries}
 use Rattle.ipc_read.proofs.KnownDictionaries.{known_at}
 use Rattle.ipc_model.specs.Files.{FileMetadata, file_dictionaries}
-use Rattle.ipc_laws.specs.Agreement.{AreAlike}
-use Rattle.ipc_laws.specs.Remembered.{dictionary_of}
+use Rattle.ipc_stream_lemmas.specs.Agreement.{AreAlike}
+use Rattle.ipc_stream_lemmas.specs.Remembered.{dictionary_of}
 use Rattle.ipc_write.specs.declared.stream.WriterState.TheVariants.{Started}
-use Rattle.ipc_file_laws.specs.Appending.{goes_on}
+use Rattle.ipc_file_lemmas.specs.Appending.{goes_on}
 use Rattle.ipc_file_write.specs.Appends.{GoesOn, MayGoOn}
 use Rattle.ipc_file_write.specs.FileWriters.{FileSeen}
 

@@ -18,16 +18,16 @@ use Rattle.ipc_devices.specs.declared.fault.ArgFault.TheVariants.{FieldsShape, N
 use Rattle.ipc_devices.specs.declared.fault.Fault.{Fault}
 use Rattle.ipc_devices.specs.declared.fault.Fault.TheVariants.{Argument, Io, Memory as NoMemory, OutOfSpec}
 use Rattle.ipc_devices.specs.declared.fault.OutOfSpecKind.TheVariants.{UnexpectedNegativeInteger}
-use Rattle.ipc_laws.specs.Agreement.{AreAlike}
-use Rattle.ipc_laws.specs.Remembered.{KnowsRemembered, Remembered}
+use Rattle.ipc_stream_lemmas.specs.Agreement.{AreAlike}
+use Rattle.ipc_stream_lemmas.specs.Remembered.{KnowsRemembered, Remembered}
 use Rattle.ipc_write.specs.declared.stream.WriterState.TheVariants.{Started}
-use Rattle.ipc_file_laws.proofs.Appending.{go_on_law, stay_law}
-use Rattle.ipc_file_laws.proofs.NormalWritable.{file_weight_normal, writable_normal}
-use Rattle.ipc_file_laws.specs.Appending.{HaveNegative, goes_on, greatest_end, normal_chunk, normal_schema}
-use Rattle.ipc_file_laws.proofs.FileSteps.{grow_law, size_law}
-use Rattle.ipc_file_laws.specs.FileBytes.{HoldsFile, HasStreamBehind, file_so_far}
-use Rattle.ipc_footers.specs.Footers.{file_written}
-use Rattle.ipc_views.specs.declared.file.Block.{Block}
+use Rattle.ipc_file_lemmas.proofs.Appending.{go_on_law, stay_law}
+use Rattle.ipc_file_lemmas.proofs.NormalWritable.{file_weight_normal, writable_normal}
+use Rattle.ipc_file_lemmas.specs.Appending.{HaveNegative, goes_on, greatest_end, normal_chunk, normal_schema}
+use Rattle.ipc_file_lemmas.proofs.FileSteps.{grow_law, size_law}
+use Rattle.ipc_file_lemmas.specs.FileBytes.{HoldsFile, HasStreamBehind, file_so_far}
+use Rattle.ipc_footer_write.specs.Footers.{file_written}
+use Rattle.ipc_table_views.specs.declared.file.Block.{Block}
 use Rattle.ipc_file_write.specs.Appends.{GoesOn, GoesOnAgain, GoesOnWith, HasNoDictionaries, MayGoOn, RefusesFile, RefusesNoWhole, RefusesToGoOn, RemembersFile, resumed}
 use Rattle.ipc_file_write.specs.declared.prepared.Prepared.{Prepared}
 use Rattle.ipc_file_write.specs.FileWriters.{FileSeen, HoldsBytes, IsOpenFile, IsWholeFile, head_of_file}

@@ -7,17 +7,17 @@ use Rattle.ipc_base.specs.Chunks.{row_count}
 use Rattle.ipc_base.specs.IdTrees.{IdTrees}
 use Rattle.ipc_encode.specs.declared.batches.BatchKind.TheVariants.{Record, Dictionary}
 use Rattle.ipc_encode.specs.declared.batches.Encoded.{Encoded}
-use Rattle.ipc_laws.proofs.Fitting.{filled_law}
-use Rattle.ipc_laws.specs.Remembered.{Remembered, filled_of}
+use Rattle.ipc_stream_lemmas.proofs.Fitting.{filled_law}
+use Rattle.ipc_stream_lemmas.specs.Remembered.{Remembered, filled_of}
 use Rattle.ipc_model.specs.Offers.{FilledPlace, IsAcceptedChunk}
 use Rattle.ipc_tracker.specs.Listings.{ListsUnwritten, ListsAll, remembering_all}
 use Rattle.ipc_tracker.specs.Trackers.{IsSameMemory}
-use Rattle.ipc_views.specs.declared.schema.MetadataVersion.TheVariants.{V5}
+use Rattle.ipc_table_views.specs.declared.schema.MetadataVersion.TheVariants.{V5}
 use Rattle.ipc_chunks.proofs.Meanings.{columns_message, sent_of, values_message}
 use Rattle.ipc_write.proofs.MessageLists.{bytes_last, in_stream}
 use Rattle.ipc_chunks.specs.Messages.{AreAllValues, AreMessages, AreValueMessages, Message, message_seen}
 use Rattle.ipc_write.specs.Messages.{messages_bytes}
-use Rattle.ipc_file_laws.specs.FileBytes.{AreValueMessages as ValuesSent, IsColumns, IsValues, SendsChunk, Sent, all_bytes, chunk_bytes}
+use Rattle.ipc_file_lemmas.specs.FileBytes.{AreValueMessages as ValuesSent, IsColumns, IsValues, SendsChunk, Sent, all_bytes, chunk_bytes}
 use Rattle.ipc_file_write.specs.Blocks.{sent, sent_seen}
 
 pub seen_sent : (es : List Encoded) → map sent (map message_seen es) ≡ map sent_seen es

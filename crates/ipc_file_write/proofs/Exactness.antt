@@ -19,7 +19,7 @@ use Rattle.ipc_encode.specs.declared.batches.BatchKind.TheVariants.{Record, Dict
 use Rattle.ipc_model.specs.Accepted.{AreBlocks, AreKept, Brought, block_end, body_length, written_bodies}
 use Rattle.ipc_model.specs.Entries.{Dictionaries, Dictionary as Values, IsSize, dictionary_at}
 use Rattle.ipc_model.specs.Offers.{FilledPlace, body_lengths, messages, whole_levels}
-use Rattle.ipc_laws.specs.Remembered.{KnowsRemembered}
+use Rattle.ipc_stream_lemmas.specs.Remembered.{KnowsRemembered}
 use Rattle.ipc_tracker.specs.Listings.{ListsUnwritten, listed, remembering_all}
 use Rattle.ipc_tracker.specs.declared.tracker.DictionaryTracker.{DictionaryTracker}
 use Rattle.ipc_tracker.specs.declared.tracker.NewDictionary.{NewDictionary}
@@ -27,7 +27,7 @@ use Rattle.ipc_tracker.specs.Places.{Finds}
 use Rattle.ipc_tracker.specs.Trackers.{Remembered, dictionary_of, remembered, remembering}
 use Rattle.ipc_chunks.proofs.MessageLengths.{one_message}
 use Rattle.ipc_chunks.specs.Messages.{AreAllValues, AreMessages, Message}
-use Rattle.ipc_file_laws.specs.FileBytes.{Sent, all_bytes, block_at, blocks_at, chunk_bytes, sent_bytes}
+use Rattle.ipc_file_lemmas.specs.FileBytes.{Sent, all_bytes, block_at, blocks_at, chunk_bytes, sent_bytes}
 use Rattle.ipc_file_write.specs.Blocks.{sent}
 use Rattle.ipc_file_write.proofs.PlacedMessages.{length-sent}
 

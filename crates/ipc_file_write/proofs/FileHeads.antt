@@ -2,9 +2,9 @@
 use Rattle.std.proofs.Common.{◌≡◌, ℕ, ◌+◌, ◌^◌, ◌≤◌, Bool, true, false, List, length, take, Option, None, Some, refl, sym, ap, arith, nat_lt, bytes_eq, if◌then◌else◌, ◌&&◌}
 use Rattle.std.specs.Int.{w32, from_le_bytes}
 use Rattle.std.proofs.lemmas.Slice.Eq.{bytes_eq-Decides}
-use Rattle.ipc_views.specs.FileSlots.{footer_schema, footer_dictionaries, footer_record_batches, footer_custom_metadata}
-use Rattle.ipc_views.specs.Spot.{Spot}
-use Rattle.ipc_views.specs.Tables.{root_at}
+use Rattle.ipc_table_views.specs.FileSlots.{footer_schema, footer_dictionaries, footer_record_batches, footer_custom_metadata}
+use Rattle.ipc_table_views.specs.Spot.{Spot}
+use Rattle.ipc_table_views.specs.Tables.{root_at}
 use Rattle.ipc_model.proofs.Given.{given-some, some-same}
 use Rattle.ipc_model.specs.Files.{FileMetadata, footer_at, footer_of_length, last, magic, metadata_of}
 use Rattle.ipc_model.specs.Schemas.{given, made, pairs_at, present, schema_at}

@@ -19,7 +19,7 @@ use Rattle.ipc_model.specs.Accepted.{most_blocks}
 use Rattle.ipc_model.specs.Entries.{Dictionaries}
 use Rattle.ipc_model.specs.Offers.{FilledPlace, offer_of, values_of}
 use Rattle.ipc_model.specs.Writable.{IsWritable}
-use Rattle.ipc_laws.specs.Remembered.{KnowsRemembered}
+use Rattle.ipc_stream_lemmas.specs.Remembered.{KnowsRemembered}
 use Rattle.ipc_tracker.proofs.Refusals.{refusal_law}
 use Rattle.ipc_write.proofs.Acceptance.{accepted, like_fields}
 use Rattle.ipc_chunks.proofs.Dictionaries.{one_type_of}
@@ -28,7 +28,7 @@ use Rattle.ipc_write.proofs.Refusals.{missed, record_refuse, some_refuse}
 use Rattle.ipc_chunks.specs.Messages.{AreAllValues, AreMessages, Message, RefusesMessages}
 use Rattle.ipc_write.specs.Writers.{RefusesChunk as StreamRefuses, fault_unless_started}
 use Rattle.ipc_write.specs.declared.stream.WriterState.TheVariants.{Started}
-use Rattle.ipc_file_laws.specs.FileBytes.{Sent, all_bytes, sent_bytes}
+use Rattle.ipc_file_lemmas.specs.FileBytes.{Sent, all_bytes, sent_bytes}
 use Rattle.ipc_file_write.specs.Blocks.{HasBlocksFrom, RefusesPlace, RefusesBlockRoom, sent}
 use Rattle.ipc_file_write.specs.FileWriters.{FileSeen}
 use Rattle.ipc_file_write.specs.Writes.{AnswersWrite, HasNoPlace, MayBeWritten, MayList, MissesWrite, RefusesChunk, RefusesRoom, RefusesSending, WritesExactly, as_stream, block_count}

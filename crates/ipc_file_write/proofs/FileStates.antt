@@ -4,15 +4,15 @@ use Rattle.ipc_devices.specs.Device.{Memory, WritesOver, before}
 use Rattle.ipc_devices.specs.Faults.{OnIo, OnRefused}
 use Rattle.ipc_devices.specs.declared.fault.Fault.{Fault}
 use Rattle.ipc_devices.specs.declared.fault.Fault.TheVariants.{Argument, Io, Memory as NoMemory}
-use Rattle.ipc_views.specs.declared.file.Block.{Block}
+use Rattle.ipc_table_views.specs.declared.file.Block.{Block}
 use Rattle.ipc_model.specs.Batches.{Chunk, Schema}
 use Rattle.ipc_model.specs.Files.{magic}
 use Rattle.ipc_model.specs.Streams.{Head}
 use Rattle.ipc_model.specs.WrittenLaws.{prefix}
 use Rattle.ipc_plan.specs.Sending.{WritesSome, seen_by}
 use Rattle.lower_arrays.specs.Layouts.{Layout}
-use Rattle.ipc_laws.specs.Messages.{chunk_written, message_bytes}
-use Rattle.ipc_laws.specs.Remembered.{Remembered, nothing_remembered}
+use Rattle.ipc_stream_lemmas.specs.Messages.{chunk_written, message_bytes}
+use Rattle.ipc_stream_lemmas.specs.Remembered.{Remembered, nothing_remembered}
 use Rattle.ipc_base.specs.IdTrees.{IdTrees, all_ids_view}
 use Rattle.ipc_tables.specs.Written.{IsWritten}
 use Rattle.ipc_model.specs.Schemas.{head_of}
@@ -21,12 +21,12 @@ use Rattle.ipc_schema_write.specs.WriterAnswers.{RefusesSchema, max_weight, writ
 use Rattle.ipc_write.specs.declared.stream.WriterState.{WriterState}
 use Rattle.ipc_write.specs.declared.stream.WriterState.TheVariants.{New, Started, Finished, Failed}
 use Rattle.ipc_write.specs.Sending.{Delivers, OnSent}
-use Rattle.ipc_footers.specs.Footers.{HasFooter, tail_of}
+use Rattle.ipc_footer_write.specs.Footers.{HasFooter, tail_of}
 use Rattle.std.proofs.lemmas.List.{length-replicate, take-append-le}
-use Rattle.ipc_file_laws.proofs.Ends.{chunk_ends, chunk_natural, chunk_reaches, no_ends, none_at_all}
-use Rattle.ipc_file_laws.specs.FileBytes.{EndsStreamBehind, HoldsFile, HasStreamBehind, SendsChunk, Sent, all_bytes, block_at, blocks_at, chunk_bytes, file_head}
-use Rattle.ipc_file_laws.proofs.FileSteps.{end_law, grow_law, start_law, write_law}
-use Rattle.ipc_file_laws.proofs.StreamSteps.{stream_end_law, stream_start_law, stream_write_law}
+use Rattle.ipc_file_lemmas.proofs.Ends.{chunk_ends, chunk_natural, chunk_reaches, no_ends, none_at_all}
+use Rattle.ipc_file_lemmas.specs.FileBytes.{EndsStreamBehind, HoldsFile, HasStreamBehind, SendsChunk, Sent, all_bytes, block_at, blocks_at, chunk_bytes, file_head}
+use Rattle.ipc_file_lemmas.proofs.FileSteps.{end_law, grow_law, start_law, write_law}
+use Rattle.ipc_file_lemmas.proofs.StreamSteps.{stream_end_law, stream_start_law, stream_write_law}
 use Rattle.ipc_file_write.specs.FileWriters.{FileIs, FileSeen, FileStep, HoldsBytes, IsEnding, IsFresh, IsOpenFile, IsSameFile, Kept, MayFinish, MayStart, ReachesEnd, RefusesFinish, RefusesStart, Remains, RemembersSame, SendsBeginning, SendsEnding, ending_bytes, head_of_file}
 use Rattle.ipc_file_write.specs.declared.sending.Ending.{Ending}
 use Rattle.ipc_file_write.specs.declared.writer.Starting.{Starting}

@@ -10,7 +10,7 @@ use Rattle.ipc_devices.specs.declared.fault.Fault.TheVariants.{Argument, Memory}
 use Rattle.ipc_model.specs.Offers.{FilledPlace}
 use Rattle.ipc_chunks.proofs.Refusals.{IsOfMessage}
 use Rattle.ipc_write.proofs.Refusals.{of_messages}
-use Rattle.ipc_file_laws.specs.FileBytes.{Sent, sent_bytes}
+use Rattle.ipc_file_lemmas.specs.FileBytes.{Sent, sent_bytes}
 use Rattle.ipc_file_write.specs.Blocks.{RefusesBlockRoom}
 use Rattle.ipc_file_write.specs.FileWriters.{FileSeen}
 use Rattle.ipc_file_write.specs.Writes.{NamesOne, RefusesChunk, RefusesRoom, RefusesSending}

@@ -2,8 +2,8 @@
 use Rattle.std.proofs.Common.{◌≡◌, ℕ, ◌-◌, ◌≤◌, List, ◌++◌, length, take, sym, ap, ◌∙◌, arith, append-nil, length-drop, length-take-le}
 use Rattle.std.proofs.lemmas.List.{take-append-le, take-take, take_all}
 use Rattle.ipc_devices.specs.Device.{Memory, WritesOver, after, before}
-use Rattle.ipc_file_laws.proofs.Appending.{stay_law}
-use Rattle.ipc_file_laws.specs.Appending.{goes_on}
+use Rattle.ipc_file_lemmas.proofs.Appending.{stay_law}
+use Rattle.ipc_file_lemmas.specs.Appending.{goes_on}
 use Rattle.ipc_file_write.specs.AppendLaws.{NoMore, Onward, OnwardBothLaw, OnwardLaw, StillGivesLaw}
 
 -- The bytes before an offset that is inside.

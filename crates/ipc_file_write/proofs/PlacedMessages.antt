@@ -7,8 +7,8 @@ use Rattle.ipc_devices.specs.declared.fault.Fault.TheVariants.{Memory}
 use Rattle.ipc_encode.specs.declared.batches.Encoded.{Encoded}
 use Rattle.ipc_file_write.specs.Blocks.{HasBlocksFrom, RefusesPlace, RefusesBlockRoom, sent_seen}
 use Rattle.ipc_file_write.specs.declared.blocks.Placed.{Placed}
-use Rattle.ipc_views.specs.declared.file.Block.{Block}
-use Rattle.ipc_file_laws.specs.FileBytes.{Sent, all_bytes, block_at, blocks_at, sent_bytes}
+use Rattle.ipc_table_views.specs.declared.file.Block.{Block}
+use Rattle.ipc_file_lemmas.specs.FileBytes.{Sent, all_bytes, block_at, blocks_at, sent_bytes}
 
 pub blocks_more : (place : ℕ) (ws : List Sent) (w : Sent) → blocks_at place (ws ++ w ∷ []) ≡ blocks_at place ws ++ block_at (place + length (all_bytes ws)) w ∷ []
 blocks_more place [] w = ap (λ (k : ℕ). block_at k w ∷ []) (omega arith)

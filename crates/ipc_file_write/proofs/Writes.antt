@@ -20,11 +20,11 @@ use Rattle.ipc_encode.specs.Encoding.{IsEncodable, levels_of}
 use Rattle.ipc_encode.specs.declared.batches.BatchKind.TheVariants.{Record}
 use Rattle.ipc_model.specs.Batches.{Chunk}
 use Rattle.ipc_model.specs.Offers.{FilledPlace, IsAcceptedChunk, values_of}
-use Rattle.ipc_laws.specs.Messages.{chunk_written}
+use Rattle.ipc_stream_lemmas.specs.Messages.{chunk_written}
 use Rattle.ipc_plan.specs.Sending.{seen_by}
 use Rattle.ipc_tracker.specs.Listings.{ListsAll, RefusesAll, remembering_all}
 use Rattle.ipc_tracker.specs.Trackers.{IsSameMemory}
-use Rattle.ipc_views.specs.declared.file.Block.{Block}
+use Rattle.ipc_table_views.specs.declared.file.Block.{Block}
 use Rattle.ipc_write.proofs.Acceptance.{accepted}
 use Rattle.ipc_write.specs.Meaning.{normal_types}
 use Rattle.ipc_chunks.proofs.Refusals.{IsOfMessage, of_some}
@@ -35,7 +35,7 @@ use Rattle.ipc_write.specs.Sending.{Delivers}
 use Rattle.ipc_write.specs.Writers.{FitTypes}
 use Rattle.ipc_write.specs.declared.stream.WriterState.{WriterState}
 use Rattle.ipc_write.specs.declared.stream.WriterState.TheVariants.{Failed, Started}
-use Rattle.ipc_file_laws.specs.FileBytes.{Sent, chunk_bytes, sent_bytes}
+use Rattle.ipc_file_lemmas.specs.FileBytes.{Sent, chunk_bytes, sent_bytes}
 use Rattle.ipc_file_write.specs.Blocks.{HasBlocksFrom, RefusesBlockRoom, sent}
 use Rattle.ipc_file_write.specs.FileWriters.{FileSeen, IsSameFile, Kept}
 use Rattle.ipc_file_write.specs.Writes.{Appends, HandsChunk, MayList, RefusesChunk, RefusesRoom, RefusesSending, SendsColumns, TakesChunk, WhereSent, as_stream, field_normal}

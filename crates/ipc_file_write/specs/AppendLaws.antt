@@ -7,7 +7,7 @@ use Rattle.ipc_model.specs.Entries.{Dictionaries}
 use Rattle.ipc_model.specs.FileFollowLaws.{BlocksMean}
 use Rattle.ipc_model.specs.Files.{FileMetadata, all_of}
 use Rattle.ipc_plan.specs.Sending.{WritesSome}
-use Rattle.ipc_file_laws.specs.Appending.{MeansBefore, goes_on}
+use Rattle.ipc_file_lemmas.specs.Appending.{MeansBefore, goes_on}
 
 -- No byte before the offset changed, and none was lost. The offset, which is
 -- inside the bytes, didn't decrease.

@@ -14,15 +14,15 @@ use Rattle.ipc_model.specs.Batches.{Chunk}
 use Rattle.ipc_model.specs.Entries.{Dictionaries, dictionary_at}
 use Rattle.ipc_model.specs.Files.{FileMetadata, file_dictionaries, metadata_of}
 use Rattle.ipc_model.specs.Writable.{IsWritable, file_weight}
-use Rattle.ipc_laws.specs.Agreement.{AreAlike}
-use Rattle.ipc_laws.specs.Remembered.{Remembered}
+use Rattle.ipc_stream_lemmas.specs.Agreement.{AreAlike}
+use Rattle.ipc_stream_lemmas.specs.Remembered.{Remembered}
 use Rattle.ipc_encode.specs.declared.common.EncodedData.{EncodedData}
 use Rattle.ipc_tracker.specs.Trackers.{remembered}
 use Rattle.ipc_schema_write.specs.WriterAnswers.{byte_order, max_weight}
 use Rattle.ipc_write.specs.Writers.{chosen_ids}
 use Rattle.ipc_write.specs.declared.stream.WriterState.TheVariants.{Started}
 use Rattle.ipc_files.specs.Dictionaries.{DictionariesReason, IsDictionaryBlockFault}
-use Rattle.ipc_file_laws.specs.Appending.{HaveNegative, MeansBefore, goes_on, normal_chunk}
+use Rattle.ipc_file_lemmas.specs.Appending.{HaveNegative, MeansBefore, goes_on, normal_chunk}
 use Rattle.ipc_file_write.specs.FileWriters.{AgreesAlone, FileSeen, HoldsBytes, IsWholeFile}
 use Rattle.ipc_file_write.specs.declared.prepared.Prepared.{Prepared}
 

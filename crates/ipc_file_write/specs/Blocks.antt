@@ -6,7 +6,7 @@ use Rattle.ipc_devices.specs.declared.fault.Fault.{Fault}
 use Rattle.ipc_devices.specs.declared.fault.Fault.TheVariants.{Argument, Memory}
 use Rattle.ipc_encode.specs.declared.batches.Encoded.{Encoded}
 use Rattle.ipc_chunks.specs.Messages.{Message, message_seen}
-use Rattle.ipc_file_laws.specs.FileBytes.{Sent, all_bytes, block_at, blocks_at, chunk_bytes, sent_bytes}
+use Rattle.ipc_file_lemmas.specs.FileBytes.{Sent, all_bytes, block_at, blocks_at, chunk_bytes, sent_bytes}
 use Rattle.ipc_file_write.specs.declared.blocks.Placed.{Placed}
 
 -- A message as it is sent.

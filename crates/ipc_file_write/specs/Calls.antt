@@ -16,12 +16,12 @@ use Rattle.ipc_write.specs.Meaning.{chunk_written}
 use Rattle.ipc_write.specs.Writers.{fault_unless_new, fault_unless_started}
 use Rattle.ipc_write.specs.declared.calls.StreamCall.{StreamCall}
 use Rattle.ipc_write.specs.declared.calls.StreamCall.TheVariants.{Start, Write, Finish}
-use Rattle.ipc_views.specs.declared.file.Block.{Block}
+use Rattle.ipc_table_views.specs.declared.file.Block.{Block}
 use Rattle.ipc_schema_write.specs.WriterAnswers.{written_head_as}
 use Rattle.ipc_write.specs.declared.stream.WriterState.{WriterState}
 use Rattle.ipc_write.specs.declared.stream.WriterState.TheVariants.{Started, Finished}
-use Rattle.ipc_footers.specs.Footers.{file_written}
-use Rattle.ipc_file_laws.specs.FileBytes.{EndsStreamBehind, IsFile}
+use Rattle.ipc_footer_write.specs.Footers.{file_written}
+use Rattle.ipc_file_lemmas.specs.FileBytes.{EndsStreamBehind, IsFile}
 use Rattle.ipc_file_write.specs.FileWriters.{Agrees, AnswersFinish, AnswersStart, EndsWith, FileSeen, IsSameFile, OrFails, ReachesEnd, RefusesFinish, RefusesStart, Remains, SendsBeginning, SendsEnding, StartsWith, StateComesFirst}
 use Rattle.ipc_file_write.specs.Writes.{Appends, NamesOne, SendsColumns, WritesExactly}
 

@@ -13,7 +13,7 @@ use Rattle.ipc_devices.specs.declared.fault.Fault.{Fault}
 use Rattle.ipc_devices.specs.declared.fault.Fault.TheVariants.{Argument, Io, Memory as NoMemory, State}
 use Rattle.ipc_devices.specs.declared.fault.StateFault.{StateFault}
 use Rattle.ipc_devices.specs.declared.fault.StateFault.TheVariants as faults
-use Rattle.ipc_views.specs.declared.file.Block.{Block}
+use Rattle.ipc_table_views.specs.declared.file.Block.{Block}
 use Rattle.ipc_model.specs.Batches.{Chunk}
 use Rattle.ipc_model.specs.Files.{magic}
 use Rattle.ipc_model.specs.Schemas.{head_of}
@@ -21,8 +21,8 @@ use Rattle.ipc_model.specs.Streams.{Head}
 use Rattle.ipc_model.specs.Writable.{IsWritable, IsWritableFile, file_weight}
 use Rattle.ipc_model.specs.WrittenLaws.{prefix}
 use Rattle.ipc_plan.specs.Sending.{WritesSome}
-use Rattle.ipc_laws.specs.Messages.{message_bytes}
-use Rattle.ipc_laws.specs.Remembered.{Remembered, nothing_remembered}
+use Rattle.ipc_stream_lemmas.specs.Messages.{message_bytes}
+use Rattle.ipc_stream_lemmas.specs.Remembered.{Remembered, nothing_remembered}
 use Rattle.ipc_schema_write.specs.WriterAnswers.{RefusesSchema, byte_order, max_weight, written_head_as}
 use Rattle.ipc_encode.specs.declared.common.EncodedData.{EncodedData}
 use Rattle.ipc_tracker.specs.Trackers.{remembered}
@@ -31,9 +31,9 @@ use Rattle.ipc_write.specs.Sending.{FailsOrIsFull, OnSent}
 use Rattle.ipc_write.specs.Writers.{chosen_ids, fault_unless_new, fault_unless_started}
 use Rattle.ipc_write.specs.declared.stream.WriterState.{WriterState}
 use Rattle.ipc_write.specs.declared.stream.WriterState.TheVariants.{New, Started, Finished, Failed}
-use Rattle.ipc_footers.specs.Footers.{AreFew, RefusesFooter, WritesFooter, file_written, tail_of}
-use Rattle.ipc_file_laws.specs.Appending.{HaveNegative, greatest_end}
-use Rattle.ipc_file_laws.specs.FileBytes.{EndsStreamBehind, HoldsFile, HasStreamBehind, IsFile, file_head}
+use Rattle.ipc_footer_write.specs.Footers.{AreFew, RefusesFooter, WritesFooter, file_written, tail_of}
+use Rattle.ipc_file_lemmas.specs.Appending.{HaveNegative, greatest_end}
+use Rattle.ipc_file_lemmas.specs.FileBytes.{EndsStreamBehind, HoldsFile, HasStreamBehind, IsFile, file_head}
 use Rattle.ipc_file_write.specs.declared.file.FileWriter.{FileWriter}
 use Rattle.ipc_file_write.specs.declared.sending.Ending.{Ending}
 use Rattle.ipc_file_write.specs.declared.writer.Starting.{Starting}

@@ -19,13 +19,13 @@ use Rattle.ipc_devices.specs.declared.fault.Fault.{Fault}
 use Rattle.ipc_devices.specs.declared.fault.Fault.TheVariants.{Argument, Io, Memory as NoMemory}
 use Rattle.ipc_encode.specs.Encoding.{IsEncodable, levels_of}
 use Rattle.ipc_encode.specs.declared.batches.BatchKind.TheVariants.{Record}
-use Rattle.ipc_views.specs.declared.file.Block.{Block}
+use Rattle.ipc_table_views.specs.declared.file.Block.{Block}
 use Rattle.ipc_model.specs.Accepted.{AreBlocks, AreKept, IsAcceptedByFile, IsSayable, body_length, most_blocks, written_bodies}
 use Rattle.ipc_model.specs.Batches.{Chunk}
 use Rattle.ipc_model.specs.Entries.{Dictionaries, dictionary_at}
 use Rattle.ipc_model.specs.Offers.{FilledPlace, offer_of, values_of}
 use Rattle.ipc_plan.specs.Sending.{seen_by}
-use Rattle.ipc_laws.specs.Remembered.{KnowsRemembered}
+use Rattle.ipc_stream_lemmas.specs.Remembered.{KnowsRemembered}
 use Rattle.ipc_tracker.specs.Listings.{ListsUnwritten, ListsAll, RefusesAll, remembering_all}
 use Rattle.ipc_tracker.specs.Trackers.{IsSameMemory}
 use Rattle.ipc_chunks.specs.Lengths.{HaveLengths}
@@ -35,7 +35,7 @@ use Rattle.ipc_write.specs.Sending.{Delivers}
 use Rattle.ipc_write.specs.Writers.{FitTypes, MissesWrite as StreamMisses, RefusesChunk as StreamRefuses, WriterSeen}
 use Rattle.ipc_write.specs.declared.stream.WriterState.{WriterState}
 use Rattle.ipc_write.specs.declared.stream.WriterState.TheVariants.{Failed, Started}
-use Rattle.ipc_file_laws.specs.FileBytes.{Sent, all_bytes, block_at, blocks_at, chunk_bytes}
+use Rattle.ipc_file_lemmas.specs.FileBytes.{Sent, all_bytes, block_at, blocks_at, chunk_bytes}
 use Rattle.ipc_file_write.specs.Blocks.{HasBlocksFrom, RefusesBlockRoom, sent}
 use Rattle.ipc_file_write.specs.FileWriters.{FileSeen, FileStep, HoldsBytes}
 use Rattle.ipc_file_write.specs.declared.blocks.Placed.{Placed}

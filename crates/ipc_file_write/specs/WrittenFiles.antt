@@ -17,7 +17,7 @@ use Rattle.ipc_write.specs.Calls.{ended_as}
 use Rattle.ipc_write.specs.Vectors.{HasNoRoom}
 use Rattle.ipc_write.specs.declared.calls.StreamCall.{StreamCall}
 use Rattle.ipc_write.specs.declared.stream.WriterState.TheVariants.{New, Started, Finished, Failed}
-use Rattle.ipc_footers.specs.Footers.{AreFew}
+use Rattle.ipc_footer_write.specs.Footers.{AreFew}
 use Rattle.ipc_file_write.specs.Calls.{AreMade, vector, writer_seen}
 use Rattle.ipc_file_write.specs.FileWriters.{Agrees, FileSeen, IsEnding, IsFileOf}
 

@@ -7,10 +7,10 @@ ghost use Rattle.ipc_devices.specs.Faults.{OnIo, OwnFault, UnlessIo};
 ghost use Rattle.ipc_devices.specs.declared.fault.Fault.TheVariants.{OutOfSpec};
 ghost use Rattle.ipc_devices.specs.declared.fault.OutOfSpecKind.TheVariants.{UnexpectedNegativeInteger};
 ghost use Rattle.ipc_model.specs.Files.{file_dictionaries};
-ghost use Rattle.ipc_flat_columns.specs.Bodies.{known_dictionaries};
+ghost use Rattle.ipc_read_flat.specs.Bodies.{known_dictionaries};
 ghost use Rattle.ipc_files.specs.Dictionaries.{DictionariesReason, GivesKnown, IsDictionaryBlockFault};
 ghost use Rattle.ipc_files.specs.Footers.{file_seen};
-ghost use Rattle.ipc_file_laws.specs.Appending.{HasNegative, HaveNegative, end_of, goes_on, greatest_end};
+ghost use Rattle.ipc_file_lemmas.specs.Appending.{HasNegative, HaveNegative, end_of, goes_on, greatest_end};
 ghost use Rattle.ipc_file_write.specs.FileWriters.{scratches_of, seen};
 ghost use Rattle.ipc_file_write.specs.Appends.{AreEmptyScratches, CanBeWritten, DeviceFails, GoesOn, GoesOnAgain, GoesOnWith, MayGoOn, OpensFile, RefusesFile, RefusesNoWhole, RefusesToGoOn, resumed};
 
@@ -20,11 +20,11 @@ use ipc_devices::fault::{ArgFault, Fault, OutOfSpecKind};
 use ipc_devices::{Reads, Seeks, Writes};
 use ipc_encode::common::{EncodedData, WriteOptions};
 use ipc_files::read::file::{FileMetadata, read_file_dictionaries};
-use ipc_footers::weights::is_light;
+use ipc_footer_write::weights::is_light;
 use ipc_read::read::Dictionaries;
 use ipc_schema_write::schema::serialize_schema;
 use ipc_tracker::DictionaryTracker;
-use ipc_views::Block;
+use ipc_table_views::Block;
 use ipc_write::stream::WriterState;
 use std::alloc::Global;
 

@@ -1,7 +1,7 @@
 //! The blocks of a chunk's messages: the struct `Block` of Arrow's `File.fbs`.
 ghost use Rattle.std.specs.Prelude.{◌≡◌, ◌+◌, ◌^◌, ◌<◌, ◌≤◌, ◌++◌, ◌∷◌, [], All, IfErr, IfOk, MatchBool, OnOk, length, map, vec_capacity, vec_len};
 ghost use Rattle.ipc_model.specs.Accepted.{most_blocks};
-ghost use Rattle.ipc_file_laws.specs.FileBytes.{all_bytes, block_at, blocks_at, sent_bytes};
+ghost use Rattle.ipc_file_lemmas.specs.FileBytes.{all_bytes, block_at, blocks_at, sent_bytes};
 ghost use Rattle.ipc_chunks.specs.Messages.{HaveWholeBodies, HasWholeBody};
 ghost use Rattle.ipc_file_write.specs.Blocks.{HasBlocksFrom, RefusesPlace, RefusesBlockRoom, sent_seen};
 ghost use Rattle.ipc_file_write.specs.Writes.{RefusesRoom};
@@ -9,8 +9,8 @@ ghost use Rattle.ipc_file_write.specs.Writes.{RefusesRoom};
 use ipc_chunks::messages::Messages;
 use ipc_devices::fault::{ArgFault, Fault};
 use ipc_encode::batches::Encoded;
-use ipc_footers::footer::MAX_BLOCKS;
-use ipc_views::Block;
+use ipc_footer_write::footer::MAX_BLOCKS;
+use ipc_table_views::Block;
 use std::alloc::Global;
 
 // Whether the end offset of a message fits into an `i64`.

@@ -9,8 +9,8 @@ ghost use Rattle.ipc_chunks.specs.Messages.{AreSendable};
 ghost use Rattle.ipc_write.specs.Messages.{all_seen, messages_bytes};
 ghost use Rattle.ipc_write.specs.Sending.{Delivers};
 ghost use Rattle.ipc_write.specs.declared.stream.WriterState.TheVariants.{Failed};
-ghost use Rattle.ipc_footers.specs.Footers.{tail_of};
-ghost use Rattle.ipc_file_laws.specs.FileBytes.{file_head};
+ghost use Rattle.ipc_footer_write.specs.Footers.{tail_of};
+ghost use Rattle.ipc_file_lemmas.specs.FileBytes.{file_head};
 ghost use Rattle.ipc_file_write.specs.FileWriters.{ending_bytes};
 ghost use Rattle.ipc_file_write.specs.Writes.{HandsChunk};
 

@@ -4,11 +4,11 @@ use Rattle.lower.specs.declared.datatypes.Field.{Field}
 use Rattle.ipc_devices.proofs.Claims.{claims_through}
 use Rattle.ipc_devices.specs.Faults.{OwnFault}
 use Rattle.ipc_devices.specs.declared.fault.Fault.{Fault}
-use Rattle.ipc_views.specs.Spot.{Spot}
-use Rattle.ipc_views.specs.Unions.{header_parts}
-use Rattle.ipc_views.specs.declared.file.Block.{Block}
-use Rattle.ipc_views.specs.declared.message.MessageHeaderRef.{MessageHeaderRef}
-use Rattle.ipc_views.specs.declared.message.MessageHeaderRef.TheVariants as headers
+use Rattle.ipc_table_views.specs.Spot.{Spot}
+use Rattle.ipc_table_views.specs.Unions.{header_parts}
+use Rattle.ipc_table_views.specs.declared.file.Block.{Block}
+use Rattle.ipc_table_views.specs.declared.message.MessageHeaderRef.{MessageHeaderRef}
+use Rattle.ipc_table_views.specs.declared.message.MessageHeaderRef.TheVariants as headers
 use Rattle.ipc_model.specs.Batches.{Schema, Body, dictionary_meaning, extra_of}
 use Rattle.ipc_model.specs.Entries.{Dictionaries}
 use Rattle.ipc_model.specs.Files.{Placed, BlockHeader, placed, block_header, body_at, dictionaries_with, dictionaries_at}

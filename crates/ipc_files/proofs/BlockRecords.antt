@@ -7,11 +7,11 @@ use Rattle.lower_arrays.specs.declared.array.AnyArray.{AnyArray}
 use Rattle.ipc_devices.proofs.Claims.{claims_through}
 use Rattle.ipc_devices.specs.Faults.{OwnFault}
 use Rattle.ipc_devices.specs.declared.fault.Fault.{Fault}
-use Rattle.ipc_views.specs.Spot.{Spot}
-use Rattle.ipc_views.specs.Unions.{header_parts}
-use Rattle.ipc_views.specs.declared.file.Block.{Block}
-use Rattle.ipc_views.specs.declared.message.MessageHeaderRef.{MessageHeaderRef}
-use Rattle.ipc_views.specs.declared.message.MessageHeaderRef.TheVariants as headers
+use Rattle.ipc_table_views.specs.Spot.{Spot}
+use Rattle.ipc_table_views.specs.Unions.{header_parts}
+use Rattle.ipc_table_views.specs.declared.file.Block.{Block}
+use Rattle.ipc_table_views.specs.declared.message.MessageHeaderRef.{MessageHeaderRef}
+use Rattle.ipc_table_views.specs.declared.message.MessageHeaderRef.TheVariants as headers
 use Rattle.ipc_model.specs.Batches.{Schema, Body, Chunk, record_meaning, batch, extra_of}
 use Rattle.ipc_model.specs.Entries.{Dictionaries, Limit}
 use Rattle.ipc_model.specs.Files.{Placed, BlockHeader, placed, block_header, body_at, front_metadata, metadata_at, record_with, chunk_at, file_chunk}

@@ -5,8 +5,8 @@ use Rattle.std.specs.Prelude.{MatchOption}
 use Rattle.ipc_devices.proofs.Claims.{claims_own, claims_through}
 use Rattle.ipc_devices.specs.Faults.{OwnFault}
 use Rattle.ipc_devices.specs.declared.fault.Fault.{Fault}
-use Rattle.ipc_views.specs.declared.file.Block.{Block}
-use Rattle.ipc_laws.specs.Agreement.{KnowAlike, AreAlike}
+use Rattle.ipc_table_views.specs.declared.file.Block.{Block}
+use Rattle.ipc_stream_lemmas.specs.Agreement.{KnowAlike, AreAlike}
 use Rattle.ipc_model.specs.Entries.{Dictionaries}
 use Rattle.ipc_model.specs.Files.{FileMetadata, dictionaries_at}
 use Rattle.ipc_files.specs.Dictionaries.{DictionariesReason, DictionaryReason}

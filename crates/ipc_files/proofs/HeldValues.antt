@@ -10,10 +10,10 @@ use Rattle.std.specs.declared.rc.Rc.{Rc}
 use Rattle.lower_arrays.specs.Held.{held}
 use Rattle.lower_arrays.specs.Layouts.{Layout}
 use Rattle.lower_arrays.specs.declared.array.AnyArray.{AnyArray}
-use Rattle.ipc_views.specs.declared.file.Block.{Block}
+use Rattle.ipc_table_views.specs.declared.file.Block.{Block}
 use Rattle.ipc_model.specs.Batches.{Schema}
 use Rattle.ipc_model.specs.Files.{BlockHeader, block_header}
-use Rattle.ipc_flat_columns.specs.Bodies.{array_found, array_under}
+use Rattle.ipc_read_flat.specs.Bodies.{array_found, array_under}
 use Rattle.ipc_files.proofs.NeededValues.{take_none, take_next}
 use Rattle.ipc_files.specs.Batches.{block_metadata}
 use Rattle.ipc_files.specs.Dictionaries.{HoldsHeader, IsListedBy, IsListedByOne, ListsValues}

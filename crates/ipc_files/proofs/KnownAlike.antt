@@ -5,9 +5,9 @@ use Rattle.std.proofs.lemmas.List.{drop_all}
 use Rattle.ipc_devices.proofs.Claims.{claims_through}
 use Rattle.ipc_devices.specs.Faults.{OwnFault, Answers}
 use Rattle.ipc_devices.specs.declared.fault.Fault.{Fault}
-use Rattle.ipc_views.specs.declared.file.Block.{Block}
-use Rattle.ipc_laws.proofs.Readers.{alike_dictionary_law}
-use Rattle.ipc_laws.specs.Agreement.{KnowAlike, AreAlike}
+use Rattle.ipc_table_views.specs.declared.file.Block.{Block}
+use Rattle.ipc_stream_lemmas.proofs.Readers.{alike_dictionary_law}
+use Rattle.ipc_stream_lemmas.specs.Agreement.{KnowAlike, AreAlike}
 use Rattle.ipc_model.specs.Batches.{Body, dictionary_meaning}
 use Rattle.ipc_model.specs.Entries.{Dictionaries}
 use Rattle.ipc_model.specs.Files.{FileMetadata, BlockHeader, placed, metadata_at, block_header, body_at, dictionaries_at, dictionaries_after, all_of}

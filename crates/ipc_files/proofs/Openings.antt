@@ -5,7 +5,7 @@ use Rattle.ipc_devices.proofs.Claims.{claims_through}
 use Rattle.ipc_devices.specs.Device.{Memory, after}
 use Rattle.ipc_devices.specs.Faults.{OwnFault}
 use Rattle.ipc_devices.specs.declared.fault.Fault.{Fault}
-use Rattle.ipc_views.specs.Tables.{root_at}
+use Rattle.ipc_table_views.specs.Tables.{root_at}
 use Rattle.ipc_model.specs.Files.{FileMetadata as Meaning, footer_at, last, magic, metadata_of}
 use Rattle.ipc_model.specs.Schemas.{made, given}
 use Rattle.ipc_files.specs.declared.read.file.metadata.FileMetadata.{FileMetadata}

@@ -10,7 +10,7 @@ use Rattle.ipc_devices.specs.Faults.{OwnFault}
 use Rattle.ipc_devices.specs.declared.fault.Fault.{Fault}
 use Rattle.ipc_devices.specs.declared.fault.Fault.TheVariants as faults
 use Rattle.ipc_devices.specs.declared.fault.OutOfSpecKind.TheVariants.{InvalidFooter, NegativeFooterLength}
-use Rattle.ipc_views.specs.Tables.{root_at}
+use Rattle.ipc_table_views.specs.Tables.{root_at}
 use Rattle.ipc_model.specs.Files.{last, magic}
 use Rattle.ipc_files.specs.Files.{FileReason, FooterGiven, GivesFooter, HeadReason, TailReason, feather, footer_bytes, footer_length}
 use Rattle.ipc_files.specs.Footers.{RootFault}

@@ -5,7 +5,7 @@ use Rattle.std.proofs.lemmas.Slice.Eq.{bytes_eq-Decides}
 use Rattle.std.proofs.lemmas.List.{take_all, drop-drop, length-drop, length-take-le}
 use Rattle.ipc_devices.specs.declared.fault.Fault.TheVariants.{OutOfSpec}
 use Rattle.ipc_devices.specs.declared.fault.OutOfSpecKind.TheVariants.{InvalidFooter, NegativeFooterLength}
-use Rattle.ipc_views.specs.Tables.{root_at}
+use Rattle.ipc_table_views.specs.Tables.{root_at}
 use Rattle.ipc_model.proofs.Given.{some-same}
 use Rattle.ipc_model.specs.Files.{FileMetadata, footer_at, last, magic, metadata_of}
 use Rattle.ipc_model.specs.Schemas.{made, given}

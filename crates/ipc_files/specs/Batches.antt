@@ -6,10 +6,10 @@ use Rattle.lower_arrays.specs.declared.array.AnyArray.{AnyArray}
 use Rattle.ipc_devices.specs.declared.fault.Fault.{Fault}
 use Rattle.ipc_devices.specs.declared.fault.Fault.TheVariants.{OutOfSpec}
 use Rattle.ipc_devices.specs.declared.fault.OutOfSpecKind.TheVariants.{NegativeFooterLength, UnexpectedNegativeInteger, UnexpectedMessageType}
-use Rattle.ipc_views.specs.Spot.{Spot}
-use Rattle.ipc_views.specs.declared.file.Block.{Block}
-use Rattle.ipc_views.specs.declared.message.MessageHeaderRef.{MessageHeaderRef}
-use Rattle.ipc_views.specs.declared.message.MessageHeaderRef.TheVariants.{RecordBatch}
+use Rattle.ipc_table_views.specs.Spot.{Spot}
+use Rattle.ipc_table_views.specs.declared.file.Block.{Block}
+use Rattle.ipc_table_views.specs.declared.message.MessageHeaderRef.{MessageHeaderRef}
+use Rattle.ipc_table_views.specs.declared.message.MessageHeaderRef.TheVariants.{RecordBatch}
 use Rattle.ipc_model.specs.Batches.{kinds, lists_of}
 use Rattle.ipc_model.specs.Files.{BlockHeader, FileMetadata, block_header, metadata_at, placed}
 use Rattle.ipc_model.specs.Kinds.{Kinds}

@@ -7,12 +7,12 @@ use Rattle.ipc_devices.specs.declared.fault.Fault.TheVariants.{Ended, OutOfSpec}
 use Rattle.ipc_devices.specs.declared.fault.OutOfSpecKind.{OutOfSpecKind}
 use Rattle.ipc_devices.specs.declared.fault.OutOfSpecKind.TheVariants.{InvalidFlatbufferMessage, MissingMessageHeader, InvalidFlatbufferHeader, InvalidFlatbufferVersion, UnexpectedMessageType}
 use Rattle.ipc_devices.specs.declared.fault.TableFault.{TableFault}
-use Rattle.ipc_views.specs.MessageSlots.{message_header, message_version}
-use Rattle.ipc_views.specs.Spot.{Spot}
-use Rattle.ipc_views.specs.Tables.{root_at}
-use Rattle.ipc_views.specs.Unions.{header_parts}
-use Rattle.ipc_views.specs.declared.file.Block.{Block}
-use Rattle.ipc_views.specs.declared.schema.MetadataVersion.{MetadataVersion}
+use Rattle.ipc_table_views.specs.MessageSlots.{message_header, message_version}
+use Rattle.ipc_table_views.specs.Spot.{Spot}
+use Rattle.ipc_table_views.specs.Tables.{root_at}
+use Rattle.ipc_table_views.specs.Unions.{header_parts}
+use Rattle.ipc_table_views.specs.declared.file.Block.{Block}
+use Rattle.ipc_table_views.specs.declared.schema.MetadataVersion.{MetadataVersion}
 use Rattle.ipc_model.specs.Batches.{extra_of}
 use Rattle.ipc_model.specs.Files.{BlockHeader, Placed, placed}
 use Rattle.ipc_model.specs.Frame.{Frame, message, mark, waiting, broken, frame, sized, word}

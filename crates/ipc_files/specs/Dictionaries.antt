@@ -7,14 +7,14 @@ use Rattle.ipc_devices.specs.Faults.{OwnFault}
 use Rattle.ipc_devices.specs.declared.fault.Fault.{Fault}
 use Rattle.ipc_devices.specs.declared.fault.Fault.TheVariants.{OutOfSpec}
 use Rattle.ipc_devices.specs.declared.fault.OutOfSpecKind.TheVariants.{NegativeFooterLength, UnexpectedNegativeInteger, UnexpectedMessageType}
-use Rattle.ipc_views.specs.Spot.{Spot}
-use Rattle.ipc_views.specs.declared.file.Block.{Block}
-use Rattle.ipc_views.specs.declared.message.MessageHeaderRef.{MessageHeaderRef}
-use Rattle.ipc_views.specs.declared.message.MessageHeaderRef.TheVariants.{DictionaryBatch}
+use Rattle.ipc_table_views.specs.Spot.{Spot}
+use Rattle.ipc_table_views.specs.declared.file.Block.{Block}
+use Rattle.ipc_table_views.specs.declared.message.MessageHeaderRef.{MessageHeaderRef}
+use Rattle.ipc_table_views.specs.declared.message.MessageHeaderRef.TheVariants.{DictionaryBatch}
 use Rattle.ipc_model.specs.Batches.{Schema}
 use Rattle.ipc_model.specs.Entries.{Dictionaries}
 use Rattle.ipc_model.specs.Files.{BlockHeader, FileMetadata, block_header, dictionaries_at}
-use Rattle.ipc_laws.specs.Agreement.{AreAlike}
+use Rattle.ipc_stream_lemmas.specs.Agreement.{AreAlike}
 use Rattle.ipc_files.specs.Batches.{RefusedGiven, block_metadata}
 use Rattle.ipc_files.specs.Blocks.{IsFrameFault, IsHeaderFault, MessageReason, block_message}
 use Rattle.ipc_read.specs.DictionaryBatches.{BlamesDictionary, IsDictionaryFault, dictionary_head, values_listed, TellsValues}

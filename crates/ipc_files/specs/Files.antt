@@ -11,7 +11,7 @@ use Rattle.ipc_devices.specs.declared.fault.Fault.TheVariants.{Ended, NotYetImpl
 use Rattle.ipc_devices.specs.declared.fault.Nyi.TheVariants.{FeatherV1}
 use Rattle.ipc_devices.specs.declared.fault.OutOfSpecKind.TheVariants.{InvalidHeader, InvalidFooter, NegativeFooterLength, InvalidFlatbufferFooter, MissingRecordBatches, InvalidFlatbufferRecordBatches, MissingSchema, InvalidFlatbufferSchema, MissingFields, InvalidFlatbufferDictionaries}
 use Rattle.ipc_devices.specs.declared.fault.SchemaFault.TheVariants.{NotASchema}
-use Rattle.ipc_views.specs.Tables.{root_at}
+use Rattle.ipc_table_views.specs.Tables.{root_at}
 use Rattle.ipc_model.specs.Files.{FileMetadata, footer_at, last, magic, metadata_of}
 use Rattle.ipc_model.specs.Schemas.{made, given}
 use Rattle.ipc_files.specs.Footers.{RootFault}

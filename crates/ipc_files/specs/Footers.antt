@@ -9,10 +9,10 @@ use Rattle.ipc_devices.specs.declared.fault.OutOfSpecKind.TheVariants.{InvalidFl
 use Rattle.ipc_devices.specs.declared.fault.SchemaFault.TheVariants.{NotASchema}
 use Rattle.ipc_devices.specs.declared.fault.TableFault.{TableFault}
 use Rattle.lower.specs.TypeViews.{pairs_of}
-use Rattle.ipc_views.specs.FileSlots.{footer_schema, footer_dictionaries, footer_record_batches, footer_custom_metadata}
-use Rattle.ipc_views.specs.SchemaSlots.{schema_fields}
-use Rattle.ipc_views.specs.Spot.{Spot}
-use Rattle.ipc_views.specs.declared.file.Block.{Block}
+use Rattle.ipc_table_views.specs.FileSlots.{footer_schema, footer_dictionaries, footer_record_batches, footer_custom_metadata}
+use Rattle.ipc_table_views.specs.SchemaSlots.{schema_fields}
+use Rattle.ipc_table_views.specs.Spot.{Spot}
+use Rattle.ipc_table_views.specs.declared.file.Block.{Block}
 use Rattle.ipc_schema.specs.Views.{schema_seen}
 use Rattle.ipc_model.specs.Files.{FileMetadata as Meaning, or_no_blocks}
 use Rattle.ipc_model.specs.Schemas.{made, present, given, pairs_at, schema_at}

@@ -4,8 +4,8 @@ use Rattle.std.specs.Option.{option_map, option_and_then}
 use Rattle.lower.specs.TypeTrees.{FieldTrees}
 use Rattle.lower_arrays.specs.Slots.{Slot}
 use Rattle.ipc_devices.specs.declared.fault.TableFault.{TableFault}
-use Rattle.ipc_views.specs.Spot.{Spot}
-use Rattle.ipc_views.specs.MessageSlots.{dictionary_batch_id, dictionary_batch_data, dictionary_batch_is_delta}
+use Rattle.ipc_table_views.specs.Spot.{Spot}
+use Rattle.ipc_table_views.specs.MessageSlots.{dictionary_batch_id, dictionary_batch_data, dictionary_batch_is_delta}
 use Rattle.ipc_model.proofs.AgreeColumns.{test_same, column_same}
 use Rattle.ipc_model.proofs.AgreePlaces.{chosen_agree, fields_agree, AgreeInside, fields_inside, values_agree, of_place, more_agree}
 use Rattle.ipc_model.specs.AgreeLaws.{AgreeForChosen, AgreeIn, by_dictionaries, BatchAgreeLaw, RecordAgreeLaw, GainSame, DictionaryAgreeLaw, KnowSame, ItemSame, ItemAgreeLaw, MeanSame, StreamAgreeLaw, BlockAgreeLaw, DictionaryBlockAgreeLaw}

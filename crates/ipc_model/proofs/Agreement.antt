@@ -4,7 +4,7 @@ use Rattle.std.specs.List.{fold, sum_by, list_all, AllByRecursion}
 use Rattle.lower.specs.TypeTrees.{FieldTrees}
 use Rattle.lower_types.specs.declared.Endianness.{Endianness}
 use Rattle.lower_arrays.specs.Slots.{Slot}
-use Rattle.ipc_views.specs.declared.schema.Buffer.{Buffer}
+use Rattle.ipc_table_views.specs.declared.schema.Buffer.{Buffer}
 use Rattle.ipc_model.specs.Kinds.{Kind, Kinds, count, all_nodes, all_buffers, buffers}
 use Rattle.ipc_model.specs.Entries.{Entries, Part, size, part_at, Dictionaries, Limit, rows}
 use Rattle.ipc_model.specs.Columns.{column}

@@ -2,8 +2,8 @@
 use Rattle.std.proofs.Common.{refl}
 use Rattle.std.specs.Str.{is_utf8, chars}
 use lib.Utf8.{encode}
-use Rattle.ipc_views.specs.Tables.{number_at, table_at, slot_at, spot_at, target_at, text_at, vector_at, table_in}
-use Rattle.ipc_views.specs.Structs.{structs_at, signed32, signed64}
+use Rattle.ipc_table_views.specs.Tables.{number_at, table_at, slot_at, spot_at, target_at, text_at, vector_at, table_in}
+use Rattle.ipc_table_views.specs.Structs.{structs_at, signed32, signed64}
 use Rattle.ipc_model.specs.Frame.{frame, sized, marked}
 use Rattle.ipc_model.specs.Batches.{lists_of, entries_of, batch, record_meaning, dictionary_meaning}
 use Rattle.ipc_model.specs.Streams.{header_of, body_item, item, meant_within, meaning}

@@ -9,7 +9,7 @@ use Rattle.lower_types.specs.NumberTypes.{width_of, number_in}
 use Rattle.lower_types.specs.declared.PrimitiveType.{PrimitiveType}
 use Rattle.lower_types.specs.declared.PrimitiveType.TheVariants.{Int8, Int32}
 use Rattle.lower_arrays.specs.Slots.{Slot, null_slot, list_slot, slots_of}
-use Rattle.ipc_views.specs.declared.message.FieldNode.{FieldNode}
+use Rattle.ipc_table_views.specs.declared.message.FieldNode.{FieldNode}
 use Rattle.lower_types.specs.Numbers.{unsigned_in}
 use Rattle.ipc_model.proofs.Prefixes.{unsigned_at-append, number_at-append, bit-append, slice-append}
 use Rattle.ipc_model.proofs.Limits.{kept_high, last_kept, stored_kept, offset_up}

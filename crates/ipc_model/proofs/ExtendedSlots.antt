@@ -4,7 +4,7 @@ use Rattle.std.specs.List.{range_with_len}
 use Rattle.std.proofs.Math.Nat.{mul-le-mul_left}
 use Rattle.lower.specs.declared.datatypes.UnionMode.TheVariants.{Sparse, Dense}
 use Rattle.lower_arrays.specs.Slots.{null_slot, truth_slot, number_slot, bytes_slot, text_slot, list_slot, record_slot, variant_slot, more_slots}
-use Rattle.ipc_views.specs.declared.message.FieldNode.{FieldNode}
+use Rattle.ipc_table_views.specs.declared.message.FieldNode.{FieldNode}
 use Rattle.ipc_model.proofs.Extended.{shift, narrow, node_here, part_here, next_part, further_part, further, rows_same, bit_longer, number_longer, slice_longer, valid_same, masked_same, bytes_same, list_same, range_same, between_same, type_same, child_same, place_same, index_size, well_longer}
 use Rattle.ipc_model.proofs.Needs.{node_law}
 use Rattle.ipc_model.specs.Numbers.{integer_of}

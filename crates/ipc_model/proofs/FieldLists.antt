@@ -2,8 +2,8 @@
 use Rattle.std.proofs.Common.{◌≡◌, ℕ, zero, suc, ◌+◌, ◌<◌, ◌≤◌, Option, Some, Ok, refl, ap, sym, ◌∙◌, arith}
 use Rattle.lower.specs.TypeTrees.{FieldTree, FieldTrees, no_fields, more_fields}
 use Rattle.ipc_base.specs.IdTrees.{no_ids, more_ids}
-use Rattle.ipc_views.specs.Spot.{Spot, Vector}
-use Rattle.ipc_views.specs.Tables.{table_in}
+use Rattle.ipc_table_views.specs.Spot.{Spot, Vector}
+use Rattle.ipc_table_views.specs.Tables.{table_in}
 use Rattle.ipc_model.proofs.Given.{given-some, map-some, made-some, some-same}
 use Rattle.ipc_model.specs.FieldLists.{and_field, and_read}
 use Rattle.ipc_model.specs.Schemas.{Read, ReadAll, made, field_count, fields_count, fields_from}

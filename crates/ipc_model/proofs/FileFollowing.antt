@@ -1,7 +1,7 @@
 -- The blocks of files that have bytes after them.
 use Rattle.std.proofs.Common.{◌≡◌, ℕ, zero, suc, ◌≤◌, nat_eq, Bool, true, false, cond, List, [], ◌∷◌, ◌++◌, map, drop, slice_get, Option, None, Some, refl, ap, ◌∙◌}
 use Rattle.std.specs.Option.{option_and_then}
-use Rattle.ipc_views.specs.declared.file.Block.{Block}
+use Rattle.ipc_table_views.specs.declared.file.Block.{Block}
 use Rattle.ipc_model.proofs.Followed.{record_follow_law, dictionary_follow_law}
 use Rattle.ipc_model.proofs.Given.{given-some, then-some}
 use Rattle.ipc_model.proofs.Frames.{frame_append}

@@ -7,9 +7,9 @@ use Rattle.lower.specs.TypeTrees.{FieldTrees}
 use Rattle.lower_arrays.specs.Slots.{Slot}
 use Rattle.lower_types.specs.declared.Endianness.{Endianness}
 use Rattle.ipc_devices.specs.declared.fault.TableFault.{TableFault}
-use Rattle.ipc_views.specs.Spot.{Spot}
-use Rattle.ipc_views.specs.MessageSlots.{dictionary_batch_id, dictionary_batch_data, dictionary_batch_is_delta}
-use Rattle.ipc_views.specs.declared.schema.Buffer.{Buffer}
+use Rattle.ipc_table_views.specs.Spot.{Spot}
+use Rattle.ipc_table_views.specs.MessageSlots.{dictionary_batch_id, dictionary_batch_data, dictionary_batch_is_delta}
+use Rattle.ipc_table_views.specs.declared.schema.Buffer.{Buffer}
 use Rattle.ipc_model.proofs.Given.{then-some}
 use Rattle.ipc_model.proofs.Agreement.{own_parts, lengths_same, total_same, count_same}
 use Rattle.ipc_model.proofs.ExtendedSlots.{extend_law}

@@ -10,10 +10,10 @@ use Rattle.lower.specs.declared.datatypes.physical_type.PhysicalType.TheVariants
 use Rattle.lower_types.specs.declared.PrimitiveType.{PrimitiveType}
 use Rattle.lower_types.specs.declared.PrimitiveType.TheVariants.{Int64}
 use Rattle.lower_arrays.specs.Children.{child_fields, field_type, ChildTypes}
-use Rattle.lower_rules.specs.Ids.{union_mode, OffsetsGiven}
+use Rattle.lower_validation.specs.Ids.{union_mode, OffsetsGiven}
 use Rattle.lower_arrays.specs.Cuts.{cut_parts, cut_validity}
 use Rattle.lower_arrays.specs.Layouts.{Parts, nothing, truths, numbers, fixed_bytes, bytes, texts, lists, fixed_lists, maps, records, choices, keys, Level, Layout, layout, Layouts, no_layouts, more_layouts, len_of, type_of}
-use Rattle.lower_rules.specs.ListTypes.{list_with}
+use Rattle.lower_validation.specs.ListTypes.{list_with}
 use Rattle.lower_arrays.specs.Slots.{PartsFit, AreArrays, IsArray}
 use Rattle.ipc_model.specs.Offers.{slots_along, levels_along, written_levels, levels_below, buffer_lengths, body_lengths, HaveEntries, EntryCountLaw}
 

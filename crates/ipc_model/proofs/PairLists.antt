@@ -1,8 +1,8 @@
 -- The pairs of a vector of their tables, one after another.
 use Rattle.std.proofs.Common.{◌≡◌, ℕ, suc, ◌+◌, ◌-◌, ◌<◌, Some, None, Ok, refl, arith}
 use Rattle.lower.specs.TypeTrees.{Pairs}
-use Rattle.ipc_views.specs.Spot.{Spot, Vector}
-use Rattle.ipc_views.specs.Tables.{table_in}
+use Rattle.ipc_table_views.specs.Spot.{Spot, Vector}
+use Rattle.ipc_table_views.specs.Tables.{table_in}
 use Rattle.ipc_model.specs.Schemas.{pairs_from, with_key_value}
 
 one-more : (k count : ℕ) → k < count → count - k ≡ suc (count - (k + 1))

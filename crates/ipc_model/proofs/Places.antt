@@ -2,9 +2,9 @@
 use Rattle.std.proofs.Common.{◌≡◌, ℕ, ◌+◌, Bool, true, false, cond, List, Option, Some, None, Result, Ok, Err, nat_eq, nat_lt, refl, ap, sym, ◌∙◌}
 use Rattle.ipc_devices.specs.declared.fault.TableFault.{TableFault}
 use Rattle.ipc_devices.specs.declared.fault.TableFault.TheVariants.{UnknownTag}
-use Rattle.ipc_views.specs.Spot.{Spot}
-use Rattle.ipc_views.specs.MessageSlots.{message_header}
-use Rattle.ipc_views.specs.Tables.{Opened, and_then, map_ok, number_at, number_slot, of_slot, present, root_at, slot_at, spot_at, table_at, table_slot, target_at, union_slot}
+use Rattle.ipc_table_views.specs.Spot.{Spot}
+use Rattle.ipc_table_views.specs.MessageSlots.{message_header}
+use Rattle.ipc_table_views.specs.Tables.{Opened, and_then, map_ok, number_at, number_slot, of_slot, present, root_at, slot_at, spot_at, table_at, table_slot, target_at, union_slot}
 
 then-ok : {A B : Type 0} (r : Result A TableFault) (f : A → Result B TableFault) (y : B) → and_then r f ≡ Ok y → (x : A) × (f x ≡ Ok y)
 then-ok (Ok x) f y e = (x, e)

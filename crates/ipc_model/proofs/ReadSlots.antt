@@ -13,8 +13,8 @@ use Rattle.lower.specs.declared.datatypes.UnionMode.TheVariants.{Sparse, Dense}
 use Rattle.lower_types.specs.NumberTypes.{whole, width_of, number_in}
 use Rattle.lower_types.specs.declared.PrimitiveType.{PrimitiveType}
 use Rattle.lower_types.specs.declared.PrimitiveType.TheVariants.{Int8, Int32}
-use Rattle.lower_rules.specs.Ids.{place_among, child_number}
-use Rattle.lower_rules.specs.Keys.{place_of}
+use Rattle.lower_validation.specs.Ids.{place_among, child_number}
+use Rattle.lower_validation.specs.Keys.{place_of}
 use Rattle.lower_arrays.specs.Children.{child_fields}
 use Rattle.lower_arrays.specs.Layouts.{Layout, len_of}
 use Rattle.lower_arrays.specs.Slots.{Slot, null_slot, truth_slot, number_slot, bytes_slot, text_slot, list_slot, record_slot, variant_slot, more_slots, slots_of, slot_where, slots_from, list_at as array_list, each_at, slot_at as array_slot, children_at, slots, part, is_valid as array_valid}

@@ -2,8 +2,8 @@
 use Rattle.std.proofs.Common.{refl}
 use Rattle.std.specs.Str.{is_utf8, chars}
 use lib.Utf8.{encode}
-use Rattle.ipc_views.specs.Tables.{number_at, table_at, slot_at, spot_at, target_at, text_at, vector_at, table_in}
-use Rattle.ipc_views.specs.Structs.{structs_at, signed32, signed64}
+use Rattle.ipc_table_views.specs.Tables.{number_at, table_at, slot_at, spot_at, target_at, text_at, vector_at, table_in}
+use Rattle.ipc_table_views.specs.Structs.{structs_at, signed32, signed64}
 use Rattle.ipc_model.specs.Schemas.{integer_at, decimal_at, plain_at, single_at, group_at, pairs_at, encoding_at, field_from, field_at, schema_at, schema_of, head_of}
 use Rattle.ipc_model.specs.SchemaRows.{IntegerRows, PlainRows, TimeRows, SizeRows, ChildRows, EncodingRows, FieldRows, LevelRows, LastLevelRows, PastLevelRows}
 

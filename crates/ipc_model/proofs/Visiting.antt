@@ -1,7 +1,7 @@
 -- The visits of a schema that is read.
 use Rattle.std.proofs.Common.{◌≡◌, ℕ, ◌≤◌, nat_le, Bool, true, false, cond, None, Some, length, refl, subst}
 use Rattle.std.proofs.lemmas.Bool.{leb-true}
-use Rattle.ipc_views.specs.SchemaSlots.{schema_endianness, schema_fields, schema_custom_metadata}
+use Rattle.ipc_table_views.specs.SchemaSlots.{schema_endianness, schema_fields, schema_custom_metadata}
 use Rattle.lower.specs.TypeTrees.{Pairs}
 use Rattle.lower_types.specs.declared.Endianness.{Endianness}
 use Rattle.ipc_model.proofs.Given.{given-some}

@@ -13,7 +13,7 @@ use Rattle.lower_types.specs.declared.Endianness.{Endianness}
 use Rattle.lower_types.specs.declared.PrimitiveType.{PrimitiveType}
 use Rattle.lower_types.specs.declared.PrimitiveType.TheVariants.{Int8}
 use Rattle.lower_arrays.specs.Slots.{Slot, null_slot, number_slot}
-use Rattle.ipc_views.specs.declared.message.FieldNode.{FieldNode}
+use Rattle.ipc_table_views.specs.declared.message.FieldNode.{FieldNode}
 use Rattle.ipc_base.specs.IdTrees.{IdTrees}
 use Rattle.ipc_model.proofs.Addresses.{own_node, address_law}
 use Rattle.ipc_model.proofs.Pruned.{batch_is, read_first}

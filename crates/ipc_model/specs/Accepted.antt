@@ -9,7 +9,7 @@ use Rattle.std.specs.List.{AllByRecursion, sum_by}
 use Rattle.lower.specs.Normal.{norm}
 use Rattle.lower.specs.TypeTrees.{TypeTree, field, FieldTrees, no_fields, more_fields}
 use Rattle.ipc_base.specs.IdTrees.{IdTrees}
-use Rattle.ipc_views.specs.declared.file.Block.{Block}
+use Rattle.ipc_table_views.specs.declared.file.Block.{Block}
 use Rattle.ipc_model.specs.Batches.{Chunk, field_type}
 use Rattle.ipc_model.specs.Entries.{IsSize, size, Dictionary, Dictionaries, dictionary_at}
 use Rattle.ipc_model.specs.Writable.{IsWritable}

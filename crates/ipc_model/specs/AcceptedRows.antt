@@ -4,7 +4,7 @@ use Rattle.std.specs.Prelude.{◌≡◌, ℕ, ℤ, pos, ◌+◌, ◌-◌, ◌^�
 use Rattle.lower.specs.Normal.{data_key}
 use Rattle.lower.specs.TypeTrees.{Pairs, TypeTree, FieldTrees, int32, float64, utf8, list, plain, single, field, no_fields, more_fields}
 use Rattle.ipc_base.specs.IdTrees.{ids, IdTrees, no_ids, more_ids}
-use Rattle.ipc_views.specs.declared.file.Block.{Block}
+use Rattle.ipc_table_views.specs.declared.file.Block.{Block}
 use Rattle.lower_arrays.specs.Slots.{Slot}
 use Rattle.ipc_model.specs.Accepted.{Brought, Offer, body_length, IsAccepted, IsAcceptedByFile, fields_of, MayBeEncoded}
 use Rattle.ipc_model.specs.Batches.{Column}

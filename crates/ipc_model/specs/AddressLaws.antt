@@ -2,7 +2,7 @@
 -- bodies with more bytes after them.
 -- (Arrow columnar format, "RecordBatch message".)
 use Rattle.std.specs.Prelude.{◌≡◌, ℕ, ◌+◌, ◌<◌, ◌≤◌, List, ◌++◌, Option, Some}
-use Rattle.ipc_views.specs.Spot.{Spot}
+use Rattle.ipc_table_views.specs.Spot.{Spot}
 use Rattle.ipc_model.specs.Kinds.{Kinds, count, nodes, buffers}
 use Rattle.ipc_model.specs.Entries.{Entries, Dictionaries, Limit}
 use Rattle.ipc_model.specs.Columns.{IsWell, column}

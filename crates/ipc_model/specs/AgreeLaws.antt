@@ -5,8 +5,8 @@
 use Rattle.std.specs.Prelude.{◌≡◌, ℕ, ℤ, ◌↔◌, List, ◌∷◌, Option, Some, None}
 use Rattle.std.specs.List.{AllByRecursion}
 use Rattle.std.specs.Option.{option_map}
-use Rattle.ipc_views.specs.Spot.{Spot}
-use Rattle.ipc_views.specs.declared.file.Block.{Block}
+use Rattle.ipc_table_views.specs.Spot.{Spot}
+use Rattle.ipc_table_views.specs.declared.file.Block.{Block}
 use Rattle.ipc_model.specs.Kinds.{Kind, list_kind, map_kind, fixed_list_kind, struct_kind, union_kind, dictionary_kind, extension_kind, Kinds, no_kinds, more_kinds, count}
 use Rattle.ipc_model.specs.Entries.{Entries, Dictionary, Dictionaries, dictionary_at, Limit}
 use Rattle.ipc_model.specs.Columns.{IsWell, column}

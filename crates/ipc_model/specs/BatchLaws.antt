@@ -5,7 +5,7 @@ use Rattle.std.specs.Bool.{Decides}
 use Rattle.std.specs.List.{AllByRecursion}
 use Rattle.lower.specs.TypeTrees.{plain, null}
 use Rattle.lower_types.specs.declared.Endianness.{Endianness}
-use Rattle.ipc_views.specs.declared.schema.Buffer.{Buffer}
+use Rattle.ipc_table_views.specs.declared.schema.Buffer.{Buffer}
 use Rattle.ipc_model.specs.Kinds.{Kinds, count, buffers}
 use Rattle.ipc_model.specs.Entries.{Entries, part_at, Dictionaries, Limit}
 use Rattle.ipc_model.specs.Batches.{Schema, kinds, Body, Lists, entries_of, kind_at, buffers_before, chosen, is_projection, IsProjection, is_batch, IsBatch, Column, Chunk, batch}

@@ -10,7 +10,7 @@ use Rattle.lower_types.specs.declared.Endianness.{Endianness}
 use Rattle.lower_types.specs.declared.Endianness.TheVariants.{Little, Big}
 use Rattle.lower_arrays.specs.Slots.{Slot}
 use Rattle.ipc_base.specs.IdTrees.{IdTree, ids, no_ids, more_ids}
-use Rattle.ipc_views.specs.declared.file.Block.{Block}
+use Rattle.ipc_table_views.specs.declared.file.Block.{Block}
 use Rattle.ipc_model.specs.Batches.{Schema, Chunk, batch}
 use Rattle.ipc_model.specs.ColumnRows.{node_is, buffer_is, entries, padded, word, number, numbers_of, variant}
 use Rattle.ipc_model.specs.DictionaryRows.{record_message, dictionary_message, chunk_is, faulty_after}
@@ -20,8 +20,8 @@ use Rattle.ipc_model.specs.Files.{FileMetadata, file_dictionaries, file_chunk}
 use Rattle.ipc_model.specs.StreamRows.{three_fields, minus_one, demo_chunk}
 use Rattle.ipc_model.specs.Streams.{Head, nothing_known, waits, Meant, meaning}
 use Rattle.ipc_model.specs.WeightRows.{named, alone}
-use Rattle.ipc_views.specs.declared.schema.MetadataVersion.TheVariants.{V4, V5}
-use Rattle.ipc_views.specs.declared.schema.MetadataVersion.{MetadataVersion}
+use Rattle.ipc_table_views.specs.declared.schema.MetadataVersion.TheVariants.{V4, V5}
+use Rattle.ipc_table_views.specs.declared.schema.MetadataVersion.{MetadataVersion}
 
 abbrev pub integer : TypeTree
 integer = plain int32

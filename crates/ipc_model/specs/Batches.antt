@@ -12,13 +12,13 @@ use Rattle.std.specs.Ordering.{int_eq}
 use Rattle.lower.specs.Normal.{norm}
 use Rattle.lower.specs.TypeTrees.{Pairs, TypeTree, plain, null, single, group, dictionary, extension, FieldTree, field, FieldTrees, no_fields, more_fields}
 use Rattle.ipc_base.specs.IdTrees.{IdTree, ids, IdTrees, no_ids, more_ids}
-use Rattle.ipc_views.specs.declared.message.FieldNode.{FieldNode}
-use Rattle.ipc_views.specs.declared.schema.Buffer.{Buffer}
-use Rattle.ipc_views.specs.declared.schema.MetadataVersion.{MetadataVersion}
-use Rattle.ipc_views.specs.declared.schema.MetadataVersion.TheVariants.{V5}
+use Rattle.ipc_table_views.specs.declared.message.FieldNode.{FieldNode}
+use Rattle.ipc_table_views.specs.declared.schema.Buffer.{Buffer}
+use Rattle.ipc_table_views.specs.declared.schema.MetadataVersion.{MetadataVersion}
+use Rattle.ipc_table_views.specs.declared.schema.MetadataVersion.TheVariants.{V5}
 use Rattle.ipc_devices.specs.declared.fault.TableFault.{TableFault}
-use Rattle.ipc_views.specs.MessageSlots.{record_batch_nodes, record_batch_buffers, record_batch_compression, dictionary_batch_id, dictionary_batch_data, dictionary_batch_is_delta}
-use Rattle.ipc_views.specs.Spot.{Spot}
+use Rattle.ipc_table_views.specs.MessageSlots.{record_batch_nodes, record_batch_buffers, record_batch_compression, dictionary_batch_id, dictionary_batch_data, dictionary_batch_is_delta}
+use Rattle.ipc_table_views.specs.Spot.{Spot}
 use Rattle.lower_types.specs.declared.Endianness.{Endianness}
 use Rattle.lower_arrays.specs.Slots.{Slot}
 use Rattle.ipc_model.specs.Kinds.{Kind, null_kind, Kinds, no_kinds, more_kinds, count, nodes, all_nodes, buffers, all_buffers}

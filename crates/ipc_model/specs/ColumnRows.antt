@@ -12,8 +12,8 @@ use Rattle.lower_types.specs.declared.Endianness.{Endianness}
 use Rattle.lower_types.specs.declared.Endianness.TheVariants.{Little, Big}
 use Rattle.lower_types.specs.declared.PrimitiveType.TheVariants.{Int32}
 use Rattle.lower_arrays.specs.Slots.{Slot, null_slot, truth_slot, number_slot, bytes_slot, text_slot, list_slot, record_slot, variant_slot, slots_of}
-use Rattle.ipc_views.specs.declared.message.FieldNode.{FieldNode}
-use Rattle.ipc_views.specs.declared.schema.Buffer.{Buffer}
+use Rattle.ipc_table_views.specs.declared.message.FieldNode.{FieldNode}
+use Rattle.ipc_table_views.specs.declared.schema.Buffer.{Buffer}
 use Rattle.ipc_model.specs.Kinds.{offsets_32, Kind, null_kind, boolean_kind, number_kind, binary_kind, utf8_kind, list_kind, map_kind, fixed_list_kind, struct_kind, union_kind, Kinds, no_kinds, more_kinds, nodes, buffers}
 use Rattle.ipc_model.specs.Entries.{Entries, part_at, Limit}
 use Rattle.ipc_model.specs.Columns.{column}

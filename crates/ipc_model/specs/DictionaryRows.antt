@@ -11,7 +11,7 @@ use Rattle.ipc_model.specs.ColumnRows.{padded, word}
 use Rattle.ipc_model.specs.Entries.{Dictionary}
 use Rattle.ipc_model.specs.StreamRows.{marker, mark}
 use Rattle.ipc_model.specs.Streams.{Head, Known, nothing_known, marked, waits, faulty, Meant, meaning}
-use Rattle.ipc_views.specs.declared.schema.MetadataVersion.TheVariants.{V5}
+use Rattle.ipc_table_views.specs.declared.schema.MetadataVersion.TheVariants.{V5}
 
 -- ---- messages as bytes
 

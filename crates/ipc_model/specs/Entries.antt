@@ -4,8 +4,8 @@ use Rattle.std.specs.Prelude.{ℕ, ◌+◌, ◌*◌, ◌/◌, ◌%◌, ◌^◌, 
 use Rattle.std.specs.Int.{div_ceil}
 use Rattle.std.specs.Ordering.{int_eq}
 use Rattle.lower.specs.TypeTrees.{TypeTree}
-use Rattle.ipc_views.specs.declared.message.FieldNode.{FieldNode}
-use Rattle.ipc_views.specs.declared.schema.Buffer.{Buffer}
+use Rattle.ipc_table_views.specs.declared.message.FieldNode.{FieldNode}
+use Rattle.ipc_table_views.specs.declared.schema.Buffer.{Buffer}
 use Rattle.lower_types.specs.NumberTypes.{width_of, number_in}
 use Rattle.lower_types.specs.Numbers.{unsigned_in}
 use Rattle.lower_types.specs.declared.Endianness.{Endianness}

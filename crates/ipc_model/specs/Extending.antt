@@ -2,7 +2,7 @@
 -- or have more bytes after them.
 -- (Arrow columnar format, "RecordBatch message".)
 use Rattle.std.specs.Prelude.{◌≡◌, ℕ, ◌+◌, ◌<◌, List, ◌++◌}
-use Rattle.ipc_views.specs.declared.message.FieldNode.{FieldNode}
+use Rattle.ipc_table_views.specs.declared.message.FieldNode.{FieldNode}
 use Rattle.ipc_model.specs.Kinds.{Kind, nodes, buffers}
 use Rattle.ipc_model.specs.Entries.{Entries, Part, node, buffer, Limit}
 use Rattle.ipc_model.specs.Columns.{IsWell, column}

@@ -1,7 +1,7 @@
 -- Theorems: bytes after the end of a file don't change what its blocks mean.
 -- (Arrow columnar format, "IPC File Format".)
 use Rattle.std.specs.Prelude.{◌≡◌, ℕ, ◌≤◌, List, [], ◌++◌, map, Option, None, Some}
-use Rattle.ipc_views.specs.declared.file.Block.{Block}
+use Rattle.ipc_table_views.specs.declared.file.Block.{Block}
 use Rattle.ipc_model.specs.Batches.{Chunk}
 use Rattle.ipc_model.specs.Entries.{Dictionaries, Limit}
 use Rattle.ipc_model.specs.Files.{FileMetadata, file_dictionaries, file_chunk, dictionaries_after, chunks_at}

@@ -1,7 +1,7 @@
 -- Theorem: two files that agree where a block is read have the same chunk there.
 -- (Arrow columnar format, "IPC File Format".)
 use Rattle.std.specs.Prelude.{◌≡◌, ℕ, List, Option, Some}
-use Rattle.ipc_views.specs.declared.file.Block.{Block}
+use Rattle.ipc_table_views.specs.declared.file.Block.{Block}
 use Rattle.ipc_model.specs.BatchLaws.{Agree}
 use Rattle.ipc_model.specs.Batches.{kinds, Lists, lists_of, chosen}
 use Rattle.ipc_model.specs.Entries.{Dictionaries, Limit}

@@ -3,8 +3,8 @@
 -- (Arrow columnar format, "IPC File Format"; File.fbs.)
 use Rattle.std.specs.Prelude.{◌≡◌, ℕ, pos, negsuc, List, [], ◌∷◌, ◌++◌, ◌+◌, ◌-◌, ◌^◌, length, take, slice_set, codes, Option, Some, None, option_map, ◌<◌}
 use Rattle.lower.specs.TypeTrees.{Pairs, int32, plain}
-use Rattle.ipc_views.specs.Tables.{root_at}
-use Rattle.ipc_views.specs.declared.file.Block.{Block}
+use Rattle.ipc_table_views.specs.Tables.{root_at}
+use Rattle.ipc_table_views.specs.declared.file.Block.{Block}
 use Rattle.ipc_model.specs.Batches.{Chunk}
 use Rattle.ipc_model.specs.ColumnRows.{number}
 use Rattle.ipc_model.specs.DictionaryRows.{text_head, texts, a, b, values_are, a_and_b, b_alone, two_keys, b_and_a, chunk_is}

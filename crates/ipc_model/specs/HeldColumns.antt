@@ -1,6 +1,6 @@
 -- How many bytes the arrays retain that columns are read to: bitmaps, offsets, numbers and bytes at
 -- every level, without the values of dictionaries. Only theorems and cases of this crate cite these
--- definitions; contracts of readers use `HeldListed` of `ipc_flat_columns`.
+-- definitions; contracts of readers use `HeldListed` of `ipc_read_flat`.
 -- (Arrow columnar format, "Buffer Listing for Each Layout".)
 use Rattle.std.specs.Prelude.{ℕ, ℤ, ◌+◌, ◌≤◌, List, [], ◌∷◌, if◌then◌else◌, Option, None, Some}
 use Rattle.std.specs.List.{sum_by}

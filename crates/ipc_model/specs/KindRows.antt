@@ -17,7 +17,7 @@ use Rattle.lower_types.specs.declared.Endianness.{Endianness}
 use Rattle.lower_types.specs.declared.Endianness.TheVariants.{Little, Big}
 use Rattle.lower_arrays.specs.Slots.{Slot, null_slot, truth_slot, number_slot, bytes_slot, text_slot, record_slot, slots_of}
 use Rattle.ipc_base.specs.IdTrees.{no_ids}
-use Rattle.ipc_views.specs.declared.message.FieldNode.{FieldNode}
+use Rattle.ipc_table_views.specs.declared.message.FieldNode.{FieldNode}
 use Rattle.ipc_model.specs.ColumnRows.{node_is, buffer_is, entries, read, word, int32 as int32_kind, number, numbers_of, two, variant}
 use Rattle.ipc_model.specs.Entries.{Entries, part_at, Limit}
 use Rattle.ipc_model.specs.Kinds.{offsets_32, offsets_64, Kind, null_kind, binary_kind, list_kind, map_kind, struct_kind, union_kind, dictionary_kind, extension_kind, Kinds, no_kinds, more_kinds}

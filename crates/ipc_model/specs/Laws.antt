@@ -2,7 +2,7 @@
 -- (Arrow columnar format, "Physical Memory Layout".)
 use Rattle.std.specs.Prelude.{◌≡◌, ◌≤◌, ℕ, ◌+◌, ◌*◌, ◌<◌, ◌↔◌, Some, None, List, length, take}
 use Rattle.std.specs.Option.{option_map}
-use Rattle.ipc_views.specs.declared.schema.Buffer.{Buffer}
+use Rattle.ipc_table_views.specs.declared.schema.Buffer.{Buffer}
 use Rattle.lower_types.specs.NumberTypes.{width_of, number_in}
 use Rattle.lower_types.specs.declared.PrimitiveType.{PrimitiveType}
 use Rattle.ipc_model.specs.Numbers.{integer_of, number_at}

@@ -24,8 +24,8 @@ use Rattle.ipc_model.specs.SchemaBytes.{four, table_bytes}
 use Rattle.ipc_model.specs.StreamRows.{smallest, marker}
 use Rattle.ipc_model.specs.Streams.{Head, Known, nothing_known, marked, waits, Meant, meaning}
 use Rattle.ipc_model.specs.WeightRows.{named, alone}
-use Rattle.ipc_views.specs.declared.schema.MetadataVersion.{MetadataVersion}
-use Rattle.ipc_views.specs.declared.schema.MetadataVersion.TheVariants.{V1, V2, V3, V4, V5}
+use Rattle.ipc_table_views.specs.declared.schema.MetadataVersion.{MetadataVersion}
+use Rattle.ipc_table_views.specs.declared.schema.MetadataVersion.TheVariants.{V1, V2, V3, V4, V5}
 
 -- ---- frames
 

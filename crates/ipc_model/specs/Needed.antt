@@ -1,5 +1,5 @@
 -- How many bytes a column needs: what an array retains of it, without the values of dictionaries.
--- Contracts of readers cite none of this: they use `HeldListed` of `ipc_flat_columns`.
+-- Contracts of readers cite none of this: they use `HeldListed` of `ipc_read_flat`.
 -- (Arrow columnar format, "Buffer Listing for Each Layout".)
 use Rattle.std.specs.Prelude.{ℕ, zero, suc, ◌+◌, ◌*◌, ◌≤◌, ◌==◌, List, if◌then◌else◌, Option, None, Some}
 use Rattle.std.specs.List.{IsDistinct, sum_by}

@@ -1,5 +1,5 @@
 -- The array that a column is read to: of each buffer it has as much as its slots need. If offsets
--- are omitted, the array has the one offset 0. The contract of `ipc_columns` promises this array;
+-- are omitted, the array has the one offset 0. The contract of `ipc_read_nested` promises this array;
 -- that of `ipc_read` promises the column's type and slots.
 -- (Arrow columnar format, "Physical Memory Layout".)
 use Rattle.std.specs.Prelude.{◌≡◌, ℕ, ℤ, ◌+◌, ◌*◌, ◌==◌, Bool, List, [], ◌∷◌, map, take, if◌then◌else◌, Option, None, Some}

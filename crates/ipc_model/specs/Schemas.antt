@@ -20,23 +20,23 @@ use Rattle.lower_types.specs.declared.Endianness.{Endianness}
 use Rattle.lower_types.specs.declared.Endianness.TheVariants as orders
 use Rattle.ipc_devices.specs.declared.fault.TableFault.{TableFault}
 use Rattle.ipc_base.specs.IdTrees.{IdTree, ids, IdTrees, no_ids, more_ids}
-use Rattle.ipc_views.specs.Spot.{Spot, Vector}
-use Rattle.ipc_views.specs.Tables.{root_at, table_in}
-use Rattle.ipc_views.specs.MessageSlots.{message_header, message_version}
-use Rattle.ipc_views.specs.SchemaSlots.{schema_endianness, schema_fields, schema_custom_metadata, field_name, field_nullable, field_type, field_dictionary, field_children, field_custom_metadata, key_value_key, key_value_value, dictionary_encoding_id, dictionary_encoding_index_type, dictionary_encoding_is_ordered}
-use Rattle.ipc_views.specs.TypeSlots.{int_bit_width, int_is_signed, floating_point_precision, decimal_precision, decimal_scale, decimal_bit_width, date_unit, time_unit, time_bit_width, timestamp_unit, timestamp_timezone, interval_unit, union_mode, union_type_ids, fixed_size_binary_byte_width, fixed_size_list_list_size, map_keys_sorted, duration_unit}
-use Rattle.ipc_views.specs.declared.schema.Endianness.{Endianness as Order}
-use Rattle.ipc_views.specs.declared.schema.Endianness.TheVariants.{Little, Big}
-use Rattle.ipc_views.specs.declared.types.Precision.{Precision}
-use Rattle.ipc_views.specs.declared.types.Precision.TheVariants.{Half, Single as single_precision, Double}
-use Rattle.ipc_views.specs.declared.types.DateUnit.{DateUnit}
-use Rattle.ipc_views.specs.declared.types.DateUnit.TheVariants.{Day, Millisecond as day_millisecond}
-use Rattle.ipc_views.specs.declared.types.TimeUnit.{TimeUnit as Unit'}
-use Rattle.ipc_views.specs.declared.types.TimeUnit.TheVariants.{Second, Millisecond, Microsecond, Nanosecond}
-use Rattle.ipc_views.specs.declared.types.IntervalUnit.{IntervalUnit as Interval}
-use Rattle.ipc_views.specs.declared.types.IntervalUnit.TheVariants.{YearMonth, DayTime, MonthDayNano}
-use Rattle.ipc_views.specs.declared.types.UnionMode.{UnionMode as Mode}
-use Rattle.ipc_views.specs.declared.types.UnionMode.TheVariants.{Sparse, Dense}
+use Rattle.ipc_table_views.specs.Spot.{Spot, Vector}
+use Rattle.ipc_table_views.specs.Tables.{root_at, table_in}
+use Rattle.ipc_table_views.specs.MessageSlots.{message_header, message_version}
+use Rattle.ipc_table_views.specs.SchemaSlots.{schema_endianness, schema_fields, schema_custom_metadata, field_name, field_nullable, field_type, field_dictionary, field_children, field_custom_metadata, key_value_key, key_value_value, dictionary_encoding_id, dictionary_encoding_index_type, dictionary_encoding_is_ordered}
+use Rattle.ipc_table_views.specs.TypeSlots.{int_bit_width, int_is_signed, floating_point_precision, decimal_precision, decimal_scale, decimal_bit_width, date_unit, time_unit, time_bit_width, timestamp_unit, timestamp_timezone, interval_unit, union_mode, union_type_ids, fixed_size_binary_byte_width, fixed_size_list_list_size, map_keys_sorted, duration_unit}
+use Rattle.ipc_table_views.specs.declared.schema.Endianness.{Endianness as Order}
+use Rattle.ipc_table_views.specs.declared.schema.Endianness.TheVariants.{Little, Big}
+use Rattle.ipc_table_views.specs.declared.types.Precision.{Precision}
+use Rattle.ipc_table_views.specs.declared.types.Precision.TheVariants.{Half, Single as single_precision, Double}
+use Rattle.ipc_table_views.specs.declared.types.DateUnit.{DateUnit}
+use Rattle.ipc_table_views.specs.declared.types.DateUnit.TheVariants.{Day, Millisecond as day_millisecond}
+use Rattle.ipc_table_views.specs.declared.types.TimeUnit.{TimeUnit as Unit'}
+use Rattle.ipc_table_views.specs.declared.types.TimeUnit.TheVariants.{Second, Millisecond, Microsecond, Nanosecond}
+use Rattle.ipc_table_views.specs.declared.types.IntervalUnit.{IntervalUnit as Interval}
+use Rattle.ipc_table_views.specs.declared.types.IntervalUnit.TheVariants.{YearMonth, DayTime, MonthDayNano}
+use Rattle.ipc_table_views.specs.declared.types.UnionMode.{UnionMode as Mode}
+use Rattle.ipc_table_views.specs.declared.types.UnionMode.TheVariants.{Sparse, Dense}
 use Rattle.ipc_model.specs.Batches.{Schema}
 use Rattle.ipc_model.specs.Streams.{Head}
 

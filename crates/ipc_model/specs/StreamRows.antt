@@ -15,7 +15,7 @@ use Rattle.ipc_model.specs.ColumnRows.{number, padded, word, entries, node_is, b
 use Rattle.ipc_model.specs.Streams.{Head, nothing_known, marked, waits, faulty, Meant, meaning}
 use Rattle.ipc_model.specs.WholeStreams.{stream_of}
 use Rattle.ipc_model.specs.Schemas.{schema_of, head_of, with_read, Read, field_with}
-use Rattle.ipc_views.specs.declared.schema.MetadataVersion.TheVariants.{V4, V5}
+use Rattle.ipc_table_views.specs.declared.schema.MetadataVersion.TheVariants.{V4, V5}
 
 -- ---- the smallest schema message
 

@@ -2,7 +2,7 @@
 -- There is one for each field at all levels.
 -- (Arrow columnar format, "Schema message"; Schema.fbs. The bound is this project's own.)
 use Rattle.std.specs.Prelude.{◌≡◌, ℕ, ◌≤◌, Some, length}
-use Rattle.ipc_views.specs.Spot.{Spot}
+use Rattle.ipc_table_views.specs.Spot.{Spot}
 use Rattle.ipc_model.specs.Batches.{Schema}
 use Rattle.ipc_model.specs.Schemas.{fields_count, schema_at}
 

@@ -9,8 +9,8 @@ use Rattle.lower_types.specs.NumberTypes.{width_of, number_in}
 use Rattle.lower_types.specs.declared.Endianness.{Endianness}
 use Rattle.lower_types.specs.declared.PrimitiveType.{PrimitiveType}
 use Rattle.lower_arrays.specs.Slots.{Slot, number_slot}
-use Rattle.ipc_views.specs.declared.message.FieldNode.{FieldNode}
-use Rattle.ipc_views.specs.declared.schema.Buffer.{Buffer}
+use Rattle.ipc_table_views.specs.declared.message.FieldNode.{FieldNode}
+use Rattle.ipc_table_views.specs.declared.schema.Buffer.{Buffer}
 use Rattle.ipc_model.specs.Batches.{Schema, kinds, Chunk, field_type, entries_of, batch}
 use Rattle.ipc_model.specs.Entries.{Dictionaries}
 use Rattle.ipc_model.specs.Kinds.{number_kind, Kinds, no_kinds, more_kinds}

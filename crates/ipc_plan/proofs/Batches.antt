@@ -10,13 +10,13 @@ use Rattle.std.proofs.lemmas.List.Elements.{All-cons}
 use Rattle.std.proofs.lemmas.List.FromFn.{length-map-range_with_len}
 use Rattle.std.proofs.lemmas.List.Sums.{sum_by-cons}
 use Rattle.lower.specs.TypeTrees.{FieldTree, FieldTrees, no_fields, more_fields}
-use Rattle.lower_rules.specs.Fields.{field_type}
+use Rattle.lower_validation.specs.Fields.{field_type}
 use Rattle.lower_arrays.specs.Choices.{no_child}
 use Rattle.lower_arrays.specs.Layouts.{Layout, Level, layouts, len_of, type_of}
 use Rattle.lower_arrays.specs.Slots.{Slot, slot_at as array_slot, slots_from, slots, AreArrays}
 use Rattle.ipc_base.specs.IdTrees.{IdTrees}
-use Rattle.ipc_views.specs.declared.message.FieldNode.{FieldNode}
-use Rattle.ipc_views.specs.declared.schema.Buffer.{Buffer}
+use Rattle.ipc_table_views.specs.declared.message.FieldNode.{FieldNode}
+use Rattle.ipc_table_views.specs.declared.schema.Buffer.{Buffer}
 use Rattle.ipc_model.proofs.Addresses.{own_node, address_law}
 use Rattle.ipc_model.proofs.Needs.{node_law}
 use Rattle.ipc_model.proofs.Pruned.{batch_is, read_first}

@@ -7,8 +7,8 @@ use Rattle.lower_types.specs.declared.Endianness.{Endianness}
 use Rattle.lower_arrays.specs.Layouts.{Layout, type_of, len_of, layouts}
 use Rattle.lower_arrays.specs.Slots.{AreArrays}
 use Rattle.ipc_base.specs.IdTrees.{IdTrees}
-use Rattle.ipc_views.specs.declared.message.FieldNode.{FieldNode}
-use Rattle.ipc_views.specs.declared.schema.Buffer.{Buffer}
+use Rattle.ipc_table_views.specs.declared.message.FieldNode.{FieldNode}
+use Rattle.ipc_table_views.specs.declared.schema.Buffer.{Buffer}
 use Rattle.ipc_model.specs.Entries.{Entries, Part, part_at, buffer}
 use Rattle.ipc_model.specs.Kinds.{nodes, buffers}
 use Rattle.ipc_model.specs.Offers.{own_id, inner_ids, whole_levels, body_lengths}

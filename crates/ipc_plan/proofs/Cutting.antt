@@ -7,8 +7,8 @@ use Rattle.lower.specs.Offsets.{IsRising}
 use Rattle.lower_types.specs.Numbers.{unsigned_in}
 use Rattle.lower_types.specs.declared.PrimitiveType.{PrimitiveType}
 use Rattle.lower_types.specs.declared.PrimitiveType.TheVariants.{Int64}
-use Rattle.lower_flat.specs.Validities.{part}
-use Rattle.lower_flat.proofs.Cuts.{get_or-part, length-part}
+use Rattle.lower_flat_arrays.specs.Validities.{part}
+use Rattle.lower_flat_arrays.proofs.Cuts.{get_or-part, length-part}
 use Rattle.ipc_model.specs.Columns.{is_omitted, last_offset, Offsets}
 use Rattle.ipc_model.specs.Entries.{Entries, size, buffer, listed, Need, offset}
 use Rattle.ipc_model.specs.Kinds.{offset_width}

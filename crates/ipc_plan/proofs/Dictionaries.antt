@@ -6,13 +6,13 @@ use Rattle.lower.specs.Normal.{norm}
 use Rattle.lower.specs.declared.datatypes.IntegerType.{IntegerType}
 use Rattle.lower.specs.declared.datatypes.physical_type.PhysicalType.TheVariants as Physicals
 use Rattle.lower_types.specs.NumberTypes.{whole, width_of, number_in}
-use Rattle.lower_flat.specs.Validities.{part, is_valid as array_valid}
-use Rattle.lower_flat.proofs.Cuts.{get_or-part, length-part}
-use Rattle.lower_rules.specs.Keys.{place_of, values_type as named_values, KeyFits}
+use Rattle.lower_flat_arrays.specs.Validities.{part, is_valid as array_valid}
+use Rattle.lower_flat_arrays.proofs.Cuts.{get_or-part, length-part}
+use Rattle.lower_validation.specs.Keys.{place_of, values_type as named_values, KeyFits}
 use Rattle.lower_arrays.specs.Layouts.{keys, Level, Layouts, no_layouts, more_layouts, len_of}
 use Rattle.lower_arrays.specs.Slots.{Slot, null_slot, slot_at as array_slot, slots_from, PartsFit}
 use Rattle.ipc_base.specs.IdTrees.{IdTrees}
-use Rattle.ipc_views.specs.declared.message.FieldNode.{FieldNode}
+use Rattle.ipc_table_views.specs.declared.message.FieldNode.{FieldNode}
 use Rattle.ipc_model.specs.Columns.{Begins, values_slots, HasValues}
 use Rattle.ipc_model.specs.Entries.{Entries, IsIndex, size, Need, Limit, integer}
 use Rattle.ipc_model.specs.Numbers.{integer_of}

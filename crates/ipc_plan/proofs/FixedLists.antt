@@ -4,13 +4,13 @@ use Rattle.std.specs.List.{range_with_len}
 use Rattle.std.proofs.Math.Nat.{add-mul, mul-le-mul_left}
 use Rattle.std.proofs.lemmas.Nat.{mul-le}
 use Rattle.lower.specs.declared.datatypes.physical_type.PhysicalType.TheVariants as Physicals
-use Rattle.lower_flat.specs.Validities.{is_valid as array_valid}
-use Rattle.lower_rules.specs.Fields.{child_fields}
-use Rattle.lower_rules.specs.ListTypes.{list_size}
+use Rattle.lower_flat_arrays.specs.Validities.{is_valid as array_valid}
+use Rattle.lower_validation.specs.Fields.{child_fields}
+use Rattle.lower_validation.specs.ListTypes.{list_size}
 use Rattle.lower_arrays.specs.Layouts.{fixed_lists, Level, Layouts, no_layouts, more_layouts, len_of, type_of}
 use Rattle.lower_arrays.specs.Slots.{list_slot, slots_of, slots_from, slot_where, slot_at as array_slot, PartsFit}
 use Rattle.ipc_base.specs.IdTrees.{IdTrees}
-use Rattle.ipc_views.specs.declared.message.FieldNode.{FieldNode}
+use Rattle.ipc_table_views.specs.declared.message.FieldNode.{FieldNode}
 use Rattle.ipc_model.specs.Columns.{Begins, WithRows, IsWell, slot_at}
 use Rattle.ipc_model.specs.Entries.{Entries, Limit, limited, rows, times}
 use Rattle.ipc_model.specs.Kinds.{Kind, fixed_list_kind}

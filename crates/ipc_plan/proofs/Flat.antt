@@ -7,12 +7,12 @@ use Rattle.std.proofs.lemmas.List.{take-take, drop-take, drop-drop}
 use Rattle.lower_types.specs.NumberTypes.{Number, whole, width_of, number_in}
 use Rattle.lower_types.specs.declared.PrimitiveType.{PrimitiveType}
 use Rattle.lower.specs.declared.datatypes.physical_type.PhysicalType.TheVariants as Physicals
-use Rattle.lower_flat.specs.Validities.{part, is_valid as array_valid}
-use Rattle.lower_flat.proofs.Cuts.{get_or-part, length-part}
+use Rattle.lower_flat_arrays.specs.Validities.{part, is_valid as array_valid}
+use Rattle.lower_flat_arrays.proofs.Cuts.{get_or-part, length-part}
 use Rattle.lower_arrays.specs.Layouts.{nothing, truths, numbers, fixed_bytes, Level, no_layouts}
 use Rattle.lower_arrays.specs.Slots.{truth_slot, number_slot, bytes_slot, slot_where, PartsFit, null_slot}
 use Rattle.ipc_base.specs.IdTrees.{IdTrees}
-use Rattle.ipc_views.specs.declared.message.FieldNode.{FieldNode}
+use Rattle.ipc_table_views.specs.declared.message.FieldNode.{FieldNode}
 use Rattle.ipc_model.specs.Columns.{Begins}
 use Rattle.ipc_model.specs.Entries.{Entries, node, Need, Limit, bytes_for, bit}
 use Rattle.ipc_model.specs.Kinds.{Kind, number_kind, fixed_binary_kind}

@@ -12,11 +12,11 @@ use Rattle.lower_arrays.specs.AnyLayouts.{layout_of}
 use Rattle.lower_arrays.specs.declared.array.AnyArray.{AnyArray}
 use Rattle.lower.specs.TypeTrees.{TypeTree}
 use Rattle.ipc_model.specs.Offers.{whole_levels, written_levels, levels_below}
-use Rattle.ipc_views.specs.declared.message.FieldNode.{FieldNode}
+use Rattle.ipc_table_views.specs.declared.message.FieldNode.{FieldNode}
 use Rattle.ipc_model.specs.WrittenBatches.{padded, entry}
 use Rattle.ipc_plan.specs.Levels.{node_of, number_form, cut_out, AreNumberBytes, AreOffsetBytes, HaveBuffers, joined_buffers}
 use Rattle.ipc_model.specs.Kinds.{number_kind}
-use Rattle.lower_flat.specs.Validities.{null_count_of}
+use Rattle.lower_flat_arrays.specs.Validities.{null_count_of}
 use Rattle.lower_types.specs.NumberTypes.{Number, whole}
 use Rattle.lower_types.specs.declared.PrimitiveType.TheVariants.{Int8 as Int8Form, Int32 as Int32Form}
 use Rattle.lower.specs.declared.datatypes.IntegerType.{IntegerType}

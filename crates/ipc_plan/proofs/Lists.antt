@@ -6,14 +6,14 @@ use Rattle.lower.specs.TypeTrees.{structure, choice, TypeTree, plain, single, gr
 use Rattle.lower.specs.declared.datatypes.physical_type.PhysicalType.TheVariants as Physicals
 use Rattle.lower_types.specs.declared.PrimitiveType.{PrimitiveType}
 use Rattle.lower_types.specs.declared.PrimitiveType.TheVariants.{Int32, Int64}
-use Rattle.lower_flat.specs.Validities.{is_valid as array_valid}
-use Rattle.lower_rules.specs.Fields.{child_fields, IsPair as IsPairType}
-use Rattle.lower_rules.specs.ListTypes.{list_with}
+use Rattle.lower_flat_arrays.specs.Validities.{is_valid as array_valid}
+use Rattle.lower_validation.specs.Fields.{child_fields, IsPair as IsPairType}
+use Rattle.lower_validation.specs.ListTypes.{list_with}
 use Rattle.lower_arrays.specs.Children.{ChildTypes}
 use Rattle.lower_arrays.specs.Layouts.{lists, maps, Level, Layout, Layouts, no_layouts, more_layouts, len_of, type_of}
 use Rattle.lower_arrays.specs.Slots.{Slot, list_slot, slots_of, slots_from, slot_where, slot_at as array_slot, PartsFit, ItemsFit}
 use Rattle.ipc_base.specs.IdTrees.{IdTrees}
-use Rattle.ipc_views.specs.declared.message.FieldNode.{FieldNode}
+use Rattle.ipc_table_views.specs.declared.message.FieldNode.{FieldNode}
 use Rattle.ipc_model.specs.Columns.{Begins, WithRows, IsList, IsPairKind, IsWell, list_at, slot_at}
 use Rattle.ipc_model.specs.Entries.{Entries, Limit, rows, offset}
 use Rattle.ipc_model.specs.Kinds.{offsets_32, offset_width, Kind, list_kind, map_kind}

@@ -8,8 +8,8 @@ use Rattle.lower_types.specs.declared.Endianness.{Endianness}
 use Rattle.lower_types.specs.declared.PrimitiveType.{PrimitiveType}
 use Rattle.lower_types.specs.declared.PrimitiveType.TheVariants as Named
 use Rattle.lower_types.proofs.NumberPieces.{length-spelt}
-use Rattle.lower_flat.specs.Validities.{part}
-use Rattle.lower_flat.proofs.Cuts.{map-part}
+use Rattle.lower_flat_arrays.specs.Validities.{part}
+use Rattle.lower_flat_arrays.proofs.Cuts.{map-part}
 use Rattle.ipc_plan.specs.Levels.{AreRead, bytes_of_number}
 use Rattle.ipc_plan.specs.Pieces.{number_bytes, slice_numbers, slice_type}
 use Rattle.ipc_plan.specs.declared.pieces.NumberSlice.{NumberSlice}

@@ -12,8 +12,8 @@ use Rattle.lower_types.specs.NumberLaws.{length-unsigned_bytes, first_part}
 use Rattle.lower_types.specs.declared.Endianness.{Endianness}
 use Rattle.lower_types.specs.declared.PrimitiveType.TheVariants.{Int32, Int64}
 use Rattle.lower_types.proofs.NumberPieces.{length-spelt}
-use Rattle.lower_flat.specs.Validities.{part}
-use Rattle.lower_flat.proofs.Cuts.{get_or-part, length-part, map-part}
+use Rattle.lower_flat_arrays.specs.Validities.{part}
+use Rattle.lower_flat_arrays.proofs.Cuts.{get_or-part, length-part, map-part}
 use Rattle.ipc_plan.specs.Levels.{AreOffsetBytes}
 use Rattle.ipc_plan.specs.Pieces.{less, offset_bytes}
 use Rattle.ipc_plan.proofs.Cutting.{rises}

@@ -9,8 +9,8 @@ use Rattle.std.proofs.lemmas.Nat.{div_below, field_of, mod_low, shr_high, shr-sh
 use Rattle.std.proofs.lemmas.List.{get_or-take, get_or-drop, length-drop, length-take-le}
 use Rattle.std.proofs.lemmas.List.FromFn.{get_or-map-range_with_len, length-map-range_with_len}
 use Rattle.lower.specs.Bits.{has_bit}
-use Rattle.lower_flat.specs.Validities.{part}
-use Rattle.lower_flat.proofs.Cuts.{get_or-part, length-part}
+use Rattle.lower_flat_arrays.specs.Validities.{part}
+use Rattle.lower_flat_arrays.proofs.Cuts.{get_or-part, length-part}
 use Rattle.ipc_model.specs.Entries.{bytes_for, bit}
 use Rattle.ipc_plan.specs.Levels.{AreBits}
 use Rattle.std.proofs.lemmas.List.{take_more_set}

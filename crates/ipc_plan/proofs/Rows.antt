@@ -1,7 +1,7 @@
 -- One level in a batch, whatever its kind.
 use Rattle.std.proofs.Common.{◌≡◌, ℕ, ℤ, pos, ◌+◌, ◌≤◌, List, Option}
-use Rattle.lower_flat.specs.Validities.{ValidityFits, null_count_of, is_valid as array_valid, cut_validity}
-use Rattle.lower_flat.proofs.Cuts.{fits-cut}
+use Rattle.lower_flat_arrays.specs.Validities.{ValidityFits, null_count_of, is_valid as array_valid, cut_validity}
+use Rattle.lower_flat_arrays.proofs.Cuts.{fits-cut}
 use Rattle.lower_arrays.specs.Cuts.{cut_parts}
 use Rattle.lower_arrays.specs.Layouts.{Parts, Level, Layout, Layouts, no_layouts, more_layouts, len_of, type_of, nulls_among}
 use Rattle.lower_arrays.specs.Slots.{slot_where, value_at, slot_at as array_slot, children_at}

@@ -2,12 +2,12 @@
 use Rattle.std.proofs.Common.{arith, ◌≡◌, ℕ, ℤ, ◌+◌, ◌<◌, ◌≤◌, List, [], ◌∷◌, length, Option, refl, sym, ap, ◌∙◌, subst}
 use Rattle.lower.specs.TypeTrees.{FieldTree, FieldTrees, no_fields, more_fields}
 use Rattle.lower.specs.declared.datatypes.physical_type.PhysicalType.TheVariants as Physicals
-use Rattle.lower_rules.specs.Fields.{child_fields}
+use Rattle.lower_validation.specs.Fields.{child_fields}
 use Rattle.lower_arrays.specs.Children.{ChildTypes, HasChild, AllHave}
 use Rattle.lower_arrays.specs.Layouts.{records, Level, Layout, Layouts, no_layouts, more_layouts, type_of}
 use Rattle.lower_arrays.specs.Slots.{record_slot, more_slots, slots_of, each_at, children_at, PartsFit, IsArray, AreArrays}
 use Rattle.ipc_base.specs.IdTrees.{IdTrees}
-use Rattle.ipc_views.specs.declared.message.FieldNode.{FieldNode}
+use Rattle.ipc_table_views.specs.declared.message.FieldNode.{FieldNode}
 use Rattle.ipc_model.specs.Columns.{Begins, IsSome, AllHaveRows, slots_at}
 use Rattle.ipc_model.specs.Entries.{Entries, Limit, limited}
 use Rattle.ipc_model.specs.Kinds.{Kind, Kinds, more_kinds, nodes, buffers}

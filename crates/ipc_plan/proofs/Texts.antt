@@ -4,16 +4,16 @@ use Rattle.std.specs.Prelude.{slice_index, slice_range, IsUtf8}
 use Rattle.std.proofs.lemmas.List.{length-take}
 use Rattle.lower_types.specs.declared.PrimitiveType.{PrimitiveType}
 use Rattle.lower_types.specs.declared.PrimitiveType.TheVariants.{Int64}
-use Rattle.lower_flat.specs.Binaries.{bytes_with}
-use Rattle.lower_flat.specs.Spans.{span}
-use Rattle.lower_flat.specs.Texts.{texts_with}
-use Rattle.lower_flat.specs.Validities.{part, is_valid as array_valid}
-use Rattle.lower_flat.proofs.Cuts.{get_or-part, length-part}
+use Rattle.lower_flat_arrays.specs.Binaries.{bytes_with}
+use Rattle.lower_flat_arrays.specs.Spans.{span}
+use Rattle.lower_flat_arrays.specs.Texts.{texts_with}
+use Rattle.lower_flat_arrays.specs.Validities.{part, is_valid as array_valid}
+use Rattle.lower_flat_arrays.proofs.Cuts.{get_or-part, length-part}
 use Rattle.lower.specs.TypeTrees.{TypeTree}
 use Rattle.lower_arrays.specs.Layouts.{bytes, texts, Level, no_layouts}
 use Rattle.lower_arrays.specs.Slots.{bytes_slot, text_slot, slot_where, PartsFit, SpansFit}
 use Rattle.ipc_base.specs.IdTrees.{IdTrees}
-use Rattle.ipc_views.specs.declared.message.FieldNode.{FieldNode}
+use Rattle.ipc_table_views.specs.declared.message.FieldNode.{FieldNode}
 use Rattle.ipc_model.specs.Columns.{Begins, last_offset, bytes_at, HasBytes, AreTexts as TextsAt}
 use Rattle.ipc_model.specs.Entries.{Entries, buffer, Limit, offset}
 use Rattle.ipc_model.specs.Kinds.{Kind, offset_width, binary_kind, utf8_kind}

@@ -16,17 +16,17 @@ use Rattle.lower.specs.declared.datatypes.physical_type.PhysicalType.TheVariants
 use Rattle.lower_types.specs.NumberTypes.{whole, width_of, number_in}
 use Rattle.lower_types.specs.declared.PrimitiveType.{PrimitiveType}
 use Rattle.lower_types.specs.declared.PrimitiveType.TheVariants.{Int8, Int32}
-use Rattle.lower_flat.specs.Validities.{part, is_valid as array_valid}
-use Rattle.lower_flat.proofs.Cuts.{get_or-part, length-part}
-use Rattle.lower_rules.specs.Fields.{child_fields}
-use Rattle.lower_rules.specs.Ids.{TypeIds, IdsFit, NamesChild, OffsetsGiven, place_among, child_number, union_ids, union_mode}
-use Rattle.lower_rules.specs.Keys.{place_of, KeyFits}
-use Rattle.lower_rules.specs.Places.{AllAre}
+use Rattle.lower_flat_arrays.specs.Validities.{part, is_valid as array_valid}
+use Rattle.lower_flat_arrays.proofs.Cuts.{get_or-part, length-part}
+use Rattle.lower_validation.specs.Fields.{child_fields}
+use Rattle.lower_validation.specs.Ids.{TypeIds, IdsFit, NamesChild, OffsetsGiven, place_among, child_number, union_ids, union_mode}
+use Rattle.lower_validation.specs.Keys.{place_of, KeyFits}
+use Rattle.lower_validation.specs.Places.{AllAre}
 use Rattle.lower_arrays.specs.Children.{ChildTypes, child_count, lens_of}
 use Rattle.lower_arrays.specs.Layouts.{choices, records, Level, Layout, Layouts, no_layouts, more_layouts, len_of, type_of}
 use Rattle.lower_arrays.specs.Slots.{Slot, Slots, no_slots, more_slots, null_slot, variant_slot, slots_of, slot_where, slot_at as array_slot, each_at, children_at, variant_at, PartsFit, AreArrays}
 use Rattle.ipc_base.specs.IdTrees.{IdTrees}
-use Rattle.ipc_views.specs.declared.message.FieldNode.{FieldNode}
+use Rattle.ipc_table_views.specs.declared.message.FieldNode.{FieldNode}
 use Rattle.ipc_model.specs.Columns.{AreUnionIds, IsUnionKind, child_named, child_rows, type_at, child_at, HasTypes, place_at, Reaches, AllHaveRows, AllWell, slots_at, child_slot}
 use Rattle.ipc_model.specs.Entries.{Entries, IsSize, IsIndex, size, node, buffer, Need, Limit, integer}
 use Rattle.ipc_model.specs.Kinds.{Kind, Kinds, no_kinds, more_kinds, count, nodes, buffers, union_kind}

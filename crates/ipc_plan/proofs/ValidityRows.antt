@@ -5,10 +5,10 @@ use Rattle.std.specs.List.{count_by}
 use Rattle.std.proofs.lemmas.Bool.{cases_Bool}
 use Rattle.std.proofs.lemmas.Bool.Decides.{nat_tests}
 use Rattle.std.proofs.lemmas.List.Sums.{sum_by-cons}
-use Rattle.lower_flat.specs.Validities.{Validity, ValidityFits, null_count_of, is_valid as array_valid, cut_validity}
-use Rattle.lower_flat.proofs.Cuts.{get_or-part}
+use Rattle.lower_flat_arrays.specs.Validities.{Validity, ValidityFits, null_count_of, is_valid as array_valid, cut_validity}
+use Rattle.lower_flat_arrays.proofs.Cuts.{get_or-part}
 use Rattle.lower_arrays.specs.Slots.{Slot, null_slot, slot_where}
-use Rattle.ipc_views.specs.declared.message.FieldNode.{FieldNode}
+use Rattle.ipc_table_views.specs.declared.message.FieldNode.{FieldNode}
 use Rattle.ipc_model.specs.Columns.{Begins, is_valid, masked}
 use Rattle.ipc_model.specs.Entries.{Entries, IsSize, size, node, buffer, bytes, Limit, limited, rows, bytes_for, bit}
 use Rattle.ipc_plan.specs.Levels.{IsValidity}

@@ -7,9 +7,9 @@ use Rattle.lower_types.specs.NumberTypes.{Number}
 use Rattle.lower_types.specs.declared.Endianness.{Endianness}
 use Rattle.lower_types.specs.declared.PrimitiveType.{PrimitiveType}
 use Rattle.lower_arrays.specs.Layouts.{Validity, Parts, Level, nulls_among}
-use Rattle.lower_flat.specs.Validities.{null_count_of}
-use Rattle.ipc_views.specs.declared.message.FieldNode.{FieldNode}
-use Rattle.ipc_views.specs.declared.schema.Buffer.{Buffer}
+use Rattle.lower_flat_arrays.specs.Validities.{null_count_of}
+use Rattle.ipc_table_views.specs.declared.message.FieldNode.{FieldNode}
+use Rattle.ipc_table_views.specs.declared.schema.Buffer.{Buffer}
 use Rattle.ipc_model.specs.WrittenBatches.{padded, entry}
 use Rattle.ipc_plan.specs.Levels.{node_of, AreBits, AreNumberBytes, AreOffsetBytes, AreRead, AreBuffers, cut_out, HaveBuffers, IsValidity, joined_buffers}
 use Rattle.ipc_plan.specs.Pieces.{slice_type, slice_numbers, number_bytes, pieces_bytes, buffer_pieces, EndsClear}

@@ -9,7 +9,7 @@ ghost use Rattle.ipc_plan.specs.Plans.{AddsPieces, Grows};
 
 use crate::pieces::Piece;
 use ipc_devices::{ArgFault, Fault};
-use ipc_views::{Buffer as Entry, FieldNode};
+use ipc_table_views::{Buffer as Entry, FieldNode};
 use lower::types::Endianness;
 use std::alloc::AllocError;
 

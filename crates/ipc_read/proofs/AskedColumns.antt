@@ -7,17 +7,17 @@ use Rattle.lower_arrays.specs.AnyLayouts.{layout_of}
 use Rattle.lower_arrays.specs.declared.array.AnyArray.{AnyArray}
 use Rattle.ipc_devices.proofs.Claims.{claims_through}
 use Rattle.ipc_base.specs.IdTrees.{IdTrees}
-use Rattle.ipc_flat_columns.specs.Refusals.{IsFaultOf}
+use Rattle.ipc_read_flat.specs.Refusals.{IsFaultOf}
 use Rattle.ipc_devices.specs.Faults.{OwnFault}
 use Rattle.ipc_devices.specs.declared.fault.Fault.{Fault}
 use Rattle.ipc_model.specs.Batches.{chosen, kind_at}
 use Rattle.ipc_model.specs.Entries.{Dictionaries}
 use Rattle.ipc_model.specs.Kinds.{Kinds}
 use Rattle.ipc_model.specs.ReadChunks.{HaveMeaning, IsArrayOf, ids_at}
-use Rattle.ipc_projections.proofs.AskedOrder.{rising_prepared}
-use Rattle.ipc_projections.proofs.Reorderings.{some_same}
-use Rattle.ipc_projections.specs.ChosenColumns.{AreAsMany, AreOrdered, AreShuffled, AreThere, asked_by, rising_by}
-use Rattle.ipc_projections.specs.declared.read.chosen.ChosenColumns.{ChosenColumns}
+use Rattle.ipc_projection.proofs.AskedOrder.{rising_prepared}
+use Rattle.ipc_projection.proofs.Reorderings.{some_same}
+use Rattle.ipc_projection.specs.ChosenColumns.{AreAsMany, AreOrdered, AreShuffled, AreThere, asked_by, rising_by}
+use Rattle.ipc_projection.specs.declared.read.chosen.ChosenColumns.{ChosenColumns}
 use Rattle.ipc_read.specs.Chunks.{chunk_seen, column_seen}
 use Rattle.ipc_read.specs.Refusals.{IsFaultOfBatch, IsFaultOfSome}
 use Rattle.ipc_read.specs.Columns.{ArePrepared}

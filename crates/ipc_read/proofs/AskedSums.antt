@@ -10,18 +10,18 @@ use Rattle.std.specs.List.Sorted.{IsPermutation}
 use Rattle.lower_arrays.specs.AnyLayouts.{layout_of}
 use Rattle.lower_arrays.specs.Held.{held}
 use Rattle.lower_arrays.specs.declared.array.AnyArray.{AnyArray}
-use Rattle.ipc_views.specs.declared.schema.Buffer.{Buffer}
+use Rattle.ipc_table_views.specs.declared.schema.Buffer.{Buffer}
 use Rattle.ipc_model.specs.Batches.{Lists, buffers_before, chosen, kind_at}
 use Rattle.ipc_model.specs.BatchLaws.{own_buffers}
 use Rattle.ipc_model.specs.Kinds.{Kinds}
-use Rattle.ipc_flat_columns.specs.HeldListed.{empty_offsets}
+use Rattle.ipc_read_flat.specs.HeldListed.{empty_offsets}
 use Rattle.ipc_read.specs.HeldChunks.{HoldChosen, arrays_held, chosen_empty, columns_empty, length_listed}
 use Rattle.ipc_read.specs.Sizes.{chosen_total, chosen_listed, total_of}
-use Rattle.ipc_projections.proofs.AskedOrder.{asked_images, asked_once}
-use Rattle.ipc_projections.specs.AskedOrder.{Asked, IsInAskedOrder}
-use Rattle.ipc_projections.specs.ChosenColumns.{AreAsMany, AreOrdered, AreShuffled, asked_by, rising_by}
-use Rattle.ipc_projections.specs.Projections.{IsIncreasing, IsIncreasingFrom}
-use Rattle.ipc_projections.specs.declared.read.chosen.ChosenColumns.{ChosenColumns}
+use Rattle.ipc_projection.proofs.AskedOrder.{asked_images, asked_once}
+use Rattle.ipc_projection.specs.AskedOrder.{Asked, IsInAskedOrder}
+use Rattle.ipc_projection.specs.ChosenColumns.{AreAsMany, AreOrdered, AreShuffled, asked_by, rising_by}
+use Rattle.ipc_projection.specs.Projections.{IsIncreasing, IsIncreasingFrom}
+use Rattle.ipc_projection.specs.declared.read.chosen.ChosenColumns.{ChosenColumns}
 
 -- the number beside j
 worth : List ℕ → List ℕ → ℕ → ℕ

@@ -6,8 +6,8 @@ use Rattle.lower_types.specs.declared.Endianness.{Endianness}
 use Rattle.ipc_model.specs.Entries.{part_at}
 use Rattle.ipc_model.specs.Batches.{Lists, entries_of}
 use Rattle.ipc_model.specs.Batches as model
-use Rattle.ipc_flat_columns.specs.Bodies.{known_dictionaries, source, entries}
-use Rattle.ipc_flat_columns.specs.declared.read.body.Body.{Body}
+use Rattle.ipc_read_flat.specs.Bodies.{known_dictionaries, source, entries}
+use Rattle.ipc_read_flat.specs.declared.read.body.Body.{Body}
 
 pub same_entries :
     {R : Type 0} (memory : R → Memory) (b : Body R) (lists : Lists) (m : model.Body) (order : Endianness) (extra : ℕ) → b.nodes ≡ lists.nodes → b.buffers ≡ lists.buffers

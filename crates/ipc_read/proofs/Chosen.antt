@@ -6,7 +6,7 @@ use Rattle.std.proofs.lemmas.Bool.{cases_lt}
 use Rattle.std.proofs.lemmas.List.{drop_more, drop_all}
 use Rattle.std.proofs.lemmas.Option.{slice_get_within, slice_get-get_or, get_or_from_slice_get}
 use Rattle.ipc_model.specs.Batches.{chosen}
-use Rattle.ipc_projections.specs.Projections.{IsIncreasingFrom}
+use Rattle.ipc_projection.specs.Projections.{IsIncreasingFrom}
 use Rattle.ipc_read.specs.Columns.{ArePrepared, IsChosen}
 
 -- The columns from column i of n on, if m were before.

@@ -8,7 +8,7 @@ use Rattle.ipc_model.specs.AddressLaws.{IsWellInBatch}
 use Rattle.ipc_model.specs.Batches.{kind_at}
 use Rattle.ipc_model.specs.Entries.{Entries, Limit}
 use Rattle.ipc_model.specs.Kinds.{Kinds}
-use Rattle.ipc_flat_columns.specs.Refusals.{IsFaultOf}
+use Rattle.ipc_read_flat.specs.Refusals.{IsFaultOf}
 use Rattle.ipc_read.specs.Columns.{HasColumns, IsColumnAt, AreColumns}
 use Rattle.ipc_read.specs.Refusals.{IsFaultOfSome}
 

@@ -15,13 +15,13 @@ use Rattle.ipc_model.specs.AddressLaws.{IsWellInBatch}
 use Rattle.ipc_model.proofs.TypeKinds.{node_counts, buffer_counts}
 use Rattle.ipc_devices.specs.Faults.{OwnFault}
 use Rattle.ipc_devices.specs.declared.fault.Fault.{Fault}
-use Rattle.ipc_flat_columns.specs.Refusals.{IsFaultOf}
-use Rattle.ipc_flat_columns.specs.Bodies.{HasRoom}
-use Rattle.ipc_flat_columns.specs.HeldListed.{HoldsListed}
-use Rattle.ipc_flat_columns.specs.Kinds.{IsBehind, listed_in}
-use Rattle.ipc_columns.specs.ReadColumns.{IsColumn}
-use Rattle.ipc_flat_columns.specs.declared.read.body.Body.{Body}
-use Rattle.ipc_flat_columns.specs.declared.read.body.Place.{Place}
+use Rattle.ipc_read_flat.specs.Refusals.{IsFaultOf}
+use Rattle.ipc_read_flat.specs.Bodies.{HasRoom}
+use Rattle.ipc_read_flat.specs.HeldListed.{HoldsListed}
+use Rattle.ipc_read_flat.specs.Kinds.{IsBehind, listed_in}
+use Rattle.ipc_read_nested.specs.ReadColumns.{IsColumn}
+use Rattle.ipc_read_flat.specs.declared.read.body.Body.{Body}
+use Rattle.ipc_read_flat.specs.declared.read.body.Place.{Place}
 use Rattle.ipc_read.proofs.Fields.{type_is}
 
 -- ---- positions

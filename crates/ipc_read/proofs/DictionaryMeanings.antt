@@ -14,15 +14,15 @@ use Rattle.ipc_devices.specs.declared.fault.Fault.TheVariants.{OutOfSpec, NotYet
 use Rattle.ipc_devices.specs.declared.fault.Nyi.TheVariants.{Compressed}
 use Rattle.ipc_devices.specs.declared.fault.OutOfSpecKind.TheVariants.{InvalidId, InvalidBuffersLength, MissingMessageBuffers, MissingMessageNodes, ExpectedBuffer, InvalidFlatbufferBuffers, InvalidFlatbufferNodes, InvalidFlatbufferCompression}
 use Rattle.ipc_devices.specs.declared.fault.TableFault.{TableFault}
-use Rattle.ipc_views.specs.Spot.{Spot}
+use Rattle.ipc_table_views.specs.Spot.{Spot}
 use Rattle.ipc_model.specs.Batches.{Schema, kinds, Body, lists_of, record_meaning, Place, places, place_of, values_schema, with_values, values_meaning, batch_meaning, dictionary_meaning}
 use Rattle.ipc_model.specs.Entries.{Dictionaries}
 use Rattle.ipc_model.specs.Kinds.{Kind}
 use Rattle.ipc_model.specs.TypeKinds.{kind_of}
-use Rattle.ipc_flat_columns.proofs.Refusals.{kind_column}
-use Rattle.ipc_flat_columns.specs.Bodies.{dictionary_of}
-use Rattle.ipc_flat_columns.specs.Refusals.{IsFaultOf, IsColumnFault}
-use Rattle.ipc_laws.specs.Agreement.{KnowAlike}
+use Rattle.ipc_read_flat.proofs.Refusals.{kind_column}
+use Rattle.ipc_read_flat.specs.Bodies.{dictionary_of}
+use Rattle.ipc_read_flat.specs.Refusals.{IsFaultOf, IsColumnFault}
+use Rattle.ipc_stream_lemmas.specs.Agreement.{KnowAlike}
 use Rattle.ipc_read.proofs.Meanings.{some_is, some_listed}
 use Rattle.ipc_read.specs.Chunks.{HasMeaning}
 use Rattle.ipc_read.specs.DictionaryBatches.{GivesColumn, whole_head, dictionary_head, place_listed, head_listed, values_listed, GivesDictionary, BlamesDictionary, BlamesHead, BlamesPlace, IsHeadFault, IsValuesFault, IsDictionaryFault, RefusesHead, TellsHead, TellsPlace, TellsValues}

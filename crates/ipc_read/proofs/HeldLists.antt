@@ -14,15 +14,15 @@ use Rattle.lower_arrays.specs.declared.array.AnyArray.{AnyArray}
 use Rattle.ipc_base.specs.IdTrees.{IdTrees}
 use Rattle.ipc_devices.specs.Device.{Memory}
 use Rattle.ipc_devices.specs.declared.fault.Fault.{Fault}
-use Rattle.ipc_views.specs.Spot.{Spot}
-use Rattle.ipc_views.specs.declared.schema.Buffer.{Buffer}
+use Rattle.ipc_table_views.specs.Spot.{Spot}
+use Rattle.ipc_table_views.specs.declared.schema.Buffer.{Buffer}
 use Rattle.ipc_model.specs.Batches.{Schema, kinds, Body, Lists, lists_of, entries_of, Place, places, place_of, values_schema}
 use Rattle.ipc_model.specs.Entries.{Entries, size, listed, Dictionaries}
 use Rattle.ipc_model.specs.Kinds.{Kinds}
 use Rattle.ipc_model.specs.TypeKinds.{kind_of}
-use Rattle.ipc_flat_columns.specs.Bodies.{entries, array_found, array_under}
-use Rattle.ipc_flat_columns.specs.HeldListed.{HoldsListed}
-use Rattle.ipc_flat_columns.specs.declared.read.body.Body.{Body as Read}
+use Rattle.ipc_read_flat.specs.Bodies.{entries, array_found, array_under}
+use Rattle.ipc_read_flat.specs.HeldListed.{HoldsListed}
+use Rattle.ipc_read_flat.specs.declared.read.body.Body.{Body as Read}
 use Rattle.ipc_read.specs.DictionaryBatches.{dictionary_head, head_listed, place_listed}
 use Rattle.ipc_read.specs.HeldChunks.{columns_empty, columns_most, length_listed, chosen_empty, arrays_held, HoldChosen, head_empty, place_empty, HoldsValues}
 use Rattle.ipc_read.specs.Sizes.{chosen_listed, total_of}

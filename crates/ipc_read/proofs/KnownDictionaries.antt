@@ -11,12 +11,12 @@ use Rattle.lower_arrays.specs.AnyLayouts.{layout_of}
 use Rattle.lower_arrays.specs.Cases.{HasListCases}
 use Rattle.lower_arrays.specs.Layouts.{type_of}
 use Rattle.lower_arrays.specs.declared.array.AnyArray.{AnyArray}
-use Rattle.ipc_views.specs.Spot.{Spot}
+use Rattle.ipc_table_views.specs.Spot.{Spot}
 use Rattle.ipc_model.specs.Batches.{Schema, Place, places, place_of}
 use Rattle.ipc_model.specs.Entries.{Dictionary, dictionary_at}
-use Rattle.ipc_flat_columns.specs.Bodies.{array_found, array_under, dictionary_of, known_entry, known_dictionaries}
-use Rattle.ipc_flat_columns.proofs.KnownValues.{dictionary_found, found_first, found_under}
-use Rattle.ipc_laws.specs.Agreement.{KnowAlike}
+use Rattle.ipc_read_flat.specs.Bodies.{array_found, array_under, dictionary_of, known_entry, known_dictionaries}
+use Rattle.ipc_read_flat.proofs.KnownValues.{dictionary_found, found_first, found_under}
+use Rattle.ipc_stream_lemmas.specs.Agreement.{KnowAlike}
 use Rattle.ipc_read.proofs.Meanings.{some_is}
 use Rattle.ipc_read.specs.DictionaryBatches.{dictionary_head, PutsCases, PutsValues}
 

@@ -5,16 +5,16 @@ use Rattle.std.proofs.lemmas.List.{drop_more, drop_all, get_or-map, get_or_past,
 use Rattle.std.proofs.lemmas.List.Sums.{sum_by-cons}
 use Rattle.lower.specs.declared.datatypes.UnionMode.TheVariants.{Sparse, Dense}
 use Rattle.lower_types.specs.declared.Endianness.{Endianness}
-use Rattle.ipc_views.specs.declared.schema.Buffer.{Buffer}
+use Rattle.ipc_table_views.specs.declared.schema.Buffer.{Buffer}
 use Rattle.ipc_model.proofs.Holding.{split_listed, one_listed, two_listed, three_listed}
 use Rattle.ipc_model.specs.Batches.{Body, Lists, entries_of, kind_at, buffers_before}
 use Rattle.ipc_model.specs.Entries.{Entries, Part, size, part_at, listed, Dictionaries}
 use Rattle.ipc_model.specs.Kinds.{Kind, null_kind, boolean_kind, number_kind, float_kind, fixed_binary_kind, binary_kind, utf8_kind, list_kind, map_kind, fixed_list_kind, struct_kind, union_kind, dictionary_kind, extension_kind, Kinds, no_kinds, more_kinds, buffers, all_buffers}
 use Rattle.ipc_model.specs.Needed.{listed_from}
-use Rattle.ipc_flat_columns.specs.Kinds.{listed_in, all_listed}
+use Rattle.ipc_read_flat.specs.Kinds.{listed_in, all_listed}
 use Rattle.ipc_read.specs.Columns.{columns_listed}
-use Rattle.ipc_flat_columns.specs.Bodies.{entries}
-use Rattle.ipc_flat_columns.specs.declared.read.body.Body.{Body as Read}
+use Rattle.ipc_read_flat.specs.Bodies.{entries}
+use Rattle.ipc_read_flat.specs.declared.read.body.Body.{Body as Read}
 use Rattle.ipc_devices.specs.Device.{Memory}
 use Rattle.ipc_read.specs.Sizes.{total_of, chosen_total, chosen_listed}
 

@@ -13,17 +13,17 @@ use Rattle.ipc_devices.proofs.Claims.{claimed, denies_through}
 use Rattle.ipc_devices.specs.Faults.{OwnFault}
 use Rattle.ipc_devices.specs.declared.fault.Fault.{Fault}
 use Rattle.ipc_base.specs.Chunks.{AreEqualRows}
-use Rattle.ipc_views.specs.Spot.{Spot}
-use Rattle.ipc_views.specs.declared.message.FieldNode.{FieldNode}
-use Rattle.ipc_views.specs.declared.schema.Buffer.{Buffer}
+use Rattle.ipc_table_views.specs.Spot.{Spot}
+use Rattle.ipc_table_views.specs.declared.message.FieldNode.{FieldNode}
+use Rattle.ipc_table_views.specs.declared.schema.Buffer.{Buffer}
 use Rattle.ipc_model.proofs.Addresses.{own_node, address_law}
 use Rattle.ipc_model.proofs.Needs.{node_law}
 use Rattle.ipc_model.proofs.Pruned.{batch_some, projected_is, projection_decides, read_first}
 use Rattle.ipc_model.specs.Batches.{Schema, kinds, Body, Lists, lists_of, entries_of, kind_at, type_at, nodes_before, buffers_before, rows_at, slots_of_column, chosen, IsProjection, AllRead, first_rows, IsBatch, Chunk, chunk_of, batch, record_meaning}
 use Rattle.ipc_model.specs.Entries.{Entries, Part, IsSize, size, part_at, node, Dictionaries, Limit, limited, rows}
 use Rattle.ipc_model.specs.Kinds.{Kind, Kinds, count, all_nodes, all_buffers}
-use Rattle.ipc_columns.specs.ReadColumns.{IsColumn}
-use Rattle.ipc_projections.proofs.Prepared.{prepared_projection}
+use Rattle.ipc_read_nested.specs.ReadColumns.{IsColumn}
+use Rattle.ipc_projection.proofs.Prepared.{prepared_projection}
 use Rattle.ipc_read.specs.Chunks.{column_seen, chunk_seen, HasMeaning, GivesBatch}
 use Rattle.ipc_read.specs.Columns.{ArePrepared, HasColumns, AreColumns}
 use Rattle.ipc_read.specs.Sizes.{AreSizes, total_of}

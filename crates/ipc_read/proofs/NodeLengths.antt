@@ -6,13 +6,13 @@ use Rattle.std.proofs.lemmas.Int.{to_z_pos}
 use Rattle.std.specs.Int.{w64, cast_signed}
 use Rattle.std.specs.Prelude.{slice_index_or, nat_lt}
 use Rattle.ipc_devices.specs.declared.fault.TableFault.{TableFault}
-use Rattle.ipc_views.specs.Spot.{Spot, Vector}
-use Rattle.ipc_views.specs.MessageSlots.{record_batch_nodes}
-use Rattle.ipc_views.specs.Structs.{structs_from, structs_at, signed64, node_of}
-use Rattle.ipc_views.specs.Tables.{and_then, map_ok, of_slot, slot_at, target_at, vector_at}
-use Rattle.ipc_views.specs.declared.message.FieldNode.{FieldNode}
+use Rattle.ipc_table_views.specs.Spot.{Spot, Vector}
+use Rattle.ipc_table_views.specs.MessageSlots.{record_batch_nodes}
+use Rattle.ipc_table_views.specs.Structs.{structs_from, structs_at, signed64, node_of}
+use Rattle.ipc_table_views.specs.Tables.{and_then, map_ok, of_slot, slot_at, target_at, vector_at}
+use Rattle.ipc_table_views.specs.declared.message.FieldNode.{FieldNode}
 use Rattle.ipc_model.specs.Entries.{size}
-use Rattle.ipc_flat_columns.specs.Limits.{AreSmall}
+use Rattle.ipc_read_flat.specs.Limits.{AreSmall}
 
 -- A signed 64-bit integer, as a size.
 signed_size : (n : ℕ) (z : ℤ) → z ≡ cast_signed w64 n → size z < 2 ^ 63

@@ -17,7 +17,7 @@ use Rattle.lower.specs.declared.datatypes.Field.{Field}
 use Rattle.ipc_base.specs.IdTrees.{IdTree, ids, IdTrees}
 use Rattle.ipc_model.specs.Batches.{Place, field_places, own_place, inner_places, places, has_id, place_of}
 use Rattle.ipc_model.specs.TypeKinds.{first_ids, other_ids}
-use Rattle.ipc_columns.proofs.StructReads.{fields_left}
+use Rattle.ipc_read_nested.proofs.StructReads.{fields_left}
 
 -- ---- the first of some dictionary fields
 

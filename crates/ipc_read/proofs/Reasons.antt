@@ -8,11 +8,11 @@ use Rattle.ipc_devices.specs.declared.fault.ArgFault.TheVariants.{UnequalRows}
 use Rattle.ipc_devices.specs.declared.fault.Fault.{Fault}
 use Rattle.ipc_devices.specs.declared.fault.Fault.TheVariants.{OutOfSpec, Argument, Memory}
 use Rattle.ipc_devices.specs.declared.fault.OutOfSpecKind.TheVariants.{NegativeFooterLength, InvalidBuffersLength, MissingMessageNodes, ExpectedBuffer}
-use Rattle.ipc_views.specs.Spot.{Spot}
-use Rattle.ipc_views.specs.declared.schema.Buffer.{Buffer}
+use Rattle.ipc_table_views.specs.Spot.{Spot}
+use Rattle.ipc_table_views.specs.declared.schema.Buffer.{Buffer}
 use Rattle.ipc_model.specs.Batches.{Body, Lists, entries_of, lists_of}
 use Rattle.ipc_model.specs.Entries.{Dictionaries, Entries, IsSize, Part, part_at, buffer}
-use Rattle.ipc_flat_columns.specs.Refusals.{TellsEntries}
+use Rattle.ipc_read_flat.specs.Refusals.{TellsEntries}
 use Rattle.ipc_read.specs.Refusals.{TellsColumns, TellsCounts, TellsLengths}
 use Rattle.ipc_read.specs.Sizes.{AreSizes}
 

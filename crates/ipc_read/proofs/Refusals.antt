@@ -8,14 +8,14 @@ use Rattle.ipc_devices.specs.declared.fault.Fault.TheVariants.{OutOfSpec, NotYet
 use Rattle.ipc_devices.specs.declared.fault.Nyi.TheVariants.{Compressed}
 use Rattle.ipc_devices.specs.declared.fault.OutOfSpecKind.TheVariants.{NegativeFooterLength, InvalidBuffersLength, MissingMessageBuffers, MissingMessageNodes, ExpectedBuffer, InvalidFlatbufferBuffers, InvalidFlatbufferNodes, InvalidFlatbufferCompression}
 use Rattle.ipc_devices.specs.declared.fault.TableFault.{TableFault}
-use Rattle.ipc_views.specs.MessageSlots.{record_batch_buffers, record_batch_compression, record_batch_nodes}
-use Rattle.ipc_views.specs.Spot.{Spot}
-use Rattle.ipc_views.specs.declared.message.FieldNode.{FieldNode}
-use Rattle.ipc_views.specs.declared.schema.Buffer.{Buffer}
+use Rattle.ipc_table_views.specs.MessageSlots.{record_batch_buffers, record_batch_compression, record_batch_nodes}
+use Rattle.ipc_table_views.specs.Spot.{Spot}
+use Rattle.ipc_table_views.specs.declared.message.FieldNode.{FieldNode}
+use Rattle.ipc_table_views.specs.declared.schema.Buffer.{Buffer}
 use Rattle.ipc_model.specs.Batches.{Lists, both_lists, kind_at, lists_of}
 use Rattle.ipc_model.specs.Kinds.{Kind, Kinds}
-use Rattle.ipc_flat_columns.proofs.Refusals.{kind_column}
-use Rattle.ipc_flat_columns.specs.Refusals.{IsColumnFault, IsFaultOf}
+use Rattle.ipc_read_flat.proofs.Refusals.{kind_column}
+use Rattle.ipc_read_flat.specs.Refusals.{IsColumnFault, IsFaultOf}
 use Rattle.ipc_read.specs.Refusals.{IsEntriesFault, IsListFault, IsFaultOfSome, IsFaultOfBatch, IsShorter, TellsCounts, TellsLengths, TellsLonger, TellsLists, TellsTable}
 use Rattle.ipc_read.specs.Sizes.{AreSizes, batch_listed}
 

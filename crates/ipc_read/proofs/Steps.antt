@@ -6,8 +6,8 @@ use Rattle.ipc_devices.specs.Device.{Memory, Rises}
 use Rattle.ipc_devices.specs.Faults.{OnIo, UnlessIo}
 use Rattle.ipc_devices.specs.declared.fault.Fault.{Fault}
 use Rattle.ipc_devices.specs.declared.fault.Fault.TheVariants as Faults
-use Rattle.ipc_flat_columns.specs.Steps.{Step}
-use Rattle.ipc_flat_columns.specs.declared.read.body.Body.{Body}
+use Rattle.ipc_read_flat.specs.Steps.{Step}
+use Rattle.ipc_read_flat.specs.declared.read.body.Body.{Body}
 
 on_io : (X Y : Type 0) (e : Fault) (P Q : Type 0) → (P → Q) → OnIo {X = X} (Err e) P → OnIo {X = Y} (Err e) Q
 on_io X Y (Faults.OutOfSpec k) P Q f h = tt

@@ -10,17 +10,17 @@ use Rattle.ipc_devices.proofs.Claims.{claims_through, denies_through}
 use Rattle.ipc_base.specs.IdTrees.{IdTrees}
 use Rattle.ipc_devices.specs.Faults.{OwnFault}
 use Rattle.ipc_devices.specs.declared.fault.Fault.{Fault}
-use Rattle.ipc_views.specs.Spot.{Spot}
+use Rattle.ipc_table_views.specs.Spot.{Spot}
 use Rattle.ipc_model.specs.Batches.{Schema, kinds, Body, Lists, lists_of, entries_of, values_schema}
 use Rattle.ipc_model.specs.Columns.{IsWell}
 use Rattle.ipc_model.specs.Entries.{Dictionaries}
 use Rattle.ipc_model.specs.Kinds.{Kind}
 use Rattle.ipc_model.specs.TypeKinds.{kind_of}
-use Rattle.ipc_flat_columns.specs.Bodies.{entries}
-use Rattle.ipc_flat_columns.specs.Kinds.{listed_in}
-use Rattle.ipc_columns.specs.ReadColumns.{IsColumn}
-use Rattle.ipc_flat_columns.specs.Refusals.{IsFaultOf}
-use Rattle.ipc_flat_columns.specs.declared.read.body.Body.{Body as Read}
+use Rattle.ipc_read_flat.specs.Bodies.{entries}
+use Rattle.ipc_read_flat.specs.Kinds.{listed_in}
+use Rattle.ipc_read_nested.specs.ReadColumns.{IsColumn}
+use Rattle.ipc_read_flat.specs.Refusals.{IsFaultOf}
+use Rattle.ipc_read_flat.specs.declared.read.body.Body.{Body as Read}
 use Rattle.ipc_devices.specs.Device.{Memory}
 use Rattle.ipc_read.proofs.Listed.{given_total}
 use Rattle.ipc_read.proofs.Meanings.{IsListed, any_rows, some_is, equal_rows, fetched_meaning, judged}

@@ -4,7 +4,7 @@ use Rattle.ipc_devices.specs.declared.fault.Fault.{Fault}
 use Rattle.ipc_devices.specs.declared.fault.Fault.TheVariants.{Memory, OutOfSpec, NotYetImplemented}
 use Rattle.ipc_devices.specs.declared.fault.Nyi.TheVariants.{Delta}
 use Rattle.ipc_devices.specs.declared.fault.OutOfSpecKind.TheVariants.{InvalidFlatbufferIsDelta, InvalidFlatbufferId, InvalidFlatbufferData, MissingData}
-use Rattle.ipc_views.specs.Spot.{Spot}
+use Rattle.ipc_table_views.specs.Spot.{Spot}
 use Rattle.ipc_model.specs.Batches.{Schema, Body, Place, lists_of, places, place_of}
 use Rattle.ipc_model.specs.Entries.{Dictionaries}
 use Rattle.ipc_read.proofs.Reasons.{each_list, memory_says}

@@ -5,12 +5,12 @@ use Rattle.std.proofs.lemmas.List.{drop-drop}
 use Rattle.std.proofs.lemmas.List.Sums.{sum_by-take-drop}
 use Rattle.std.specs.List.{AllByRecursion, range_with_len}
 use Rattle.lower_arrays.specs.declared.array.AnyArray.{AnyArray}
-use Rattle.ipc_views.specs.declared.schema.Buffer.{Buffer}
+use Rattle.ipc_table_views.specs.declared.schema.Buffer.{Buffer}
 use Rattle.ipc_model.proofs.Addresses.{order_law}
 use Rattle.ipc_model.specs.Batches.{Lists, kind_at, buffers_before, chosen}
 use Rattle.ipc_model.specs.Entries.{size}
 use Rattle.ipc_model.specs.Kinds.{Kinds, count, buffers}
-use Rattle.ipc_projections.specs.Projections.{IsIncreasingFrom}
+use Rattle.ipc_projection.specs.Projections.{IsIncreasingFrom}
 use Rattle.ipc_read.specs.Columns.{ArePrepared}
 use Rattle.ipc_read.specs.HeldChunks.{arrays_held, chosen_empty, HoldChosen}
 use Rattle.ipc_read.specs.Sizes.{total_of, chosen_total, chosen_listed}

@@ -9,9 +9,9 @@ use Rattle.ipc_model.specs.AddressLaws.{IsWellInBatch}
 use Rattle.ipc_model.specs.Batches.{kind_at, type_at, nodes_before, buffers_before}
 use Rattle.ipc_model.specs.Entries.{Entries, Limit}
 use Rattle.ipc_model.specs.Kinds.{Kinds}
-use Rattle.ipc_flat_columns.specs.Kinds.{listed_in}
-use Rattle.ipc_columns.specs.ReadColumns.{IsColumn}
-use Rattle.ipc_projections.specs.Projections.{IsPrepared}
+use Rattle.ipc_read_flat.specs.Kinds.{listed_in}
+use Rattle.ipc_read_nested.specs.ReadColumns.{IsColumn}
+use Rattle.ipc_projection.specs.Projections.{IsPrepared}
 
 -- The columns of a projection are each one of n, in ascending order; without a
 -- projection nothing is required.

@@ -17,14 +17,14 @@ use Rattle.ipc_devices.specs.declared.fault.Fault.TheVariants.{OutOfSpec, NotYet
 use Rattle.ipc_devices.specs.declared.fault.Nyi.TheVariants.{Delta}
 use Rattle.ipc_devices.specs.declared.fault.OutOfSpecKind.TheVariants.{InvalidFlatbufferIsDelta, InvalidFlatbufferId, InvalidFlatbufferData, MissingData, InvalidId}
 use Rattle.ipc_devices.specs.declared.fault.TableFault.{TableFault}
-use Rattle.ipc_views.specs.MessageSlots.{dictionary_batch_id, dictionary_batch_is_delta, dictionary_batch_data}
-use Rattle.ipc_views.specs.Spot.{Spot}
+use Rattle.ipc_table_views.specs.MessageSlots.{dictionary_batch_id, dictionary_batch_is_delta, dictionary_batch_data}
+use Rattle.ipc_table_views.specs.Spot.{Spot}
 use Rattle.ipc_model.specs.Batches.{Schema, kinds, Body, lists_of, record_meaning, Place, places, place_of, values_schema, dictionary_meaning}
 use Rattle.ipc_model.specs.Entries.{Dictionary, Dictionaries, dictionary_at}
 use Rattle.ipc_model.specs.Kinds.{Kind}
 use Rattle.ipc_model.specs.TypeKinds.{kind_of}
-use Rattle.ipc_flat_columns.specs.Refusals.{IsFaultOf, IsColumnFault}
-use Rattle.ipc_laws.specs.Agreement.{KnowAlike}
+use Rattle.ipc_read_flat.specs.Refusals.{IsFaultOf, IsColumnFault}
+use Rattle.ipc_stream_lemmas.specs.Agreement.{KnowAlike}
 use Rattle.ipc_read.specs.Chunks.{column_seen, HasMeaning}
 use Rattle.ipc_read.specs.Refusals.{IsListFault, TellsColumns, TellsLists}
 use Rattle.ipc_read.specs.Sizes.{chosen_listed}

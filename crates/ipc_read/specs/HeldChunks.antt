@@ -9,12 +9,12 @@ use Rattle.lower_arrays.specs.AnyLayouts.{layout_of}
 use Rattle.lower_arrays.specs.Held.{held}
 use Rattle.lower_arrays.specs.Layouts.{Layout}
 use Rattle.lower_arrays.specs.declared.array.AnyArray.{AnyArray}
-use Rattle.ipc_views.specs.Spot.{Spot}
-use Rattle.ipc_views.specs.declared.schema.Buffer.{Buffer}
+use Rattle.ipc_table_views.specs.Spot.{Spot}
+use Rattle.ipc_table_views.specs.declared.schema.Buffer.{Buffer}
 use Rattle.ipc_model.specs.Batches.{Schema, kinds, Lists, lists_of, kind_at, buffers_before, Place, places, place_of, values_schema}
 use Rattle.ipc_model.specs.Entries.{Entries, size, listed}
 use Rattle.ipc_model.specs.Kinds.{Kinds}
-use Rattle.ipc_flat_columns.specs.HeldListed.{empty_offsets}
+use Rattle.ipc_read_flat.specs.HeldListed.{empty_offsets}
 use Rattle.ipc_read.specs.Columns.{columns_listed}
 use Rattle.ipc_read.specs.DictionaryBatches.{dictionary_head, values_listed}
 use Rattle.ipc_read.specs.Sizes.{chosen_listed}

@@ -10,13 +10,13 @@ use Rattle.ipc_devices.specs.declared.fault.ArgFault.TheVariants.{UnequalRows}
 use Rattle.ipc_devices.specs.declared.fault.Nyi.TheVariants.{Compressed}
 use Rattle.ipc_devices.specs.declared.fault.OutOfSpecKind.TheVariants.{NegativeFooterLength, InvalidBuffersLength, MissingMessageBuffers, MissingMessageNodes, ExpectedBuffer, InvalidFlatbufferBuffers, InvalidFlatbufferNodes, InvalidFlatbufferCompression}
 use Rattle.ipc_devices.specs.declared.fault.TableFault.{TableFault}
-use Rattle.ipc_views.specs.MessageSlots.{record_batch_buffers, record_batch_compression, record_batch_nodes}
-use Rattle.ipc_views.specs.Spot.{Spot}
-use Rattle.ipc_views.specs.declared.schema.Buffer.{Buffer}
+use Rattle.ipc_table_views.specs.MessageSlots.{record_batch_buffers, record_batch_compression, record_batch_nodes}
+use Rattle.ipc_table_views.specs.Spot.{Spot}
+use Rattle.ipc_table_views.specs.declared.schema.Buffer.{Buffer}
 use Rattle.ipc_model.specs.Batches.{Schema, Body, kind_at, lists_of, entries_of}
 use Rattle.ipc_model.specs.Entries.{Dictionaries}
 use Rattle.ipc_model.specs.Kinds.{Kinds}
-use Rattle.ipc_flat_columns.specs.Refusals.{IsFaultOf, TellsEntries}
+use Rattle.ipc_read_flat.specs.Refusals.{IsFaultOf, TellsEntries}
 use Rattle.ipc_read.specs.Sizes.{AreSizes, total_of, batch_listed}
 
 -- The errors of a batch's entries: they are invalid, absent, too few or

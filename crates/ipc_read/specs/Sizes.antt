@@ -2,7 +2,7 @@
 -- (Arrow columnar format, "RecordBatch message", "Buffer".)
 use Rattle.std.specs.Prelude.{ℕ, ◌+◌, List, [], ◌∷◌, Option, None, Some, All}
 use Rattle.std.specs.List.{sum_by}
-use Rattle.ipc_views.specs.declared.schema.Buffer.{Buffer}
+use Rattle.ipc_table_views.specs.declared.schema.Buffer.{Buffer}
 use Rattle.ipc_model.specs.Batches.{Lists}
 use Rattle.ipc_model.specs.BatchLaws.{own_buffers}
 use Rattle.ipc_model.specs.Entries.{IsSize, size}

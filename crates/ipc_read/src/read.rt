@@ -3,4 +3,4 @@ pub mod common;
 pub mod dictionaries;
 pub mod header;
 
-pub use ipc_flat_columns::read::Dictionaries;
+pub use ipc_read_flat::read::Dictionaries;

@@ -4,14 +4,14 @@ use Rattle.std.proofs.lemmas.List.{length-map}
 use Rattle.lower_arrays.specs.declared.array.AnyArray.{AnyArray}
 use Rattle.ipc_devices.proofs.Claims.{claims_through}
 use Rattle.ipc_devices.specs.declared.fault.Fault.{Fault}
-use Rattle.ipc_views.specs.Spot.{Spot}
+use Rattle.ipc_table_views.specs.Spot.{Spot}
 use Rattle.ipc_model.specs.Batches.{Schema, Body, Chunk, record_meaning}
 use Rattle.ipc_model.specs.Entries.{Dictionaries}
-use Rattle.ipc_projections.proofs.AskedOrder.{asked_images, asked_record_law, given_as_asked}
-use Rattle.ipc_projections.proofs.Reorderings.{some_is}
-use Rattle.ipc_projections.specs.AskedOrder.{Asked, AreInAskedOrder, IsInAskedOrder}
-use Rattle.ipc_projections.specs.ChosenColumns.{AreAsMany, AreOrdered, AreShuffled, asked_by, rising_by}
-use Rattle.ipc_projections.specs.declared.read.chosen.ChosenColumns.{ChosenColumns}
+use Rattle.ipc_projection.proofs.AskedOrder.{asked_images, asked_record_law, given_as_asked}
+use Rattle.ipc_projection.proofs.Reorderings.{some_is}
+use Rattle.ipc_projection.specs.AskedOrder.{Asked, AreInAskedOrder, IsInAskedOrder}
+use Rattle.ipc_projection.specs.ChosenColumns.{AreAsMany, AreOrdered, AreShuffled, asked_by, rising_by}
+use Rattle.ipc_projection.specs.declared.read.chosen.ChosenColumns.{ChosenColumns}
 use Rattle.ipc_read.specs.Chunks.{GivesBatch, chunk_seen, column_seen}
 
 -- What has no meaning in ascending order has none in the requested order.

@@ -11,11 +11,11 @@ use Rattle.ipc_devices.specs.Faults.{OwnFault}
 use Rattle.ipc_devices.specs.declared.fault.Fault.{Fault}
 use Rattle.ipc_devices.specs.declared.fault.Fault.TheVariants as Faults
 use Rattle.ipc_devices.specs.declared.fault.OutOfSpecKind.TheVariants.{UnexpectedMessageType}
-use Rattle.ipc_laws.specs.Agreement.{AreAt, KnowAlike}
-use Rattle.ipc_views.specs.Spot.{Spot}
-use Rattle.ipc_views.specs.Unions.{header_parts}
-use Rattle.ipc_views.specs.declared.message.MessageHeaderRef.{MessageHeaderRef}
-use Rattle.ipc_views.specs.declared.message.MessageHeaderRef.TheVariants as headers
+use Rattle.ipc_stream_lemmas.specs.Agreement.{AreAt, KnowAlike}
+use Rattle.ipc_table_views.specs.Spot.{Spot}
+use Rattle.ipc_table_views.specs.Unions.{header_parts}
+use Rattle.ipc_table_views.specs.declared.message.MessageHeaderRef.{MessageHeaderRef}
+use Rattle.ipc_table_views.specs.declared.message.MessageHeaderRef.TheVariants as headers
 use Rattle.ipc_model.specs.Batches.{Schema, Body, Chunk, chosen, batch, record_meaning, dictionary_meaning, extra_of}
 use Rattle.ipc_model.specs.Entries.{Dictionaries}
 use Rattle.ipc_model.specs.Kinds.{count}
@@ -30,7 +30,7 @@ use Rattle.ipc_readers.proofs.Naming.{columns_alike, none_named, values_alike}
 use Rattle.ipc_readers.proofs.Knowing.{AlsoGives, alike_then, dictionary_alike, no_dictionary_alike, record_alike, same_values}
 use Rattle.ipc_readers.specs.Refusals.{IsStreamFault}
 use Rattle.ipc_readers.specs.Streams.{BlamesBody, GivesBody, GivesHeld, HoldsRecord, ReadsBody, RefusesBody, of_dictionary, of_record}
-use Rattle.ipc_views.specs.declared.schema.MetadataVersion.{MetadataVersion}
+use Rattle.ipc_table_views.specs.declared.schema.MetadataVersion.{MetadataVersion}
 
 -- ---- schemas that differ in their metadata
 

@@ -5,7 +5,7 @@ use Rattle.ipc_devices.proofs.Claims.{claims_through}
 use Rattle.ipc_devices.specs.Faults.{OnIo, OwnFault}
 use Rattle.ipc_devices.specs.declared.fault.Fault.{Fault}
 use Rattle.ipc_devices.specs.declared.fault.Fault.TheVariants.{Ended}
-use Rattle.ipc_views.specs.Spot.{Spot}
+use Rattle.ipc_table_views.specs.Spot.{Spot}
 use Rattle.ipc_model.specs.Streams.{Header, Known}
 use Rattle.ipc_readers.proofs.Bodies.{cut_body, header}
 use Rattle.ipc_readers.specs.ChosenStreams.{Request}

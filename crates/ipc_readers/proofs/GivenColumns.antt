@@ -9,14 +9,14 @@ use Rattle.ipc_base.specs.IdTrees.{IdTrees}
 use Rattle.ipc_devices.specs.Faults.{OwnFault}
 use Rattle.ipc_devices.specs.declared.fault.Fault.{Fault}
 use Rattle.ipc_devices.specs.declared.fault.Fault.TheVariants.{Memory}
-use Rattle.ipc_views.specs.Spot.{Spot}
-use Rattle.ipc_views.specs.declared.schema.MetadataVersion.{MetadataVersion}
+use Rattle.ipc_table_views.specs.Spot.{Spot}
+use Rattle.ipc_table_views.specs.declared.schema.MetadataVersion.{MetadataVersion}
 use Rattle.ipc_model.specs.Batches.{chosen, extra_of, lists_of}
 use Rattle.ipc_model.specs.Kinds.{count}
 use Rattle.ipc_model.specs.Streams.{Known}
 use Rattle.ipc_model.specs.TypeKinds.{kinds_of}
-use Rattle.ipc_projections.specs.ChosenColumns.{AreAsMany, AreOrdered, AreShuffled, asked_by, rising_by}
-use Rattle.ipc_projections.specs.declared.read.chosen.ChosenColumns.{ChosenColumns}
+use Rattle.ipc_projection.specs.ChosenColumns.{AreAsMany, AreOrdered, AreShuffled, asked_by, rising_by}
+use Rattle.ipc_projection.specs.declared.read.chosen.ChosenColumns.{ChosenColumns}
 use Rattle.ipc_read.proofs.AskedColumns.{faults_in_order}
 use Rattle.ipc_read.proofs.AskedSums.{held_in_order}
 use Rattle.ipc_read.proofs.Fields.{field_count}

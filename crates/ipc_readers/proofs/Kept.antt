@@ -11,7 +11,7 @@ use Rattle.lower_arrays.specs.Layouts.{Layout}
 use Rattle.lower_arrays.specs.declared.array.AnyArray.{AnyArray}
 use Rattle.ipc_devices.specs.Gives.{Stop, going, Gives, GivesInOrder, GivesNothing}
 use Rattle.ipc_devices.specs.declared.fault.Fault.{Fault}
-use Rattle.ipc_flat_columns.specs.Bodies.{array_found, array_under}
+use Rattle.ipc_read_flat.specs.Bodies.{array_found, array_under}
 use Rattle.ipc_model.specs.Frame.{frame, message}
 use Rattle.ipc_model.specs.Streams.{Header, Known, header_of}
 use Rattle.ipc_readers.proofs.Items.{is_message, none_begun}

@@ -1,9 +1,9 @@
 -- Readers with the same values under each id read the same batches.
 use Rattle.std.proofs.Common.{◌≡◌, ℕ, List, Option, None, Some, refl, ap, ◌∙◌, subst}
-use Rattle.ipc_laws.proofs.Agreeing.{agree_chosen, alike_record_law}
-use Rattle.ipc_laws.proofs.Readers.{alike_dictionary_law}
-use Rattle.ipc_laws.specs.Agreement.{AreAlike, KnowAlike}
-use Rattle.ipc_views.specs.Spot.{Spot}
+use Rattle.ipc_stream_lemmas.proofs.Agreeing.{agree_chosen, alike_record_law}
+use Rattle.ipc_stream_lemmas.proofs.Readers.{alike_dictionary_law}
+use Rattle.ipc_stream_lemmas.specs.Agreement.{AreAlike, KnowAlike}
+use Rattle.ipc_table_views.specs.Spot.{Spot}
 use Rattle.ipc_model.specs.Batches.{Schema, Body, kinds, chosen, record_meaning, dictionary_meaning}
 use Rattle.ipc_model.specs.Entries.{Dictionaries, dictionary_at}
 use Rattle.ipc_model.specs.Kinds.{count}

@@ -2,9 +2,9 @@
 use Rattle.std.proofs.Common.{◌≡◌, ℕ, zero, suc, List, Option, OnErr, Result, Ok, refl, subst}
 use Rattle.ipc_devices.specs.Gives.{Gives}
 use Rattle.ipc_devices.specs.declared.fault.Fault.{Fault}
-use Rattle.ipc_laws.specs.Agreement.{AreAt}
+use Rattle.ipc_stream_lemmas.specs.Agreement.{AreAt}
 use Rattle.ipc_model.specs.Streams.{Known}
-use Rattle.ipc_projections.specs.ChosenColumns.{asked_by}
+use Rattle.ipc_projection.specs.ChosenColumns.{asked_by}
 use Rattle.ipc_readers.specs.ChosenStreams.{Request}
 use Rattle.ipc_readers.specs.Streams.{ItemGave, NextGave, request_of, begun_of, chosen_of, device_of, head_of, known_of, last_found, metadata_of}
 use Rattle.ipc_readers.specs.declared.read.stream.reader.Found.TheVariants as fronts

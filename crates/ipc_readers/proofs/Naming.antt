@@ -6,11 +6,11 @@ use Rattle.ipc_devices.specs.Faults.{OwnFault}
 use Rattle.ipc_devices.specs.declared.fault.Fault.{Fault}
 use Rattle.ipc_devices.specs.declared.fault.Fault.TheVariants.{Ended, OutOfSpec}
 use Rattle.ipc_devices.specs.declared.fault.OutOfSpecKind.TheVariants.{NegativeFooterLength, InvalidBuffer, InvalidBitmap, InvalidId, InvalidIdDataType}
-use Rattle.ipc_laws.specs.Agreement.{KnowAlike}
-use Rattle.ipc_views.specs.Spot.{Spot}
+use Rattle.ipc_stream_lemmas.specs.Agreement.{KnowAlike}
+use Rattle.ipc_table_views.specs.Spot.{Spot}
 use Rattle.ipc_model.specs.Batches.{Schema, Body, Lists, Place, entries_of, lists_of, places, place_of}
 use Rattle.ipc_model.specs.Entries.{Dictionary, Dictionaries, Entries}
-use Rattle.ipc_flat_columns.specs.Refusals.{TellsEntries}
+use Rattle.ipc_read_flat.specs.Refusals.{TellsEntries}
 use Rattle.ipc_read.proofs.Reasons.{each_list}
 use Rattle.ipc_read.specs.DictionaryBatches.{dictionary_head, TellsOfValues}
 use Rattle.ipc_read.specs.Refusals.{TellsColumns}

@@ -6,9 +6,9 @@ use Rattle.ipc_devices.specs.declared.fault.Fault.{Fault}
 use Rattle.ipc_devices.specs.declared.fault.Fault.TheVariants.{OutOfSpec}
 use Rattle.ipc_devices.specs.declared.fault.OutOfSpecKind.TheVariants.{MissingMessageHeader, InvalidFlatbufferHeader}
 use Rattle.ipc_devices.specs.declared.fault.TableFault.{TableFault}
-use Rattle.ipc_views.specs.MessageSlots.{message_header, message_body_length}
-use Rattle.ipc_views.specs.Spot.{Spot}
-use Rattle.ipc_views.specs.Tables.{root_at}
+use Rattle.ipc_table_views.specs.MessageSlots.{message_header, message_body_length}
+use Rattle.ipc_table_views.specs.Spot.{Spot}
+use Rattle.ipc_table_views.specs.Tables.{root_at}
 use Rattle.ipc_model.specs.Streams.{Header, header_of, header_at, both_slots}
 use Rattle.ipc_readers.specs.declared.read.message.Message.{Message}
 use Rattle.ipc_read.specs.Headers.{LacksHeader, answered_as, needed_header}

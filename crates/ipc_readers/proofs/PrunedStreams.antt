@@ -1,7 +1,7 @@
 -- By a projection a stream means the chosen columns of its chunks.
 use Rattle.std.proofs.Common.{◌≡◌, ◌≢◌, ℕ, zero, suc, ◌==◌, nat_lt, true, false, Bool, cond, List, map, length, take, drop, Option, None, Some, option_map, option_to_list, refl, ap, ◌∙◌}
 use Rattle.std.specs.Option.{option_and_then}
-use Rattle.ipc_views.specs.Spot.{Spot}
+use Rattle.ipc_table_views.specs.Spot.{Spot}
 use Rattle.ipc_model.proofs.Pruned.{prune_law}
 use Rattle.ipc_model.specs.BatchLaws.{pruned}
 use Rattle.ipc_model.specs.Batches.{Body, Chunk, IsProjection, Lists, Schema, batch, entries_of, kinds, lists_of, record_meaning, dictionary_meaning, extra_of}

@@ -1,6 +1,6 @@
 -- A stream that waits, with its partial prefix.
 use Rattle.std.proofs.Common.{◌≡◌, ℕ, zero, suc, Bool, List, [], ◌++◌, Some, None, Ok, refl, subst, sym, ap, ◌∙◌, append-nil}
-use Rattle.ipc_laws.specs.Agreement.{AreAt}
+use Rattle.ipc_stream_lemmas.specs.Agreement.{AreAt}
 use Rattle.ipc_model.specs.Streams.{Known, more}
 use Rattle.ipc_readers.proofs.ChosenStreams.{chosen_waits}
 use Rattle.ipc_readers.specs.ChosenStreams.{Request, chosen_item}

@@ -6,8 +6,8 @@ use Rattle.lower_arrays.specs.Layouts.{Layout}
 use Rattle.lower_arrays.specs.declared.array.AnyArray.{AnyArray}
 use Rattle.ipc_devices.specs.Gives.{Stop, going, Gives}
 use Rattle.ipc_devices.specs.declared.fault.Fault.{Fault}
-use Rattle.ipc_flat_columns.specs.Bodies.{array_under}
-use Rattle.ipc_views.specs.Spot.{Spot}
+use Rattle.ipc_read_flat.specs.Bodies.{array_under}
+use Rattle.ipc_table_views.specs.Spot.{Spot}
 use Rattle.ipc_model.specs.Batches.{extra_of}
 use Rattle.ipc_model.specs.Frame.{frame, message}
 use Rattle.ipc_model.specs.Streams.{Header, header_of}

@@ -5,10 +5,10 @@ use Rattle.ipc_devices.specs.declared.fault.Fault.{Fault}
 use Rattle.ipc_devices.specs.declared.fault.Fault.TheVariants.{OutOfSpec}
 use Rattle.ipc_devices.specs.declared.fault.OutOfSpecKind.TheVariants.{InvalidFlatbufferMessage, InvalidFlatbufferBodyLength, UnexpectedNegativeInteger}
 use Rattle.ipc_devices.specs.declared.fault.TableFault.{TableFault}
-use Rattle.ipc_views.specs.MessageSlots.{message_header, message_body_length}
-use Rattle.ipc_views.specs.Spot.{Spot}
-use Rattle.ipc_views.specs.Tables.{root_at}
-use Rattle.ipc_views.specs.Unions.{header_parts}
+use Rattle.ipc_table_views.specs.MessageSlots.{message_header, message_body_length}
+use Rattle.ipc_table_views.specs.Spot.{Spot}
+use Rattle.ipc_table_views.specs.Tables.{root_at}
+use Rattle.ipc_table_views.specs.Unions.{header_parts}
 use Rattle.ipc_model.specs.Streams.{Header}
 use Rattle.ipc_read.specs.Headers.{needed_header}
 use Rattle.ipc_readers.specs.declared.read.message.Message.{Message}

@@ -9,10 +9,10 @@ use Rattle.ipc_devices.specs.declared.fault.Fault.TheVariants.{Ended, OutOfSpec,
 use Rattle.ipc_devices.specs.declared.fault.OutOfSpecKind.TheVariants.{InvalidFlatbufferVersion}
 use Rattle.ipc_devices.specs.declared.fault.SchemaFault.TheVariants.{NotASchema, Table}
 use Rattle.ipc_devices.specs.declared.fault.TableFault.{TableFault}
-use Rattle.ipc_views.specs.declared.schema.MetadataVersion.{MetadataVersion}
-use Rattle.ipc_views.specs.MessageSlots.{message_version}
-use Rattle.ipc_views.specs.Spot.{Spot}
-use Rattle.ipc_views.specs.Tables.{root_at}
+use Rattle.ipc_table_views.specs.declared.schema.MetadataVersion.{MetadataVersion}
+use Rattle.ipc_table_views.specs.MessageSlots.{message_version}
+use Rattle.ipc_table_views.specs.Spot.{Spot}
+use Rattle.ipc_table_views.specs.Tables.{root_at}
 use Rattle.ipc_schema.specs.Reading.{RefusesMessage}
 use Rattle.ipc_schema.specs.Views.{schema_seen}
 use Rattle.ipc_model.specs.Batches.{Schema}

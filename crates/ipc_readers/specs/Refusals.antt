@@ -4,7 +4,7 @@ use Rattle.std.specs.Prelude.{◌≡◌, ◌⊎◌, ℕ, ◌≤◌}
 use Rattle.ipc_devices.specs.declared.fault.Fault.{Fault}
 use Rattle.ipc_devices.specs.declared.fault.Fault.TheVariants.{Ended, OutOfSpec, TooManyDictionaries}
 use Rattle.ipc_devices.specs.declared.fault.OutOfSpecKind.TheVariants.{InvalidFlatbufferMessage, MissingMessageHeader, InvalidFlatbufferHeader, InvalidFlatbufferBodyLength, UnexpectedNegativeInteger, UnexpectedMessageType}
-use Rattle.ipc_views.specs.Spot.{Spot}
+use Rattle.ipc_table_views.specs.Spot.{Spot}
 use Rattle.ipc_model.specs.Batches.{Schema, chosen, kinds}
 use Rattle.ipc_model.specs.Kinds.{count}
 use Rattle.ipc_model.specs.Streams.{most_dictionaries}

@@ -6,7 +6,7 @@ use Rattle.ipc_devices.specs.Faults.{OnIo, OwnFault}
 use Rattle.ipc_devices.specs.Gives.{ended, Counts, Gives}
 use Rattle.ipc_devices.specs.declared.fault.Fault.{Fault}
 use Rattle.ipc_model.specs.Batches.{Chunk}
-use Rattle.ipc_laws.specs.Agreement.{AreAt}
+use Rattle.ipc_stream_lemmas.specs.Agreement.{AreAt}
 use Rattle.ipc_model.specs.Streams.{Known, End, marked, waits, faulty, more}
 use Rattle.ipc_read.specs.Chunks.{chunk_seen}
 use Rattle.ipc_readers.specs.ChosenStreams.{Request, chosen_item, chosen_meaning}

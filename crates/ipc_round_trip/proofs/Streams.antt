@@ -19,10 +19,10 @@ use Rattle.ipc_devices.specs.declared.fault.StateFault.TheVariants.{NotStarted, 
 use Rattle.ipc_devices.specs.declared.fault.TableFault.{TableFault}
 use Rattle.lower_types.specs.declared.Endianness.{Endianness}
 use Rattle.lower.specs.TypeTrees.{FieldTrees, Pairs}
-use Rattle.ipc_views.specs.MessageSlots.{message_version}
-use Rattle.ipc_views.specs.Spot.{Spot}
-use Rattle.ipc_views.specs.Tables.{root_at}
-use Rattle.ipc_views.specs.declared.schema.MetadataVersion.{MetadataVersion}
+use Rattle.ipc_table_views.specs.MessageSlots.{message_version}
+use Rattle.ipc_table_views.specs.Spot.{Spot}
+use Rattle.ipc_table_views.specs.Tables.{root_at}
+use Rattle.ipc_table_views.specs.declared.schema.MetadataVersion.{MetadataVersion}
 use Rattle.ipc_model.specs.Batches.{Chunk, Schema}
 use Rattle.ipc_model.specs.Frame.{Frame, message, mark, waiting, broken, frame}
 use Rattle.ipc_model.specs.Schemas.{given, made, schema_of}

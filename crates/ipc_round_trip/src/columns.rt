@@ -3,7 +3,7 @@ ghost use Rattle.ipc_round_trip.specs.Choosing.{ChosenFinishedLaw, ChosenOpenLaw
 
 use crate::read::{WholeStream, read_chunks};
 use ipc_devices::{Fault, MemFile};
-use ipc_projections::read::projection::is_projection;
+use ipc_projection::read::projection::is_projection;
 use ipc_readers::read::stream::{StreamReader, read_stream_metadata};
 use std::alloc::Global;
 

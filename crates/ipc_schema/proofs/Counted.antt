@@ -6,9 +6,9 @@ use Rattle.ipc_devices.proofs.Claims.{claimed}
 use Rattle.ipc_devices.specs.declared.fault.Fault.{Fault}
 use Rattle.ipc_devices.specs.declared.fault.TableFault.{TableFault}
 use Rattle.ipc_devices.specs.declared.fault.TableFault.TheVariants.{Outside}
-use Rattle.ipc_views.specs.SchemaSlots.{schema_fields}
-use Rattle.ipc_views.specs.Spot.{Spot, Vector}
-use Rattle.ipc_views.specs.Tables.{and_then, before, bytes_at, map_ok, number_at, of_slot, open_vtable, slot_at, table_at, target_at, vector_at, vtable_at}
+use Rattle.ipc_table_views.specs.SchemaSlots.{schema_fields}
+use Rattle.ipc_table_views.specs.Spot.{Spot, Vector}
+use Rattle.ipc_table_views.specs.Tables.{and_then, before, bytes_at, map_ok, number_at, of_slot, open_vtable, slot_at, table_at, target_at, vector_at, vtable_at}
 use Rattle.ipc_model.proofs.Given.{if-some}
 use Rattle.ipc_schema.specs.Reading.{CountsRefused}
 

@@ -7,9 +7,9 @@ use Rattle.ipc_devices.specs.declared.fault.Fault.{Fault}
 use Rattle.ipc_devices.specs.declared.fault.Fault.TheVariants as faults
 use Rattle.ipc_devices.specs.declared.fault.SchemaFault.TheVariants.{NotASchema}
 use Rattle.ipc_devices.specs.declared.fault.TableFault.{TableFault}
-use Rattle.ipc_views.specs.Spot.{Spot, Vector}
-use Rattle.ipc_views.specs.SchemaSlots.{field_name, field_nullable, field_type, field_dictionary, field_custom_metadata}
-use Rattle.ipc_views.specs.Tables.{map_ok, table_in}
+use Rattle.ipc_table_views.specs.Spot.{Spot, Vector}
+use Rattle.ipc_table_views.specs.SchemaSlots.{field_name, field_nullable, field_type, field_dictionary, field_custom_metadata}
+use Rattle.ipc_table_views.specs.Tables.{map_ok, table_in}
 use Rattle.ipc_model.specs.Schemas.{Encoding, Read, ReadAll, ReadType, made, present, given, encoded, extended, with_extension, optional_encoding, pairs_at, field_at, field_count, field_from, field_with, fields_count, fields_from, first_field, group_with, inner_count, single_with, type_of_field}
 use Rattle.ipc_schema.specs.Reading.{RefusesWith, in_schema}
 use Rattle.ipc_schema.specs.Views.{Child, below_count, below_number, child_number, with_one_id}

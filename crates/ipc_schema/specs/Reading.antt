@@ -7,10 +7,10 @@ use Rattle.ipc_devices.specs.declared.fault.SchemaFault.TheVariants.{NotASchema,
 use Rattle.ipc_devices.specs.declared.fault.Fault.{Fault}
 use Rattle.ipc_devices.specs.declared.fault.Fault.TheVariants.{Memory, OutOfSpec, Schema as BadSchema}
 use Rattle.ipc_devices.specs.declared.fault.OutOfSpecKind.TheVariants.{MissingFields}
-use Rattle.ipc_views.specs.MessageSlots.{message_header}
-use Rattle.ipc_views.specs.SchemaSlots.{schema_custom_metadata, schema_endianness, schema_fields}
-use Rattle.ipc_views.specs.Spot.{Spot, Vector}
-use Rattle.ipc_views.specs.Tables.{root_at}
+use Rattle.ipc_table_views.specs.MessageSlots.{message_header}
+use Rattle.ipc_table_views.specs.SchemaSlots.{schema_custom_metadata, schema_endianness, schema_fields}
+use Rattle.ipc_table_views.specs.Spot.{Spot, Vector}
+use Rattle.ipc_table_views.specs.Tables.{root_at}
 use Rattle.ipc_model.specs.Batches.{Schema as Meaning}
 use Rattle.ipc_model.specs.Schemas.{given, made, pairs_at, present, schema_at, schema_of}
 

@@ -11,11 +11,11 @@ use Rattle.lower.specs.declared.datatypes.Field.{Field as Column}
 use Rattle.ipc_base.specs.Fitting.{AllFit, Fits}
 use Rattle.ipc_base.specs.IdTrees.{ids, IdTrees, no_ids, more_ids, all_ids_view, ids_view}
 use Rattle.ipc_base.specs.declared.ipc.IpcField.{IpcField}
-use Rattle.ipc_parts.specs.Readers.{optional, parts_of}
-use Rattle.ipc_parts.specs.Sizes.{parts_size, size_of, slots_size}
-use Rattle.ipc_parts.specs.Tree.{Part, Slots, no_slots, offset, table, tables}
-use Rattle.ipc_views.specs.SchemaSlots.{dictionary_encoding_id, field_custom_metadata, field_dictionary, field_name, field_nullable, field_type}
-use Rattle.ipc_views.specs.Spot.{Spot}
+use Rattle.ipc_table_bytes.specs.Readers.{optional, parts_of}
+use Rattle.ipc_table_bytes.specs.Sizes.{parts_size, size_of, slots_size}
+use Rattle.ipc_table_bytes.specs.Tree.{Part, Slots, no_slots, offset, table, tables}
+use Rattle.ipc_table_views.specs.SchemaSlots.{dictionary_encoding_id, field_custom_metadata, field_dictionary, field_name, field_nullable, field_type}
+use Rattle.ipc_table_views.specs.Spot.{Spot}
 use Rattle.ipc_tables.specs.Reads.{IsDictionaryTable, IsField}
 use Rattle.ipc_tables.specs.Schemas.{dictionary_slots, field_part, pairs_part}
 use Rattle.ipc_tables.specs.Types.{type_tag}

@@ -1,9 +1,9 @@
 -- The message of a schema reads as the schema.
 use Rattle.std.proofs.Common.{◌≡◌, ℕ, List, Some, Ok, ap, ◌∙◌, arith}
-use Rattle.ipc_parts.specs.Holds.{HoldsPart, HoldsRoot, spot}
-use Rattle.ipc_parts.specs.Tree.{Slots, absent, no_slots, number, offset, table}
-use Rattle.ipc_views.specs.MessageSlots.{message_header}
-use Rattle.ipc_views.specs.Tables.{and_then, root_at, spot_at}
+use Rattle.ipc_table_bytes.specs.Holds.{HoldsPart, HoldsRoot, spot}
+use Rattle.ipc_table_bytes.specs.Tree.{Slots, absent, no_slots, number, offset, table}
+use Rattle.ipc_table_views.specs.MessageSlots.{message_header}
+use Rattle.ipc_table_views.specs.Tables.{and_then, root_at, spot_at}
 use Rattle.ipc_model.specs.Batches.{Schema}
 use Rattle.ipc_model.specs.Schemas.{schema_at, schema_of}
 use Rattle.ipc_schema_write.proofs.SlotReads.{number-read, offset-read, union-read, spot-held}

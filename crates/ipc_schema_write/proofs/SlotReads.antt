@@ -2,10 +2,10 @@
 use Rattle.std.proofs.Common.{◌≡◌, ℕ, ◌+◌, ◌<◌, ◌≤◌, Bool, true, false, List, Some, None, Result, Ok, refl, ap, ◌∙◌, arith}
 use Rattle.std.proofs.lemmas.Bool.Decides.{nat_tests}
 use Rattle.ipc_devices.specs.declared.fault.TableFault.{TableFault}
-use Rattle.ipc_views.specs.Spot.{Spot}
-use Rattle.ipc_views.specs.Tables.{and_then, flag, map_ok, number_at, number_slot, of_slot, or_default, slot_at, spot_at, table_slot, target_at, union_slot}
-use Rattle.ipc_parts.specs.Holds.{HoldsPart, spot}
-use Rattle.ipc_parts.specs.Tree.{Slots, table}
+use Rattle.ipc_table_views.specs.Spot.{Spot}
+use Rattle.ipc_table_views.specs.Tables.{and_then, flag, map_ok, number_at, number_slot, of_slot, or_default, slot_at, spot_at, table_slot, target_at, union_slot}
+use Rattle.ipc_table_bytes.specs.Holds.{HoldsPart, spot}
+use Rattle.ipc_table_bytes.specs.Tree.{Slots, table}
 use Rattle.ipc_tables.specs.Slots.{bit}
 
 -- A field that is a number.

@@ -8,9 +8,9 @@ use Rattle.lower.specs.Normal.{norm, norm_field, norm_fields, with_pair}
 use Rattle.lower.specs.TypeTrees.{Pairs, Single, Group, structure, choice, TypeTree, plain, single, group, dictionary, extension, FieldTree, FieldTrees, no_fields, more_fields}
 use Rattle.ipc_base.specs.IdTrees.{IdTrees, no_ids, more_ids}
 use Rattle.ipc_devices.specs.declared.fault.TableFault.{TableFault}
-use Rattle.ipc_views.specs.SchemaSlots.{field_children}
-use Rattle.ipc_views.specs.Spot.{Spot, Vector}
-use Rattle.ipc_views.specs.Tables.{table_in}
+use Rattle.ipc_table_views.specs.SchemaSlots.{field_children}
+use Rattle.ipc_table_views.specs.Spot.{Spot, Vector}
+use Rattle.ipc_table_views.specs.Tables.{table_in}
 use Rattle.ipc_tables.specs.Reads.{AreTables, ArePairTables, IsField, IsPairTable, IsType}
 use Rattle.ipc_tables.specs.Types.{type_tag}
 use Rattle.ipc_tables.specs.declared.schema.Field.{Field}

@@ -17,12 +17,12 @@ use Rattle.ipc_tables.specs.declared.types.FieldType.TheVariants.{Null, Int, Bin
 use Rattle.ipc_tables.specs.declared.types.Int.{Int as int_table}
 use Rattle.ipc_tables.specs.Weights.{ids_weight, zone_weight}
 use Rattle.ipc_tables.proofs.Kept.{kept32-is, kept-ids}
-use Rattle.ipc_views.specs.declared.types.DateUnit.{DateUnit}
-use Rattle.ipc_views.specs.declared.types.DateUnit.TheVariants.{Day, Millisecond as day_millisecond}
-use Rattle.ipc_views.specs.declared.types.TimeUnit.{TimeUnit as UnitTag}
-use Rattle.ipc_views.specs.declared.types.TimeUnit.TheVariants.{Second, Millisecond, Microsecond, Nanosecond}
-use Rattle.ipc_views.specs.declared.types.IntervalUnit.{IntervalUnit as IntervalTag}
-use Rattle.ipc_views.specs.declared.types.UnionMode.{UnionMode as ModeTag}
+use Rattle.ipc_table_views.specs.declared.types.DateUnit.{DateUnit}
+use Rattle.ipc_table_views.specs.declared.types.DateUnit.TheVariants.{Day, Millisecond as day_millisecond}
+use Rattle.ipc_table_views.specs.declared.types.TimeUnit.{TimeUnit as UnitTag}
+use Rattle.ipc_table_views.specs.declared.types.TimeUnit.TheVariants.{Second, Millisecond, Microsecond, Nanosecond}
+use Rattle.ipc_table_views.specs.declared.types.IntervalUnit.{IntervalUnit as IntervalTag}
+use Rattle.ipc_table_views.specs.declared.types.UnionMode.{UnionMode as ModeTag}
 use Rattle.ipc_model.specs.Schemas.{date_of, decimal_at, decimal_of, group_at, integer_at, integers, interval_of, mode_of, plain_at, single_at, time_of, unit_of}
 use Rattle.ipc_model.specs.Writable.{IsShort, IsWritablePlain, group_weight, plain_weight, text_weight}
 use Rattle.ipc_schema_write.specs.Meanings.{AreShortIds, IsGroupTable, IsKeysTable, IsPlainTable, IsSingleTable}

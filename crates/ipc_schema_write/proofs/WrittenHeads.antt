@@ -1,13 +1,13 @@
 -- The schema message that was written begins a stream: its version is 5, and
 -- its length is a multiple of 8.
 use Rattle.std.proofs.Common.{◌≡◌, ℕ, ◌+◌, ◌*◌, ◌%◌, List, length, Some, Ok, refl, ap, ◌∙◌, arith}
-use Rattle.ipc_parts.specs.Holds.{HoldsRoot, count_parts, count_slots, spot}
-use Rattle.ipc_parts.specs.Sizes.{message_size, parts_size, size_of, slots_size, whole}
-use Rattle.ipc_parts.specs.Tree.{Part, text, elements, table, tables, Slots, no_slots, absent, number, offset, Parts, no_parts, part}
-use Rattle.ipc_views.specs.Enumerations.{version_of}
-use Rattle.ipc_views.specs.MessageSlots.{message_version}
-use Rattle.ipc_views.specs.Tables.{and_then, root_at, spot_at}
-use Rattle.ipc_views.specs.declared.schema.MetadataVersion.TheVariants.{V5}
+use Rattle.ipc_table_bytes.specs.Holds.{HoldsRoot, count_parts, count_slots, spot}
+use Rattle.ipc_table_bytes.specs.Sizes.{message_size, parts_size, size_of, slots_size, whole}
+use Rattle.ipc_table_bytes.specs.Tree.{Part, text, elements, table, tables, Slots, no_slots, absent, number, offset, Parts, no_parts, part}
+use Rattle.ipc_table_views.specs.Enumerations.{version_of}
+use Rattle.ipc_table_views.specs.MessageSlots.{message_version}
+use Rattle.ipc_table_views.specs.Tables.{and_then, root_at, spot_at}
+use Rattle.ipc_table_views.specs.declared.schema.MetadataVersion.TheVariants.{V5}
 use Rattle.ipc_model.specs.Batches.{Schema}
 use Rattle.ipc_model.specs.Schemas.{head_of, schema_of}
 use Rattle.ipc_schema_write.proofs.SlotReads.{number-read, spot-held}

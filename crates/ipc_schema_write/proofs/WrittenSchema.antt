@@ -10,13 +10,13 @@ use Rattle.ipc_base.specs.IdTrees.{IdTrees}
 use Rattle.ipc_devices.specs.declared.fault.ArgFault.TheVariants.{FieldsShape, NotWritable}
 use Rattle.ipc_devices.specs.declared.fault.Fault.{Fault}
 use Rattle.ipc_devices.specs.declared.fault.Fault.TheVariants.{Argument, Memory}
-use Rattle.ipc_parts.specs.Encodes.{Encodes}
-use Rattle.ipc_parts.specs.Holds.{HoldsPart, spot}
-use Rattle.ipc_parts.specs.Readers.{optional, parts_of}
-use Rattle.ipc_parts.specs.Sizes.{parts_size, size_of}
-use Rattle.ipc_parts.specs.Tree.{no_slots, table}
-use Rattle.ipc_views.specs.SchemaSlots.{schema_custom_metadata, schema_fields}
-use Rattle.ipc_views.specs.declared.schema.MetadataVersion.TheVariants.{V5}
+use Rattle.ipc_table_bytes.specs.Encodes.{Encodes}
+use Rattle.ipc_table_bytes.specs.Holds.{HoldsPart, spot}
+use Rattle.ipc_table_bytes.specs.Readers.{optional, parts_of}
+use Rattle.ipc_table_bytes.specs.Sizes.{parts_size, size_of}
+use Rattle.ipc_table_bytes.specs.Tree.{no_slots, table}
+use Rattle.ipc_table_views.specs.SchemaSlots.{schema_custom_metadata, schema_fields}
+use Rattle.ipc_table_views.specs.declared.schema.MetadataVersion.TheVariants.{V5}
 use Rattle.ipc_tables.specs.Messages.{message_slots}
 use Rattle.ipc_tables.specs.Schemas.{features_part, field_part, pairs_part, schema_slots}
 use Rattle.ipc_tables.specs.Weights.{features_weight}

@@ -8,8 +8,8 @@ use Rattle.lower.specs.Counts.{field_levels}
 use Rattle.lower.specs.Normal.{data_key, name_key, norm_field, with_pair}
 use Rattle.lower.specs.TypeTrees.{Pairs, Plain, Single, Group, TypeTree, plain, single, group, dictionary, extension, FieldTree, FieldTrees, no_fields, more_fields}
 use Rattle.ipc_base.specs.IdTrees.{IdTree, IdTrees, no_ids, more_ids}
-use Rattle.ipc_parts.specs.Sizes.{size_of}
-use Rattle.ipc_views.specs.Spot.{Spot}
+use Rattle.ipc_table_bytes.specs.Sizes.{size_of}
+use Rattle.ipc_table_views.specs.Spot.{Spot}
 use Rattle.ipc_tables.specs.Reads.{IsType, IsField}
 use Rattle.ipc_tables.specs.Schemas.{field_part}
 use Rattle.ipc_tables.specs.Slots.{kept32, kept64}

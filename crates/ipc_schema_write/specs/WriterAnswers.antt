@@ -12,10 +12,10 @@ use Rattle.ipc_base.specs.IdTrees.{IdTrees}
 use Rattle.ipc_devices.specs.declared.fault.ArgFault.TheVariants.{FieldsShape, NotWritable}
 use Rattle.ipc_devices.specs.declared.fault.Fault.{Fault}
 use Rattle.ipc_devices.specs.declared.fault.Fault.TheVariants.{Argument, Memory}
-use Rattle.ipc_parts.specs.Encodes.{IsEncoding}
-use Rattle.ipc_parts.specs.Holds.{HoldsPart, spot}
-use Rattle.ipc_parts.specs.Sizes.{size_of}
-use Rattle.ipc_parts.specs.Tree.{table}
+use Rattle.ipc_table_bytes.specs.Encodes.{IsEncoding}
+use Rattle.ipc_table_bytes.specs.Holds.{HoldsPart, spot}
+use Rattle.ipc_table_bytes.specs.Sizes.{size_of}
+use Rattle.ipc_table_bytes.specs.Tree.{table}
 use Rattle.ipc_tables.specs.Messages.{message_slots}
 use Rattle.ipc_tables.specs.Schemas.{schema_slots}
 use Rattle.ipc_tables.specs.Weights.{schema_weight}
@@ -26,7 +26,7 @@ use Rattle.ipc_model.specs.Batches.{Schema, places}
 use Rattle.ipc_model.specs.Schemas.{head_of, schema_at, schema_of}
 use Rattle.ipc_model.specs.Streams.{Head}
 use Rattle.ipc_model.specs.Writable.{AreWritable, IsWritable, SameUnderId, most_places, weight}
-use Rattle.ipc_views.specs.declared.schema.MetadataVersion.TheVariants.{V5}
+use Rattle.ipc_table_views.specs.declared.schema.MetadataVersion.TheVariants.{V5}
 
 -- The greatest weight of a schema that can be written.
 abbrev pub max_weight : ℕ

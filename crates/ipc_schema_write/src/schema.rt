@@ -18,7 +18,7 @@ use ipc_base::fault::{ArgFault, Fault};
 use ipc_base::ipc::{IpcField, fits};
 use ipc_tables::message::{Message, MessageHeader};
 use ipc_tables::schema as tables;
-use ipc_views::{Endianness, MetadataVersion};
+use ipc_table_views::{Endianness, MetadataVersion};
 use lower::datatypes::counts::is_within_levels;
 use lower::datatypes::{Field, Schema};
 use std::alloc::Global;

@@ -13,7 +13,7 @@ use ipc_tables::types::{
     Date, Decimal, Duration, FieldType, FixedSizeBinary, FixedSizeList, Int, Interval, Map, Time,
     Timestamp, Union,
 };
-use ipc_views::{DateUnit, IntervalUnit as IntervalTag, TimeUnit as UnitTag, UnionMode as ModeTag};
+use ipc_table_views::{DateUnit, IntervalUnit as IntervalTag, TimeUnit as UnitTag, UnionMode as ModeTag};
 use lower::datatypes::{DataType, IntegerType, IntervalUnit, TimeUnit, UnionMode};
 use std::alloc::AllocError;
 

@@ -5,17 +5,17 @@ use Rattle.std.proofs.Math.Seq.{take-append-add}
 use Rattle.lower.specs.TypeTrees.{FieldTrees, Pairs}
 use Rattle.lower_types.specs.declared.Endianness.{Endianness}
 use Rattle.ipc_base.specs.IdTrees.{IdTrees}
-use Rattle.ipc_views.specs.declared.file.Block.{Block}
-use Rattle.ipc_views.specs.declared.schema.MetadataVersion.TheVariants.{V5}
+use Rattle.ipc_table_views.specs.declared.file.Block.{Block}
+use Rattle.ipc_table_views.specs.declared.schema.MetadataVersion.TheVariants.{V5}
 use Rattle.ipc_model.specs.Batches.{Chunk, Schema}
 use Rattle.ipc_model.specs.Entries.{Dictionaries}
 use Rattle.ipc_model.specs.FileFollowLaws.{BlocksMean}
 use Rattle.ipc_model.specs.Files.{FileMetadata, all_of, metadata_of}
 use Rattle.ipc_model.proofs.Given.{some-same}
 use Rattle.ipc_schema_write.specs.WriterAnswers.{written_as}
-use Rattle.ipc_file_laws.specs.Appending.{MeansBefore, goes_on, greatest_end}
-use Rattle.ipc_file_laws.specs.FileBytes.{EndsStreamBehind, IsFile, file_so_far}
-use Rattle.ipc_file_laws.proofs.FileSteps.{grow_law, size_law}
+use Rattle.ipc_file_lemmas.specs.Appending.{MeansBefore, goes_on, greatest_end}
+use Rattle.ipc_file_lemmas.specs.FileBytes.{EndsStreamBehind, IsFile, file_so_far}
+use Rattle.ipc_file_lemmas.proofs.FileSteps.{grow_law, size_law}
 use Rattle.ipc_file_write.specs.Appends.{MayGoOn}
 use Rattle.ipc_file_write.specs.Calls.{IsWrittenFile}
 use Rattle.ipc_file_write.specs.FileWriters.{FileSeen, IsOpenFile, IsWholeFile, head_of_file}

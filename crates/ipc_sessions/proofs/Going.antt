@@ -19,8 +19,8 @@ use Rattle.ipc_model.specs.Streams.{Head}
 use Rattle.ipc_model.proofs.Given.{some-same}
 use Rattle.ipc_files.specs.Dictionaries.{DictionariesReason}
 use Rattle.ipc_files.specs.Files.{FileFault, FileReason}
-use Rattle.ipc_file_laws.proofs.Appending.{stay_law}
-use Rattle.ipc_file_laws.specs.Appending.{MeansBefore, goes_on, normal_chunk, normal_schema}
+use Rattle.ipc_file_lemmas.proofs.Appending.{stay_law}
+use Rattle.ipc_file_lemmas.specs.Appending.{MeansBefore, goes_on, normal_chunk, normal_schema}
 use Rattle.ipc_file_write.specs.AppendLaws.{NoMore}
 use Rattle.ipc_file_write.specs.Appends.{GoesOn, GoesOnAgain, GoesOnWith, HasNoDictionaries, MayGoOn, RefusesFile, RefusesToGoOn}
 use Rattle.ipc_file_write.specs.FileWriters.{FileSeen, HoldsBytes, head_of_file}

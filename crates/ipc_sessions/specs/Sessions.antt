@@ -7,16 +7,16 @@ use Rattle.lower.specs.TypeTrees.{Pairs}
 use Rattle.lower_arrays.specs.declared.array.AnyArray.{AnyArray}
 use Rattle.ipc_devices.specs.Faults.{OwnFault}
 use Rattle.ipc_devices.specs.declared.fault.Fault.{Fault}
-use Rattle.ipc_views.specs.declared.file.Block.{Block}
-use Rattle.ipc_views.specs.declared.schema.MetadataVersion.TheVariants.{V5}
+use Rattle.ipc_table_views.specs.declared.file.Block.{Block}
+use Rattle.ipc_table_views.specs.declared.schema.MetadataVersion.TheVariants.{V5}
 use Rattle.ipc_model.specs.Batches.{Chunk, Schema}
 use Rattle.ipc_model.specs.Entries.{Dictionaries}
 use Rattle.ipc_model.specs.FileFollowLaws.{BlocksMean}
 use Rattle.ipc_model.specs.Files.{FileMetadata, all_of, metadata_of}
 use Rattle.ipc_model.specs.Writers.{Call, taken, write_call}
 use Rattle.ipc_write.specs.Meaning.{chunk_written}
-use Rattle.ipc_file_laws.specs.Appending.{MeansBefore, goes_on, normal_chunk, normal_schema}
-use Rattle.ipc_file_laws.specs.FileBytes.{EndsStreamBehind, IsFile, file_so_far}
+use Rattle.ipc_file_lemmas.specs.Appending.{MeansBefore, goes_on, normal_chunk, normal_schema}
+use Rattle.ipc_file_lemmas.specs.FileBytes.{EndsStreamBehind, IsFile, file_so_far}
 use Rattle.ipc_files.specs.Files.{FileFault, FileReason}
 use Rattle.ipc_file_write.specs.Appends.{MayGoOn, RefusesFile}
 use Rattle.ipc_file_write.specs.FileWriters.{FileSeen, IsWholeFile, head_of_file}

@@ -1,10 +1,10 @@
 -- Lists of built parts.
 use Rattle.std.proofs.Common.{false, nat_eq, ◌≡◌, ℕ, suc, ◌+◌, ◌<◌, List, [], ◌∷◌, ◌++◌, length, take, map, get_or, refl, sym, ap, subst, ◌∙◌, arith}
 use Rattle.std.proofs.Math.Seq.{take-suc}
-use Rattle.ipc_parts.specs.declared.build.Built.{Built}
-use Rattle.ipc_parts.specs.Parts.{IsPart, AreParts, end_parts, is_part}
-use Rattle.ipc_parts.specs.Tree.{Part, table, tables}
-use Rattle.ipc_parts.specs.declared.build.Slot.TheVariants.{Offset}
+use Rattle.ipc_table_bytes.specs.declared.build.Built.{Built}
+use Rattle.ipc_table_bytes.specs.Parts.{IsPart, AreParts, end_parts, is_part}
+use Rattle.ipc_table_bytes.specs.Tree.{Part, table, tables}
+use Rattle.ipc_table_bytes.specs.declared.build.Slot.TheVariants.{Offset}
 use Rattle.ipc_tables.specs.declared.schema.KeyValue.{KeyValue}
 use Rattle.ipc_tables.specs.declared.schema.Field.{Field}
 use Rattle.ipc_tables.specs.declared.schema.Field.TheViews.{out-Field}

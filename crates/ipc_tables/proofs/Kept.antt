@@ -5,10 +5,10 @@ use Rattle.std.specs.List.{All}
 use Rattle.std.proofs.lemmas.Int.{to_z-of_z}
 use Rattle.std.proofs.Math.Facts.{Fits-of_z}
 use Rattle.byteorder.specs.Endian.{little_number}
-use Rattle.ipc_views.specs.declared.file.Block.{Block}
-use Rattle.ipc_views.specs.declared.message.FieldNode.{FieldNode}
-use Rattle.ipc_views.specs.declared.schema.Buffer.{Buffer}
-use Rattle.ipc_parts.proofs.Standing.{le-number}
+use Rattle.ipc_table_views.specs.declared.file.Block.{Block}
+use Rattle.ipc_table_views.specs.declared.message.FieldNode.{FieldNode}
+use Rattle.ipc_table_views.specs.declared.schema.Buffer.{Buffer}
+use Rattle.ipc_table_bytes.proofs.Standing.{le-number}
 use Rattle.ipc_tables.specs.Reads.{kept_buffer, kept_node}
 use Rattle.ipc_tables.specs.Slots.{bits32, bits64, kept32, kept64, kept_bytes32, kept_bytes64}
 use Rattle.ipc_tables.proofs.Numbers.{take-le}

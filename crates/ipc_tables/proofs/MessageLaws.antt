@@ -2,17 +2,17 @@
 use Rattle.std.proofs.Common.{◌≡◌, ℕ, ◌<◌, ◌≤◌, List, Option, None, Some, Result, Ok, Err, IfOk, ap, ◌∙◌, arith, Vec, Global, map}
 use Rattle.std.specs.Prelude.{option_map}
 use Rattle.ipc_devices.specs.declared.fault.Fault.{Fault}
-use Rattle.ipc_views.specs.Enumerations.{version_of}
-use Rattle.ipc_views.specs.Structs.{block_of, buffer_of, node_of, structs_slot}
-use Rattle.ipc_views.specs.Tables.{and_then, number_at, root_at, spot_at, table_slot}
-use Rattle.ipc_views.specs.Spot.{Spot}
-use Rattle.ipc_views.specs.declared.file.Block.{Block}
+use Rattle.ipc_table_views.specs.Enumerations.{version_of}
+use Rattle.ipc_table_views.specs.Structs.{block_of, buffer_of, node_of, structs_slot}
+use Rattle.ipc_table_views.specs.Tables.{and_then, number_at, root_at, spot_at, table_slot}
+use Rattle.ipc_table_views.specs.Spot.{Spot}
+use Rattle.ipc_table_views.specs.declared.file.Block.{Block}
 use Rattle.ipc_tables.specs.Slots.{bit}
-use Rattle.ipc_parts.specs.Encodes.{Encodes}
-use Rattle.ipc_parts.specs.Holds.{HoldsPart, HoldsRoot, spot}
-use Rattle.ipc_parts.specs.Readers.{HoldsOptional, optional}
-use Rattle.ipc_parts.specs.Tree.{Slots, no_slots, number, table}
-use Rattle.ipc_parts.proofs.ReaderLaws.{absent-read, number-read, optional-read, spot-read, structs-read, table-read, union-read}
+use Rattle.ipc_table_bytes.specs.Encodes.{Encodes}
+use Rattle.ipc_table_bytes.specs.Holds.{HoldsPart, HoldsRoot, spot}
+use Rattle.ipc_table_bytes.specs.Readers.{HoldsOptional, optional}
+use Rattle.ipc_table_bytes.specs.Tree.{Slots, no_slots, number, table}
+use Rattle.ipc_table_bytes.proofs.ReaderLaws.{absent-read, number-read, optional-read, spot-read, structs-read, table-read, union-read}
 use Rattle.ipc_tables.specs.declared.file.Footer.{Footer}
 use Rattle.ipc_tables.specs.declared.message.BodyCompression.{BodyCompression}
 use Rattle.ipc_tables.specs.declared.message.DictionaryBatch.{DictionaryBatch}

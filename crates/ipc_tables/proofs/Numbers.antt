@@ -4,31 +4,31 @@ use Rattle.std.proofs.Math.Seq.{take-length}
 use Rattle.std.specs.Int.{w32, w64, cast_signed}
 use Rattle.byteorder.specs.Endian.{little_number}
 use Rattle.ipc_devices.specs.declared.fault.TableFault.{TableFault}
-use Rattle.ipc_views.specs.declared.file.Block.{Block}
-use Rattle.ipc_views.specs.declared.message.FieldNode.{FieldNode}
-use Rattle.ipc_views.specs.declared.schema.Buffer.{Buffer}
-use Rattle.ipc_views.specs.declared.schema.Endianness.{Endianness}
-use Rattle.ipc_views.specs.declared.schema.Endianness.TheVariants.{Little, Big}
-use Rattle.ipc_views.specs.declared.schema.MetadataVersion.{MetadataVersion}
-use Rattle.ipc_views.specs.declared.schema.MetadataVersion.TheVariants.{V1, V2, V3, V4, V5}
-use Rattle.ipc_views.specs.declared.types.Precision.{Precision}
-use Rattle.ipc_views.specs.declared.types.Precision.TheVariants.{Half, Single, Double}
-use Rattle.ipc_views.specs.declared.types.DateUnit.{DateUnit}
-use Rattle.ipc_views.specs.declared.types.DateUnit.TheVariants.{Day, Millisecond as day_millisecond}
-use Rattle.ipc_views.specs.declared.types.TimeUnit.{TimeUnit}
-use Rattle.ipc_views.specs.declared.types.TimeUnit.TheVariants.{Second, Millisecond, Microsecond, Nanosecond}
-use Rattle.ipc_views.specs.declared.types.IntervalUnit.{IntervalUnit}
-use Rattle.ipc_views.specs.declared.types.IntervalUnit.TheVariants.{YearMonth, DayTime, MonthDayNano}
-use Rattle.ipc_views.specs.declared.types.UnionMode.{UnionMode}
-use Rattle.ipc_views.specs.declared.types.UnionMode.TheVariants.{Sparse, Dense}
-use Rattle.ipc_views.specs.Enumerations.{date_unit_of, endianness_of, interval_unit_of, precision_of, time_unit_of, union_mode_of, version_of}
-use Rattle.ipc_views.specs.Structs.{block_of, buffer_of, node_of, signed32, signed64}
-use Rattle.ipc_views.specs.Tables.{and_then, flag, map_ok, number_at, number_slot, slot_at}
-use Rattle.ipc_parts.specs.Pads.{le}
-use Rattle.ipc_parts.specs.Parts.{Stands}
-use Rattle.ipc_parts.proofs.Lengths.{length-le}
-use Rattle.ipc_parts.proofs.ReaderLaws.{number-read}
-use Rattle.ipc_parts.proofs.Standing.{stands-first, stands-then, take-stands}
+use Rattle.ipc_table_views.specs.declared.file.Block.{Block}
+use Rattle.ipc_table_views.specs.declared.message.FieldNode.{FieldNode}
+use Rattle.ipc_table_views.specs.declared.schema.Buffer.{Buffer}
+use Rattle.ipc_table_views.specs.declared.schema.Endianness.{Endianness}
+use Rattle.ipc_table_views.specs.declared.schema.Endianness.TheVariants.{Little, Big}
+use Rattle.ipc_table_views.specs.declared.schema.MetadataVersion.{MetadataVersion}
+use Rattle.ipc_table_views.specs.declared.schema.MetadataVersion.TheVariants.{V1, V2, V3, V4, V5}
+use Rattle.ipc_table_views.specs.declared.types.Precision.{Precision}
+use Rattle.ipc_table_views.specs.declared.types.Precision.TheVariants.{Half, Single, Double}
+use Rattle.ipc_table_views.specs.declared.types.DateUnit.{DateUnit}
+use Rattle.ipc_table_views.specs.declared.types.DateUnit.TheVariants.{Day, Millisecond as day_millisecond}
+use Rattle.ipc_table_views.specs.declared.types.TimeUnit.{TimeUnit}
+use Rattle.ipc_table_views.specs.declared.types.TimeUnit.TheVariants.{Second, Millisecond, Microsecond, Nanosecond}
+use Rattle.ipc_table_views.specs.declared.types.IntervalUnit.{IntervalUnit}
+use Rattle.ipc_table_views.specs.declared.types.IntervalUnit.TheVariants.{YearMonth, DayTime, MonthDayNano}
+use Rattle.ipc_table_views.specs.declared.types.UnionMode.{UnionMode}
+use Rattle.ipc_table_views.specs.declared.types.UnionMode.TheVariants.{Sparse, Dense}
+use Rattle.ipc_table_views.specs.Enumerations.{date_unit_of, endianness_of, interval_unit_of, precision_of, time_unit_of, union_mode_of, version_of}
+use Rattle.ipc_table_views.specs.Structs.{block_of, buffer_of, node_of, signed32, signed64}
+use Rattle.ipc_table_views.specs.Tables.{and_then, flag, map_ok, number_at, number_slot, slot_at}
+use Rattle.ipc_table_bytes.specs.Pads.{le}
+use Rattle.ipc_table_bytes.specs.Parts.{Stands}
+use Rattle.ipc_table_bytes.proofs.Lengths.{length-le}
+use Rattle.ipc_table_bytes.proofs.ReaderLaws.{number-read}
+use Rattle.ipc_table_bytes.proofs.Standing.{stands-first, stands-then, take-stands}
 use Rattle.ipc_tables.specs.Files.{block_bytes}
 use Rattle.ipc_tables.specs.Messages.{buffer_bytes, node_bytes}
 use Rattle.ipc_tables.specs.Reads.{kept_block, kept_buffer, kept_node}

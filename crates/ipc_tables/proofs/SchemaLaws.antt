@@ -1,13 +1,13 @@
 -- The tables of a schema that are built read as the schema.
 use Rattle.std.proofs.Common.{◌≡◌, ℕ, zero, suc, List, [], ◌∷◌, map, Option, None, Some, Ok, refl, subst, Vec, Global}
 use Rattle.std.specs.Prelude.{option_map, string_bytes}
-use Rattle.ipc_views.specs.Enumerations.{endianness_of}
-use Rattle.ipc_views.specs.Spot.{Spot, Vector}
-use Rattle.ipc_views.specs.Tables.{slot_at, target_at, vector_slot}
-use Rattle.ipc_parts.specs.Holds.{HoldsPart, spot}
-use Rattle.ipc_parts.specs.Readers.{HoldsOptional, HoldsTables, optional, parts_of}
-use Rattle.ipc_parts.specs.Tree.{Part, no_slots, offset, table, tables, text}
-use Rattle.ipc_parts.proofs.ReaderLaws.{absent-read, number-read, optional-read, table-read, tables-read, text-read, union-read}
+use Rattle.ipc_table_views.specs.Enumerations.{endianness_of}
+use Rattle.ipc_table_views.specs.Spot.{Spot, Vector}
+use Rattle.ipc_table_views.specs.Tables.{slot_at, target_at, vector_slot}
+use Rattle.ipc_table_bytes.specs.Holds.{HoldsPart, spot}
+use Rattle.ipc_table_bytes.specs.Readers.{HoldsOptional, HoldsTables, optional, parts_of}
+use Rattle.ipc_table_bytes.specs.Tree.{Part, no_slots, offset, table, tables, text}
+use Rattle.ipc_table_bytes.proofs.ReaderLaws.{absent-read, number-read, optional-read, table-read, tables-read, text-read, union-read}
 use Rattle.ipc_tables.specs.declared.schema.DictionaryEncoding.{DictionaryEncoding}
 use Rattle.ipc_tables.specs.declared.schema.Field.{Field}
 use Rattle.ipc_tables.specs.declared.schema.Field.TheViews.{out-Field}

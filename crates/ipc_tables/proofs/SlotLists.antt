@@ -1,9 +1,9 @@
 -- The fields of a table, one by one.
 use Rattle.std.proofs.Common.{◌≡◌, ℕ, ◌^◌, ◌<◌, List, ◌∷◌, Option, None, Some, refl, arith}
-use Rattle.ipc_parts.specs.declared.build.Slot.{Slot}
-use Rattle.ipc_parts.specs.declared.build.Slot.TheVariants.{Absent, Number, Offset}
-use Rattle.ipc_parts.specs.Parts.{AreSlots, is_absent, is_number, is_offset}
-use Rattle.ipc_parts.specs.Tree.{Part, Slots, number}
+use Rattle.ipc_table_bytes.specs.declared.build.Slot.{Slot}
+use Rattle.ipc_table_bytes.specs.declared.build.Slot.TheVariants.{Absent, Number, Offset}
+use Rattle.ipc_table_bytes.specs.Parts.{AreSlots, is_absent, is_number, is_offset}
+use Rattle.ipc_table_bytes.specs.Tree.{Part, Slots, number}
 use Rattle.ipc_tables.specs.Slots.{IsOptional, optional}
 
 pub is_optional : (slot : Slot) (x : Option Part) {slots : List Slot} {rest : Slots} → IsOptional slot x → AreSlots slots rest → AreSlots (slot ∷ slots) (optional x rest)

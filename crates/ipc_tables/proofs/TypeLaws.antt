@@ -1,14 +1,14 @@
 -- The table of a type that is built reads as the type.
 use Rattle.std.proofs.Common.{◌≡◌, ℕ, ℤ, ◌<◌, ◌≤◌, List, map, Option, None, Some, Ok, arith, String, Vec, Global}
 use Rattle.std.specs.Prelude.{option_map, string_bytes}
-use Rattle.ipc_views.specs.Enumerations.{date_unit_of, interval_unit_of, precision_of, time_unit_of, union_mode_of}
-use Rattle.ipc_views.specs.Structs.{signed32, structs_slot}
-use Rattle.ipc_views.specs.Tables.{text_slot}
-use Rattle.ipc_parts.specs.Holds.{HoldsPart, spot}
-use Rattle.ipc_parts.specs.Readers.{HoldsOptional}
-use Rattle.ipc_parts.specs.Tree.{no_slots, table, text}
-use Rattle.ipc_parts.proofs.Lengths.{length-le}
-use Rattle.ipc_parts.proofs.ReaderLaws.{absent-read, optional-read, structs-read, text-read}
+use Rattle.ipc_table_views.specs.Enumerations.{date_unit_of, interval_unit_of, precision_of, time_unit_of, union_mode_of}
+use Rattle.ipc_table_views.specs.Structs.{signed32, structs_slot}
+use Rattle.ipc_table_views.specs.Tables.{text_slot}
+use Rattle.ipc_table_bytes.specs.Holds.{HoldsPart, spot}
+use Rattle.ipc_table_bytes.specs.Readers.{HoldsOptional}
+use Rattle.ipc_table_bytes.specs.Tree.{no_slots, table, text}
+use Rattle.ipc_table_bytes.proofs.Lengths.{length-le}
+use Rattle.ipc_table_bytes.proofs.ReaderLaws.{absent-read, optional-read, structs-read, text-read}
 use Rattle.ipc_tables.specs.declared.types.FieldType.{FieldType}
 use Rattle.ipc_tables.specs.declared.types.FieldType.TheVariants.{Null, Int, FloatingPoint, Binary, Utf8, Bool as a_bool, Decimal, Date, Time, Timestamp, Interval, List as a_list, Struct, Union, FixedSizeBinary, FixedSizeList, Map, Duration, LargeBinary, LargeUtf8, LargeList}
 use Rattle.ipc_tables.specs.declared.types.Int.{Int as int_table}

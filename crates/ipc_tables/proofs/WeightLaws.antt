@@ -2,12 +2,12 @@
 use Rattle.std.proofs.Common.{◌≡◌, ℕ, ℤ, ◌+◌, ◌*◌, ◌≤◌, Bool, List, [], ◌∷◌, length, map, Option, None, Some, Result, Ok, Err, IfOk, refl, ap, subst, arith, String, Vec, Global}
 use Rattle.std.specs.Prelude.{option_map, string_bytes}
 use Rattle.ipc_devices.specs.declared.fault.Fault.{Fault}
-use Rattle.ipc_parts.specs.Encodes.{Encodes}
-use Rattle.ipc_parts.specs.Holds.{count_parts, count_slots}
-use Rattle.ipc_parts.specs.Readers.{optional, parts_of}
-use Rattle.ipc_parts.specs.Sizes.{message_size, parts_size, size_of, slots_size}
-use Rattle.ipc_parts.specs.Tree.{Part, Slots, absent, no_slots, number, offset, table, tables, text}
-use Rattle.ipc_parts.proofs.ReaderLaws.{count-map}
+use Rattle.ipc_table_bytes.specs.Encodes.{Encodes}
+use Rattle.ipc_table_bytes.specs.Holds.{count_parts, count_slots}
+use Rattle.ipc_table_bytes.specs.Readers.{optional, parts_of}
+use Rattle.ipc_table_bytes.specs.Sizes.{message_size, parts_size, size_of, slots_size}
+use Rattle.ipc_table_bytes.specs.Tree.{Part, Slots, absent, no_slots, number, offset, table, tables, text}
+use Rattle.ipc_table_bytes.proofs.ReaderLaws.{count-map}
 use Rattle.ipc_tables.specs.declared.message.Message.{Message}
 use Rattle.ipc_tables.specs.declared.message.MessageHeader.TheVariants.{Schema as a_schema}
 use Rattle.ipc_tables.specs.declared.schema.DictionaryEncoding.{DictionaryEncoding}

@@ -2,10 +2,10 @@
 -- (Flatbuffers, "Internals": structs and vectors.)
 use Rattle.std.proofs.Common.{arith, ◌≡◌, ℕ, ℤ, ◌<◌, ◌++◌, length, length-append}
 use Rattle.byteorder.specs.Numbers.{length-bytes_low_first}
-use Rattle.ipc_parts.specs.Pads.{le}
-use Rattle.ipc_views.specs.declared.message.FieldNode.{FieldNode}
-use Rattle.ipc_views.specs.declared.schema.Buffer.{Buffer}
-use Rattle.ipc_views.specs.declared.file.Block.{Block}
+use Rattle.ipc_table_bytes.specs.Pads.{le}
+use Rattle.ipc_table_views.specs.declared.message.FieldNode.{FieldNode}
+use Rattle.ipc_table_views.specs.declared.schema.Buffer.{Buffer}
+use Rattle.ipc_table_views.specs.declared.file.Block.{Block}
 use Rattle.ipc_tables.specs.declared.schema.Feature.{Feature}
 use Rattle.ipc_tables.specs.Files.{block_bytes}
 use Rattle.ipc_tables.specs.Messages.{buffer_bytes, node_bytes}

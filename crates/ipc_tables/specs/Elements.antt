@@ -2,7 +2,7 @@
 -- (Flatbuffers, "Internals": structs and vectors.)
 use Rattle.std.specs.Prelude.{ℕ, List, length}
 use Rattle.std.specs.List.{flat_map}
-use Rattle.ipc_parts.specs.Tree.{Part, elements}
+use Rattle.ipc_table_bytes.specs.Tree.{Part, elements}
 
 -- The vector of some values, each encoded by `spelt`.
 abbrev pub elements_of : {S : Type 0} → ℕ → ℕ → (S → List ℕ) → List S → Part

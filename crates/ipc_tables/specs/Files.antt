@@ -1,8 +1,8 @@
 -- The table of File.fbs: what each field must have.
 use Rattle.std.specs.Prelude.{ℕ, List, ◌++◌, option_map}
-use Rattle.ipc_parts.specs.Pads.{le}
-use Rattle.ipc_parts.specs.Tree.{Part, Slots, no_slots, number, table}
-use Rattle.ipc_views.specs.declared.file.Block.{Block}
+use Rattle.ipc_table_bytes.specs.Pads.{le}
+use Rattle.ipc_table_bytes.specs.Tree.{Part, Slots, no_slots, number, table}
+use Rattle.ipc_table_views.specs.declared.file.Block.{Block}
 use Rattle.ipc_tables.specs.declared.file.Footer.{Footer}
 use Rattle.ipc_tables.specs.Elements.{elements_of}
 use Rattle.ipc_tables.specs.Schemas.{pairs_vector, schema_slots, version_number}

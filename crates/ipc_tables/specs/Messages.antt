@@ -1,9 +1,9 @@
 -- The tables of Message.fbs: what each field must have.
 use Rattle.std.specs.Prelude.{ℕ, List, ◌++◌, option_map}
-use Rattle.ipc_parts.specs.Pads.{le}
-use Rattle.ipc_parts.specs.Tree.{Part, Slots, no_slots, number, offset, table}
-use Rattle.ipc_views.specs.declared.message.FieldNode.{FieldNode}
-use Rattle.ipc_views.specs.declared.schema.Buffer.{Buffer}
+use Rattle.ipc_table_bytes.specs.Pads.{le}
+use Rattle.ipc_table_bytes.specs.Tree.{Part, Slots, no_slots, number, offset, table}
+use Rattle.ipc_table_views.specs.declared.message.FieldNode.{FieldNode}
+use Rattle.ipc_table_views.specs.declared.schema.Buffer.{Buffer}
 use Rattle.ipc_tables.specs.declared.message.BodyCompression.{BodyCompression}
 use Rattle.ipc_tables.specs.declared.message.BodyCompressionMethod.{BodyCompressionMethod}
 use Rattle.ipc_tables.specs.declared.message.BodyCompressionMethod.TheVariants.{Buffer as each_buffer}

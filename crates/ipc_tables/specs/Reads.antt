@@ -3,15 +3,15 @@
 use Rattle.std.specs.Prelude.{ℕ, zero, suc, ◌≡◌, List, [], ◌∷◌, length, map, Option, Some, None, option_map, slice_get, string_bytes, Result, Ok, Vec}
 use Rattle.std.specs.declared.alloc.Global.{Global}
 use Rattle.ipc_devices.specs.declared.fault.TableFault.{TableFault}
-use Rattle.ipc_views.specs.declared.file.Block.{Block}
-use Rattle.ipc_views.specs.declared.message.FieldNode.{FieldNode}
-use Rattle.ipc_views.specs.declared.schema.Buffer.{Buffer}
-use Rattle.ipc_views.specs.FileSlots.{footer_custom_metadata, footer_dictionaries, footer_record_batches, footer_schema, footer_version}
-use Rattle.ipc_views.specs.MessageSlots.{dictionary_batch_data, dictionary_batch_id, dictionary_batch_is_delta, message_body_length, message_custom_metadata, message_header, message_version, record_batch_buffers, record_batch_compression, record_batch_length, record_batch_nodes}
-use Rattle.ipc_views.specs.SchemaSlots.{dictionary_encoding_id, dictionary_encoding_index_type, dictionary_encoding_is_ordered, field_children, field_custom_metadata, field_dictionary, field_name, field_nullable, field_type, key_value_key, key_value_value, schema_custom_metadata, schema_endianness, schema_fields}
-use Rattle.ipc_views.specs.Spot.{Spot, Vector}
-use Rattle.ipc_views.specs.Tables.{root_at, table_in}
-use Rattle.ipc_views.specs.TypeSlots.{date_unit, decimal_bit_width, decimal_precision, decimal_scale, duration_unit, fixed_size_binary_byte_width, fixed_size_list_list_size, floating_point_precision, int_bit_width, int_is_signed, interval_unit, map_keys_sorted, time_bit_width, time_unit, timestamp_timezone, timestamp_unit, union_mode, union_type_ids}
+use Rattle.ipc_table_views.specs.declared.file.Block.{Block}
+use Rattle.ipc_table_views.specs.declared.message.FieldNode.{FieldNode}
+use Rattle.ipc_table_views.specs.declared.schema.Buffer.{Buffer}
+use Rattle.ipc_table_views.specs.FileSlots.{footer_custom_metadata, footer_dictionaries, footer_record_batches, footer_schema, footer_version}
+use Rattle.ipc_table_views.specs.MessageSlots.{dictionary_batch_data, dictionary_batch_id, dictionary_batch_is_delta, message_body_length, message_custom_metadata, message_header, message_version, record_batch_buffers, record_batch_compression, record_batch_length, record_batch_nodes}
+use Rattle.ipc_table_views.specs.SchemaSlots.{dictionary_encoding_id, dictionary_encoding_index_type, dictionary_encoding_is_ordered, field_children, field_custom_metadata, field_dictionary, field_name, field_nullable, field_type, key_value_key, key_value_value, schema_custom_metadata, schema_endianness, schema_fields}
+use Rattle.ipc_table_views.specs.Spot.{Spot, Vector}
+use Rattle.ipc_table_views.specs.Tables.{root_at, table_in}
+use Rattle.ipc_table_views.specs.TypeSlots.{date_unit, decimal_bit_width, decimal_precision, decimal_scale, duration_unit, fixed_size_binary_byte_width, fixed_size_list_list_size, floating_point_precision, int_bit_width, int_is_signed, interval_unit, map_keys_sorted, time_bit_width, time_unit, timestamp_timezone, timestamp_unit, union_mode, union_type_ids}
 use Rattle.ipc_tables.specs.declared.file.Footer.{Footer}
 use Rattle.ipc_tables.specs.declared.message.BodyCompression.{BodyCompression}
 use Rattle.ipc_tables.specs.declared.message.DictionaryBatch.{DictionaryBatch}

@@ -1,11 +1,11 @@
 -- The tables of Schema.fbs for a schema and its fields: what each field of a table must have.
 use Rattle.std.specs.Prelude.{ℕ, Bool, List, [], ◌∷◌, Option, Some, None, option_map, map, string_bytes}
-use Rattle.ipc_parts.specs.Pads.{le}
-use Rattle.ipc_parts.specs.Tree.{Part, Slots, no_slots, number, offset, table, tables, text}
-use Rattle.ipc_views.specs.declared.schema.Endianness.{Endianness}
-use Rattle.ipc_views.specs.declared.schema.Endianness.TheVariants.{Little, Big}
-use Rattle.ipc_views.specs.declared.schema.MetadataVersion.{MetadataVersion}
-use Rattle.ipc_views.specs.declared.schema.MetadataVersion.TheVariants.{V1, V2, V3, V4, V5}
+use Rattle.ipc_table_bytes.specs.Pads.{le}
+use Rattle.ipc_table_bytes.specs.Tree.{Part, Slots, no_slots, number, offset, table, tables, text}
+use Rattle.ipc_table_views.specs.declared.schema.Endianness.{Endianness}
+use Rattle.ipc_table_views.specs.declared.schema.Endianness.TheVariants.{Little, Big}
+use Rattle.ipc_table_views.specs.declared.schema.MetadataVersion.{MetadataVersion}
+use Rattle.ipc_table_views.specs.declared.schema.MetadataVersion.TheVariants.{V1, V2, V3, V4, V5}
 use Rattle.ipc_tables.specs.declared.schema.DictionaryEncoding.{DictionaryEncoding}
 use Rattle.ipc_tables.specs.declared.schema.DictionaryKind.{DictionaryKind}
 use Rattle.ipc_tables.specs.declared.schema.DictionaryKind.TheVariants.{DenseArray}

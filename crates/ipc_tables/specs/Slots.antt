@@ -3,13 +3,13 @@
 use Rattle.std.specs.Prelude.{ℕ, ℤ, Bool, List, [], ◌∷◌, Option, Some, None, if◌then◌else◌}
 use Rattle.std.specs.Int.{w32, w64, cast_signed, cast_unsigned}
 use Rattle.byteorder.specs.Endian.{little_number}
-use Rattle.ipc_parts.specs.declared.build.Built.{Built}
-use Rattle.ipc_parts.specs.declared.build.Slot.{Slot}
-use Rattle.ipc_parts.specs.declared.build.Slot.TheVariants.{Absent, Number, Offset}
-use Rattle.ipc_parts.specs.Pads.{le}
-use Rattle.ipc_parts.specs.Parts.{IsPart}
-pub use Rattle.ipc_parts.specs.Readers.{optional, parts_of}
-use Rattle.ipc_parts.specs.Tree.{Part, Slots, no_slots, number}
+use Rattle.ipc_table_bytes.specs.declared.build.Built.{Built}
+use Rattle.ipc_table_bytes.specs.declared.build.Slot.{Slot}
+use Rattle.ipc_table_bytes.specs.declared.build.Slot.TheVariants.{Absent, Number, Offset}
+use Rattle.ipc_table_bytes.specs.Pads.{le}
+use Rattle.ipc_table_bytes.specs.Parts.{IsPart}
+pub use Rattle.ipc_table_bytes.specs.Readers.{optional, parts_of}
+use Rattle.ipc_table_bytes.specs.Tree.{Part, Slots, no_slots, number}
 
 -- A boolean as a number.
 abbrev pub bit : Bool → ℕ

@@ -1,17 +1,17 @@
 -- The tables of Schema.fbs that describe a type: what each field of a table must have.
 use Rattle.std.specs.Prelude.{ℕ, ℤ, List, option_map, string_bytes}
-use Rattle.ipc_parts.specs.Pads.{le}
-use Rattle.ipc_parts.specs.Tree.{Part, Slots, no_slots, number, text}
-use Rattle.ipc_views.specs.declared.types.Precision.{Precision}
-use Rattle.ipc_views.specs.declared.types.Precision.TheVariants.{Half, Single, Double}
-use Rattle.ipc_views.specs.declared.types.DateUnit.{DateUnit}
-use Rattle.ipc_views.specs.declared.types.DateUnit.TheVariants.{Day, Millisecond as day_millisecond}
-use Rattle.ipc_views.specs.declared.types.TimeUnit.{TimeUnit}
-use Rattle.ipc_views.specs.declared.types.TimeUnit.TheVariants.{Second, Millisecond, Microsecond, Nanosecond}
-use Rattle.ipc_views.specs.declared.types.IntervalUnit.{IntervalUnit}
-use Rattle.ipc_views.specs.declared.types.IntervalUnit.TheVariants.{YearMonth, DayTime, MonthDayNano}
-use Rattle.ipc_views.specs.declared.types.UnionMode.{UnionMode}
-use Rattle.ipc_views.specs.declared.types.UnionMode.TheVariants.{Sparse, Dense}
+use Rattle.ipc_table_bytes.specs.Pads.{le}
+use Rattle.ipc_table_bytes.specs.Tree.{Part, Slots, no_slots, number, text}
+use Rattle.ipc_table_views.specs.declared.types.Precision.{Precision}
+use Rattle.ipc_table_views.specs.declared.types.Precision.TheVariants.{Half, Single, Double}
+use Rattle.ipc_table_views.specs.declared.types.DateUnit.{DateUnit}
+use Rattle.ipc_table_views.specs.declared.types.DateUnit.TheVariants.{Day, Millisecond as day_millisecond}
+use Rattle.ipc_table_views.specs.declared.types.TimeUnit.{TimeUnit}
+use Rattle.ipc_table_views.specs.declared.types.TimeUnit.TheVariants.{Second, Millisecond, Microsecond, Nanosecond}
+use Rattle.ipc_table_views.specs.declared.types.IntervalUnit.{IntervalUnit}
+use Rattle.ipc_table_views.specs.declared.types.IntervalUnit.TheVariants.{YearMonth, DayTime, MonthDayNano}
+use Rattle.ipc_table_views.specs.declared.types.UnionMode.{UnionMode}
+use Rattle.ipc_table_views.specs.declared.types.UnionMode.TheVariants.{Sparse, Dense}
 use Rattle.ipc_tables.specs.declared.types.Int.{Int as int_table}
 use Rattle.ipc_tables.specs.declared.types.Decimal.{Decimal as decimal_table}
 use Rattle.ipc_tables.specs.declared.types.Time.{Time as time_table}

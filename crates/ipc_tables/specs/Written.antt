@@ -1,8 +1,8 @@
 -- Messages as they are written.
 -- (Arrow columnar format, "Encapsulated message format"; Flatbuffers, "Internals".)
 use Rattle.std.specs.Prelude.{◌≡◌, ℕ, List, None}
-use Rattle.ipc_parts.specs.Encodes.{IsEncoding}
-use Rattle.ipc_views.specs.declared.schema.MetadataVersion.TheVariants.{V5}
+use Rattle.ipc_table_bytes.specs.Encodes.{IsEncoding}
+use Rattle.ipc_table_views.specs.declared.schema.MetadataVersion.TheVariants.{V5}
 use Rattle.ipc_tables.specs.Messages.{message_slots}
 use Rattle.ipc_tables.specs.declared.message.Message.{Message}
 

@@ -1,11 +1,11 @@
 //! Encodes vectors of structs and of numbers.
 ghost use Rattle.std.specs.Prelude.{◌≡◌, ◌++◌, IfOk, OnOk, option_map};
 ghost use Rattle.std.specs.List.{flat_map};
-ghost use Rattle.ipc_parts.specs.Parts.{IsPart};
+ghost use Rattle.ipc_table_bytes.specs.Parts.{IsPart};
 ghost use Rattle.ipc_tables.specs.Elements.{elements_of};
 ghost use Rattle.ipc_tables.specs.Slots.{IsOptional};
 
-use ipc_parts::{Built, Slot, elements};
+use ipc_table_bytes::{Built, Slot, elements};
 use std::alloc::{AllocError, Global};
 
 /// An element without offsets: a struct, or a number.

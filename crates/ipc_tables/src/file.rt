@@ -1,8 +1,8 @@
 //! The table of Arrow's `File.fbs`, as a value that is encoded.
 ghost use Rattle.std.specs.Prelude.{ℕ, IfOk, option_map};
-ghost use Rattle.ipc_parts.specs.Encodes.{Encodes};
-ghost use Rattle.ipc_parts.specs.Parts.{IsPart};
-ghost use Rattle.ipc_parts.specs.Tree.{table};
+ghost use Rattle.ipc_table_bytes.specs.Encodes.{Encodes};
+ghost use Rattle.ipc_table_bytes.specs.Parts.{IsPart};
+ghost use Rattle.ipc_table_bytes.specs.Tree.{table};
 ghost use Rattle.ipc_tables.specs.Files.{footer_slots};
 ghost use Rattle.ipc_tables.specs.Reads.{HaveRoot, IsFooter};
 ghost use Rattle.ipc_tables.specs.Schemas.{schema_slots};
@@ -11,8 +11,8 @@ ghost use Rattle.ipc_tables.specs.Slots.{IsOptional};
 use crate::elements::{Element, elements_slot};
 use crate::schema::{KeyValue, Schema, optional_pairs, schema_part, version_number};
 use ipc_devices::fault::Fault;
-use ipc_parts::{Built, Slot, message, put_u32, put_u64, table};
-use ipc_views::{Block, MetadataVersion};
+use ipc_table_bytes::{Built, Slot, message, put_u32, put_u64, table};
+use ipc_table_views::{Block, MetadataVersion};
 use std::alloc::{AllocError, Global};
 
 /// A table `Footer`, as a value (Arrow columnar format, "IPC File Format").

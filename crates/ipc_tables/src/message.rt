@@ -1,8 +1,8 @@
 //! The tables of Arrow's `Message.fbs`, as values that are encoded.
 ghost use Rattle.std.specs.Prelude.{ℕ, ◌≡◌, ◌<◌, ◌≤◌, IfOk, None, length, option_map};
-ghost use Rattle.ipc_parts.specs.Encodes.{Encodes};
-ghost use Rattle.ipc_parts.specs.Parts.{IsPart};
-ghost use Rattle.ipc_parts.specs.Tree.{table};
+ghost use Rattle.ipc_table_bytes.specs.Encodes.{Encodes};
+ghost use Rattle.ipc_table_bytes.specs.Parts.{IsPart};
+ghost use Rattle.ipc_table_bytes.specs.Tree.{table};
 ghost use Rattle.ipc_tables.specs.Messages.{codec_number, compression_slots, dictionary_batch_slots, header_slots, header_tag, message_slots, method_number, record_batch_slots};
 ghost use Rattle.ipc_tables.specs.Reads.{HaveRoot, IsMessage};
 ghost use Rattle.ipc_tables.specs.Slots.{IsOptional};
@@ -12,8 +12,8 @@ use crate::elements::{Element, elements_part};
 use crate::schema::{KeyValue, Schema, optional_pairs, schema_part, version_number};
 use crate::slots::{flag, long};
 use ipc_devices::fault::Fault;
-use ipc_parts::{Built, Slot, message, put_u64, table};
-use ipc_views::{Buffer, FieldNode, MetadataVersion};
+use ipc_table_bytes::{Built, Slot, message, put_u64, table};
+use ipc_table_views::{Buffer, FieldNode, MetadataVersion};
 use std::alloc::{AllocError, Global};
 
 /// The compression of buffers: the enumeration `CompressionType`.

@@ -1,15 +1,15 @@
 //! The tables of Arrow's `Schema.fbs` for schemas and fields, as values that are encoded.
 ghost use Rattle.std.specs.Prelude.{◌≡◌, ◌<◌, ◌^◌, List, map, IfOk, option_map};
-ghost use Rattle.ipc_parts.specs.Parts.{IsPart};
-ghost use Rattle.ipc_parts.specs.Tree.{Part, table};
+ghost use Rattle.ipc_table_bytes.specs.Parts.{IsPart};
+ghost use Rattle.ipc_table_bytes.specs.Tree.{Part, table};
 ghost use Rattle.ipc_tables.specs.Schemas.{dictionary_slots, endianness_number, feature_number, field_part, field_slots, kind_number, pair_part, pairs_part, pairs_vector, schema_slots, version_number};
 ghost use Rattle.ipc_tables.specs.Slots.{AreBuilt, IsOptional};
 
 use crate::elements::{Element, elements_slot};
 use crate::slots::{flag, long, push};
 use crate::types::{FieldType, Int, int_part, type_part, type_tag};
-use ipc_parts::{Built, Slot, put_u64, table, tables, text};
-use ipc_views::{Endianness, MetadataVersion};
+use ipc_table_bytes::{Built, Slot, put_u64, table, tables, text};
+use ipc_table_views::{Endianness, MetadataVersion};
 use std::alloc::{AllocError, Global};
 
 /// A table `KeyValue`, as a value.

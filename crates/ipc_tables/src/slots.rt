@@ -2,7 +2,7 @@
 ghost use Rattle.std.specs.Prelude.{◌≡◌, ◌<◌, ◌^◌, ◌++◌, ◌∷◌, [], OnOk};
 ghost use Rattle.ipc_tables.specs.Slots.{bit, bits32, bits64};
 
-use ipc_parts::Built;
+use ipc_table_bytes::Built;
 use std::alloc::AllocError;
 
 pub(crate) fn flag(b: bool) -> u64

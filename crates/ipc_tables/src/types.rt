@@ -1,14 +1,14 @@
 //! The tables of Arrow's `Schema.fbs` that describe a type, as values that are encoded.
 ghost use Rattle.std.specs.Prelude.{◌≡◌, ◌<◌, ◌^◌, IfOk, option_map, string_bytes};
-ghost use Rattle.ipc_parts.specs.Parts.{IsPart};
-ghost use Rattle.ipc_parts.specs.Tree.{no_slots, table, text};
+ghost use Rattle.ipc_table_bytes.specs.Parts.{IsPart};
+ghost use Rattle.ipc_table_bytes.specs.Tree.{no_slots, table, text};
 ghost use Rattle.ipc_tables.specs.Slots.{IsOptional, bits32, number_slots};
 ghost use Rattle.ipc_tables.specs.Types.{date_unit_number, decimal_slots, int_slots, interval_unit_number, map_slots, precision_number, time_slots, time_unit_number, timestamp_slots, type_slots, type_tag, union_mode_number, union_slots};
 
 use crate::elements::{Element, elements_slot};
 use crate::slots::{flag, word};
-use ipc_parts::{Built, Slot, put_u32, table, text};
-use ipc_views::{DateUnit, IntervalUnit, Precision, TimeUnit, UnionMode};
+use ipc_table_bytes::{Built, Slot, put_u32, table, text};
+use ipc_table_views::{DateUnit, IntervalUnit, Precision, TimeUnit, UnionMode};
 use std::alloc::{AllocError, Global};
 
 /// A table `Int`, as a value.

@@ -10,7 +10,7 @@ use Rattle.ipc_devices.specs.declared.fault.ArgFault.TheVariants.{DictionaryRepl
 use Rattle.lower_arrays.specs.AnyLayouts.{layout_of}
 use Rattle.lower_arrays.specs.Layouts.{Layout, layout, no_layouts, more_layouts}
 use Rattle.ipc_model.specs.Entries.{Dictionary}
-pub use Rattle.ipc_laws.specs.Remembered.{Remembered, nothing_remembered, remembering, dictionary_of}
+pub use Rattle.ipc_stream_lemmas.specs.Remembered.{Remembered, nothing_remembered, remembering, dictionary_of}
 use Rattle.ipc_tracker.specs.declared.tracker.DictionaryTracker.{DictionaryTracker}
 
 -- Both have the same values under each id.

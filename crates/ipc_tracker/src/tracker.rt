@@ -13,7 +13,7 @@ use ipc_devices::{ArgFault, Fault};
 use lower::datatypes::{is_same_normal_type, is_same_type};
 use lower_arrays::array::{AnyArray, DictionaryArray};
 use lower_arrays::equal;
-use lower_flat::equality::has_same_slots;
+use lower_flat_arrays::equality::has_same_slots;
 use std::alloc::Global;
 use std::collections::HashMap;
 use std::rc::Rc;

@@ -8,10 +8,10 @@ use Rattle.ipc_base.specs.IdTrees.{IdTrees}
 use Rattle.ipc_devices.specs.Device.{Memory, WritesOver, before}
 use Rattle.ipc_devices.specs.declared.fault.Fault.{Fault}
 use Rattle.ipc_devices.specs.declared.fault.Fault.TheVariants.{Io}
-use Rattle.ipc_laws.proofs.Running.{open_finish, open_start, open_write}
-use Rattle.ipc_laws.specs.Moves.{MeansChunk}
-use Rattle.ipc_laws.specs.Remembered.{nothing_remembered}
-use Rattle.ipc_laws.specs.Runs.{IsOpen as IsOpenStream}
+use Rattle.ipc_stream_lemmas.proofs.Running.{open_finish, open_start, open_write}
+use Rattle.ipc_stream_lemmas.specs.Moves.{MeansChunk}
+use Rattle.ipc_stream_lemmas.specs.Remembered.{nothing_remembered}
+use Rattle.ipc_stream_lemmas.specs.Runs.{IsOpen as IsOpenStream}
 use Rattle.ipc_model.proofs.WriterSteps.{start_law}
 use Rattle.ipc_model.specs.Batches.{Chunk}
 use Rattle.ipc_model.specs.Schemas.{head_of, schema_of}
@@ -19,7 +19,7 @@ use Rattle.ipc_model.specs.Streams.{Head}
 use Rattle.ipc_model.specs.WrittenLaws.{prefix}
 use Rattle.ipc_tracker.proofs.PlaceLists.{memory_is}
 use Rattle.ipc_tracker.specs.Trackers.{IsSameMemory, Remembered}
-use Rattle.ipc_views.specs.Tables.{number_at}
+use Rattle.ipc_table_views.specs.Tables.{number_at}
 use Rattle.ipc_write.specs.Agreement.{Agrees, Appends, BeginsStream, BreaksOff, HasEnded, IsFresh, IsOpen, IsUnwritten, Remains, StreamIs}
 use Rattle.ipc_write.specs.Framing.{message_bytes, prefix_bytes}
 use Rattle.ipc_write.specs.Meaning.{HeadHas, chunk_written, normal_types}

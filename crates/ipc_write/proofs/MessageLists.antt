@@ -10,13 +10,13 @@ use Rattle.ipc_chunks.proofs.MessageLists.{encoded_ends, encoded_whole}
 use Rattle.ipc_encode.specs.Encoding.{IsEncoded}
 use Rattle.ipc_encode.specs.declared.batches.BatchKind.{BatchKind}
 use Rattle.ipc_encode.specs.declared.batches.BatchKind.TheVariants.{Record, Dictionary}
-use Rattle.ipc_laws.proofs.Chunks.{listed_law, written_chunk_law}
-use Rattle.ipc_laws.proofs.Fitting.{filled_law}
-use Rattle.ipc_laws.specs.Chunks.{HasMessages}
-use Rattle.ipc_laws.specs.Messages.{chunk_written as layouts_written, message_bytes as stream_bytes}
-use Rattle.ipc_laws.specs.Moves.{MeansChunk}
-use Rattle.ipc_laws.specs.Places.{head_written}
-use Rattle.ipc_laws.specs.Remembered.{filled_of, filled_place}
+use Rattle.ipc_stream_lemmas.proofs.Chunks.{listed_law, written_chunk_law}
+use Rattle.ipc_stream_lemmas.proofs.Fitting.{filled_law}
+use Rattle.ipc_stream_lemmas.specs.Chunks.{HasMessages}
+use Rattle.ipc_stream_lemmas.specs.Messages.{chunk_written as layouts_written, message_bytes as stream_bytes}
+use Rattle.ipc_stream_lemmas.specs.Moves.{MeansChunk}
+use Rattle.ipc_stream_lemmas.specs.Places.{head_written}
+use Rattle.ipc_stream_lemmas.specs.Remembered.{filled_of, filled_place}
 use Rattle.ipc_model.specs.Offers.{FilledPlace, IsAcceptedChunk}
 use Rattle.ipc_model.specs.Writable.{IsWritable}
 use Rattle.ipc_tracker.specs.Listings.{ListsUnwritten, ListsAll, remembering_all}

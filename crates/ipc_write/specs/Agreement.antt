@@ -3,8 +3,8 @@
 use Rattle.std.specs.Prelude.{◌≡◌, ℕ, ◌⊎◌, Bool, IsTrue, List, [], ◌∷◌, ◌++◌, Result, OnOk, OnErr}
 use Rattle.ipc_devices.specs.Device.{Memory, before}
 use Rattle.ipc_devices.specs.declared.fault.Fault.{Fault}
-use Rattle.ipc_laws.specs.Remembered.{nothing_remembered}
-use Rattle.ipc_laws.specs.Runs.{IsOpen as IsOpenStream}
+use Rattle.ipc_stream_lemmas.specs.Remembered.{nothing_remembered}
+use Rattle.ipc_stream_lemmas.specs.Runs.{IsOpen as IsOpenStream}
 use Rattle.ipc_model.specs.Batches.{Chunk}
 use Rattle.ipc_model.specs.Streams.{Head, Known}
 use Rattle.ipc_model.specs.Writers.{IsStarted, IsFinished}

@@ -7,7 +7,7 @@ use Rattle.lower_types.specs.declared.Endianness.{Endianness}
 use Rattle.lower_arrays.specs.AnyLayouts.{layout_of}
 use Rattle.lower_arrays.specs.declared.array.AnyArray.{AnyArray}
 use Rattle.ipc_base.specs.IdTrees.{IdTrees}
-use Rattle.ipc_laws.specs.Messages.{chunk_written as layouts_written}
+use Rattle.ipc_stream_lemmas.specs.Messages.{chunk_written as layouts_written}
 use Rattle.ipc_model.specs.Batches.{Chunk}
 use Rattle.ipc_model.specs.Streams.{Head}
 use Rattle.ipc_model.specs.Writable.{IsWritable}

@@ -1,8 +1,8 @@
 //! `ipcat` writes an example as an Arrow IPC stream, and prints streams and files.
 #![tactic(auto)]
 
-use ipc_tools::cat::start;
-use ipc_tools::process::words_of;
+use ipc_programs::cat::start;
+use ipc_programs::process::words_of;
 use std::process::ExitCode;
 
 fn main(rt: HostRuntime) -> ExitCode {

@@ -1,8 +1,8 @@
 //! `ipconvert` copies Arrow IPC streams and files, and appends streams to files.
 #![tactic(auto)]
 
-use ipc_tools::convert::start;
-use ipc_tools::process::words_of;
+use ipc_programs::convert::start;
+use ipc_programs::process::words_of;
 use std::process::ExitCode;
 
 fn main(rt: HostRuntime) -> ExitCode {

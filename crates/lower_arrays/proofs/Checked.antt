@@ -7,11 +7,11 @@ use Rattle.lower.specs.TypeTrees.{TypeTree}
 use Rattle.lower.specs.declared.error.Error.{Error}
 use Rattle.lower.specs.declared.error.Error.TheVariants.{OutOfSpec}
 use Rattle.lower.specs.declared.error.Rule.TheVariants.{ValidityLength, NoChild, ChildCount, ChildType, ChildLength, UnionChildren, UnionIds, UnionType, UnionOffsets, UnionOffset, PhysicalType as WrongType}
-use Rattle.lower_flat.specs.Validities.{Validity, ValidityFits}
-use Rattle.lower_rules.specs.Keys.{KeysSeen}
-use Rattle.lower_rules.specs.Ids.{union_ids, IdsFit, AreNamed}
-use Rattle.lower_rules.specs.Places.{AllAre, PlacesFit}
-use Rattle.lower_rules.specs.Rules.{ListRules, BreaksListRules, FixedListRules, BreaksFixedListRules, MapRules, BreaksMapRules, DictionaryRules, BreaksDictionaryRules, StructRules, BreaksStructRules, IsCount, UnionRules, BreaksUnionRules}
+use Rattle.lower_flat_arrays.specs.Validities.{Validity, ValidityFits}
+use Rattle.lower_validation.specs.Keys.{KeysSeen}
+use Rattle.lower_validation.specs.Ids.{union_ids, IdsFit, AreNamed}
+use Rattle.lower_validation.specs.Places.{AllAre, PlacesFit}
+use Rattle.lower_validation.specs.Rules.{ListRules, BreaksListRules, FixedListRules, BreaksFixedListRules, MapRules, BreaksMapRules, DictionaryRules, BreaksDictionaryRules, StructRules, BreaksStructRules, IsCount, UnionRules, BreaksUnionRules}
 use Rattle.lower_arrays.specs.Layouts.{Layout, layouts, len_of, type_of}
 use Rattle.lower_arrays.specs.Slots.{IsArray}
 use Rattle.lower_arrays.specs.Children.{child_fields, FieldTypes, HasChild, AllHave}

@@ -7,17 +7,17 @@ use Rattle.lower.specs.TypeTrees.{TypeTree, FieldTrees, no_fields, more_fields}
 use Rattle.lower.specs.declared.datatypes.IntegerType.{IntegerType}
 use Rattle.lower.specs.declared.datatypes.UnionMode.{UnionMode}
 use Rattle.lower.specs.declared.datatypes.UnionMode.TheVariants.{Dense, Sparse}
-use Rattle.lower_flat.specs.Validities.{Validity, is_valid, part, cut_validity}
-use Rattle.lower_flat.proofs.Cuts.{get_or-part, length-part, fits-cut}
-use Rattle.lower_flat.proofs.SpanPlaces.{offset_last, count-cut, offsets-cut, ends-cut, texts-cut}
+use Rattle.lower_flat_arrays.specs.Validities.{Validity, is_valid, part, cut_validity}
+use Rattle.lower_flat_arrays.proofs.Cuts.{get_or-part, length-part, fits-cut}
+use Rattle.lower_flat_arrays.proofs.SpanPlaces.{offset_last, count-cut, offsets-cut, ends-cut, texts-cut}
 use Rattle.lower_arrays.specs.Layouts.{Parts, nothing, truths, numbers, fixed_bytes, bytes, texts, keys, choices, Level, Layout, layout, Layouts, no_layouts, more_layouts, len_of, lists, fixed_lists, maps, records}
 use Rattle.lower_arrays.specs.Children.{child_count, lens_of, ChildTypes, AllHave, AllReach, HasChild}
-use Rattle.lower_rules.specs.Keys.{KeyFits, KeysFit}
-use Rattle.lower_rules.specs.Ids.{TypeIds, union_mode, child_number, NamesChild, IdsFit, AreNamed, OffsetsGiven}
-use Rattle.lower_rules.specs.Places.{OffsetsFit}
+use Rattle.lower_validation.specs.Keys.{KeyFits, KeysFit}
+use Rattle.lower_validation.specs.Ids.{TypeIds, union_mode, child_number, NamesChild, IdsFit, AreNamed, OffsetsGiven}
+use Rattle.lower_validation.specs.Places.{OffsetsFit}
 use Rattle.lower_arrays.specs.Choices.{ChoicesFit}
 use Rattle.lower_arrays.specs.Slots.{SpansFit, DictionaryFits, PartsFit, IsArray, AreArrays, ItemsFit}
-use Rattle.lower_rules.specs.ListTypes.{last_offset}
+use Rattle.lower_validation.specs.ListTypes.{last_offset}
 use Rattle.lower_arrays.specs.Cuts.{cut_parts, cut_level, cut_below, cut, cut_each}
 
 -- ---- children

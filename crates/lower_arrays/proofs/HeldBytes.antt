@@ -8,7 +8,7 @@ use Rattle.lower_types.specs.NumberTypes.{width_of}
 use Rattle.lower_types.specs.declared.PrimitiveType.TheVariants as Named
 use Rattle.lower.specs.TypeTrees.{plain}
 use Rattle.lower.specs.Physical.{physical, integer}
-use Rattle.lower_flat.specs.Validities.{Validity, part, cut_validity}
+use Rattle.lower_flat_arrays.specs.Validities.{Validity, part, cut_validity}
 use Rattle.lower_arrays.specs.Layouts.{Parts, nothing, truths, numbers, fixed_bytes, bytes, texts, lists, fixed_lists, maps, records, choices, keys, Layout, layout, Layouts, no_layouts, more_layouts}
 use Rattle.lower_arrays.specs.Cuts.{cut_parts, cut_below, cut, cut_each}
 use Rattle.lower_arrays.specs.Held.{bytes_of_bits, validity_held, width_in, places_held, parts_held, below_held, held, all_held, HeldLaw}

@@ -2,11 +2,11 @@
 use Rattle.std.proofs.Common.{arith, ◌≡◌, ℕ, ◌+◌, ◌-◌, ◌*◌, ◌<◌, ◌≤◌, List, length}
 use Rattle.std.specs.Prelude.{slice_index}
 use Rattle.lower.specs.Offsets.{IsOffsets}
-use Rattle.lower_flat.specs.Spans.{span_count}
-use Rattle.lower_flat.proofs.SpanPlaces.{offset_next, offset_last}
+use Rattle.lower_flat_arrays.specs.Spans.{span_count}
+use Rattle.lower_flat_arrays.proofs.SpanPlaces.{offset_next, offset_last}
 use Rattle.lower_arrays.specs.Layouts.{Layouts, layouts, no_layouts, more_layouts, Layout, len_of}
 use Rattle.lower_arrays.specs.Children.{AllHave, AllReach}
-use Rattle.lower_rules.specs.ListTypes.{last_offset}
+use Rattle.lower_validation.specs.ListTypes.{last_offset}
 use Rattle.lower_arrays.specs.Slots.{ItemsFit, IsArray}
 use Rattle.lower_arrays.specs.Lists.{ListSeen, list_layout}
 use Rattle.lower_arrays.specs.Maps.{MapSeen, map_layout}

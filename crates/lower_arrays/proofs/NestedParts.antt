@@ -2,9 +2,9 @@
 use Rattle.std.proofs.Common.{arith, ◌≡◌, ℕ, ◌+◌, ◌<◌, ◌≤◌, List, length, subst, sym, ap, ◌∙◌}
 use Rattle.lower_types.specs.declared.PrimitiveType.{PrimitiveType}
 use Rattle.lower_types.specs.declared.PrimitiveType.TheVariants.{Int32, Int64}
-use Rattle.lower_flat.specs.Validities.{part, cut_validity}
-use Rattle.lower_flat.specs.Spans.{span_count}
-use Rattle.lower_flat.proofs.Cuts.{length-part}
+use Rattle.lower_flat_arrays.specs.Validities.{part, cut_validity}
+use Rattle.lower_flat_arrays.specs.Spans.{span_count}
+use Rattle.lower_flat_arrays.proofs.Cuts.{length-part}
 use Rattle.lower_arrays.specs.Layouts.{lists, maps, records, Layout, layout, no_layouts, more_layouts}
 use Rattle.lower_arrays.specs.Slots.{IsArray}
 use Rattle.lower_arrays.specs.Cuts.{cut, cut_level}

@@ -3,8 +3,8 @@ use Rattle.std.proofs.Common.{arith, ◌≡◌, ◌↔◌, refl, IsTrue, Bool, �
 use Rattle.std.proofs.lemmas.List.{get_or-map, map_more}
 use Rattle.lower_types.specs.NumberTypes.{Number, whole}
 use Rattle.lower_types.specs.declared.PrimitiveType.{PrimitiveType}
-use Rattle.lower_flat.specs.Validities.{is_valid}
-use Rattle.lower_flat.specs.Primitives.{PrimitiveSeen}
+use Rattle.lower_flat_arrays.specs.Validities.{is_valid}
+use Rattle.lower_flat_arrays.specs.Primitives.{PrimitiveSeen}
 use Rattle.lower_arrays.specs.Layouts.{Layout, layouts, len_of}
 use Rattle.lower_arrays.specs.Slots.{Slot, null_slot, number_slot, list_slot, record_slot, Slots, no_slots, more_slots, slots_of, slot_where, each_at, slot_at, children_at, slots_from, slots}
 use Rattle.lower_arrays.specs.Primitives.{primitive_layout}

@@ -6,13 +6,13 @@ use Rattle.std.proofs.Math.Nat.{add-mul}
 use Rattle.std.proofs.lemmas.Nat.{mul-le}
 use Rattle.lower_types.specs.NumberTypes.{whole}
 use Rattle.lower_types.specs.declared.PrimitiveType.{PrimitiveType}
-use Rattle.lower_flat.specs.Validities.{Validity, is_valid, part, cut_validity}
-use Rattle.lower_rules.specs.Numbers.{NumbersSeen, cut_numbers}
-use Rattle.lower_flat.specs.Nulls.{NullSeen, cut_null}
-use Rattle.lower_flat.specs.Booleans.{BooleanSeen, cut_boolean}
-use Rattle.lower_flat.specs.FixedBinaries.{FixedBinarySeen, cut_fixed}
-use Rattle.lower_flat.specs.Spans.{SpansSeen, span, span_count, cut_spans}
-use Rattle.lower_flat.proofs.Cuts.{get_or-part, length-part}
+use Rattle.lower_flat_arrays.specs.Validities.{Validity, is_valid, part, cut_validity}
+use Rattle.lower_validation.specs.Numbers.{NumbersSeen, cut_numbers}
+use Rattle.lower_flat_arrays.specs.Nulls.{NullSeen, cut_null}
+use Rattle.lower_flat_arrays.specs.Booleans.{BooleanSeen, cut_boolean}
+use Rattle.lower_flat_arrays.specs.FixedBinaries.{FixedBinarySeen, cut_fixed}
+use Rattle.lower_flat_arrays.specs.Spans.{SpansSeen, span, span_count, cut_spans}
+use Rattle.lower_flat_arrays.proofs.Cuts.{get_or-part, length-part}
 use Rattle.lower_arrays.specs.Layouts.{Parts, nothing, truths, numbers, fixed_bytes, bytes, texts, lists, fixed_lists, maps, records, Layout, layout, Layouts, no_layouts, more_layouts, len_of, keys, choices, layouts}
 use Rattle.lower_arrays.specs.Slots.{Slot, null_slot, truth_slot, number_slot, bytes_slot, text_slot, list_slot, record_slot, slots_of, slot_where, first_child, list_at, each_at, value_at, slot_at, children_at, slots_from, slots, variant_slot, variant_at}
 use Rattle.lower_arrays.specs.Cuts.{cut_parts, cut_below, cut, cut_each}
@@ -20,8 +20,8 @@ use Rattle.lower_arrays.proofs.NestedParts.{list_part, large_list_part, fixed_li
 use Rattle.lower_arrays.specs.Primitives.{numbers_layout}
 use Rattle.lower_arrays.specs.Flat.{null_layout, boolean_layout, fixed_layout, bytes_layout, texts_layout}
 use Rattle.lower.specs.TypeTrees.{TypeTree}
-use Rattle.lower_rules.specs.Keys.{place_of}
-use Rattle.lower_rules.specs.Ids.{TypeIds, child_number, union_ids}
+use Rattle.lower_validation.specs.Keys.{place_of}
+use Rattle.lower_validation.specs.Ids.{TypeIds, child_number, union_ids}
 use Rattle.lower_arrays.specs.Dictionaries.{DictionarySeen, dictionary_layout, cut_dictionary}
 use Rattle.lower_arrays.specs.Unions.{UnionSeen, union_seen, union_layout, cut_union}
 use Rattle.lower_arrays.proofs.Children.{layouts-cut}

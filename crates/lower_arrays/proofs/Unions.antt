@@ -4,10 +4,10 @@ use Rattle.lower.specs.TypeTrees.{TypeTree}
 use Rattle.lower_arrays.specs.Layouts.{Layout, Layouts, layouts, len_of}
 use Rattle.lower_arrays.specs.Slots.{IsArray}
 use Rattle.lower_arrays.specs.Children.{child_count, lens_of}
-use Rattle.lower_rules.specs.Keys.{place_of}
-use Rattle.lower_rules.specs.Ids.{TypeIds, union_ids, child_number}
-use Rattle.lower_rules.specs.Places.{PlacesFit}
-use Rattle.lower_rules.proofs.ChildNumbers.{number_below, number_fits}
+use Rattle.lower_validation.specs.Keys.{place_of}
+use Rattle.lower_validation.specs.Ids.{TypeIds, union_ids, child_number}
+use Rattle.lower_validation.specs.Places.{PlacesFit}
+use Rattle.lower_validation.proofs.ChildNumbers.{number_below, number_fits}
 use Rattle.lower_arrays.specs.Choices.{child, place_in}
 use Rattle.lower_arrays.specs.Unions.{UnionSeen, union_seen, union_layout, IsUnion, cut_union}
 use Rattle.lower_arrays.proofs.Choices.{child_has, child_len}

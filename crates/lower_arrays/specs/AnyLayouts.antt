@@ -6,8 +6,8 @@ use Rattle.lower_arrays.specs.Primitives.{numbers_layout}
 use Rattle.lower_arrays.specs.Flat.{null_layout, boolean_layout, fixed_layout, bytes_layout, texts_layout}
 use Rattle.lower_arrays.specs.Dictionaries.{dictionary_layout}
 use Rattle.lower_arrays.specs.Unions.{union_layout}
-use Rattle.lower_rules.specs.AnyNumbers.{numbers_seen}
-use Rattle.lower_rules.specs.declared.numbers.AnyPrimitive.{AnyPrimitive}
+use Rattle.lower_validation.specs.AnyNumbers.{numbers_seen}
+use Rattle.lower_validation.specs.declared.numbers.AnyPrimitive.{AnyPrimitive}
 use Rattle.lower_arrays.specs.declared.array.AnyArray.{AnyArray}
 use Rattle.lower_arrays.specs.declared.array.AnyArray.TheVariants.{Null, Boolean, Primitive, FixedSizeBinary, Binary, LargeBinary, Utf8, LargeUtf8, Dictionary, Union, List as ListOf, LargeList, FixedSizeList, Struct, Map}
 use Rattle.lower_arrays.specs.Lists.{list_layout_as}

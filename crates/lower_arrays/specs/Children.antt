@@ -4,8 +4,8 @@
 use Rattle.std.specs.Prelude.{ℕ, ◌+◌, ◌≤◌, List, [], ◌∷◌}
 use Rattle.lower.specs.TypeTrees.{TypeTree, FieldTrees}
 use Rattle.lower_arrays.specs.Layouts.{Layouts, no_layouts, more_layouts, len_of, type_of}
-use Rattle.lower_rules.specs.Places.{AllAre}
-pub use Rattle.lower_rules.specs.Fields.{child_fields, field_type, field_count, FieldTypes, IsPair}
+use Rattle.lower_validation.specs.Places.{AllAre}
+pub use Rattle.lower_validation.specs.Fields.{child_fields, field_type, field_count, FieldTypes, IsPair}
 
 -- How many children there are.
 abbrev pub child_count : Layouts → ℕ

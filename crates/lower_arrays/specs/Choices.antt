@@ -7,9 +7,9 @@ use Rattle.lower.specs.Physical.{physical}
 use Rattle.lower.specs.declared.datatypes.physical_type.PhysicalType.TheVariants.{Union}
 use Rattle.lower_arrays.specs.Layouts.{nothing, Layout, layout, Layouts, no_layouts, more_layouts}
 use Rattle.lower_arrays.specs.Children.{child_fields, child_count, lens_of, ChildTypes}
-use Rattle.lower_rules.specs.Keys.{place_of}
-use Rattle.lower_rules.specs.Ids.{TypeIds, union_ids, union_mode, IdsFit, AreNamed, OffsetsGiven}
-use Rattle.lower_rules.specs.Places.{PlacesFit}
+use Rattle.lower_validation.specs.Keys.{place_of}
+use Rattle.lower_validation.specs.Ids.{TypeIds, union_ids, union_mode, IdsFit, AreNamed, OffsetsGiven}
+use Rattle.lower_validation.specs.Places.{PlacesFit}
 
 -- An array without slots, for a child that doesn't exist.
 abbrev pub no_child : Layout

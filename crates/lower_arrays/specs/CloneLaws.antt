@@ -1,8 +1,8 @@
 -- A clone of an array equals it by `==`.
 use Rattle.std.proofs.Common.{◌≡◌, IsTrue, ap}
 use Rattle.std.specs.Ordering.{on}
-use Rattle.lower_flat.specs.Columns.{same_column}
-use Rattle.lower_flat.specs.ColumnLaws.{same_if_one}
+use Rattle.lower_flat_arrays.specs.Columns.{same_column}
+use Rattle.lower_flat_arrays.specs.ColumnLaws.{same_if_one}
 use Rattle.lower_arrays.specs.AnyLayouts.{layout_of}
 use Rattle.lower_arrays.specs.Slots.{column_of}
 use Rattle.lower_arrays.specs.declared.array.AnyArray.{AnyArray}

@@ -2,7 +2,7 @@
 -- (Arrow columnar format, "Physical Memory Layout".)
 use Rattle.std.specs.Prelude.{ℕ, ◌+◌, ◌*◌, None, option_map}
 use Rattle.lower_arrays.specs.Layouts.{Parts, nothing, truths, numbers, fixed_bytes, bytes, texts, keys, choices, Level, Layout, layout, Layouts, no_layouts, more_layouts, lists, fixed_lists, maps, records}
-pub use Rattle.lower_flat.specs.Validities.{part, cut_validity}
+pub use Rattle.lower_flat_arrays.specs.Validities.{part, cut_validity}
 
 -- The parts of n slots from index o on. Offsets keep the same bytes or the
 -- same child, keys the same values.

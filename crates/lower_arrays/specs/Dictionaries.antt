@@ -8,12 +8,12 @@ use Rattle.lower.specs.Normal.{norm}
 use Rattle.lower.specs.declared.datatypes.IntegerType.{IntegerType}
 use Rattle.lower.specs.declared.datatypes.physical_type.PhysicalType.TheVariants.{Dictionary}
 use Rattle.lower.specs.declared.error.Error.{Error}
-use Rattle.lower_flat.specs.TypeCodes.{coded_type}
-use Rattle.lower_flat.specs.Validities.{Validity}
-use Rattle.lower_rules.specs.Rules.{BreaksDictionaryRules}
+use Rattle.lower_flat_arrays.specs.TypeCodes.{coded_type}
+use Rattle.lower_flat_arrays.specs.Validities.{Validity}
+use Rattle.lower_validation.specs.Rules.{BreaksDictionaryRules}
 use Rattle.lower_arrays.specs.Layouts.{Parts, keys, Layout, layout, no_layouts, more_layouts, len_of, type_of}
 use Rattle.lower_arrays.specs.LayoutCodes.{coded_integer, coded_validity, coded_layout}
-use Rattle.lower_rules.specs.Keys.{values_type, KeysFit, KeysSeen, IsKeys, cut_keys}
+use Rattle.lower_validation.specs.Keys.{values_type, KeysFit, KeysSeen, IsKeys, cut_keys}
 use Rattle.lower_arrays.specs.Slots.{IsArray}
 
 -- The type of a dictionary array, its keys and its values.

@@ -4,12 +4,12 @@ use Rattle.std.specs.Prelude.{ℕ, ◌*◌, ◌/◌, refl}
 use Rattle.std.specs.Coded.{Coded, code_by, coded_ℕ, coded×}
 use Rattle.lower.specs.TypeTrees.{TypeTree}
 use Rattle.lower.specs.declared.error.Error.{Error}
-use Rattle.lower_flat.specs.TypeCodes.{coded_type}
-use Rattle.lower_flat.specs.Validities.{Validity, cut_validity}
-use Rattle.lower_rules.specs.Rules.{BreaksFixedListRules}
+use Rattle.lower_flat_arrays.specs.TypeCodes.{coded_type}
+use Rattle.lower_flat_arrays.specs.Validities.{Validity, cut_validity}
+use Rattle.lower_validation.specs.Rules.{BreaksFixedListRules}
 use Rattle.lower_arrays.specs.Layouts.{fixed_lists, Layout, layout, no_layouts, more_layouts, len_of, type_of}
 use Rattle.lower_arrays.specs.LayoutCodes.{coded_validity, coded_layout}
-use Rattle.lower_rules.specs.ListTypes.{list_size}
+use Rattle.lower_validation.specs.ListTypes.{list_size}
 use Rattle.lower_arrays.specs.Cuts.{cut}
 
 -- The type, the size, the length, the child and the validity of an array of fixed-size lists.

@@ -2,10 +2,10 @@
 -- (Arrow columnar format, "Physical Memory Layout".)
 use Rattle.std.specs.Prelude.{None, length}
 use Rattle.lower_types.specs.declared.PrimitiveType.{PrimitiveType}
-use Rattle.lower_flat.specs.Nulls.{NullSeen}
-use Rattle.lower_flat.specs.Booleans.{BooleanSeen}
-use Rattle.lower_flat.specs.FixedBinaries.{FixedBinarySeen}
-use Rattle.lower_flat.specs.Spans.{SpansSeen, span_count}
+use Rattle.lower_flat_arrays.specs.Nulls.{NullSeen}
+use Rattle.lower_flat_arrays.specs.Booleans.{BooleanSeen}
+use Rattle.lower_flat_arrays.specs.FixedBinaries.{FixedBinarySeen}
+use Rattle.lower_flat_arrays.specs.Spans.{SpansSeen, span_count}
 use Rattle.lower_arrays.specs.Layouts.{nothing, truths, fixed_bytes, bytes, texts, Layout, layout, no_layouts}
 
 -- The layout of an array of nulls.

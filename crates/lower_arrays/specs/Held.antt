@@ -8,7 +8,7 @@ use Rattle.lower.specs.TypeTrees.{plain}
 use Rattle.lower.specs.Physical.{physical, integer}
 use Rattle.lower.specs.declared.datatypes.physical_type.PhysicalType.{PhysicalType}
 use Rattle.lower.specs.declared.datatypes.physical_type.PhysicalType.TheVariants as Physicals
-use Rattle.lower_flat.specs.Validities.{Validity}
+use Rattle.lower_flat_arrays.specs.Validities.{Validity}
 use Rattle.lower_arrays.specs.Layouts.{Parts, nothing, truths, numbers, fixed_bytes, bytes, texts, lists, fixed_lists, maps, records, choices, keys, Layout, layout, Layouts, no_layouts, more_layouts}
 use Rattle.lower_arrays.specs.Cuts.{cut}
 

@@ -9,8 +9,8 @@ use Rattle.lower_types.specs.declared.PrimitiveType.{PrimitiveType}
 use Rattle.lower_types.specs.declared.PrimitiveType.TheVariants.{Int8, Int16, Int32, Int64, Int128, Int256, UInt8, UInt16, UInt32, UInt64, Float16, Float32, Float64, DaysMs, MonthDayNano}
 use Rattle.lower.specs.TypeTrees.{TypeTree}
 use Rattle.lower.specs.declared.datatypes.IntegerType.{IntegerType}
-use Rattle.lower_flat.specs.TypeCodes.{Stored, first, second, number, tagged, tag, int_to, int_from, int_back, stored_int, stored_nat, bool_to, bool_from, bool_back, stored_list, stored_ids, integer_to, integer_from, integer_back, coded_type}
-use Rattle.lower_flat.specs.Validities.{Validity}
+use Rattle.lower_flat_arrays.specs.TypeCodes.{Stored, first, second, number, tagged, tag, int_to, int_from, int_back, stored_int, stored_nat, bool_to, bool_from, bool_back, stored_list, stored_ids, integer_to, integer_from, integer_back, coded_type}
+use Rattle.lower_flat_arrays.specs.Validities.{Validity}
 use Rattle.lower_arrays.specs.Layouts.{Parts, nothing, truths, numbers, fixed_bytes, bytes, texts, lists, fixed_lists, maps, records, choices, keys, Level, Layout, layout, Layouts, no_layouts, more_layouts}
 
 -- ---- numbers and their types

@@ -5,8 +5,8 @@ use Rattle.lower_types.specs.NumberTypes.{Number}
 use Rattle.lower.specs.TypeTrees.{TypeTree}
 use Rattle.lower.specs.declared.datatypes.IntegerType.{IntegerType}
 use Rattle.lower_types.specs.declared.PrimitiveType.{PrimitiveType}
-use Rattle.lower_flat.specs.Validities.{is_valid}
-pub use Rattle.lower_flat.specs.Validities.{Validity, null_count_of}
+use Rattle.lower_flat_arrays.specs.Validities.{is_valid}
+pub use Rattle.lower_flat_arrays.specs.Validities.{Validity, null_count_of}
 
 -- The parts of a level, by its kind, apart from its type, its length and its validity:
 -- * `nothing`: a level of nulls

@@ -5,13 +5,13 @@ use Rattle.std.specs.Coded.{Coded, code_by, coded_list, coded_ℕ, coded×}
 use Rattle.lower.specs.TypeTrees.{TypeTree}
 use Rattle.lower_types.specs.declared.PrimitiveType.{PrimitiveType}
 use Rattle.lower.specs.declared.error.Error.{Error}
-use Rattle.lower_flat.specs.TypeCodes.{coded_type}
-use Rattle.lower_flat.specs.Validities.{Validity, part, cut_validity}
-use Rattle.lower_flat.specs.Spans.{span_count}
-use Rattle.lower_rules.specs.Rules.{BreaksListRules}
+use Rattle.lower_flat_arrays.specs.TypeCodes.{coded_type}
+use Rattle.lower_flat_arrays.specs.Validities.{Validity, part, cut_validity}
+use Rattle.lower_flat_arrays.specs.Spans.{span_count}
+use Rattle.lower_validation.specs.Rules.{BreaksListRules}
 use Rattle.lower_arrays.specs.Layouts.{lists, Layout, layout, no_layouts, more_layouts, len_of, type_of}
 use Rattle.lower_arrays.specs.LayoutCodes.{coded_primitive, coded_validity, coded_layout}
-pub use Rattle.lower_rules.specs.AnyOffsets.{list_places, list_width}
+pub use Rattle.lower_validation.specs.AnyOffsets.{list_places, list_width}
 
 -- The type, the type of offsets, the offsets, the child and the validity of an array of lists.
 pub record ListSeen : Type 0 where

@@ -4,10 +4,10 @@ use Rattle.std.specs.Prelude.{ℕ, ◌+◌, List, refl}
 use Rattle.std.specs.Coded.{Coded, code_by, coded_list, coded_ℕ, coded×}
 use Rattle.lower.specs.TypeTrees.{TypeTree}
 use Rattle.lower.specs.declared.error.Error.{Error}
-use Rattle.lower_flat.specs.TypeCodes.{coded_type}
-use Rattle.lower_flat.specs.Validities.{Validity, part, cut_validity}
-use Rattle.lower_flat.specs.Spans.{span_count}
-use Rattle.lower_rules.specs.Rules.{BreaksMapRules}
+use Rattle.lower_flat_arrays.specs.TypeCodes.{coded_type}
+use Rattle.lower_flat_arrays.specs.Validities.{Validity, part, cut_validity}
+use Rattle.lower_flat_arrays.specs.Spans.{span_count}
+use Rattle.lower_validation.specs.Rules.{BreaksMapRules}
 use Rattle.lower_arrays.specs.Layouts.{maps, Layout, layout, no_layouts, more_layouts, len_of, type_of}
 use Rattle.lower_arrays.specs.LayoutCodes.{coded_validity, coded_layout}
 

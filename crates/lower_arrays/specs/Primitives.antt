@@ -4,8 +4,8 @@ use Rattle.std.specs.Prelude.{◌≡◌}
 use Rattle.lower_types.specs.NumberTypes.{Number}
 use Rattle.lower_types.specs.declared.PrimitiveType.{PrimitiveType}
 use Rattle.lower_arrays.specs.Layouts.{Parts, numbers, Layout, layout, level, no_layouts}
-use Rattle.lower_rules.specs.Numbers.{NumbersSeen, numbers_in}
-pub use Rattle.lower_flat.specs.Primitives.{PrimitiveSeen}
+use Rattle.lower_validation.specs.Numbers.{NumbersSeen, numbers_in}
+pub use Rattle.lower_flat_arrays.specs.Primitives.{PrimitiveSeen}
 
 -- The layout of an array of numbers of any type.
 abbrev pub numbers_layout : NumbersSeen → Layout

@@ -8,18 +8,18 @@ use Rattle.lower.specs.Normal.{norm}
 use Rattle.lower.specs.Offsets.{IsOffsets}
 use Rattle.lower.specs.declared.datatypes.IntegerType.{IntegerType}
 use Rattle.lower.specs.declared.datatypes.physical_type.PhysicalType.TheVariants as Physicals
-use Rattle.lower_flat.specs.FixedBinaries.{byte_size}
-use Rattle.lower_flat.specs.Spans.{span, span_count, EndsWithin, AreTexts}
-use Rattle.lower_flat.specs.Binaries.{bytes_with}
-use Rattle.lower_flat.specs.Texts.{texts_with}
+use Rattle.lower_flat_arrays.specs.FixedBinaries.{byte_size}
+use Rattle.lower_flat_arrays.specs.Spans.{span, span_count, EndsWithin, AreTexts}
+use Rattle.lower_flat_arrays.specs.Binaries.{bytes_with}
+use Rattle.lower_flat_arrays.specs.Texts.{texts_with}
 use Rattle.lower_arrays.specs.Layouts.{Parts, nothing, truths, numbers, fixed_bytes, bytes, texts, keys, choices, Level, Layout, layout, Layouts, no_layouts, more_layouts, len_of, type_of, lists, fixed_lists, maps, records}
-use Rattle.lower_rules.specs.Keys.{place_of, values_type, KeysFit}
-use Rattle.lower_rules.specs.Ids.{child_number}
+use Rattle.lower_validation.specs.Keys.{place_of, values_type, KeysFit}
+use Rattle.lower_validation.specs.Ids.{child_number}
 use Rattle.lower_arrays.specs.Choices.{place_in, ChoicesFit}
 use Rattle.lower_arrays.specs.Children.{child_fields, ChildTypes, HasChild, AllHave, AllReach, ArePairs}
-use Rattle.lower_rules.specs.ListTypes.{list_with, list_size, last_offset}
-pub use Rattle.lower_flat.specs.Validities.{Validity, is_valid, ValidityFits, part}
-pub use Rattle.lower_flat.specs.Columns.{Slot, null_slot, truth_slot, number_slot, bytes_slot, text_slot, list_slot, record_slot, variant_slot, Slots, no_slots, more_slots, slots_of, slot_where, slots_from, Column, column_by}
+use Rattle.lower_validation.specs.ListTypes.{list_with, list_size, last_offset}
+pub use Rattle.lower_flat_arrays.specs.Validities.{Validity, is_valid, ValidityFits, part}
+pub use Rattle.lower_flat_arrays.specs.Columns.{Slot, null_slot, truth_slot, number_slot, bytes_slot, text_slot, list_slot, record_slot, variant_slot, Slots, no_slots, more_slots, slots_of, slot_where, slots_from, Column, column_by}
 
 -- The slots of the first child.
 abbrev pub first_child : List (ℕ → Slot) → ℕ → Slot

@@ -8,8 +8,8 @@ use Rattle.lower.specs.declared.datatypes.physical_type.PhysicalType.TheVariants
 use Rattle.lower.specs.declared.error.Error.{Error}
 use Rattle.lower.specs.declared.error.Error.TheVariants.{OutOfSpec}
 use Rattle.lower.specs.declared.error.Rule.TheVariants.{ValidityLength, NoChild, ChildCount, ChildType, ChildLength, PhysicalType as WrongType}
-use Rattle.lower_flat.specs.TypeCodes.{coded_type}
-use Rattle.lower_flat.specs.Validities.{Validity, ValidityFits, cut_validity}
+use Rattle.lower_flat_arrays.specs.TypeCodes.{coded_type}
+use Rattle.lower_flat_arrays.specs.Validities.{Validity, ValidityFits, cut_validity}
 use Rattle.lower_arrays.specs.Layouts.{records, Layout, layout, layouts, len_of}
 use Rattle.lower_arrays.specs.LayoutCodes.{coded_validity, coded_layout}
 use Rattle.lower_arrays.specs.Children.{child_fields, field_count, child_count, ChildTypes, HasChild, AllHave}

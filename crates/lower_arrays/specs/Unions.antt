@@ -8,14 +8,14 @@ use Rattle.lower.specs.declared.datatypes.physical_type.PhysicalType.TheVariants
 use Rattle.lower.specs.declared.error.Error.{Error}
 use Rattle.lower.specs.declared.error.Error.TheVariants.{OutOfSpec}
 use Rattle.lower.specs.declared.error.Rule.TheVariants.{ChildCount, ChildType, ChildLength, UnionChildren, UnionIds, UnionType, UnionOffsets, UnionOffset, PhysicalType as WrongType}
-use Rattle.lower_flat.specs.TypeCodes.{coded_type}
-use Rattle.lower_flat.specs.Validities.{part}
+use Rattle.lower_flat_arrays.specs.TypeCodes.{coded_type}
+use Rattle.lower_flat_arrays.specs.Validities.{part}
 use Rattle.lower_arrays.specs.Layouts.{choices, Layout, layout, layouts}
 use Rattle.lower_arrays.specs.LayoutCodes.{coded_layout}
 use Rattle.lower_arrays.specs.Children.{child_fields, field_count, child_count, lens_of, ChildTypes}
-use Rattle.lower_rules.specs.Ids.{union_ids, union_mode, IdsFit, AreNamed, OffsetsGiven}
-use Rattle.lower_rules.specs.Places.{PlacesFit}
-use Rattle.lower_rules.specs.Rules.{IsCount}
+use Rattle.lower_validation.specs.Ids.{union_ids, union_mode, IdsFit, AreNamed, OffsetsGiven}
+use Rattle.lower_validation.specs.Places.{PlacesFit}
+use Rattle.lower_validation.specs.Rules.{IsCount}
 use Rattle.lower_arrays.specs.Choices.{ChoicesFit}
 use Rattle.lower_arrays.specs.Slots.{AreArrays}
 use Rattle.lower_arrays.specs.Cuts.{cut}

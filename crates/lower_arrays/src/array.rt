@@ -22,16 +22,16 @@ pub use fixed_size_list::FixedSizeListArray;
 pub use list::ListArray;
 use lower::bitmap::Bitmap;
 use lower::datatypes::DataType;
-pub use lower_flat::{
+pub use lower_flat_arrays::{
     BinaryArray, BinaryIter, BooleanArray, BooleanIter, DaysMsArray, FixedSizeBinaryArray,
     FixedSizeBinaryIter, Int8Array, Int16Array, Int32Array, Int64Array, Int128Array, Int256Array,
     MonthsDaysNsArray, NullArray, PrimitiveArray, PrimitiveIter, UInt8Array, UInt16Array,
     UInt32Array, UInt64Array, Utf8Array, Utf8Iter,
 };
-pub use lower_rules::keys::{DictionaryKey, DictionaryKeys};
-pub use lower_rules::numbers::AnyPrimitive;
-pub use lower_rules::numeric::Numeric;
-pub use lower_rules::offsets::ListOffsets;
+pub use lower_validation::keys::{DictionaryKey, DictionaryKeys};
+pub use lower_validation::numbers::AnyPrimitive;
+pub use lower_validation::numeric::Numeric;
+pub use lower_validation::offsets::ListOffsets;
 pub use map::MapArray;
 use std::alloc::AllocError;
 use std::mem;

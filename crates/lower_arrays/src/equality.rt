@@ -2,8 +2,8 @@
 ghost use Rattle.std.specs.Prelude.{◌≡◌, ◌↔◌, ◌+◌, ◌<◌, ◌≤◌, IsTrue, map};
 ghost use Rattle.std.specs.Ordering.{on};
 ghost use Rattle.lower.specs.TypeViews.{type_view};
-ghost use Rattle.lower_flat.specs.Columns.{IsSame, same_column};
-ghost use Rattle.lower_flat.specs.ColumnLaws.{columns_equiv, columns_per};
+ghost use Rattle.lower_flat_arrays.specs.Columns.{IsSame, same_column};
+ghost use Rattle.lower_flat_arrays.specs.ColumnLaws.{columns_equiv, columns_per};
 ghost use Rattle.lower_arrays.specs.Layouts.{layouts, len_of, type_of};
 ghost use Rattle.lower_arrays.specs.Children.{AllReach};
 ghost use Rattle.lower_arrays.specs.Slots.{null_slot, truth_slot, number_slot, bytes_slot, text_slot, slot_at, column_of};
@@ -26,7 +26,7 @@ use crate::value::{
     map_value, record_value, union_value, value_at,
 };
 use lower::datatypes::DataType;
-use lower_flat::equality::{ToColumn, is_same_column};
+use lower_flat_arrays::equality::{ToColumn, is_same_column};
 
 /// Returns whether both have the same data type and slots, as `==` does.
 ///

@@ -1,6 +1,6 @@
 //! Single slots of arrays.
 ghost use Rattle.std.specs.Prelude.{◌≡◌, ◌↔◌, ◌+◌, ◌<◌, ◌≤◌, length, IsTrue};
-ghost use Rattle.lower_flat.specs.Spans.{span_count};
+ghost use Rattle.lower_flat_arrays.specs.Spans.{span_count};
 ghost use Rattle.lower_arrays.specs.Layouts.{len_of, height};
 ghost use Rattle.lower_arrays.specs.Slots.{slot_at};
 ghost use Rattle.lower_arrays.specs.Primitives.{primitive_layout};

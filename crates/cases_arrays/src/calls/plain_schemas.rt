@@ -1,6 +1,6 @@
 //! The calls that decode a schema message by the reader and by the plain program.
 //!
-//! The plain program, `ipc_plain_schema`, only supports integers, texts, lists and structs.
+//! The plain program, `ipc_reference_schema`, only supports integers, texts, lists and structs.
 //!
 //! - `"plain_schema_of": BYTES` gives what the plain program decodes: a schema, `"Other"` (a schema
 //!   with another type) or `"NoSchema"`. An extension type is the type that it is stored as.
@@ -20,8 +20,8 @@ use cases_notation::failure::Failure;
 use cases_notation::text::Text;
 use ipc_base::ipc::IpcSchema;
 use ipc_devices::fault::Fault;
-use ipc_plain_schema::schema::{PlainAnswer, plain_schema};
-use ipc_plain_schema::types::{PlainField, PlainSchema, PlainType};
+use ipc_reference_schema::schema::{PlainAnswer, plain_schema};
+use ipc_reference_schema::types::{PlainField, PlainSchema, PlainType};
 use ipc_schema::read::schema::deserialize_schema;
 use ipc_schema_write::defaults::default_ipc_fields;
 use lower::datatypes::{DataType, Field, Metadata, Schema};

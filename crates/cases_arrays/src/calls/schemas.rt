@@ -20,7 +20,7 @@ use cases_notation::text::Text;
 use cases_notation::types::{is_little_endian, texts};
 use ipc_base::ipc::IpcField;
 use ipc_devices::fault::Fault;
-use ipc_footers::weights::weigh_file;
+use ipc_footer_write::weights::weigh_file;
 use ipc_schema::read::schema::{deserialize_schema, deserialize_schema_counted};
 use ipc_schema_write::schema::{schema_to_bytes, schema_to_bytes_as, serialize_schema};
 use ipc_schema_write::weights::weigh_schema;

@@ -40,7 +40,7 @@ use ipc_devices::{MemFile, Reads};
 use ipc_files::read::file::{FileMetadata, read_batch, read_file_dictionaries, read_file_metadata};
 use ipc_limits::file::read_file_metadata_within;
 use ipc_read::read::Dictionaries;
-use ipc_views::Block;
+use ipc_table_views::Block;
 use lower::datatypes::{Field, Metadata};
 use lower_arrays::array::AnyArray;
 use serde_json::Value;

@@ -19,7 +19,7 @@ use cases_streams::calls::streams::put_columns;
 use ipc_devices::MemFile;
 use ipc_file_readers::read::reader::FileReader;
 use ipc_files::read::file::FileMetadata;
-use ipc_projections::read::projection::is_projection;
+use ipc_projection::read::projection::is_projection;
 use lower::datatypes::Field;
 use serde_json::Value;
 

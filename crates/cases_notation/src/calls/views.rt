@@ -14,7 +14,7 @@ use crate::bytes::bytes;
 use crate::decoder::{Decoder, named};
 use crate::text::Text;
 use crate::types::LEVELS;
-use ipc_views::{
+use ipc_table_views::{
     DictionaryBatchRef, DictionaryEncodingRef, FieldRef, FieldTable, FooterRef, MessageHeaderRef,
     MessageRef, RecordBatchRef, SchemaRef, TableFault, Tables,
 };

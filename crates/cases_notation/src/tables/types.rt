@@ -16,7 +16,7 @@ use ipc_tables::types::{
     Date, Decimal, Duration, FieldType, FixedSizeBinary, FixedSizeList, FloatingPoint, Int,
     Interval, Map, Time, Timestamp, Union,
 };
-use ipc_views::{DateUnit, IntervalUnit, Precision, TimeUnit, UnionMode};
+use ipc_table_views::{DateUnit, IntervalUnit, Precision, TimeUnit, UnionMode};
 use serde_json::Value;
 
 /// A type.

@@ -15,8 +15,8 @@ use cases_arrays::chunks::{chunk, put_columns};
 use cases_arrays::schemas::{put_fields, schema};
 use cases_notation::decoder::Decoder;
 use cases_notation::text::Text;
-use ipc_projections::read::prepare::prepare_projection;
-use ipc_projections::read::projection::{
+use ipc_projection::read::prepare::prepare_projection;
+use ipc_projection::read::projection::{
     ProjectionIter, ProjectionResult, apply_projection, is_prepared, is_projection, is_reordering,
 };
 use lower::datatypes::Field;

@@ -24,7 +24,7 @@ use ipc_base::chunk::Chunk;
 use ipc_base::ipc::{IpcField, clone_ipc_fields};
 use ipc_encode::common::Record;
 use ipc_encode::serialize::write;
-use ipc_views::{Buffer, FieldNode};
+use ipc_table_views::{Buffer, FieldNode};
 use lower_arrays::array::AnyArray;
 use serde_json::Value;
 use std::borrow::CowSlice;

@@ -26,7 +26,7 @@ use ipc_chunks::common::{encode_chunk, encode_chunk_amortized};
 use ipc_devices::fault::Fault;
 use ipc_encode::common::{EncodedData, WriteOptions};
 use ipc_tracker::tracker::DictionaryTracker;
-use ipc_views::MessageRef;
+use ipc_table_views::MessageRef;
 use lower_arrays::array::{AnyArray, is_dictionary};
 use serde_json::Value;
 use std::alloc::Global;

@@ -13,7 +13,7 @@ use cases_notation::text::Text;
 use ipc_devices::{MemFile, read_bytes};
 use ipc_readers::read::begun::{Begun, Frame};
 use ipc_readers::read::frame::read_frame;
-use ipc_views::MessageRef;
+use ipc_table_views::MessageRef;
 use serde_json::Value;
 
 /// The frames of pieces of a stream.

@@ -25,7 +25,7 @@ use cases_records::calls::projections::projection_in;
 use ipc_base::ipc::fits;
 use ipc_devices::MemFile;
 use ipc_devices::fault::Fault;
-use ipc_projections::read::projection::is_projection;
+use ipc_projection::read::projection::is_projection;
 use ipc_readers::read::stream::{StreamMetadata, StreamReader, StreamState, read_stream_metadata};
 use lower::datatypes::Field;
 use serde_json::Value;

@@ -2,9 +2,9 @@
 ghost use Rattle.std.specs.Prelude.{◌+◌, ◌^◌, ◌<◌, ◌≤◌, [], ◌∷◌, length, OnOk};
 ghost use Rattle.lower_types.specs.declared.PrimitiveType.TheVariants as Named;
 ghost use Rattle.std.specs.Option.{option_copied};
-ghost use Rattle.lower_flat.specs.Validities.{part, cut_validity, ValidityHolds};
+ghost use Rattle.lower_flat_arrays.specs.Validities.{part, cut_validity, ValidityHolds};
 ghost use Rattle.ipc_plan.specs.OffsetViews.{places_of, type_of_offsets};
-ghost use Rattle.lower_flat.specs.Spans.{EndsWithin, span_count};
+ghost use Rattle.lower_flat_arrays.specs.Spans.{EndsWithin, span_count};
 ghost use Rattle.lower_arrays.specs.Flat.{bytes_layout};
 ghost use Rattle.ipc_model.specs.Offers.{cut_length, offsets_length, validity_length, written_levels};
 ghost use Rattle.ipc_plan.specs.Taking.{TakesLevel, TakesLevels};

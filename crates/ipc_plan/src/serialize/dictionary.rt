@@ -3,9 +3,9 @@ ghost use Rattle.std.specs.Prelude.{◌≡◌, ◌+◌, ◌^◌, ◌<◌, ◌≤
 ghost use Rattle.lower_types.specs.NumberTypes.{whole};
 ghost use Rattle.lower_arrays.specs.Layouts.{numbers};
 ghost use Rattle.ipc_plan.specs.Pieces.{slice_numbers, slice_type};
-ghost use Rattle.lower_flat.specs.Validities.{part};
+ghost use Rattle.lower_flat_arrays.specs.Validities.{part};
 ghost use Rattle.lower_arrays.specs.Dictionaries.{dictionary_layout};
-ghost use Rattle.lower_rules.specs.AnyKeys.{keys_seen};
+ghost use Rattle.lower_validation.specs.AnyKeys.{keys_seen};
 ghost use Rattle.ipc_model.specs.TypeKinds.{key_form};
 ghost use Rattle.ipc_model.specs.Offers.{written_levels};
 ghost use Rattle.ipc_plan.specs.Taking.{TakesLevels};

@@ -1,7 +1,7 @@
 //! Plans arrays of lists (Arrow columnar format, "Variable-size List Layout").
 ghost use Rattle.std.specs.Prelude.{◌+◌, ◌^◌, ◌<◌, ◌≤◌, OnOk};
 ghost use Rattle.lower_types.specs.declared.PrimitiveType.TheVariants.{Int32, Int64};
-ghost use Rattle.lower_flat.specs.Spans.{span_count};
+ghost use Rattle.lower_flat_arrays.specs.Spans.{span_count};
 ghost use Rattle.lower_arrays.specs.Lists.{list_layout, list_layout_as};
 ghost use Rattle.ipc_model.specs.Offers.{written_levels};
 ghost use Rattle.ipc_plan.specs.Taking.{TakesLevels};

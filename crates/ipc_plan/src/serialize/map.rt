@@ -1,6 +1,6 @@
 //! Plans arrays of maps (Arrow columnar format, "Map Layout").
 ghost use Rattle.std.specs.Prelude.{◌+◌, ◌^◌, ◌<◌, ◌≤◌, OnOk};
-ghost use Rattle.lower_flat.specs.Spans.{span_count};
+ghost use Rattle.lower_flat_arrays.specs.Spans.{span_count};
 ghost use Rattle.lower_arrays.specs.Maps.{map_layout};
 ghost use Rattle.ipc_model.specs.Offers.{written_levels};
 ghost use Rattle.ipc_plan.specs.Taking.{TakesLevels};

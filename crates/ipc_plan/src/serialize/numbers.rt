@@ -3,7 +3,7 @@ ghost use Rattle.std.specs.Prelude.{◌≡◌, ◌+◌, ◌*◌, ◌^◌, ◌<�
 ghost use Rattle.lower_types.specs.NumberTypes.{width_of};
 ghost use Rattle.lower_arrays.specs.Layouts.{numbers};
 ghost use Rattle.ipc_plan.specs.Pieces.{slice_numbers, slice_type};
-ghost use Rattle.lower_flat.specs.Validities.{part};
+ghost use Rattle.lower_flat_arrays.specs.Validities.{part};
 ghost use Rattle.ipc_plan.specs.Taking.{TakesBuffers};
 ghost use Rattle.ipc_plan.specs.Plans.{AddsNumbers, AreSpelt, IsSpelt};
 

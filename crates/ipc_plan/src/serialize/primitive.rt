@@ -1,9 +1,9 @@
 //! Plans arrays of numbers (Arrow columnar format, "Fixed-size Primitive Layout").
 ghost use Rattle.std.specs.Prelude.{◌≡◌, ◌+◌, ◌^◌, ◌<◌, ◌≤◌, length, OnOk};
-ghost use Rattle.lower_rules.specs.AnyNumbers.{numbers_seen};
+ghost use Rattle.lower_validation.specs.AnyNumbers.{numbers_seen};
 ghost use Rattle.lower_arrays.specs.Layouts.{numbers};
 ghost use Rattle.ipc_plan.specs.Pieces.{slice_numbers, slice_type};
-ghost use Rattle.lower_flat.specs.Validities.{part};
+ghost use Rattle.lower_flat_arrays.specs.Validities.{part};
 ghost use Rattle.lower_arrays.specs.AnyLayouts.{any_primitive_layout};
 ghost use Rattle.ipc_model.specs.Offers.{written_levels};
 ghost use Rattle.ipc_plan.specs.Taking.{TakesLevels};

@@ -3,7 +3,7 @@
 //! Arrow columnar format, "Validity bitmaps".
 ghost use Rattle.std.specs.Prelude.{◌≡◌, ℕ, slice_index, ◌+◌, ◌^◌, ◌<◌, ◌≤◌, [], ◌∷◌, length, IfErr, IfOk, OnOk};
 ghost use Rattle.std.specs.Option.{option_copied};
-ghost use Rattle.lower_flat.specs.Validities.{part, cut_validity, null_count_of, ValidityHolds};
+ghost use Rattle.lower_flat_arrays.specs.Validities.{part, cut_validity, null_count_of, ValidityHolds};
 ghost use Rattle.ipc_devices.specs.declared.fault.Fault.TheVariants.{Memory};
 ghost use Rattle.ipc_model.specs.Entries.{bytes_for};
 ghost use Rattle.ipc_model.specs.Offers.{validity_length};
@@ -14,7 +14,7 @@ use crate::pieces::Piece;
 use crate::plan::{Plan, push_buffer, push_node};
 use ipc_devices::Fault;
 use lower::bitmap::Bitmap;
-use lower_flat::validity::unset_bits;
+use lower_flat_arrays::validity::unset_bits;
 
 // Plans the node and the validity of some slots.
 pub(crate) fn plan_start<'a>(

@@ -1,12 +1,12 @@
 //! The header of a message: the Arrow columnar format, "Encapsulated message format".
 ghost use Rattle.std.specs.Prelude.{◌≡◌, IfErr};
 ghost use Rattle.ipc_devices.specs.Faults.{OnIo, OwnFault};
-ghost use Rattle.ipc_views.specs.MessageSlots.{message_header};
-ghost use Rattle.ipc_views.specs.Unions.{header_parts};
+ghost use Rattle.ipc_table_views.specs.MessageSlots.{message_header};
+ghost use Rattle.ipc_table_views.specs.Unions.{header_parts};
 ghost use Rattle.ipc_read.specs.Headers.{LacksHeader, answered_as, needed_header};
 
 use ipc_devices::fault::{Fault, OutOfSpecKind};
-use ipc_views::{MessageHeaderRef, MessageRef};
+use ipc_table_views::{MessageHeaderRef, MessageRef};
 
 /// The header of a message, without an allocation.
 ///

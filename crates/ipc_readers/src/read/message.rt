@@ -1,7 +1,7 @@
 //! Opens the messages of a stream.
 ghost use Rattle.std.specs.Prelude.{◌≡◌, ◌<◌, ◌^◌, IfOk, IfErr};
 ghost use Rattle.ipc_devices.specs.Faults.{OnIo, OwnFault};
-ghost use Rattle.ipc_views.specs.MessageSlots.{message_body_length};
+ghost use Rattle.ipc_table_views.specs.MessageSlots.{message_body_length};
 ghost use Rattle.ipc_model.specs.Streams.{header_of};
 ghost use Rattle.ipc_read.specs.Headers.{answered_as};
 ghost use Rattle.ipc_readers.specs.Messages.{GivesMessage, header_seen, natural_length, opened};
@@ -9,7 +9,7 @@ ghost use Rattle.ipc_readers.specs.Refusals.{IsMessageFault};
 
 use ipc_devices::fault::{Fault, OutOfSpecKind};
 use ipc_read::read::header::header_of;
-use ipc_views::{MessageHeaderRef, MessageRef};
+use ipc_table_views::{MessageHeaderRef, MessageRef};
 
 /// The header of a message after the schema, and the length of its body.
 #[derive(Drop)]

@@ -4,13 +4,13 @@
 ghost use Rattle.std.specs.Prelude.{◌≡◌, [], IfOk, option_map, string_bytes};
 ghost use Rattle.lower.specs.TypeViews.{type_view, pairs_of};
 ghost use Rattle.ipc_model.specs.Schemas.{made, given, pairs_from, pairs_at, value_under, with_extension};
-ghost use Rattle.ipc_views.specs.SchemaSlots.{field_custom_metadata, schema_custom_metadata};
+ghost use Rattle.ipc_table_views.specs.SchemaSlots.{field_custom_metadata, schema_custom_metadata};
 ghost use Rattle.ipc_schema.specs.Reading.{AnswersMeaning};
 
 use crate::read::pairs::{PairsFault, read_pairs};
 use crate::read::types::in_schema;
 use ipc_base::fault::{Fault, SchemaFault};
-use ipc_views::{FieldRef, KeyValueTable, SchemaRef, Tables};
+use ipc_table_views::{FieldRef, KeyValueTable, SchemaRef, Tables};
 use lower::datatypes::{DataType, Metadata};
 use std::alloc::{AllocError, Global};
 use std::collections::BTreeMap;

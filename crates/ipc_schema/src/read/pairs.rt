@@ -7,7 +7,7 @@ ghost use Rattle.ipc_schema.specs.Pairs.{GivesPairs};
 ghost use Rattle.ipc_schema.specs.declared.read.pairs.PairsFault.TheVariants.{Memory, Table};
 
 use ipc_devices::fault::TableFault;
-use ipc_views::{KeyValueRef, KeyValueTable, Tables};
+use ipc_table_views::{KeyValueRef, KeyValueTable, Tables};
 use lower::datatypes::Metadata;
 use std::alloc::{AllocError, Global};
 use std::collections::BTreeMap;

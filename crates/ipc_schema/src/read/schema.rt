@@ -6,9 +6,9 @@ ghost use Rattle.std.specs.Prelude.{◌≡◌, ◌+◌, ◌<◌, ◌≤◌, ◌^
 ghost use Rattle.lower.specs.TypeViews.{fields_view, pairs_of, type_view};
 ghost use Rattle.ipc_base.specs.Fitting.{AllFit};
 ghost use Rattle.ipc_base.specs.IdTrees.{all_ids_view};
-ghost use Rattle.ipc_views.specs.SchemaSlots.{field_children, field_dictionary, field_name};
-ghost use Rattle.ipc_views.specs.Tables.{table_in};
-ghost use Rattle.ipc_views.specs.Unions.{type_parts};
+ghost use Rattle.ipc_table_views.specs.SchemaSlots.{field_children, field_dictionary, field_name};
+ghost use Rattle.ipc_table_views.specs.Tables.{table_in};
+ghost use Rattle.ipc_table_views.specs.Unions.{type_parts};
 ghost use Rattle.ipc_model.specs.Schemas.{order_of, made, present, given, encoding_at, optional_encoding, encoded, id_of, field_with, field_at, fields_count, fields_from, first_field, some_fields, type_of_field};
 ghost use Rattle.ipc_schema.specs.Reading.{AnswersMeaning, CountsRefused, GivesMessage, GivesTable, GivesWithin, IsWithin, fields_vector, message_vector};
 ghost use Rattle.ipc_schema.specs.Views.{below_number, byte_order, child_number, child_seen, encoding_seen, field_seen, fields_number, fields_seen, inner_number, schema_seen, type_seen, with_one_id};
@@ -20,7 +20,7 @@ use crate::read::types::{
 };
 use ipc_base::fault::{Fault, OutOfSpecKind, SchemaFault};
 use ipc_base::ipc::{IpcField, IpcSchema};
-use ipc_views::{
+use ipc_table_views::{
     DictionaryEncodingRef, Endianness, FieldRef, FieldTable, MessageHeaderRef, MessageRef,
     SchemaRef, Tables, TypeRef,
 };

@@ -4,13 +4,13 @@
 ghost use Rattle.std.specs.Prelude.{◌≡◌, IfOk, option_map};
 ghost use Rattle.lower.specs.TypeTrees.{plain};
 ghost use Rattle.lower.specs.TypeViews.{type_view, ids_of, text_of};
-ghost use Rattle.ipc_views.specs.TypeSlots.{timestamp_timezone, union_type_ids};
-ghost use Rattle.ipc_views.specs.Unions.{type_parts};
+ghost use Rattle.ipc_table_views.specs.TypeSlots.{timestamp_timezone, union_type_ids};
+ghost use Rattle.ipc_table_views.specs.Unions.{type_parts};
 ghost use Rattle.ipc_model.specs.Schemas.{made, size_of, unit_of, interval_of, mode_of, integer_of, integer_at, integers, float_of, date_of, time_of, decimal_of, decimal_at, plain_at};
 ghost use Rattle.ipc_schema.specs.Reading.{AnswersMeaning, in_schema};
 
 use ipc_base::fault::{Fault, SchemaFault, TableFault};
-use ipc_views::{
+use ipc_table_views::{
     DateUnit, DecimalRef, IntRef, IntervalUnit as IntervalUnitTag, Precision, TimeRef,
     TimeUnit as TimeUnitTag, TimestampRef, TypeIds, TypeRef, UnionMode as UnionModeTag, UnionRef,
 };

@@ -8,8 +8,8 @@ use super::{
     AnyArray, DictionaryArray, FixedSizeListArray, ListArray, MapArray, StructArray, UnionArray,
 };
 use lower::datatypes::DataType;
-use lower_flat::PrimitiveArray;
-use lower_rules::numeric::Numeric;
+use lower_flat_arrays::PrimitiveArray;
+use lower_validation::numeric::Numeric;
 use std::fmt;
 
 impl AnyArray {

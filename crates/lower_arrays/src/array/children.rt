@@ -7,7 +7,7 @@ ghost use Rattle.lower_arrays.specs.AnyLayouts.{layout_of};
 
 use super::AnyArray;
 use lower::datatypes::DataType;
-use lower_rules::children::Child;
+use lower_validation::children::Child;
 use std::alloc::{AllocError, Global};
 
 impl Child for AnyArray {

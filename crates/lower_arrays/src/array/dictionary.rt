@@ -2,21 +2,21 @@
 ghost use Rattle.std.specs.Prelude.{◌≡◌, ◌↔◌, pos, ◌+◌, ◌<◌, ◌≤◌, true, length, get_or, IsTrue, IfOk, MatchResult};
 ghost use Rattle.std.specs.Option.{option_copied};
 ghost use Rattle.lower.specs.TypeViews.{type_view};
-ghost use Rattle.lower_flat.specs.Validities.{null_count_of, is_valid};
+ghost use Rattle.lower_flat_arrays.specs.Validities.{null_count_of, is_valid};
 ghost use Rattle.lower_arrays.specs.Layouts.{level, len_of};
 ghost use Rattle.lower_arrays.specs.Slots.{IsArray};
 ghost use Rattle.lower_arrays.specs.Dictionaries.{HasKeys, dictionary_seen, IsDictionary, BreaksDictionary, cut_dictionary};
-ghost use Rattle.lower_rules.specs.Keys.{is_ordered, place_of};
-ghost use Rattle.lower_rules.specs.AnyKeys.{keys_seen};
+ghost use Rattle.lower_validation.specs.Keys.{is_ordered, place_of};
+ghost use Rattle.lower_validation.specs.AnyKeys.{keys_seen};
 ghost use Rattle.lower_arrays.specs.AnyLayouts.{layout_of};
 
 use super::AnyArray;
 use lower::bitmap::Bitmap;
 use lower::datatypes::DataType;
 use lower::error::Error;
-use lower_rules::fields::is_ordered;
-use lower_rules::keys::DictionaryKeys;
-use lower_rules::rules::check_dictionary;
+use lower_validation::fields::is_ordered;
+use lower_validation::keys::DictionaryKeys;
+use lower_validation::rules::check_dictionary;
 use std::alloc::AllocError;
 use std::marker::Model;
 use std::rc::Rc;
@@ -43,7 +43,7 @@ impl Model for DictionaryArray {
     ghost use Rattle.std.specs.Prelude.{◌+◌};
     ghost use Rattle.lower.specs.TypeViews.{type_view};
     ghost use Rattle.lower_arrays.specs.Layouts.{height};
-    ghost use Rattle.lower_rules.specs.AnyKeys.{keys_seen};
+    ghost use Rattle.lower_validation.specs.AnyKeys.{keys_seen};
     ghost use Rattle.lower_arrays.specs.AnyLayouts.{layout_of};
 
     ghost view = { λ a. record { type = type_view a.data_type; keys = keys_seen a.keys; values = layout_of a.values.value } };

@@ -2,9 +2,9 @@
 ghost use Rattle.std.specs.Prelude.{◌≡◌, ◌+◌, ◌*◌, ◌<◌, ◌≤◌, ◌↔◌, MatchResult, IsTrue, IfOk};
 ghost use Rattle.std.specs.Option.{option_copied};
 ghost use Rattle.lower.specs.TypeViews.{type_view};
-ghost use Rattle.lower_flat.specs.Validities.{null_count_of, is_valid};
+ghost use Rattle.lower_flat_arrays.specs.Validities.{null_count_of, is_valid};
 ghost use Rattle.lower_arrays.specs.Slots.{IsArray};
-ghost use Rattle.lower_rules.specs.ListTypes.{list_size};
+ghost use Rattle.lower_validation.specs.ListTypes.{list_size};
 ghost use Rattle.lower_arrays.specs.FixedLists.{fixed_list_seen, fixed_list_layout, cut_fixed_list, BreaksFixedList};
 ghost use Rattle.lower_arrays.specs.AnyLayouts.{layout_of};
 
@@ -12,9 +12,9 @@ use super::AnyArray;
 use lower::bitmap::Bitmap;
 use lower::datatypes::DataType;
 use lower::error::Error;
-use lower_flat::validity::{clone_validity, is_valid_at, sliced_validity, unset_bits};
-use lower_rules::fields::list_size;
-use lower_rules::rules::check_fixed_list;
+use lower_flat_arrays::validity::{clone_validity, is_valid_at, sliced_validity, unset_bits};
+use lower_validation::fields::list_size;
+use lower_validation::rules::check_fixed_list;
 use std::alloc::AllocError;
 use std::marker::Model;
 

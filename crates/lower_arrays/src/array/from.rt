@@ -9,7 +9,7 @@ ghost use Rattle.lower_arrays.specs.Maps.{map_layout};
 ghost use Rattle.lower_arrays.specs.Unions.{union_layout};
 ghost use Rattle.lower_arrays.specs.Dictionaries.{dictionary_layout};
 ghost use Rattle.lower_arrays.specs.AnyLayouts.{layout_of, any_primitive_layout};
-ghost use Rattle.lower_rules.specs.declared.numbers.AnyPrimitive.TheVariants as Numbers;
+ghost use Rattle.lower_validation.specs.declared.numbers.AnyPrimitive.TheVariants as Numbers;
 
 use super::{
     AnyArray, AnyPrimitive, BinaryArray, BooleanArray, DictionaryArray, FixedSizeBinaryArray,

@@ -2,8 +2,8 @@
 ghost use Rattle.std.specs.Prelude.{◌≡◌, ◌+◌, ◌-◌, ◌<◌, ◌≤◌, ◌↔◌, MatchResult, IsTrue, IfOk, slice_index};
 ghost use Rattle.std.specs.Option.{option_copied};
 ghost use Rattle.lower.specs.TypeViews.{type_view};
-ghost use Rattle.lower_flat.specs.Validities.{null_count_of, is_valid};
-ghost use Rattle.lower_flat.specs.Spans.{span_count};
+ghost use Rattle.lower_flat_arrays.specs.Validities.{null_count_of, is_valid};
+ghost use Rattle.lower_flat_arrays.specs.Spans.{span_count};
 ghost use Rattle.lower_arrays.specs.Slots.{IsArray};
 ghost use Rattle.lower_arrays.specs.Cuts.{cut};
 ghost use Rattle.lower_arrays.specs.Lists.{list_places, list_width, list_seen, list_layout, cut_list, BreaksList};
@@ -15,9 +15,9 @@ use super::AnyArray;
 use lower::bitmap::Bitmap;
 use lower::datatypes::DataType;
 use lower::error::Error;
-use lower_flat::validity::{clone_validity, is_valid_at, sliced_validity, unset_bits};
-use lower_rules::offsets::ListOffsets;
-use lower_rules::rules::check_list;
+use lower_flat_arrays::validity::{clone_validity, is_valid_at, sliced_validity, unset_bits};
+use lower_validation::offsets::ListOffsets;
+use lower_validation::rules::check_list;
 use std::alloc::AllocError;
 use std::marker::Model;
 
@@ -177,7 +177,7 @@ impl ListArray {
     /// Returns the list at `index`, even if it is null.
     ///
     /// It is a slice of the child. It fails only if a clone of the child does.
-    #[tactic(auto, using(lower_flat::proofs::SpanPlaces::offset_next, lower_flat::proofs::SpanPlaces::offset_last))]
+    #[tactic(auto, using(lower_flat_arrays::proofs::SpanPlaces::offset_next, lower_flat_arrays::proofs::SpanPlaces::offset_last))]
     pub fn value(&self, index: usize) -> Result<AnyArray, AllocError>
         requires { index < span_count self.now.offsets }
         ensures { let start = slice_index self.now.offsets index in

@@ -2,8 +2,8 @@
 ghost use Rattle.std.specs.Prelude.{◌≡◌, ◌+◌, ◌-◌, ◌<◌, ◌≤◌, ◌↔◌, MatchResult, IsTrue, IfOk};
 ghost use Rattle.std.specs.Option.{option_copied};
 ghost use Rattle.lower.specs.TypeViews.{type_view};
-ghost use Rattle.lower_flat.specs.Validities.{null_count_of, is_valid};
-ghost use Rattle.lower_flat.specs.Spans.{span_count};
+ghost use Rattle.lower_flat_arrays.specs.Validities.{null_count_of, is_valid};
+ghost use Rattle.lower_flat_arrays.specs.Spans.{span_count};
 ghost use Rattle.lower_arrays.specs.Slots.{IsArray};
 ghost use Rattle.lower_arrays.specs.Maps.{map_seen, map_layout, cut_map, BreaksMap};
 ghost use Rattle.lower_arrays.specs.AnyLayouts.{layout_of};
@@ -13,8 +13,8 @@ use lower::bitmap::Bitmap;
 use lower::datatypes::DataType;
 use lower::error::Error;
 use lower::offset::OffsetsBuffer;
-use lower_flat::validity::{clone_validity, is_valid_at, sliced_validity, unset_bits};
-use lower_rules::rules::check_map;
+use lower_flat_arrays::validity::{clone_validity, is_valid_at, sliced_validity, unset_bits};
+use lower_validation::rules::check_map;
 use std::alloc::AllocError;
 use std::marker::Model;
 

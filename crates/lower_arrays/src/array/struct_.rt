@@ -2,7 +2,7 @@
 ghost use Rattle.std.specs.Prelude.{◌≡◌, ◌+◌, ◌<◌, ◌≤◌, ◌↔◌, map, MatchResult, IsTrue, IfOk};
 ghost use Rattle.std.specs.Option.{option_copied};
 ghost use Rattle.lower.specs.TypeViews.{type_view};
-ghost use Rattle.lower_flat.specs.Validities.{null_count_of, is_valid};
+ghost use Rattle.lower_flat_arrays.specs.Validities.{null_count_of, is_valid};
 ghost use Rattle.lower_arrays.specs.Slots.{IsArray};
 ghost use Rattle.lower_arrays.specs.Structs.{struct_seen, struct_layout, cut_struct, BreaksStruct};
 ghost use Rattle.lower_arrays.specs.AnyLayouts.{layout_of};
@@ -12,8 +12,8 @@ use super::children::{copy_each, sliced_each};
 use lower::bitmap::Bitmap;
 use lower::datatypes::DataType;
 use lower::error::Error;
-use lower_flat::validity::{clone_validity, is_valid_at, sliced_validity, unset_bits};
-use lower_rules::rules::check_struct;
+use lower_flat_arrays::validity::{clone_validity, is_valid_at, sliced_validity, unset_bits};
+use lower_validation::rules::check_struct;
 use std::alloc::AllocError;
 use std::marker::Model;
 

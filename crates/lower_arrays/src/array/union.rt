@@ -3,7 +3,7 @@ ghost use Rattle.std.specs.Prelude.{◌≡◌, ◌↔◌, pos, None, ◌+◌, �
 ghost use Rattle.std.specs.Option.{option_copied};
 ghost use Rattle.lower.specs.TypeViews.{type_view};
 ghost use Rattle.lower_arrays.specs.Layouts.{layouts, len_of};
-ghost use Rattle.lower_rules.specs.Ids.{union_ids, child_number};
+ghost use Rattle.lower_validation.specs.Ids.{union_ids, child_number};
 ghost use Rattle.lower_arrays.specs.Children.{child_count};
 ghost use Rattle.lower_arrays.specs.Choices.{child, place_in};
 ghost use Rattle.lower_arrays.specs.Unions.{union_seen, IsUnion, BreaksUnion, cut_union};
@@ -15,9 +15,9 @@ use lower::bitmap::Bitmap;
 use lower::buffer::Buffer;
 use lower::datatypes::DataType;
 use lower::error::Error;
-use lower_rules::ids::{child_number, union_ids};
-use lower_rules::places::clone_offsets;
-use lower_rules::rules::check_union;
+use lower_validation::ids::{child_number, union_ids};
+use lower_validation::places::clone_offsets;
+use lower_validation::rules::check_union;
 use std::alloc::AllocError;
 use std::marker::Model;
 

@@ -11,7 +11,7 @@ pub use ipc_tables::types::{
     Date, Decimal, Duration, FieldType, FixedSizeBinary, FixedSizeList, FloatingPoint, Int,
     Interval, Map, Time, Timestamp, Union,
 };
-pub use ipc_views::{
+pub use ipc_table_views::{
     BinaryRef, Block, Blocks, BodyCompressionRef, BoolRef, Buffer, Buffers, DateRef, DateUnit,
     DecimalRef, DictionaryBatchRef, DictionaryEncodingRef, DurationRef, Endianness, FieldNode,
     FieldRef, FieldTable, FixedSizeBinaryRef, FixedSizeListRef, FloatingPointRef, FooterRef,

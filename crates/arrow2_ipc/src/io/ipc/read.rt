@@ -12,8 +12,8 @@ pub use ipc_files::read::file::{
 };
 pub use ipc_limits::file::read_file_metadata_within;
 pub use ipc_limits::stream::read_stream_metadata_within;
-pub use ipc_projections::read::prepare::prepare_projection;
-pub use ipc_projections::read::projection::{
+pub use ipc_projection::read::prepare::prepare_projection;
+pub use ipc_projection::read::projection::{
     ProjectionIter, ProjectionResult, apply_projection, is_prepared, is_projection, is_reordering,
 };
 pub use ipc_read::read::Dictionaries;

@@ -1,7 +1,7 @@
 //! What an accessor returns, as text.
 
 use crate::text::Text;
-use ipc_views::{Blocks, Buffers, KeyValueTable, Nodes, TableFault, Tables};
+use ipc_table_views::{Blocks, Buffers, KeyValueTable, Nodes, TableFault, Tables};
 use std::fmt::{Debug, Display};
 
 /// Appends the fault of a malformed part.

@@ -2,7 +2,7 @@
 
 use super::parts::{present, put_name, put_optional_text, put_value};
 use crate::text::Text;
-use ipc_views::{
+use ipc_table_views::{
     DecimalRef, IntRef, TableFault, TimeRef, TimestampRef, TypeIds, TypeRef, UnionRef,
 };
 use std::fmt::{Debug, Display};

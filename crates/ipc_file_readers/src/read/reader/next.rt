@@ -3,7 +3,7 @@ ghost use Rattle.std.specs.Prelude.{◌≡◌, ◌<◌, false, [], length, IsSom
 ghost use Rattle.std.specs.Iterator.{at_most};
 ghost use Rattle.ipc_devices.specs.declared.fault.Fault.TheVariants.{Memory};
 ghost use Rattle.ipc_model.specs.Batches.{IsProjection};
-ghost use Rattle.ipc_projections.specs.ChosenColumns.{items_of};
+ghost use Rattle.ipc_projection.specs.ChosenColumns.{items_of};
 ghost use Rattle.ipc_file_readers.specs.Readers.{IsUnread, DiffersInScratches, NextStep, blocks_left, device_of, is_over, known_of, less, metadata_of, schema_of, scratches_of};
 ghost use Rattle.ipc_file_readers.specs.Steps.{BlockGave, DictionariesGave, NextGave};
 
@@ -12,7 +12,7 @@ use ipc_base::chunk::Chunk;
 use ipc_devices::fault::Fault;
 use ipc_devices::{Reads, Seeks};
 use ipc_files::read::file::{FileMetadata, read_batch, read_file_dictionaries};
-use ipc_projections::read::chosen::{choose, in_order, rising, shown};
+use ipc_projection::read::chosen::{choose, in_order, rising, shown};
 use lower::datatypes::Schema;
 use lower_arrays::array::AnyArray;
 use std::alloc::Global;

@@ -1,10 +1,10 @@
 //! The state of a file reader.
 ghost use Rattle.std.specs.Prelude.{IsTrue, length};
 ghost use Rattle.ipc_model.specs.Batches.{is_projection};
-ghost use Rattle.ipc_projections.specs.ChosenColumns.{asked_by};
+ghost use Rattle.ipc_projection.specs.ChosenColumns.{asked_by};
 
 use ipc_files::read::file::FileMetadata;
-use ipc_projections::read::chosen::ChosenColumns;
+use ipc_projection::read::chosen::ChosenColumns;
 use ipc_read::read::Dictionaries;
 use std::alloc::Global;
 

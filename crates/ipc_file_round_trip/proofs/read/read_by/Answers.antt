@@ -5,7 +5,7 @@ use Rattle.std.specs.declared.alloc.Global.{Global}
 use Rattle.lower_arrays.specs.declared.array.AnyArray.{AnyArray}
 use Rattle.ipc_readers.proofs.OfMemory.{no_failure}
 use Rattle.ipc_round_trip.proofs.Streams.{slice_memory}
-use Rattle.ipc_projections.specs.ChosenColumns.{items_of}
+use Rattle.ipc_projection.specs.ChosenColumns.{items_of}
 use Rattle.ipc_file_round_trip.proofs.Files.{file_same}
 use Rattle.ipc_file_round_trip.proofs.Readings.{chunks_read, chunks_refused, rows_read}
 use Rattle.ipc_file_round_trip.proofs.Reasons.{all_reason}

@@ -5,7 +5,7 @@ use Rattle.ipc_model.specs.Batches.{IsProjection}
 use Rattle.ipc_readers.proofs.OfMemory.{other_answer}
 use Rattle.ipc_files.specs.Footers.{file_seen}
 use Rattle.ipc_files.specs.declared.read.file.metadata.FileMetadata.{FileMetadata}
-use Rattle.ipc_projections.specs.ChosenColumns.{items_of}
+use Rattle.ipc_projection.specs.ChosenColumns.{items_of}
 use Rattle.ipc_file_round_trip.proofs.Files.{chunks_reason, columns_given, columns_refused, metadata_reason, metadata_refused, names_others, rows_same}
 use Rattle.ipc_file_round_trip.specs.Reading.{chunks_of}
 use Rattle.ipc_file_round_trip.specs.declared.read.WholeFile.{WholeFile}

@@ -1,5 +1,5 @@
 use Rattle.std.proofs.Common.{◌≡◌, ◌-◌, ◌^◌, min, max, drop}
-use Rattle.ipc_file_laws.specs.Appending.{HaveNegative, greatest_end}
+use Rattle.ipc_file_lemmas.specs.Appending.{HaveNegative, greatest_end}
 use Rattle.ipc_file_write.proofs.append.greatest_end.Given as goal
 
 -- The blocks that are left decide the rest: the greatest end, and whether a number is negative.

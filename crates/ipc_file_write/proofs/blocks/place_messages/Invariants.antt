@@ -1,5 +1,5 @@
 use Rattle.std.proofs.Common.{◌≡◌, ◌+◌, length, map, take}
-use Rattle.ipc_file_laws.specs.FileBytes.{all_bytes, blocks_at}
+use Rattle.ipc_file_lemmas.specs.FileBytes.{all_bytes, blocks_at}
 use Rattle.ipc_file_write.specs.Blocks.{sent_seen}
 use Rattle.ipc_file_write.proofs.blocks.place_messages.Given as goal
 

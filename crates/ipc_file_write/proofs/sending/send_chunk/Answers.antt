@@ -4,7 +4,7 @@ use Rattle.lower_arrays.specs.AnyLayouts.{layout_of}
 use Rattle.ipc_chunks.specs.Messages.{AreMessages, dictionaries_seen, message_seen}
 use Rattle.ipc_schema_write.specs.WriterAnswers.{byte_order}
 use Rattle.ipc_tracker.specs.Listings.{listed}
-use Rattle.ipc_file_laws.specs.FileBytes.{Sent}
+use Rattle.ipc_file_lemmas.specs.FileBytes.{Sent}
 use Rattle.ipc_write.proofs.MessageSends.{same_order}
 use Rattle.ipc_file_write.specs.Blocks.{HasBlocksFrom, RefusesBlockRoom, sent, sent_seen}
 use Rattle.ipc_file_write.proofs.EncodedMessages.{bytes_sent, seen_sent}

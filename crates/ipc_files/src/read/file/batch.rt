@@ -12,7 +12,7 @@ ghost use Rattle.ipc_base.specs.IdTrees.{all_ids_view};
 ghost use Rattle.lower_arrays.specs.AnyLayouts.{layout_of};
 ghost use Rattle.ipc_files.specs.Batches.{BlockGiven, HoldBatch, IsRecordFault, RecordReason, block_metadata, needed_bytes, needed_record};
 ghost use Rattle.ipc_files.specs.Footers.{GivesPart, file_seen};
-ghost use Rattle.ipc_flat_columns.specs.Bodies.{known_dictionaries};
+ghost use Rattle.ipc_read_flat.specs.Bodies.{known_dictionaries};
 ghost use Rattle.ipc_read.specs.Chunks.{chunk_seen};
 ghost use Rattle.ipc_read.specs.Columns.{ArePrepared};
 ghost use Rattle.ipc_read.specs.HeldChunks.{HoldChosen};
@@ -26,7 +26,7 @@ use ipc_devices::fault::{Fault, OutOfSpecKind};
 use ipc_devices::{Reads, Seeks};
 use ipc_read::read::Dictionaries;
 use ipc_read::read::common::read_record_batch;
-use ipc_views::{MessageHeaderRef, MetadataVersion, RecordBatchRef};
+use ipc_table_views::{MessageHeaderRef, MetadataVersion, RecordBatchRef};
 use lower_arrays::array::AnyArray;
 use std::alloc::Global;
 

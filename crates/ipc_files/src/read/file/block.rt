@@ -5,7 +5,7 @@ ghost use Rattle.std.specs.Prelude.{◌≡◌, ◌+◌, ◌≤◌, length, drop,
 ghost use Rattle.ipc_devices.specs.Device.{Rises, after};
 ghost use Rattle.ipc_devices.specs.Faults.{OnIo, UnlessIo, OwnFault, Answers};
 ghost use Rattle.ipc_devices.specs.declared.fault.Fault.TheVariants.{Ended, OutOfSpec};
-ghost use Rattle.ipc_views.specs.MessageSlots.{message_version};
+ghost use Rattle.ipc_table_views.specs.MessageSlots.{message_version};
 ghost use Rattle.ipc_model.specs.Files.{block_header, placed};
 ghost use Rattle.ipc_model.specs.Frame.{frame, word};
 ghost use Rattle.ipc_read.specs.Headers.{answered_as};
@@ -16,7 +16,7 @@ use crate::read::file::exact::read_exact;
 use ipc_devices::fault::{Fault, OutOfSpecKind};
 use ipc_devices::{Reads, Seeks, read_into};
 use ipc_read::read::header::header_of;
-use ipc_views::{Block, MessageHeaderRef, MessageRef, MetadataVersion};
+use ipc_table_views::{Block, MessageHeaderRef, MessageRef, MetadataVersion};
 
 // The continuation marker before a length, as a number.
 const CONTINUATION: u32 = u32::MAX;

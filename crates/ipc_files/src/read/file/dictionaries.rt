@@ -9,7 +9,7 @@ ghost use Rattle.ipc_model.specs.Files.{block_header, dictionaries_at, file_dict
 ghost use Rattle.ipc_files.specs.Batches.{BlockGiven, block_metadata};
 ghost use Rattle.ipc_files.specs.Dictionaries.{DictionariesReason, DictionaryReason, GivesKnown, HoldListed, HoldsHeader, IsDictionaryBlockFault, ValuesTaken, needed_dictionary, needed_values};
 ghost use Rattle.ipc_files.specs.Footers.{file_seen};
-ghost use Rattle.ipc_flat_columns.specs.Bodies.{array_under, known_dictionaries};
+ghost use Rattle.ipc_read_flat.specs.Bodies.{array_under, known_dictionaries};
 ghost use Rattle.ipc_read.specs.HeldChunks.{HoldsValues};
 ghost use Rattle.ipc_read.specs.DictionaryBatches.{BlamesDictionary, IsDictionaryFault, TellsValues, values_listed};
 
@@ -19,7 +19,7 @@ use ipc_devices::fault::{Fault, OutOfSpecKind};
 use ipc_devices::{Reads, Seeks};
 use ipc_read::read::Dictionaries;
 use ipc_read::read::dictionaries::read_dictionary;
-use ipc_views::{Block, DictionaryBatchRef, MessageHeaderRef, MetadataVersion};
+use ipc_table_views::{Block, DictionaryBatchRef, MessageHeaderRef, MetadataVersion};
 use std::alloc::Global;
 use std::collections::HashMap;
 

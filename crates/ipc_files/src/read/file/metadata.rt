@@ -15,7 +15,7 @@ use crate::read::file::footer::deserialize_footer;
 use ipc_base::ipc::IpcSchema;
 use ipc_devices::fault::{Fault, Nyi, OutOfSpecKind};
 use ipc_devices::{Reads, Seeks, read_bytes};
-use ipc_views::Block;
+use ipc_table_views::Block;
 use lower::datatypes::clones::clone_metadata;
 use lower::datatypes::{Metadata, Schema};
 use std::alloc::{AllocError, Global};

@@ -1,13 +1,13 @@
 //! Reads a file's own pairs of texts: `custom_metadata` of `File.fbs`.
 ghost use Rattle.std.specs.Prelude.{◌≡◌, []};
 ghost use Rattle.lower.specs.TypeViews.{pairs_of};
-ghost use Rattle.ipc_views.specs.FileSlots.{footer_custom_metadata};
+ghost use Rattle.ipc_table_views.specs.FileSlots.{footer_custom_metadata};
 ghost use Rattle.ipc_model.specs.Schemas.{made, given, pairs_from, pairs_at};
 ghost use Rattle.ipc_files.specs.Footers.{GivesPairs, in_footer};
 
 use ipc_devices::fault::{Fault, OutOfSpecKind, TableFault};
 use ipc_schema::read::pairs::{PairsFault, read_pairs};
-use ipc_views::{FooterRef, KeyValueTable, Tables};
+use ipc_table_views::{FooterRef, KeyValueTable, Tables};
 use lower::datatypes::Metadata;
 use std::alloc::Global;
 use std::collections::BTreeMap;

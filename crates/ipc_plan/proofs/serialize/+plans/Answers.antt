@@ -6,11 +6,11 @@ use Rattle.std.proofs.lemmas.List.{take_all}
 use Rattle.std.proofs.lemmas.List.Elements.{All-more}
 use Rattle.lower_types.specs.declared.PrimitiveType.{PrimitiveType}
 use Rattle.lower_types.specs.declared.PrimitiveType.TheVariants.{Int32, Int64}
-use Rattle.lower_flat.specs.Validities.{Validity, part, cut_validity}
+use Rattle.lower_flat_arrays.specs.Validities.{Validity, part, cut_validity}
 use Rattle.lower_arrays.specs.AnyLayouts.{layout_of}
 use Rattle.lower_arrays.specs.Children.{AllHave, AllReach, lens_of}
-use Rattle.lower_rules.specs.Ids.{union_ids}
-use Rattle.lower_rules.specs.Places.{PlacesFit}
+use Rattle.lower_validation.specs.Ids.{union_ids}
+use Rattle.lower_validation.specs.Places.{PlacesFit}
 use Rattle.lower_arrays.specs.Cuts.{cut_level}
 use Rattle.lower_arrays.specs.declared.array.AnyArray.{AnyArray}
 use Rattle.lower_arrays.specs.Layouts.{Layout, Level, heights, layouts, level, records, choices}

@@ -12,7 +12,7 @@ use ipc_base::ipc::IpcSchema;
 use ipc_devices::Reads;
 use ipc_devices::fault::{Fault, OutOfSpecKind, SchemaFault};
 use ipc_schema::read::schema::deserialize_schema;
-use ipc_views::{MessageRef, MetadataVersion};
+use ipc_table_views::{MessageRef, MetadataVersion};
 use lower::datatypes::Schema;
 use std::alloc::{AllocError, Global};
 

@@ -4,13 +4,13 @@ ghost use Rattle.ipc_base.specs.Fitting.{all_fit};
 ghost use Rattle.ipc_base.specs.IdTrees.{all_ids_view};
 ghost use Rattle.ipc_model.specs.Batches.{is_projection};
 ghost use Rattle.ipc_model.specs.Streams.{most_dictionaries};
-ghost use Rattle.ipc_projections.specs.ChosenColumns.{asked_by};
+ghost use Rattle.ipc_projection.specs.ChosenColumns.{asked_by};
 ghost use Rattle.lower.specs.TypeViews.{fields_view};
 
 use crate::read::begun::Begun;
 use crate::read::stream::metadata::StreamMetadata;
 use ipc_base::chunk::Chunk;
-use ipc_projections::read::chosen::ChosenColumns;
+use ipc_projection::read::chosen::ChosenColumns;
 use ipc_read::read::Dictionaries;
 use lower_arrays::array::AnyArray;
 use std::alloc::Global;

@@ -1,6 +1,6 @@
 use Rattle.std.specs.Prelude.{option_map}
-use Rattle.ipc_parts.specs.Parts.{no_more}
-use Rattle.ipc_parts.specs.Tree.{table}
+use Rattle.ipc_table_bytes.specs.Parts.{no_more}
+use Rattle.ipc_table_bytes.specs.Tree.{table}
 use Rattle.ipc_tables.specs.Files.{blocks_part, footer_slots}
 use Rattle.ipc_tables.specs.Schemas.{pairs_vector, schema_slots}
 use Rattle.ipc_tables.proofs.SlotLists.{is_optional, is_short}

@@ -1,6 +1,6 @@
 use Rattle.std.proofs.Common.{rules, ◌≡◌}
-use Rattle.ipc_parts.specs.Parts.{no_more}
-use Rattle.ipc_parts.specs.Tree.{table}
+use Rattle.ipc_table_bytes.specs.Parts.{no_more}
+use Rattle.ipc_table_bytes.specs.Tree.{table}
 use Rattle.std.specs.Prelude.{option_map}
 use Rattle.ipc_tables.specs.Slots.{bits64}
 use Rattle.ipc_tables.proofs.SlotLists.{is_byte, is_long, is_optional}

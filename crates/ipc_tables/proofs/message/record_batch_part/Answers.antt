@@ -1,7 +1,7 @@
 use Rattle.std.proofs.Common.{rules, ◌≡◌}
 use Rattle.std.specs.Prelude.{option_map}
-use Rattle.ipc_parts.specs.Parts.{is_offset, no_more}
-use Rattle.ipc_parts.specs.Tree.{table}
+use Rattle.ipc_table_bytes.specs.Parts.{is_offset, no_more}
+use Rattle.ipc_table_bytes.specs.Tree.{table}
 use Rattle.ipc_tables.specs.Slots.{bits64}
 use Rattle.ipc_tables.proofs.SlotLists.{is_long, is_optional}
 use Rattle.ipc_tables.specs.Messages.{compression_slots, record_batch_slots}

@@ -1,5 +1,5 @@
 use Rattle.std.proofs.Common.{rules, ◌≡◌}
-use Rattle.ipc_parts.specs.Parts.{is_offset, no_more}
+use Rattle.ipc_table_bytes.specs.Parts.{is_offset, no_more}
 use Rattle.ipc_tables.specs.Slots.{bits64}
 use Rattle.ipc_tables.proofs.SlotLists.{is_byte, is_long, is_short}
 use Rattle.ipc_tables.specs.Schemas.{dictionary_slots}

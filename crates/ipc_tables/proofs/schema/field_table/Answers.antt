@@ -1,6 +1,6 @@
 use Rattle.std.specs.Prelude.{option_map}
-use Rattle.ipc_parts.specs.Parts.{is_offset, no_more}
-use Rattle.ipc_parts.specs.Tree.{table}
+use Rattle.ipc_table_bytes.specs.Parts.{is_offset, no_more}
+use Rattle.ipc_table_bytes.specs.Tree.{table}
 use Rattle.ipc_tables.proofs.BuiltLists.{AreParts-from_built}
 use Rattle.ipc_tables.proofs.SlotLists.{is_byte, is_optional}
 use Rattle.ipc_tables.specs.Schemas.{dictionary_slots, field_slots, pairs_part}

@@ -1,4 +1,4 @@
-use Rattle.ipc_parts.specs.Parts.{is_offset, no_more}
+use Rattle.ipc_table_bytes.specs.Parts.{is_offset, no_more}
 use Rattle.ipc_tables.proofs.schema.pair_part.Goals as goal
 
 pub returns : goal.returns

@@ -1,6 +1,6 @@
 use Rattle.std.proofs.Common.{map}
 use Rattle.std.specs.Prelude.{option_map}
-use Rattle.ipc_parts.specs.Parts.{is_offset, no_more}
+use Rattle.ipc_table_bytes.specs.Parts.{is_offset, no_more}
 use Rattle.ipc_tables.proofs.BuiltLists.{AreParts-from_built}
 use Rattle.ipc_tables.proofs.SlotLists.{is_optional, is_short}
 use Rattle.ipc_tables.specs.Schemas.{features_part, field_part, pairs_part, schema_slots}

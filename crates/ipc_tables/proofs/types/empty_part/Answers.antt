@@ -1,4 +1,4 @@
-use Rattle.ipc_parts.specs.Parts.{no_more}
+use Rattle.ipc_table_bytes.specs.Parts.{no_more}
 use Rattle.ipc_tables.proofs.types.empty_part.Goals as goal
 
 pub returns : goal.returns

@@ -1,5 +1,5 @@
 use Rattle.std.proofs.Common.{rules, ◌≡◌}
-use Rattle.ipc_parts.specs.Parts.{no_more}
+use Rattle.ipc_table_bytes.specs.Parts.{no_more}
 use Rattle.ipc_tables.specs.Slots.{bits32}
 use Rattle.ipc_tables.proofs.SlotLists.{is_byte, is_word}
 use Rattle.ipc_tables.specs.Types.{int_slots}

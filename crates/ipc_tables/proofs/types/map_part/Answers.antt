@@ -1,4 +1,4 @@
-use Rattle.ipc_parts.specs.Parts.{no_more}
+use Rattle.ipc_table_bytes.specs.Parts.{no_more}
 use Rattle.ipc_tables.proofs.SlotLists.{is_byte}
 use Rattle.ipc_tables.specs.Types.{map_slots}
 use Rattle.ipc_tables.proofs.types.map_part.Goals as goal

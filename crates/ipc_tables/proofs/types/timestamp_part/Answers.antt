@@ -1,6 +1,6 @@
 use Rattle.std.specs.Prelude.{option_map, string_bytes}
-use Rattle.ipc_parts.specs.Parts.{no_more}
-use Rattle.ipc_parts.specs.Tree.{text}
+use Rattle.ipc_table_bytes.specs.Parts.{no_more}
+use Rattle.ipc_table_bytes.specs.Tree.{text}
 use Rattle.ipc_tables.proofs.SlotLists.{is_optional, is_short}
 use Rattle.ipc_tables.specs.Types.{timestamp_slots}
 use Rattle.ipc_tables.proofs.types.timestamp_part.Goals as goal

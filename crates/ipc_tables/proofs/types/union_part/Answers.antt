@@ -1,5 +1,5 @@
 use Rattle.std.specs.Prelude.{option_map}
-use Rattle.ipc_parts.specs.Parts.{no_more}
+use Rattle.ipc_table_bytes.specs.Parts.{no_more}
 use Rattle.ipc_tables.proofs.SlotLists.{is_optional, is_short}
 use Rattle.ipc_tables.specs.Types.{ids_part, union_slots}
 use Rattle.ipc_tables.proofs.types.union_part.Goals as goal

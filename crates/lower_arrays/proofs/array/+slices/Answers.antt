@@ -11,8 +11,8 @@ use Rattle.lower_arrays.proofs.Children.{CutUpTo, reach_at, height_at, all_cut}
 use Rattle.lower_arrays.proofs.CutRules.{sizes_within, have-reach}
 use Rattle.lower_arrays.proofs.NestedParts.{cut_struct_is, cut_fixed_list_is}
 use Rattle.lower_arrays.proofs.array.+slices.Goals as goal
-use Rattle.lower_rules.specs.Ids.{union_ids}
-use Rattle.lower_rules.specs.Places.{PlacesFit}
+use Rattle.lower_validation.specs.Ids.{union_ids}
+use Rattle.lower_validation.specs.Places.{PlacesFit}
 use Rattle.lower_arrays.specs.Unions.{union_seen, IsUnion}
 use Rattle.lower_arrays.proofs.Unions.{cut_union_is}
 

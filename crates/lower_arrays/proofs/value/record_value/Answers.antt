@@ -1,5 +1,5 @@
 use Rattle.std.proofs.Common.{◌≡◌, ◌+◌, List, true, subst, sym, ap, ◌∙◌}
-use Rattle.lower_flat.specs.Validities.{is_valid}
+use Rattle.lower_flat_arrays.specs.Validities.{is_valid}
 use Rattle.lower_arrays.specs.Layouts.{Layout, layouts}
 use Rattle.lower_arrays.specs.Children.{AllReach}
 use Rattle.lower_arrays.specs.Slots.{record_slot, slots_of, slot_where, each_at, children_at}

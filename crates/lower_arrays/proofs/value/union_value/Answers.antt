@@ -5,7 +5,7 @@ use Rattle.std.proofs.lemmas.Int.{to_z-of_z}
 use Rattle.lower_arrays.specs.Layouts.{layouts, len_of, height, heights}
 use Rattle.lower_arrays.specs.Slots.{variant_slot, variant_at, slot_at, children_at}
 use Rattle.lower_arrays.specs.Children.{child_count}
-use Rattle.lower_rules.specs.Ids.{child_number, union_ids}
+use Rattle.lower_validation.specs.Ids.{child_number, union_ids}
 use Rattle.lower_arrays.specs.Choices.{child, place_in}
 use Rattle.lower_arrays.specs.AnyLayouts.{layout_of}
 use Rattle.lower_arrays.proofs.Choices.{child_is, child_slot, child_low}

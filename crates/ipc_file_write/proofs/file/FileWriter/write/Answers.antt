@@ -4,7 +4,7 @@ use Rattle.lower_arrays.specs.declared.array.AnyArray.{AnyArray}
 use Rattle.ipc_chunks.proofs.SameMessages.{remembered_with_room}
 use Rattle.ipc_tracker.specs.Listings.{listed}
 use Rattle.ipc_tracker.specs.Trackers.{remembered}
-use Rattle.ipc_views.specs.declared.file.Block.{Block}
+use Rattle.ipc_table_views.specs.declared.file.Block.{Block}
 use Rattle.ipc_write.specs.Writers.{fault_unless_started, seen_ids}
 use Rattle.ipc_file_write.specs.FileWriters.{seen}
 use Rattle.ipc_file_write.specs.Writes.{MayList, RefusesChunk}

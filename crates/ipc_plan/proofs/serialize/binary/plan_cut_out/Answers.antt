@@ -1,6 +1,6 @@
 use Rattle.std.proofs.Common.{◌-◌, ℕ, take, drop, sym, ap₂, ◌∙◌}
 use Rattle.std.specs.Option.{option_copied}
-use Rattle.lower_flat.specs.Validities.{cut_validity}
+use Rattle.lower_flat_arrays.specs.Validities.{cut_validity}
 use Rattle.ipc_plan.specs.OffsetViews.{places_of, type_of_offsets}
 use Rattle.ipc_plan.proofs.Growing.{on_ok, spans_level}
 use Rattle.ipc_plan.proofs.Texts.{ends}

@@ -1,5 +1,5 @@
 use Rattle.std.proofs.Common.{Bool, List, subst}
-use Rattle.lower_flat.specs.Validities.{Validity, part, cut_validity}
+use Rattle.lower_flat_arrays.specs.Validities.{Validity, part, cut_validity}
 use Rattle.ipc_plan.specs.Plans.{AddsStart, AddsBits}
 use Rattle.ipc_plan.proofs.Growing.{on_ok, truths_adds}
 use Rattle.ipc_plan.proofs.serialize.boolean.plan_boolean.Goals as goal

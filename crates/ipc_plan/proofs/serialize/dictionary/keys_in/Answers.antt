@@ -1,8 +1,8 @@
 use Rattle.std.proofs.Common.{◌∙◌, ℤ, pos, map, sym, ap}
 use Rattle.lower_types.specs.NumberTypes.{whole}
-use Rattle.lower_flat.specs.Validities.{part}
-use Rattle.lower_rules.specs.AnyKeys.{keys_seen}
-use Rattle.lower_rules.specs.declared.keys.DictionaryKeys.{DictionaryKeys}
+use Rattle.lower_flat_arrays.specs.Validities.{part}
+use Rattle.lower_validation.specs.AnyKeys.{keys_seen}
+use Rattle.lower_validation.specs.declared.keys.DictionaryKeys.{DictionaryKeys}
 use Rattle.ipc_plan.proofs.Numbers.{key_numbers}
 use Rattle.ipc_plan.proofs.serialize.dictionary.keys_in.Goals as goal
 

@@ -1,8 +1,8 @@
 use Rattle.std.proofs.Common.{◌∙◌, List, map, subst, ap}
 use Rattle.lower_types.specs.NumberTypes.{Number, whole}
 use Rattle.lower_types.specs.declared.PrimitiveType.{PrimitiveType}
-use Rattle.lower_flat.specs.Validities.{Validity, part, cut_validity}
-use Rattle.lower_rules.specs.Keys.{KeysSeen}
+use Rattle.lower_flat_arrays.specs.Validities.{Validity, part, cut_validity}
+use Rattle.lower_validation.specs.Keys.{KeysSeen}
 use Rattle.ipc_model.specs.TypeKinds.{key_form}
 use Rattle.ipc_plan.specs.Pieces.{slice_type}
 use Rattle.ipc_plan.specs.Plans.{AddsStart, AddsNumbers}

@@ -1,5 +1,5 @@
 use Rattle.std.proofs.Common.{◌≡◌, ◌+◌, ◌-◌, ◌*◌, ℕ, List, [], ◌∷◌, take, drop, ap, ap₂, ◌∙◌, subst}
-use Rattle.lower_flat.specs.Validities.{Validity, part, cut_validity}
+use Rattle.lower_flat_arrays.specs.Validities.{Validity, part, cut_validity}
 use Rattle.ipc_plan.specs.Plans.{AddsStart, Grows}
 use Rattle.ipc_plan.proofs.Growing.{on_ok, fixed_adds, scaled_wide}
 use Rattle.ipc_plan.proofs.serialize.fixed_size_binary.plan_fixed_size_binary.Goals as goal

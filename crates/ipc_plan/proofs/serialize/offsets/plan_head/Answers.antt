@@ -1,7 +1,7 @@
 use Rattle.std.proofs.Common.{◌+◌, sym, subst}
 use Rattle.std.specs.Prelude.{OnOk}
 use Rattle.std.specs.Option.{option_copied}
-use Rattle.lower_flat.specs.Validities.{part, cut_validity}
+use Rattle.lower_flat_arrays.specs.Validities.{part, cut_validity}
 use Rattle.lower_types.specs.declared.PrimitiveType.TheVariants.{Int32, Int64}
 use Rattle.ipc_plan.specs.OffsetViews.{places_of, type_of_offsets}
 use Rattle.ipc_plan.specs.Plans.{AddsHead}

@@ -1,7 +1,7 @@
 use Rattle.std.proofs.Common.{arith, ◌≡◌, ℕ, ◌+◌, ◌-◌, ℤ, List, pos, take, drop, length, sym, ap, ◌∙◌, subst}
 use Rattle.std.proofs.lemmas.List.{length-map}
-use Rattle.lower_flat.specs.Validities.{part}
-use Rattle.lower_flat.proofs.Cuts.{length-part}
+use Rattle.lower_flat_arrays.specs.Validities.{part}
+use Rattle.lower_flat_arrays.proofs.Cuts.{length-part}
 use Rattle.lower_types.specs.declared.PrimitiveType.TheVariants.{Int32}
 use Rattle.ipc_plan.specs.Levels.{AreOffsetBytes}
 use Rattle.ipc_plan.proofs.Growing.{on_ok}

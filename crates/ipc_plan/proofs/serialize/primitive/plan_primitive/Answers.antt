@@ -1,8 +1,8 @@
 use Rattle.std.proofs.Common.{◌≡◌, List, subst}
 use Rattle.lower_types.specs.NumberTypes.{Number}
 use Rattle.lower_types.specs.declared.PrimitiveType.{PrimitiveType}
-use Rattle.lower_flat.specs.Validities.{Validity, part, cut_validity}
-use Rattle.lower_rules.specs.AnyNumbers.{numbers_seen}
+use Rattle.lower_flat_arrays.specs.Validities.{Validity, part, cut_validity}
+use Rattle.lower_validation.specs.AnyNumbers.{numbers_seen}
 use Rattle.ipc_model.specs.Kinds.{number_kind}
 use Rattle.ipc_plan.specs.Levels.{number_form}
 use Rattle.ipc_plan.specs.Pieces.{slice_type}

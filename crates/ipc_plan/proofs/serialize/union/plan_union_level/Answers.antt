@@ -1,8 +1,8 @@
 use Rattle.std.proofs.Common.{◌≡◌, ℤ, List, [], ◌∷◌, Option, None, Some, map, sym, ap, ◌∙◌, subst}
 use Rattle.std.specs.Option.{option_copied}
 use Rattle.std.specs.Prelude.{option_map}
-use Rattle.lower_flat.specs.Validities.{part}
-use Rattle.lower_rules.specs.Ids.{union_ids}
+use Rattle.lower_flat_arrays.specs.Validities.{part}
+use Rattle.lower_validation.specs.Ids.{union_ids}
 use Rattle.lower_types.specs.NumberTypes.{whole}
 use Rattle.lower_types.specs.declared.PrimitiveType.TheVariants.{Int8, Int32}
 use Rattle.lower_arrays.specs.Layouts.{choices}

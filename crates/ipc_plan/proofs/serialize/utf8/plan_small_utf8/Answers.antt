@@ -1,5 +1,5 @@
 use Rattle.std.proofs.Common.{◌+◌, ℕ, List, ◌∙◌, subst}
-use Rattle.lower_flat.specs.Validities.{Validity, part, cut_validity}
+use Rattle.lower_flat_arrays.specs.Validities.{Validity, part, cut_validity}
 use Rattle.lower_types.specs.declared.PrimitiveType.TheVariants.{Int32}
 use Rattle.ipc_plan.specs.Plans.{AddsSpans}
 use Rattle.ipc_plan.proofs.Growing.{on_ok, texts_adds}

@@ -2,7 +2,7 @@ use Rattle.std.proofs.Common.{arith, ◌≡◌, ◌+◌, ◌-◌, ◌/◌, ◌%�
 use Rattle.std.proofs.lemmas.List.{take_rest}
 use Rattle.std.proofs.lemmas.List.FromFn.{length-map-range_with_len}
 use Rattle.ipc_model.specs.Entries.{bytes_for}
-use Rattle.lower_flat.specs.Validities.{part}
+use Rattle.lower_flat_arrays.specs.Validities.{part}
 use Rattle.ipc_plan.specs.Levels.{AreBits}
 use Rattle.ipc_plan.specs.Pieces.{packed}
 use Rattle.ipc_plan.proofs.Clearing.{adds_clear, packed_clear}

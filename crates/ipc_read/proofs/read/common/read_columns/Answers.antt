@@ -13,10 +13,10 @@ use Rattle.ipc_model.specs.Columns.{IsWell}
 use Rattle.ipc_model.specs.Kinds.{count}
 use Rattle.ipc_model.specs.TypeKinds.{kind_of, kinds_of}
 use Rattle.ipc_model.proofs.TypeKinds.{node_counts, buffer_counts}
-use Rattle.ipc_flat_columns.specs.Bodies.{entries, known}
-use Rattle.ipc_flat_columns.specs.Refusals.{IsFaultOf}
-use Rattle.ipc_flat_columns.proofs.Fetches.{refused, failing}
-use Rattle.ipc_columns.proofs.StructReads.{extra_is}
+use Rattle.ipc_read_flat.specs.Bodies.{entries, known}
+use Rattle.ipc_read_flat.specs.Refusals.{IsFaultOf}
+use Rattle.ipc_read_flat.proofs.Fetches.{refused, failing}
+use Rattle.ipc_read_nested.proofs.StructReads.{extra_is}
 use Rattle.ipc_read.specs.Columns.{IsChosen, HasColumns, columns_listed}
 use Rattle.ipc_read.specs.HeldChunks.{arrays_held, columns_most}
 use Rattle.ipc_read.specs.Refusals.{IsFaultOfSome}

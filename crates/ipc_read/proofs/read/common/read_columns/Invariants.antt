@@ -4,7 +4,7 @@ use Rattle.lower.specs.TypeViews.{fields_view}
 use Rattle.ipc_base.specs.IdTrees.{all_ids_view}
 use Rattle.ipc_model.specs.Batches.{chosen}
 use Rattle.ipc_model.specs.TypeKinds.{kinds_of}
-use Rattle.ipc_flat_columns.specs.Bodies.{KeepsBytes, entries, known}
+use Rattle.ipc_read_flat.specs.Bodies.{KeepsBytes, entries, known}
 use Rattle.ipc_read.specs.Columns.{columns_listed}
 use Rattle.ipc_read.specs.HeldChunks.{arrays_held, columns_most}
 use Rattle.ipc_read.proofs.Chosen.{AreLeft, left_of}

@@ -10,9 +10,9 @@ use Rattle.ipc_model.specs.Batches as model
 use Rattle.ipc_model.specs.Entries.{Entries}
 use Rattle.ipc_model.specs.ReadArrays.{AreValues}
 use Rattle.ipc_model.specs.TypeKinds.{kinds_of}
-use Rattle.ipc_flat_columns.proofs.KnownValues.{values_are}
+use Rattle.ipc_read_flat.proofs.KnownValues.{values_are}
 use Rattle.ipc_model.proofs.TypeKinds.{node_count_law, buffer_count_law}
-use Rattle.ipc_flat_columns.specs.Bodies.{entries, known_dictionaries, array_under}
+use Rattle.ipc_read_flat.specs.Bodies.{entries, known_dictionaries, array_under}
 use Rattle.ipc_read.specs.Chunks.{batch_schema, order_of}
 use Rattle.ipc_read.specs.Columns.{ArePrepared, HasColumns, AreColumns}
 use Rattle.ipc_read.specs.HeldChunks.{arrays_held, chosen_empty}
@@ -24,7 +24,7 @@ use Rattle.ipc_read.proofs.HeldLists.{held_total, chunk_holds}
 use Rattle.ipc_read.proofs.Listed.{given_total}
 use Rattle.ipc_read.proofs.Within.{chosen_within, hold_within}
 use Rattle.ipc_read.proofs.Meanings.{listed_of, refused, judged, gives_batch}
-use Rattle.ipc_flat_columns.specs.Refusals.{TellsEntries}
+use Rattle.ipc_read_flat.specs.Refusals.{TellsEntries}
 use Rattle.ipc_read.proofs.Reasons.{unlisted_tells, lengths_say, counts_say, entries_tell}
 use Rattle.ipc_read.proofs.Refusals.{counts_tell, lengths_tell}
 use Rattle.ipc_read.specs.Refusals.{TellsCounts}

@@ -15,8 +15,8 @@ use Rattle.ipc_devices.specs.declared.fault.Fault.TheVariants.{OutOfSpec}
 use Rattle.ipc_devices.specs.declared.fault.OutOfSpecKind.TheVariants.{InvalidId}
 use Rattle.ipc_model.specs.Batches.{Schema, Place, kinds, lists_of, extra_of, places, place_of, values_schema, dictionary_meaning}
 use Rattle.ipc_model.specs.Batches as model
-use Rattle.ipc_flat_columns.specs.Bodies.{dictionary_of, known_dictionaries}
-use Rattle.ipc_laws.specs.Agreement.{KnowAlike}
+use Rattle.ipc_read_flat.specs.Bodies.{dictionary_of, known_dictionaries}
+use Rattle.ipc_stream_lemmas.specs.Agreement.{KnowAlike}
 use Rattle.ipc_read.specs.Chunks.{batch_schema, HasMeaning}
 use Rattle.ipc_read.specs.DictionaryBatches.{dictionary_head}
 use Rattle.ipc_read.specs.HeldChunks.{HoldChosen}

@@ -10,14 +10,14 @@ use Rattle.ipc_model.specs.Columns.{IsWell}
 use Rattle.ipc_model.specs.Entries.{Entries}
 use Rattle.ipc_model.specs.TypeKinds.{kind_of}
 use Rattle.ipc_model.proofs.TypeKinds.{node_counts, buffer_counts}
-use Rattle.ipc_flat_columns.specs.Bodies.{entries, known_dictionaries, array_under}
-use Rattle.ipc_columns.specs.ReadColumns.{IsColumn}
+use Rattle.ipc_read_flat.specs.Bodies.{entries, known_dictionaries, array_under}
+use Rattle.ipc_read_nested.specs.ReadColumns.{IsColumn}
 use Rattle.ipc_read.specs.Chunks.{order_of}
 use Rattle.ipc_read.specs.Sizes.{AreSizes, total_of}
 use Rattle.ipc_read.proofs.Batches.{same_entries}
 use Rattle.ipc_read.proofs.HeldLists.{column_held}
 use Rattle.ipc_read.proofs.Meanings.{listed_of}
-use Rattle.ipc_flat_columns.specs.Refusals.{TellsEntries}
+use Rattle.ipc_read_flat.specs.Refusals.{TellsEntries}
 use Rattle.ipc_read.proofs.Reasons.{unlisted_tells, lengths_say, counts_say, entries_tell}
 use Rattle.ipc_read.proofs.Refusals.{counts_tell, lengths_tell}
 use Rattle.ipc_read.specs.Refusals.{TellsCounts}

@@ -5,9 +5,9 @@ use Rattle.std.specs.Option.{option_map}
 use Rattle.lower.specs.TypeTrees.{list, large_list, fixed_list, entries, structure, choice}
 use Rattle.lower.specs.TypeViews.{pairs_of, field_view, fields_view, ids_of}
 use Rattle.ipc_base.specs.IdTrees.{all_ids_view, ids_view}
-use Rattle.ipc_views.specs.SchemaSlots.{field_children}
-use Rattle.ipc_views.specs.Tables.{table_in}
-use Rattle.ipc_views.specs.Unions.{type_parts}
+use Rattle.ipc_table_views.specs.SchemaSlots.{field_children}
+use Rattle.ipc_table_views.specs.Tables.{table_in}
+use Rattle.ipc_table_views.specs.Unions.{type_parts}
 use Rattle.ipc_model.specs.Schemas.{Read, field_at, field_with, fields_from, first_field, present, some_fields, single_at, group_at, size_of}
 use Rattle.ipc_schema.specs.Views.{below_number, encoding_seen, type_seen}
 use Rattle.ipc_model.proofs.FieldLists.{count-and, fields-more}

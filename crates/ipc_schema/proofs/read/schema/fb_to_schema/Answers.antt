@@ -1,6 +1,6 @@
 use Rattle.std.proofs.Common.{◌≡◌, ◌∙◌, ◌+◌, ◌<◌, ℕ, List, Some, Ok, ap, sym, length, arith}
 use Rattle.std.proofs.lemmas.Result.{err_from_is_err_and}
-use Rattle.ipc_views.specs.SchemaSlots.{schema_fields}
+use Rattle.ipc_table_views.specs.SchemaSlots.{schema_fields}
 use Rattle.ipc_schema.proofs.Counted.{counts-refused, fields-long}
 use Rattle.ipc_schema.proofs.Steps.{in_schema-ok}
 use Rattle.ipc_schema.proofs.read.schema.fb_to_schema.Goals as goal

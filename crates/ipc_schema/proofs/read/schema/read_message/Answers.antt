@@ -1,7 +1,7 @@
 use Rattle.std.proofs.Common.{◌∙◌, ap, sym, Some, Ok, List, ℕ, length, arith}
 use Rattle.std.specs.Option.{option_map}
-use Rattle.ipc_views.specs.Tables.{map_ok}
-use Rattle.ipc_views.specs.Unions.{header_parts}
+use Rattle.ipc_table_views.specs.Tables.{map_ok}
+use Rattle.ipc_table_views.specs.Unions.{header_parts}
 use Rattle.ipc_model.proofs.Places.{root-message, header-message}
 use Rattle.ipc_schema.proofs.Steps.{in_schema-ok}
 use Rattle.ipc_schema.proofs.read.schema.read_message.Goals as goal

@@ -6,7 +6,7 @@ use Rattle.ipc_devices.proofs.Claims.{claimed}
 use Rattle.ipc_devices.specs.declared.fault.OutOfSpecKind.TheVariants.{NegativeFooterLength, UnexpectedNegativeInteger}
 use Rattle.ipc_model.specs.Batches.{chosen, extra_of, kinds, lists_of}
 use Rattle.ipc_model.specs.Files.{block_header}
-use Rattle.ipc_flat_columns.specs.Bodies.{known_dictionaries}
+use Rattle.ipc_read_flat.specs.Bodies.{known_dictionaries}
 use Rattle.ipc_files.specs.Batches.{BlamesRecord, header_lists, needed_bytes}
 use Rattle.ipc_files.specs.Blocks.{message_seen, place_seen}
 use Rattle.ipc_files.specs.Footers.{file_seen}

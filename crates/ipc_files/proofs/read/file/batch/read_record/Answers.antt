@@ -1,6 +1,6 @@
 use Rattle.std.specs.Option.{option_copied}
 use Rattle.ipc_model.specs.Batches.{extra_of}
-use Rattle.ipc_flat_columns.specs.Bodies.{known_dictionaries}
+use Rattle.ipc_read_flat.specs.Bodies.{known_dictionaries}
 use Rattle.ipc_files.proofs.BlockRecords.{record-given}
 use Rattle.ipc_files.proofs.read.file.batch.read_record.Goals as goal
 

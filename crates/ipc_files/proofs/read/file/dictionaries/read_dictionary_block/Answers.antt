@@ -3,7 +3,7 @@ use Rattle.ipc_devices.proofs.Claims.{claimed}
 use Rattle.ipc_devices.specs.declared.fault.OutOfSpecKind.TheVariants.{NegativeFooterLength, UnexpectedNegativeInteger}
 use Rattle.ipc_model.specs.Batches.{extra_of}
 use Rattle.ipc_model.specs.Files.{block_header}
-use Rattle.ipc_flat_columns.specs.Bodies.{known_dictionaries}
+use Rattle.ipc_read_flat.specs.Bodies.{known_dictionaries}
 use Rattle.ipc_files.specs.Blocks.{message_seen, place_seen}
 use Rattle.ipc_files.specs.Dictionaries.{BlamesValues, header_values, needed_values}
 use Rattle.ipc_files.specs.Footers.{file_seen}

@@ -1,11 +1,11 @@
 use Rattle.std.proofs.Common.{arith, rules, ◌≡◌, ◌∙◌, ℤ, List, [], length, Option, Some, Err, refl, ap, subst}
 use Rattle.lower_arrays.specs.Layouts.{Layout}
-use Rattle.ipc_laws.specs.Agreement.{AreAlike}
-use Rattle.ipc_views.specs.declared.file.Block.{Block}
+use Rattle.ipc_stream_lemmas.specs.Agreement.{AreAlike}
+use Rattle.ipc_table_views.specs.declared.file.Block.{Block}
 use Rattle.ipc_model.specs.Files.{all_of, dictionaries_after}
 use Rattle.ipc_files.specs.Dictionaries.{DictionariesReason, RefusedValues}
 use Rattle.ipc_files.specs.Footers.{file_seen}
-use Rattle.ipc_flat_columns.specs.Bodies.{array_under, known_dictionaries}
+use Rattle.ipc_read_flat.specs.Bodies.{array_under, known_dictionaries}
 use Rattle.ipc_files.proofs.FirstRefused.{behind, from-none, refused-first}
 use Rattle.ipc_files.proofs.HeldValues.{EachListed, none_listed, more_listed, each_listed}
 use Rattle.ipc_files.proofs.NeededValues.{GivenFor, all_given, more_given, none_given}

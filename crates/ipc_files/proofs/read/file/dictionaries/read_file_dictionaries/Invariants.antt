@@ -1,10 +1,10 @@
 use Rattle.std.proofs.Common.{◌≡◌, ◌≤◌, [], take, drop, IsTrue}
 use Rattle.ipc_devices.specs.declared.fault.Fault.{Fault}
-use Rattle.ipc_laws.specs.Agreement.{AreAlike}
+use Rattle.ipc_stream_lemmas.specs.Agreement.{AreAlike}
 use Rattle.ipc_model.specs.Files.{all_of, dictionaries_after}
 use Rattle.ipc_files.specs.Dictionaries.{DictionariesReason}
 use Rattle.ipc_files.specs.Footers.{file_seen}
-use Rattle.ipc_flat_columns.specs.Bodies.{array_under, known_dictionaries}
+use Rattle.ipc_read_flat.specs.Bodies.{array_under, known_dictionaries}
 use Rattle.ipc_files.proofs.HeldValues.{EachListed}
 use Rattle.ipc_files.proofs.NeededValues.{GivenFor}
 use Rattle.ipc_files.proofs.read.file.dictionaries.read_file_dictionaries.Given as goal

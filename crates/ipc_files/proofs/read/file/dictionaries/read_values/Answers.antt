@@ -1,7 +1,7 @@
 use Rattle.std.proofs.Common.{rules, ◌≡◌, ◌+◌, ◌≤◌, List, Ok, Err, subst}
 use Rattle.lower.specs.declared.datatypes.Field.{Field}
 use Rattle.ipc_model.specs.Batches.{extra_of}
-use Rattle.ipc_flat_columns.specs.Bodies.{known_dictionaries}
+use Rattle.ipc_read_flat.specs.Bodies.{known_dictionaries}
 use Rattle.ipc_read.specs.Chunks.{batch_schema}
 use Rattle.ipc_read.specs.DictionaryBatches.{values_listed}
 use Rattle.ipc_files.proofs.BlockDictionaries.{dictionary-blames, dictionary-given, dictionary-tells}

@@ -1,6 +1,6 @@
 use Rattle.std.proofs.Common.{arith, ◌≡◌, ◌+◌, ◌≤◌, ap}
 use Rattle.lower.specs.TypeViews.{type_view}
-use Rattle.lower_flat.specs.Spans.{span_count}
+use Rattle.lower_flat_arrays.specs.Spans.{span_count}
 use Rattle.lower_arrays.specs.Lists.{list_seen, list_places, list_width}
 use Rattle.lower_arrays.specs.AnyLayouts.{layout_of}
 use Rattle.lower_arrays.proofs.NestedParts.{cut_list_is}

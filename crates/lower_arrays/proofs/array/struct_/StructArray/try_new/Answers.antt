@@ -1,7 +1,7 @@
 use Rattle.std.proofs.Common.{◌≡◌, map, get_or, subst, sym}
 use Rattle.std.specs.List.{All}
 use Rattle.lower.specs.TypeViews.{type_view}
-use Rattle.lower_rules.specs.Rules.{StructRules}
+use Rattle.lower_validation.specs.Rules.{StructRules}
 use Rattle.lower_arrays.specs.Layouts.{type_of, len_of}
 use Rattle.lower_arrays.specs.Slots.{IsArray}
 use Rattle.lower_arrays.specs.Structs.{first_len}

@@ -1,7 +1,7 @@
 use Rattle.std.proofs.Common.{rules, ◌≡◌, ◌<◌, None, pos, get_or, subst, sym, ap, ◌∙◌}
 use Rattle.std.specs.Option.{option_copied}
 use Rattle.lower_arrays.specs.Layouts.{layouts, len_of}
-use Rattle.lower_rules.specs.Ids.{union_ids, child_number}
+use Rattle.lower_validation.specs.Ids.{union_ids, child_number}
 use Rattle.lower_arrays.specs.Choices.{child, place_in}
 use Rattle.lower_arrays.proofs.Unions.{index_bound}
 use Rattle.lower_arrays.proofs.array.union.UnionArray.index.Goals as goal

@@ -1,5 +1,5 @@
 use Rattle.std.proofs.Common.{rules, ◌≡◌, ℕ, List, length, Option, Err, refl, sym, subst}
-use Rattle.ipc_flat_columns.specs.Bodies.{known_dictionaries}
+use Rattle.ipc_read_flat.specs.Bodies.{known_dictionaries}
 use Rattle.ipc_read.proofs.AskedColumns.{are_prepared}
 use Rattle.ipc_read.specs.Columns.{ArePrepared}
 use Rattle.ipc_file_readers.proofs.Blocks.{no_io, read_chunk, refused_chunk, same_known, unless_io}

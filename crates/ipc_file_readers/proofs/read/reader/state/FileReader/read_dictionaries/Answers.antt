@@ -1,5 +1,5 @@
 use Rattle.std.proofs.Common.{rules, refl, arith}
-use Rattle.ipc_flat_columns.specs.Bodies.{known_dictionaries}
+use Rattle.ipc_read_flat.specs.Bodies.{known_dictionaries}
 use Rattle.ipc_file_readers.proofs.Blocks.{known_already, not_unread, values_already}
 use Rattle.ipc_file_readers.proofs.read.reader.state.FileReader.read_dictionaries.Goals as goal
 

@@ -1,5 +1,5 @@
 use Rattle.std.proofs.Common.{rules, arith, ◌≡◌, ◌≤◌}
-use Rattle.ipc_views.specs.Unions.{header_parts}
+use Rattle.ipc_table_views.specs.Unions.{header_parts}
 use Rattle.ipc_model.specs.Streams.{most_dictionaries}
 use Rattle.ipc_readers.proofs.Bodies.{full_header, other_refused}
 use Rattle.ipc_readers.specs.Streams.{request_in, known_in}

@@ -5,7 +5,7 @@ use Rattle.lower.specs.declared.datatypes.Field.{Field}
 use Rattle.lower_arrays.specs.AnyLayouts.{layout_of}
 use Rattle.lower_arrays.specs.declared.array.AnyArray.{AnyArray}
 use Rattle.ipc_base.specs.IdTrees.{all_ids_view}
-use Rattle.ipc_flat_columns.specs.Bodies.{known_dictionaries}
+use Rattle.ipc_read_flat.specs.Bodies.{known_dictionaries}
 use Rattle.ipc_devices.specs.Faults.{OwnFault}
 use Rattle.ipc_devices.specs.declared.fault.Fault.{Fault}
 use Rattle.ipc_model.specs.Batches.{extra_of, kinds, chosen, lists_of}
@@ -16,7 +16,7 @@ use Rattle.ipc_read.specs.HeldChunks.{HoldChosen}
 use Rattle.ipc_read.specs.Refusals.{IsFaultOfBatch, TellsBatch, TellsColumns}
 use Rattle.ipc_read.proofs.AskedColumns.{are_prepared, as_many_read, values_in_order}
 use Rattle.ipc_readers.proofs.GivenColumns.{given_columns, no_memory, refused_columns, stream_faults}
-use Rattle.ipc_projections.specs.ChosenColumns.{rising_by}
+use Rattle.ipc_projection.specs.ChosenColumns.{rising_by}
 use Rattle.ipc_readers.specs.Streams.{known_in, request_in}
 use Rattle.ipc_readers.proofs.read.stream.reader.Batches.columns.Goals as goal
 

@@ -2,7 +2,7 @@ use Rattle.std.proofs.Common.{true, rules, ◌≡◌, ◌+◌, refl, ℕ, ℤ, L
 use Rattle.lower.specs.TypeViews.{fields_view, pairs_of}
 use Rattle.lower.specs.declared.datatypes.Field.{Field}
 use Rattle.ipc_base.specs.IdTrees.{all_ids_view}
-use Rattle.ipc_flat_columns.specs.Bodies.{array_under, known_dictionaries}
+use Rattle.ipc_read_flat.specs.Bodies.{array_under, known_dictionaries}
 use Rattle.ipc_devices.specs.Faults.{OwnFault}
 use Rattle.ipc_devices.specs.declared.fault.Fault.{Fault}
 use Rattle.ipc_model.specs.Batches.{extra_of}
@@ -12,7 +12,7 @@ use Rattle.ipc_read.specs.HeldChunks.{HoldsValues}
 use Rattle.ipc_readers.proofs.Bodies.{values_give}
 use Rattle.ipc_readers.proofs.Kept.{same_arrays}
 use Rattle.lower_arrays.specs.Layouts.{Layout}
-use Rattle.ipc_projections.specs.ChosenColumns.{asked_by}
+use Rattle.ipc_projection.specs.ChosenColumns.{asked_by}
 use Rattle.ipc_readers.specs.Streams.{known_in}
 use Rattle.ipc_readers.proofs.read.stream.reader.Batches.values.Goals as goal
 

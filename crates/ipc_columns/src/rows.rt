@@ -1,8 +1,0 @@
-//! Worked examples of columns, and how many bytes their arrays retain at most.
-ghost use Rattle.ipc_columns.specs.HeldListedRows.{HeldListedRows};
-
-/// The offsets that an array retains although no buffer has them.
-#[tactic(auto, using(crate::proofs::HeldListedRows::held_listed_rows))]
-pub fn bytes_listed()
-    ensures { HeldListedRows }
-{}

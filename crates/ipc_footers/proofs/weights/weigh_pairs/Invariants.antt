@@ -1,7 +1,0 @@
-use Rattle.std.proofs.Common.{◌≡◌, ◌+◌}
-use Rattle.lower.specs.TypeViews.{pairs_of}
-use Rattle.ipc_model.specs.Writable.{pairs_weight}
-use Rattle.ipc_footers.proofs.weights.weigh_pairs.Given as goal
-
-abbrev pub invariant-loop-key : goal.invariant-loop-key
-invariant-loop-key l = l.sum + pairs_weight (pairs_of l.key-iterator) ≡ pairs_weight (pairs_of l.pairs.entries)

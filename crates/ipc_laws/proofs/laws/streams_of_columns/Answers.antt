@@ -1,5 +1,0 @@
-use Rattle.ipc_laws.proofs.ColumnRuns.{column_run_law}
-use Rattle.ipc_laws.proofs.laws.streams_of_columns.Goals as goal
-
-pub returns : goal.returns
-returns c = column_run_law

@@ -1,9 +1,0 @@
-use Rattle.std.proofs.Common.{◌≡◌, ◌+◌, ◌<◌, ◌^◌, length, drop}
-use Rattle.ipc_parts.specs.Parts.{tails}
-use Rattle.ipc_parts.proofs.table_part.tails_len.Given as goal
-
-abbrev pub invariant-loop-slot : goal.invariant-loop-slot
-invariant-loop-slot l = record {
-  ahead : l.len + length (tails (drop l.slot-index l.slots)) ≡ length (tails l.slots);
-  small : l.len < 2 ^ 63;
-}

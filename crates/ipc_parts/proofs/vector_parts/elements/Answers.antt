@@ -1,6 +1,0 @@
-use Rattle.std.proofs.Common.{refl}
-use Rattle.ipc_parts.proofs.VectorHolds.{IsPart-elements}
-use Rattle.ipc_parts.proofs.vector_parts.elements.Goals as goal
-
-pub returns : goal.returns
-returns c = λ align size whole some e. IsPart-elements _ align size _ _ c.in_ok-bytes.ensures.items refl whole some e

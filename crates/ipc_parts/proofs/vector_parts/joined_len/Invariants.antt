@@ -1,9 +1,0 @@
-use Rattle.std.proofs.Common.{◌≡◌, ◌+◌, ◌<◌, ◌^◌, length, drop}
-use Rattle.ipc_parts.specs.Parts.{joined_parts}
-use Rattle.ipc_parts.proofs.vector_parts.joined_len.Given as goal
-
-abbrev pub invariant-loop-part : goal.invariant-loop-part
-invariant-loop-part l = record {
-  ahead : l.len + length (joined_parts (drop l.part-index l.parts)) ≡ length (joined_parts l.parts);
-  small : l.len < 2 ^ 63;
-}

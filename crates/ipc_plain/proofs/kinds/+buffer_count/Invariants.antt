@@ -1,8 +1,0 @@
-use Rattle.std.proofs.Common.{◌≡◌, ◌+◌, drop}
-use Rattle.ipc_model.specs.Kinds.{buffers, all_buffers}
-use Rattle.ipc_plain.specs.PlainKinds.{kind_view, kinds_view}
-use Rattle.ipc_plain.proofs.kinds.+buffer_count.Given as goal
-
-abbrev pub invariant-loop-field : goal.invariant-loop-field
-invariant-loop-field l =
-    l.count + all_buffers l.extra (kinds_view (drop l.field-index l.field-items)) ≡ buffers l.extra (kind_view l.kind)

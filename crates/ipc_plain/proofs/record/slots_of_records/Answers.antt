@@ -1,5 +1,0 @@
-use Rattle.ipc_plain.proofs.Records.{record_law}
-use Rattle.ipc_plain.proofs.record.slots_of_records.Goals as goal
-
-pub returns : goal.returns
-returns c = record_law

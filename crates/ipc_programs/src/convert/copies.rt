@@ -1,0 +1,158 @@
+//! The copies that the forms need. Their devices are borrowed.
+ghost use Rattle.std.specs.Prelude.{◌≡◌, [], IfErr, IfOk, IsTrue, OnOk};
+ghost use Rattle.ipc_devices.specs.Faults.{OwnFault};
+ghost use Rattle.ipc_model.specs.Streams.{marked};
+ghost use Rattle.ipc_write.specs.Writers.{order_of};
+ghost use Rattle.ipc_convert.specs.Chunks.{NoneFailed};
+ghost use Rattle.ipc_convert.specs.Copies.{AppendsTo, CopiesFileOf, CopiesStream, TakesStream, WritesFile, WritesStream};
+ghost use Rattle.ipc_programs.specs.Refusals.{AppendsNone, CopiesNoInput, CopiesNoOpened};
+ghost use Rattle.ipc_programs.specs.Written.{CopiesInput, CopiesOpened};
+
+use crate::convert::forms::Target;
+use crate::convert::lent::{LentReader, LentWriter};
+use arrow2_ipc::io::ipc::fault::{Fault, Reads, Seeks, Writes};
+use arrow2_ipc::io::ipc::write::WriteOptions;
+use ipc_convert::append::append_stream;
+use ipc_convert::files::{file_to_file, stream_to_file};
+use ipc_convert::streams::{file_to_stream, stream_to_stream};
+use std::alloc::Global;
+
+/// Copies the stream `input` to `out`, as the target says.
+pub fn copy_input<R: Reads, O: Writes>(
+    alloc: Global,
+    input: &mut R,
+    out: &mut O,
+    target: Target,
+    write_options: WriteOptions,
+) -> Result<(), Fault>
+    ensures takes { OnOk result (TakesStream R.gives input.old input.new) }
+    ensures done { OnOk result (R.failures input.new ≡ R.failures input.old) }
+    ensures copies { IsTrue O.known → OnOk result
+        (CopiesInput R.gives input.old input.new target write_options (O.memory out.old) (O.memory out.new)) }
+    ensures refused { IfErr result (λ e. OwnFault e
+        (CopiesNoInput R.gives R.known R.memory input.old O.known O.memory out.old target write_options e)) }
+{
+    match target {
+        Target::Stream => input_to_stream(alloc, input, out, write_options),
+        Target::File => input_to_file(alloc, input, out, write_options),
+    }
+}
+
+/// Copies the file `file` to `out`, as the target says.
+pub fn copy_file<F: Reads + Seeks + Drop, O: Writes>(
+    alloc: Global,
+    file: F,
+    out: &mut O,
+    target: Target,
+    write_options: WriteOptions,
+) -> Result<(), Fault>
+    ensures copies { IsTrue O.known → OnOk result
+        (CopiesOpened F.known F.memory file target write_options (O.memory out.old) (O.memory out.new)) }
+    ensures refused { IfErr result (λ e. OwnFault e
+        (CopiesNoOpened F.known F.memory file O.known O.memory out.old target write_options e)) }
+{
+    match target {
+        Target::Stream => opened_to_stream(alloc, file, out, write_options),
+        Target::File => opened_to_file(alloc, file, out, write_options),
+    }
+}
+
+/// Appends the chunks of the stream `input` to the file `file`, whose device it returns.
+pub fn append_input<F: Reads + Writes + Seeks + Drop, R: Reads>(
+    alloc: Global,
+    file: F,
+    input: &mut R,
+) -> Result<F, Fault>
+    ensures takes { IfOk result (λ device. TakesStream R.gives input.old input.new) }
+    ensures done { IfOk result (λ device.
+        NoneFailed F.failures R.failures file input.old device input.new) }
+    ensures appends { IsTrue F.known → (F.memory file).place ≡ 0 → IfOk result (λ device. CopiesStream R.gives input.old input.new
+        (λ schema chunks _. AppendsTo (F.memory file).whole (F.memory device).whole schema chunks)) }
+    ensures refused { IfErr result (λ e. OwnFault e (AppendsNone R.gives R.known R.memory input.old F.known F.memory file e)) }
+{
+    let (file, input) = append_stream(alloc, file, LentReader::new(input))?;
+    input.into_inner();
+    Ok(file)
+}
+
+fn input_to_stream<R: Reads, O: Writes>(
+    alloc: Global,
+    input: &mut R,
+    out: &mut O,
+    write_options: WriteOptions,
+) -> Result<(), Fault>
+    ensures takes { OnOk result (TakesStream R.gives input.old input.new) }
+    ensures done { OnOk result (R.failures input.new ≡ R.failures input.old) }
+    ensures copies { IsTrue O.known → OnOk result (CopiesStream R.gives input.old input.new
+        (WritesStream (order_of write_options) (O.memory out.old) (O.memory out.new))) }
+    ensures refused { IfErr result (λ e. OwnFault e
+        (CopiesNoInput R.gives R.known R.memory input.old O.known O.memory out.old Target.Stream write_options e)) }
+{
+    let (input, out) = stream_to_stream(
+        alloc,
+        LentReader::new(input),
+        LentWriter::new(out),
+        write_options,
+    )?;
+    input.into_inner();
+    out.into_inner();
+    Ok(())
+}
+
+fn input_to_file<R: Reads, O: Writes>(
+    alloc: Global,
+    input: &mut R,
+    out: &mut O,
+    write_options: WriteOptions,
+) -> Result<(), Fault>
+    ensures takes { OnOk result (TakesStream R.gives input.old input.new) }
+    ensures done { OnOk result (R.failures input.new ≡ R.failures input.old) }
+    ensures copies { IsTrue O.known → OnOk result (CopiesStream R.gives input.old input.new
+        (λ schema chunks _. WritesFile (order_of write_options) (O.memory out.old) (O.memory out.new) schema [] chunks)) }
+    ensures refused { IfErr result (λ e. OwnFault e
+        (CopiesNoInput R.gives R.known R.memory input.old O.known O.memory out.old Target.File write_options e)) }
+{
+    let (input, out) = stream_to_file(
+        alloc,
+        LentReader::new(input),
+        LentWriter::new(out),
+        write_options,
+    )?;
+    input.into_inner();
+    out.into_inner();
+    Ok(())
+}
+
+fn opened_to_stream<F: Reads + Seeks + Drop, O: Writes>(
+    alloc: Global,
+    file: F,
+    out: &mut O,
+    write_options: WriteOptions,
+) -> Result<(), Fault>
+    ensures copies { IsTrue O.known → OnOk result (CopiesFileOf F.known F.memory file
+        (λ schema _ chunks. WritesStream (order_of write_options) (O.memory out.old) (O.memory out.new) schema chunks marked)) }
+    ensures refused { IfErr result (λ e. OwnFault e
+        (CopiesNoOpened F.known F.memory file O.known O.memory out.old Target.Stream write_options e)) }
+{
+    let (file, out) = file_to_stream(alloc, file, LentWriter::new(out), write_options)?;
+    drop(file);
+    out.into_inner();
+    Ok(())
+}
+
+fn opened_to_file<F: Reads + Seeks + Drop, O: Writes>(
+    alloc: Global,
+    file: F,
+    out: &mut O,
+    write_options: WriteOptions,
+) -> Result<(), Fault>
+    ensures copies { IsTrue O.known → OnOk result (CopiesFileOf F.known F.memory file
+        (WritesFile (order_of write_options) (O.memory out.old) (O.memory out.new))) }
+    ensures refused { IfErr result (λ e. OwnFault e
+        (CopiesNoOpened F.known F.memory file O.known O.memory out.old Target.File write_options e)) }
+{
+    let (file, out) = file_to_file(alloc, file, LentWriter::new(out), write_options)?;
+    drop(file);
+    out.into_inner();
+    Ok(())
+}

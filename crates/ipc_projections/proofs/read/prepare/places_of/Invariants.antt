@@ -1,5 +1,0 @@
-use Rattle.ipc_projections.proofs.Preparing.{HasFirst}
-use Rattle.ipc_projections.proofs.read.prepare.places_of.Given as goal
-
-abbrev pub invariant-loop-column : goal.invariant-loop-column
-invariant-loop-column l = HasFirst l.places l.pairs l.column

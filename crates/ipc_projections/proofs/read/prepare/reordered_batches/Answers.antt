@@ -1,5 +1,0 @@
-use Rattle.ipc_projections.proofs.Reordered.{reorder_law}
-use Rattle.ipc_projections.proofs.read.prepare.reordered_batches.Goals as goal
-
-pub returns : goal.returns
-returns c = reorder_law c.args.map.now

@@ -1,7 +1,0 @@
-use Rattle.std.proofs.Common.{◌≡◌, map, take}
-use Rattle.lower.specs.TypeViews.{field_view}
-use Rattle.ipc_projections.specs.Preparing.{selected}
-use Rattle.ipc_projections.proofs.read.prepare.selected_fields.Given as goal
-
-abbrev pub invariant-loop-column : goal.invariant-loop-column
-invariant-loop-column l = map field_view l.chosen.items ≡ selected (map field_view l.fields) (take l.column-index l.projection)

@@ -1,0 +1,30 @@
+use Rattle.std.proofs.Common.{arith, rules, ◌≡◌, ◌+◌, ◌*◌, ◌/◌, ◌<◌, length, vec_len, ap, ◌∙◌}
+use Rattle.std.proofs.Math.Nat.{mul-add, mul-div_cancel_left}
+use Rattle.std.proofs.lemmas.Grind.{common_steps}
+use Rattle.ipc_read_flat.proofs.Pieces.{read_more}
+use Rattle.ipc_read_flat.proofs.read.read_basic.read_pieces.Goals as goal
+
+pub pieces-preserved : goal.pieces-preserved
+pieces-preserved g c =
+    let w = g.T.NativeType.width in
+    let n = c.min-wanted.result in
+    let had = vec_len c.pieces.numbers in
+    let piece = c.fill.new.buf in
+    let is : c.width-width.result ≡ w = c.width-width.ensures.value in
+    let some : 0 < w = omega (arith, is, c.width-width.ensures.bounds.0) in
+    let told : length piece ≡ c.width-width.result * n = grind (arith, common_steps) in
+    let long : length piece ≡ w * n = told ∙ ap (λ m. m * n) is in
+    let more : length piece / w ≡ n = ap (λ m. m / w) long ∙ mul-div_cancel_left n some in
+    let len : vec_len c.append.new.out ≡ had + n = c.in_ok-append.ensures.len ∙ ap (λ m. had + m) more in
+    let items : length c.append.new.out.items ≡ length c.pieces.numbers.items + n = omega (arith, len) in
+    let full : c.in_ok-fill.field-0 ≡ length piece = omega (arith, told, c.in_ok-fill.ensures.bound, c.if-branch-piece.false) in
+    record {
+      inside = grind (arith, common_steps);
+      monotone = omega arith;
+      done = c.in_ok-fill.ensures.done ∙ c.pieces.invariant.done;
+      given = omega (arith, mul-add w had n, ap (λ m. w * m) len, c.in_ok-fill.ensures.given, long);
+      whole = search rules;
+      same = λ k.
+          read_more (g.T.NativeType.value c.args.order) w n _ _ _ piece _ _ some (c.pieces.invariant.same k) long
+          ((c.in_ok-fill.ensures.memory k).full full) c.in_ok-append.ensures.items items;
+    }

@@ -1,0 +1,66 @@
+//! Reads columns of bytes of any length.
+ghost use Rattle.std.specs.Prelude.{◌≡◌, ◌+◌, ◌<◌, IsTrue, IfOk, IfErr};
+ghost use Rattle.ipc_devices.specs.Faults.{OwnFault, Answers};
+ghost use Rattle.lower.specs.TypeViews.{type_view};
+ghost use Rattle.lower.specs.Physical.{physical};
+ghost use Rattle.lower_flat_arrays.specs.Binaries.{bytes_with};
+ghost use Rattle.lower_arrays.specs.Flat.{bytes_layout};
+ghost use Rattle.ipc_model.specs.Kinds.{binary_kind};
+ghost use Rattle.ipc_model.specs.Entries.{listed};
+ghost use Rattle.ipc_model.specs.Columns.{IsWell};
+ghost use Rattle.ipc_model.specs.ReadArrays.{array_at};
+ghost use Rattle.ipc_read_flat.specs.Bodies.{KeepsBytes, HasRoom, entries, known};
+ghost use Rattle.ipc_read_flat.specs.HeldListed.{HoldsListed};
+ghost use Rattle.ipc_read_flat.specs.Refusals.{IsColumnFault, TellsEntries};
+ghost use Rattle.ipc_read_flat.specs.Steps.{Step};
+
+use crate::read::body::{Body, Place};
+use crate::read::read_basic::{StoredOffset, fetch_bytes, read_head, read_offsets};
+use ipc_devices::fault::Fault;
+use ipc_devices::{Reads, Seeks};
+use lower::buffer::Buffer;
+use lower::datatypes::DataType;
+use lower_arrays::array::BinaryArray;
+use std::alloc::Global;
+
+/// Reads a column of bytes: a node, a validity, offsets and bytes.
+///
+/// `data_type` has this physical type; the offsets have 32 or 64 bits. Only the bytes up to the
+/// last offset in use are read. See "Variable-size Binary Layout" in the Arrow columnar format.
+///
+/// # Errors
+/// - `NegativeFooterLength`: the node's length, or the offset of a buffer in use, is negative.
+/// - `InvalidBuffer`: a buffer in use is too short; `InvalidBitmap`: the validity is.
+/// - `Ended`: the device is too short.
+/// - `FallingOffset`: an offset is negative, or less than the one before it.
+/// - `Io`, `Memory`.
+#[tactic(auto, using(crate::proofs::Refusals::buffer_column))]
+pub fn read_binary<O: StoredOffset, R: Reads + Seeks>(
+    alloc: Global,
+    data_type: &DataType,
+    reader: &mut R,
+    body: &Body<R>,
+    place: Place,
+    limit: Option<usize>,
+) -> Result<BinaryArray<O>, Fault>
+    requires lies { physical (type_view data_type.now) ≡ bytes_with O.primitive }
+    requires room { HasRoom body.now place 1 3 }
+    requires stands { KeepsBytes R.still R.memory reader.old body.now }
+    ensures only { IfErr result (λ e. OwnFault e (IsColumnFault e)) }
+    ensures tells { IfErr result (λ e. OwnFault e (TellsEntries R.known (entries R.memory body.now) e)) }
+    ensures step { let s = entries R.memory body.now in
+        Step R.still R.memory R.failures R.given body.now
+        (listed s place.buffer + listed s (place.buffer + 1) + listed s (place.buffer + 1 + 1)) reader.old result reader.new }
+    ensures held { IfOk result (λ array. HoldsListed (entries R.memory body.now) body.now.extra (binary_kind O.form) place.buffer (bytes_layout O.primitive array)) }
+    ensures memory { IsTrue R.known → let s = entries R.memory body.now in
+        Answers result (IsWell s (binary_kind O.form) place.node place.buffer limit)
+        (λ array. bytes_layout O.primitive array ≡ array_at s (known body.now) (binary_kind O.form) (type_view data_type.now) place.node place.buffer limit) }
+{
+    let head = read_head(alloc, reader, body, place, limit)?;
+    let index = place.buffer + 1;
+    let offsets = read_offsets(alloc, reader, body, index, head.rows)?;
+    let values = fetch_bytes(alloc, reader, body, index + 1, offsets.last())?;
+    let values = Buffer::new(values)?;
+    let data_type = data_type.clone()?;
+    Ok(BinaryArray::try_new(data_type, offsets, values, head.validity)?)
+}

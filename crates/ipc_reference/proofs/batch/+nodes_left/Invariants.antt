@@ -1,0 +1,8 @@
+use Rattle.std.proofs.Common.{◌≡◌, ◌+◌, drop}
+use Rattle.ipc_model.specs.Kinds.{nodes, all_nodes}
+use Rattle.ipc_reference.specs.PlainKinds.{kind_view, kinds_view}
+use Rattle.ipc_reference.proofs.batch.+nodes_left.Given as goal
+
+abbrev pub invariant-loop-field : goal.invariant-loop-field
+invariant-loop-field l =
+    l.rest + nodes (kind_view l.kind) ≡ l.count + all_nodes (kinds_view (drop l.field-index l.field-items))

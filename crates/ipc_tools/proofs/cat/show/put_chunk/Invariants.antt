@@ -1,5 +1,0 @@
-use Rattle.ipc_tools.specs.Printing.{Prints}
-use Rattle.ipc_tools.proofs.cat.show.put_chunk.Given as goal
-
-abbrev pub invariant-loop-row : goal.invariant-loop-row
-invariant-loop-row g l = Prints g.W.Failures.known g.W.Failures.failures g.W.Failures.memory l.fn.printer l.printer

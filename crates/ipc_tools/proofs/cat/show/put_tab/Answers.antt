@@ -1,5 +1,0 @@
-use Rattle.ipc_tools.proofs.PrintSteps.{nothing_printed}
-use Rattle.ipc_tools.proofs.cat.show.put_tab.Goals as goal
-
-pub returns-then-column-eq0-clause-prints : goal.returns-then-column-eq0-clause-prints
-returns-then-column-eq0-clause-prints g c = nothing_printed _

@@ -1,5 +1,0 @@
-use Rattle.ipc_tools.specs.Printing.{Prints}
-use Rattle.ipc_tools.proofs.cat.slots.put_digits.Given as goal
-
-abbrev pub invariant-loop-byte : goal.invariant-loop-byte
-invariant-loop-byte g l = Prints g.W.Failures.known g.W.Failures.failures g.W.Failures.memory l.fn.printer l.printer

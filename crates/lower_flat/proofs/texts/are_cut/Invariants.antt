@@ -1,6 +1,0 @@
-use Rattle.std.proofs.Common.{IsTrue, ◌↔◌}
-use Rattle.lower_flat.specs.Spans.{AreCut}
-use Rattle.lower_flat.proofs.texts.are_cut.Given as goal
-
-abbrev pub invariant-loop-index : goal.invariant-loop-index
-invariant-loop-index g l = IsTrue l.are_cut ↔ AreCut l.offsets l.bytes l.index

@@ -1,0 +1,11 @@
+use Rattle.std.proofs.Common.{arith, ◌∙◌}
+use Rattle.lower_flat_arrays.proofs.SameRows.{bytes_tell}
+use Rattle.lower_flat_arrays.proofs.equality.BinaryArrayToColumn.has_same_values.Goals as goal
+
+pub returns : goal.returns
+returns g c =
+    let left = c.as_slice.ensures ∙ c.values.ensures.bytes in
+    let right = c.as_slice-2.ensures ∙ c.values-2.ensures.bytes in
+    let told = rw (c.offsets.ensures.offsets, c.offsets-2.ensures.offsets, left, right) at c.has_same_spans.ensures in
+    let tell = bytes_tell c.args.self.now c.args.other.now c.requires c.values.ensures.valid.fits c.values-2.ensures.valid.fits (omega arith) (omega arith) in
+    (λ yes. tell.0 (told.0 yes), λ all. told.1 (tell.1 all))

@@ -1,6 +1,0 @@
-use Rattle.std.proofs.Common.{take, map}
-use Rattle.lower_rules.specs.Places.{AllAre}
-use Rattle.lower_rules.proofs.children.have_len.Given as goal
-
-abbrev pub invariant-loop-child : goal.invariant-loop-child
-invariant-loop-child g l = AllAre l.len (map g.C.Child.child_len (take l.child-index l.children))

@@ -1,9 +1,0 @@
-use Rattle.lower_flat.specs.ColumnLaws.{exact_answer}
-use Rattle.lower_rules.specs.Numbers.{numbers_column}
-use Rattle.lower_rules.specs.AnyNumbers.{numbers_seen}
-use Rattle.lower_rules.proofs.numbers.AnyPrimitivePartialEq.eq.Goals as goal
-
-pub returns : goal.returns
-returns c =
-    exact_answer c.are_same_numbers.result (numbers_column (numbers_seen c.args.self.now)) (numbers_column (numbers_seen c.args.other.now))
-    c.are_same_numbers.ensures
